@@ -31,7 +31,8 @@ impl std::marker::Model for OwnLiterals {
 }
 
 fn push_latches(literals: &mut Vec<u64>, latches: &[AigLatch]) -> Result<(), AllocError>
-    ensures { OnOk result (literals.new.items ≡ literals.old.items ++ map (λ (latch : latch_type.AigLatch). latch.lit) latches.now) }
+    ensures { OnOk result (literals.new.items ≡
+        literals.old.items ++ map (λ (latch : latch_type.AigLatch). latch.lit) latches.now) }
 {
     for latch in latches {
         literals.push(latch.lit)?;
@@ -40,7 +41,8 @@ fn push_latches(literals: &mut Vec<u64>, latches: &[AigLatch]) -> Result<(), All
 }
 
 fn push_gates(literals: &mut Vec<u64>, gates: &[AigAnd]) -> Result<(), AllocError>
-    ensures { OnOk result (literals.new.items ≡ literals.old.items ++ map (λ (gate : gate_type.AigAnd). gate.lhs) gates.now) }
+    ensures { OnOk result (literals.new.items ≡
+        literals.old.items ++ map (λ (gate : gate_type.AigAnd). gate.lhs) gates.now) }
 {
     for gate in gates {
         literals.push(gate.lhs)?;

@@ -27,7 +27,8 @@ fn nets_of(
 ) -> Result<Vec<NetId>, AllocError>
     requires own { known.now ≡ own_literals aig.now }
     requires few { length known.now < 2 ^ 32 }
-    ensures { IfOk result (λ ids. ids.items ≡ map (λ lit. net_id (net_of_literal aig.now lit)) lits.now) }
+    ensures { IfOk result (λ ids. ids.items ≡
+        map (λ lit. net_id (net_of_literal aig.now lit)) lits.now) }
 {
     let mut ids = Vec::with_capacity(alloc, lits.len())?;
     for lit in lits {
@@ -84,8 +85,11 @@ fn push_node(
 ) -> Result<(), AllocError>
     requires own { known.now ≡ own_literals aig.now }
     requires few { length known.now < 2 ^ 32 }
-    requires room { length aig.now.inputs + length aig.now.latches + length nodes.old.items < 2 ^ 32 }
-    ensures { OnOk result (nodes.new.items ≡ nodes.old.items ++ node_of aig.now lits.now (length aig.now.inputs + length aig.now.latches + length nodes.old.items) ∷ []) }
+    requires room { length aig.now.inputs + length aig.now.latches + length nodes.old.items <
+        2 ^ 32 }
+    ensures { OnOk result (nodes.new.items ≡
+        nodes.old.items ++ node_of aig.now lits.now
+        (length aig.now.inputs + length aig.now.latches + length nodes.old.items) ∷ []) }
 {
     let out = aig.inputs.len() + aig.latches.len() + nodes.len();
     nodes.push(node_of(alloc, aig, known, lits, out as u32)?)?;
@@ -100,8 +104,12 @@ fn push_gates(
 ) -> Result<(), AllocError>
     requires own { known.now ≡ own_literals aig.now }
     requires few { length known.now < 2 ^ 32 }
-    requires room { length aig.now.inputs + length aig.now.latches + length nodes.old.items + length aig.now.ands < 2 ^ 32 }
-    ensures { OnOk result (nodes.new.items ≡ nodes.old.items ++ nodes_from aig.now (length aig.now.inputs + length aig.now.latches + length nodes.old.items) (map sides_of aig.now.ands)) }
+    requires room { length aig.now.inputs + length aig.now.latches + length nodes.old.items +
+        length aig.now.ands < 2 ^ 32 }
+    ensures { OnOk result (nodes.new.items ≡
+        nodes.old.items ++ nodes_from aig.now
+        (length aig.now.inputs + length aig.now.latches + length nodes.old.items)
+        (map sides_of aig.now.ands)) }
 {
     for gate in aig.ands.as_slice() {
         push_node(nodes, alloc, aig, known, &[gate.rhs0, gate.rhs1])?;
@@ -118,8 +126,12 @@ fn push_buffers(
 ) -> Result<(), AllocError>
     requires own { known.now ≡ own_literals aig.now }
     requires few { length known.now < 2 ^ 32 }
-    requires room { length aig.now.inputs + length aig.now.latches + length nodes.old.items + length lits.now < 2 ^ 32 }
-    ensures { OnOk result (nodes.new.items ≡ nodes.old.items ++ nodes_from aig.now (length aig.now.inputs + length aig.now.latches + length nodes.old.items) (map buffer lits.now)) }
+    requires room { length aig.now.inputs + length aig.now.latches + length nodes.old.items +
+        length lits.now < 2 ^ 32 }
+    ensures { OnOk result (nodes.new.items ≡
+        nodes.old.items ++ nodes_from aig.now
+        (length aig.now.inputs + length aig.now.latches + length nodes.old.items)
+        (map buffer lits.now)) }
 {
     for lit in lits {
         push_node(nodes, alloc, aig, known, &[*lit])?;
@@ -129,7 +141,8 @@ fn push_buffers(
 
 // What latches read next and outputs read.
 fn buffer_literals(alloc: Global, aig: &Aig) -> Result<Vec<u64>, AllocError>
-    ensures { IfOk result (λ lits. lits.items ≡ map (λ (latch : latch_type.AigLatch). latch.next) aig.now.latches ++ aig.now.outputs) }
+    ensures { IfOk result (λ lits. lits.items ≡
+        map (λ (latch : latch_type.AigLatch). latch.next) aig.now.latches ++ aig.now.outputs) }
 {
     let mut lits = Vec::new(alloc);
     for latch in aig.latches.as_slice() {
@@ -156,7 +169,8 @@ fn zero_node(alloc: Global) -> Node
 pub fn nodes_of(alloc: Global, aig: &Aig, known: &OwnLiterals) -> Result<Vec<Node>, AllocError>
     requires own { known.now ≡ own_literals aig.now }
     requires small { aig_weight aig.now < 2 ^ 31 }
-    ensures { IfOk result (λ nodes. nodes.items ≡ zero_node ∷ nodes_from aig.now (first_gate aig.now) (node_reads aig.now)) }
+    ensures { IfOk result (λ nodes. nodes.items ≡
+        zero_node ∷ nodes_from aig.now (first_gate aig.now) (node_reads aig.now)) }
 {
     let buffers = buffer_literals(alloc, aig)?;
     let mut nodes = Vec::new(alloc);

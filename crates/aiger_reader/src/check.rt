@@ -110,7 +110,8 @@ pub fn entry_fault(
 
 // Whether a literal is read that no line defines.
 fn is_undefined(defined: &BTreeSet<u64>, lit: u64) -> bool
-    ensures { (entries : List entries.Entry) → KnowsDefined defined.now entries → result ≡ is_undefined entries lit }
+    ensures { (entries : List entries.Entry) → KnowsDefined defined.now entries →
+        result ≡ is_undefined entries lit }
 {
     lit > 1 && !defined.contains(&(lit - lit % 2))
 }

@@ -27,7 +27,8 @@ pub fn split_word(bytes: &[u8]) -> (&[u8], &[u8])
 
 /// The first six fields of a line: no form has more than five.
 pub fn first_fields(alloc: Global, bytes: &[u8]) -> Result<Vec<&[u8]>, AllocError>
-    ensures { IfOk result (λ fields. map (λ f. f.now) fields.items ≡ take 6 (header_fields bytes.now)) }
+    ensures { IfOk result (λ fields. map (λ f. f.now) fields.items ≡
+        take 6 (header_fields bytes.now)) }
 {
     bytes.split(|b| *b == b' ').take(6).collect(alloc)
 }

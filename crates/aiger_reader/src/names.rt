@@ -43,7 +43,8 @@ pub fn push_names(
     kind: SymbolKind,
     table: &[Option<&[u8]>],
 ) -> Result<(), AllocError>
-    ensures long { OnOk result (length names.new.items ≡ length names.old.items + length table.now) }
+    ensures long { OnOk result (length names.new.items ≡
+        length names.old.items + length table.now) }
     ensures names { OnOk result (
         (symbols : List Symbol)
         → KnowsNamesOfKind kind table.now symbols

@@ -108,8 +108,10 @@ fn port_names(
 ) -> Result<Vec<Bytes>, AigReadError>
     requires few { 2 + counts.inputs + counts.latches + counts.outputs < 2 ^ 64 }
     requires known { (symbols : List Symbol) × KnowsSymbols counts tables.now symbols }
-    ensures names { IfOk result (λ names. (symbols : List Symbol) → KnowsSymbols counts tables.now symbols →
-        names.items ≡ names_for symbols Input counts.inputs ++ names_for symbols Output counts.outputs) }
+    ensures names { IfOk result (λ names. (symbols : List Symbol) →
+        KnowsSymbols counts tables.now symbols →
+        names.items ≡ names_for symbols Input counts.inputs ++
+        names_for symbols Output counts.outputs) }
     ensures apart { IfOk result (λ names.
         (symbols : List Symbol)
         → KnowsSymbols counts tables.now symbols

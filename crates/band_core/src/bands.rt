@@ -124,7 +124,8 @@ impl Bands {
         ensures moved { OnOk result (self.new ≡ moved_on b self.old) }
         ensures ready { OnOk result (unready_neighbour self.old.generations b ≡ None) }
         ensures refused { OnErr result (self.new ≡ self.old) }
-        ensures cause { IfErr result (λ refusal. unready_neighbour self.old.generations b ≡ Some refusal) }
+        ensures cause { IfErr result (λ refusal. unready_neighbour self.old.generations b ≡
+            Some refusal) }
     {
         if let Some(refusal) = unready_neighbour(&self.bands, b) {
             return Err(refusal);

@@ -19,7 +19,8 @@ pub fn check(alloc: Global, models: List<Model>) -> Result<Design, CheckError>
     ensures design { IfOk result (λ design. design.models ≡ models) }
     ensures faultless { OnOk result (models ≢ [] × AreFaultless models) }
     ensures passes { AreFaultless models → IsOkUnless result NoMemory }
-    ensures fault { (fault : text.Fault) → IsErrOf result (Fault fault) → HasModelFault models fault }
+    ensures fault { (fault : text.Fault) → IsErrOf result (Fault fault) →
+        HasModelFault models fault }
 {
     match first_fault(alloc, models.as_slice())? {
         Some(fault) => Err(CheckError::Fault(fault)),

@@ -40,7 +40,8 @@ fn write_words<O: Sink>(
 ) -> Result<(), Failed>
     ensures ok { OnOk result ((rest : List ℕ) →
         Wrote (O.written sink.old) (O.written sink.new) (O.faults sink.old) (O.faults sink.new)
-        (held page.old ++ (words_after_spaces (word_in lift.now) words.now ++ rest)) (held page.new ++ rest)) }
+        (held page.old ++ (words_after_spaces (word_in lift.now) words.now ++ rest))
+        (held page.new ++ rest)) }
     ensures err { OnErr result ((rest : List ℕ) →
         Broke (O.written sink.old) (O.written sink.new) (O.faults sink.old) (O.faults sink.new)
         (held page.old ++ (words_after_spaces (word_in lift.now) words.now ++ rest))) }
@@ -60,7 +61,8 @@ fn write_names<O: Sink>(
 ) -> Result<(), Failed>
     ensures ok { OnOk result ((rest : List ℕ) →
         Wrote (O.written sink.old) (O.written sink.new) (O.faults sink.old) (O.faults sink.new)
-        (held page.old ++ (words_after_spaces (λ name. name) names.now ++ rest)) (held page.new ++ rest)) }
+        (held page.old ++ (words_after_spaces (λ name. name) names.now ++ rest))
+        (held page.new ++ rest)) }
     ensures err { OnErr result ((rest : List ℕ) →
         Broke (O.written sink.old) (O.written sink.new) (O.faults sink.old) (O.faults sink.new)
         (held page.old ++ (words_after_spaces (λ name. name) names.now ++ rest))) }
@@ -81,10 +83,13 @@ pub fn write_line<O: Sink>(
 ) -> Result<(), Failed>
     ensures ok { OnOk result ((n : ℕ) (more : List Logical) →
         Wrote (O.written sink.old) (O.written sink.new) (O.faults sink.old) (O.faults sink.new)
-        (held page.old ++ worded_text (worded_line n (first.now ∷ map (word_in lift.now) words.now) ∷ more)) (held page.new ++ worded_text more)) }
+        (held page.old ++ worded_text (worded_line n
+        (first.now ∷ map (word_in lift.now) words.now) ∷ more))
+        (held page.new ++ worded_text more)) }
     ensures err { OnErr result ((n : ℕ) (more : List Logical) →
         Broke (O.written sink.old) (O.written sink.new) (O.faults sink.old) (O.faults sink.new)
-        (held page.old ++ worded_text (worded_line n (first.now ∷ map (word_in lift.now) words.now) ∷ more))) }
+        (held page.old ++ worded_text (worded_line n
+        (first.now ∷ map (word_in lift.now) words.now) ∷ more))) }
 {
     page.put(sink, first)?;
     write_words(sink, page, lift, words)?;
@@ -101,7 +106,8 @@ pub fn write_name_line<O: Sink>(
 ) -> Result<(), Failed>
     ensures ok { OnOk result ((n : ℕ) (more : List Logical) →
         Wrote (O.written sink.old) (O.written sink.new) (O.faults sink.old) (O.faults sink.new)
-        (held page.old ++ worded_text (worded_line n (first.now ∷ names.now) ∷ more)) (held page.new ++ worded_text more)) }
+        (held page.old ++ worded_text (worded_line n (first.now ∷ names.now) ∷ more))
+        (held page.new ++ worded_text more)) }
     ensures err { OnErr result ((n : ℕ) (more : List Logical) →
         Broke (O.written sink.old) (O.written sink.new) (O.faults sink.old) (O.faults sink.new)
         (held page.old ++ worded_text (worded_line n (first.now ∷ names.now) ∷ more))) }

@@ -33,10 +33,12 @@ fn write_latch<O: Sink>(
 ) -> Result<(), Failed>
     ensures ok { OnOk result ((n : ℕ) (more : List Logical) →
         Wrote (O.written sink.old) (O.written sink.new) (O.faults sink.old) (O.faults sink.new)
-        (held page.old ++ worded_text (latch_lines (mark_in lift.now) lift.now.ins n number (source ∷ []) (start ∷ []) more)) (held page.new ++ worded_text more)) }
+        (held page.old ++ worded_text (latch_lines (mark_in lift.now) lift.now.ins n number
+        (source ∷ []) (start ∷ []) more)) (held page.new ++ worded_text more)) }
     ensures err { OnErr result ((n : ℕ) (more : List Logical) →
         Broke (O.written sink.old) (O.written sink.new) (O.faults sink.old) (O.faults sink.new)
-        (held page.old ++ worded_text (latch_lines (mark_in lift.now) lift.now.ins n number (source ∷ []) (start ∷ []) more))) }
+        (held page.old ++ worded_text (latch_lines (mark_in lift.now) lift.now.ins n number
+        (source ∷ []) (start ∷ []) more))) }
 {
     let words = [
         LineWord::Net(source),
@@ -50,10 +52,13 @@ fn write_latch<O: Sink>(
 pub fn write_latches<O: Sink>(sink: &mut O, page: &mut Page, lift: &Lift) -> Result<(), Failed>
     ensures ok { OnOk result ((n : ℕ) (more : List Logical) →
         Wrote (O.written sink.old) (O.written sink.new) (O.faults sink.old) (O.faults sink.new)
-        (held page.old ++ worded_text (latch_lines (mark_in lift.now) lift.now.ins n 0 lift.now.list.latches lift.now.list.starts more)) (held page.new ++ worded_text more)) }
+        (held page.old ++ worded_text (latch_lines
+        (mark_in lift.now) lift.now.ins n 0 lift.now.list.latches lift.now.list.starts more))
+        (held page.new ++ worded_text more)) }
     ensures err { OnErr result ((n : ℕ) (more : List Logical) →
         Broke (O.written sink.old) (O.written sink.new) (O.faults sink.old) (O.faults sink.new)
-        (held page.old ++ worded_text (latch_lines (mark_in lift.now) lift.now.ins n 0 lift.now.list.latches lift.now.list.starts more))) }
+        (held page.old ++ worded_text (latch_lines
+        (mark_in lift.now) lift.now.ins n 0 lift.now.list.latches lift.now.list.starts more))) }
 {
     for number in 0..lift.list.latches.len() {
         let source = *lift.list.latches.get(number);
@@ -77,7 +82,8 @@ fn sources(cell: Cell) -> (Src, Src)
 fn write_row<O: Sink>(sink: &mut O, page: &mut Page, lift: &Lift, bits: &[u8]) -> Result<(), Failed>
     ensures ok { OnOk result ((n : ℕ) (more : List Logical) →
         Wrote (O.written sink.old) (O.written sink.new) (O.faults sink.old) (O.faults sink.new)
-        (held page.old ++ worded_text (row n bits.now (codes "1") ∷ more)) (held page.new ++ worded_text more)) }
+        (held page.old ++ worded_text (row n bits.now (codes "1") ∷ more))
+        (held page.new ++ worded_text more)) }
     ensures err { OnErr result ((n : ℕ) (more : List Logical) →
         Broke (O.written sink.old) (O.written sink.new) (O.faults sink.old) (O.faults sink.new)
         (held page.old ++ worded_text (row n bits.now (codes "1") ∷ more))) }
@@ -89,7 +95,8 @@ fn write_row<O: Sink>(sink: &mut O, page: &mut Page, lift: &Lift, bits: &[u8]) -
 fn write_rows<O: Sink>(sink: &mut O, page: &mut Page, lift: &Lift, cell: Cell) -> Result<(), Failed>
     ensures ok { OnOk result ((n : ℕ) (more : List Logical) →
         Wrote (O.written sink.old) (O.written sink.new) (O.faults sink.old) (O.faults sink.new)
-        (held page.old ++ worded_text (rows_then n cell more)) (held page.new ++ worded_text more)) }
+        (held page.old ++ worded_text (rows_then n cell more))
+        (held page.new ++ worded_text more)) }
     ensures err { OnErr result ((n : ℕ) (more : List Logical) →
         Broke (O.written sink.old) (O.written sink.new) (O.faults sink.old) (O.faults sink.new)
         (held page.old ++ worded_text (rows_then n cell more))) }
@@ -117,10 +124,12 @@ fn write_gate<O: Sink>(
 ) -> Result<(), Failed>
     ensures ok { OnOk result ((n : ℕ) (more : List Logical) →
         Wrote (O.written sink.old) (O.written sink.new) (O.faults sink.old) (O.faults sink.new)
-        (held page.old ++ worded_text (cell_lines (mark_in lift.now) lift.now.ins n number (cell ∷ []) more)) (held page.new ++ worded_text more)) }
+        (held page.old ++ worded_text (cell_lines (mark_in lift.now) lift.now.ins n number
+        (cell ∷ []) more)) (held page.new ++ worded_text more)) }
     ensures err { OnErr result ((n : ℕ) (more : List Logical) →
         Broke (O.written sink.old) (O.written sink.new) (O.faults sink.old) (O.faults sink.new)
-        (held page.old ++ worded_text (cell_lines (mark_in lift.now) lift.now.ins n number (cell ∷ []) more))) }
+        (held page.old ++ worded_text (cell_lines (mark_in lift.now) lift.now.ins n number
+        (cell ∷ []) more))) }
 {
     let (a, b) = sources(cell);
     let words = [LineWord::Net(a), LineWord::Net(b), LineWord::Gate(number)];
@@ -132,10 +141,13 @@ fn write_gate<O: Sink>(
 pub fn write_gates<O: Sink>(sink: &mut O, page: &mut Page, lift: &Lift) -> Result<(), Failed>
     ensures ok { OnOk result ((n : ℕ) (more : List Logical) →
         Wrote (O.written sink.old) (O.written sink.new) (O.faults sink.old) (O.faults sink.new)
-        (held page.old ++ worded_text (cell_lines (mark_in lift.now) lift.now.ins n 0 lift.now.list.cells more)) (held page.new ++ worded_text more)) }
+        (held page.old ++ worded_text (cell_lines
+        (mark_in lift.now) lift.now.ins n 0 lift.now.list.cells more))
+        (held page.new ++ worded_text more)) }
     ensures err { OnErr result ((n : ℕ) (more : List Logical) →
         Broke (O.written sink.old) (O.written sink.new) (O.faults sink.old) (O.faults sink.new)
-        (held page.old ++ worded_text (cell_lines (mark_in lift.now) lift.now.ins n 0 lift.now.list.cells more))) }
+        (held page.old ++ worded_text (cell_lines
+        (mark_in lift.now) lift.now.ins n 0 lift.now.list.cells more))) }
 {
     for number in 0..lift.list.cells.len() {
         let cell = *lift.list.cells.get(number);
@@ -154,7 +166,8 @@ fn write_output<O: Sink>(
 ) -> Result<(), Failed>
     ensures ok { OnOk result ((n : ℕ) (more : List Logical) →
         Wrote (O.written sink.old) (O.written sink.new) (O.faults sink.old) (O.faults sink.new)
-        (held page.old ++ worded_text (output_then lift.now n source name.now more)) (held page.new ++ worded_text more)) }
+        (held page.old ++ worded_text (output_then lift.now n source name.now more))
+        (held page.new ++ worded_text more)) }
     ensures err { OnErr result ((n : ℕ) (more : List Logical) →
         Broke (O.written sink.old) (O.written sink.new) (O.faults sink.old) (O.faults sink.new)
         (held page.old ++ worded_text (output_then lift.now n source name.now more))) }
@@ -168,10 +181,13 @@ fn write_output<O: Sink>(
 pub fn write_outputs<O: Sink>(sink: &mut O, page: &mut Page, lift: &Lift) -> Result<(), Failed>
     ensures ok { OnOk result ((n : ℕ) →
         Wrote (O.written sink.old) (O.written sink.new) (O.faults sink.old) (O.faults sink.new)
-        (held page.old ++ worded_text (lines_of_outputs (mark_in lift.now) lift.now.ins n lift.now.outs lift.now.list.outs)) (held page.new ++ [])) }
+        (held page.old ++ worded_text (lines_of_outputs
+        (mark_in lift.now) lift.now.ins n lift.now.outs lift.now.list.outs))
+        (held page.new ++ [])) }
     ensures err { OnErr result ((n : ℕ) →
         Broke (O.written sink.old) (O.written sink.new) (O.faults sink.old) (O.faults sink.new)
-        (held page.old ++ worded_text (lines_of_outputs (mark_in lift.now) lift.now.ins n lift.now.outs lift.now.list.outs))) }
+        (held page.old ++ worded_text (lines_of_outputs
+        (mark_in lift.now) lift.now.ins n lift.now.outs lift.now.list.outs))) }
 {
     for number in 0..lift.list.outs.len() {
         let source = *lift.list.outs.get(number);

@@ -20,7 +20,8 @@ use ww_base::{Failed, Page, Sink};
 fn write_head<O: Sink>(sink: &mut O, page: &mut Page, lift: &Lift) -> Result<(), Failed>
     ensures ok { OnOk result ((more : List Logical) →
         Wrote (O.written sink.old) (O.written sink.new) (O.faults sink.old) (O.faults sink.new)
-        (held page.old ++ worded_text (head_then lift.now more)) (held page.new ++ worded_text more)) }
+        (held page.old ++ worded_text (head_then lift.now more))
+        (held page.new ++ worded_text more)) }
     ensures err { OnErr result ((more : List Logical) →
         Broke (O.written sink.old) (O.written sink.new) (O.faults sink.old) (O.faults sink.new)
         (held page.old ++ worded_text (head_then lift.now more))) }
@@ -34,7 +35,8 @@ fn write_head<O: Sink>(sink: &mut O, page: &mut Page, lift: &Lift) -> Result<(),
 /// Writes the BLIF text of a lifted circuit. Where a write fails, a front of the text stands written. It takes no
 /// memory. Each name is written as often as it is used, so a long name makes a long text.
 pub fn write<O: Sink>(lift: &Lift, sink: &mut O) -> Result<(), Failed>
-    ensures ok { OnOk result (Appends (O.written sink.old) (O.written sink.new) (text_of_lift lift.now)) }
+    ensures ok { OnOk result (Appends (O.written sink.old) (O.written sink.new)
+        (text_of_lift lift.now)) }
     ensures front { OnErr result (
         (n : ℕ)
         × Appends (O.written sink.old) (O.written sink.new) (take n (text_of_lift lift.now))

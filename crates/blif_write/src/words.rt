@@ -38,7 +38,8 @@ fn write_numbered<O: Sink>(
 ) -> Result<(), Failed>
     ensures ok { OnOk result ((rest : List ℕ) →
         Wrote (O.written sink.old) (O.written sink.new) (O.faults sink.old) (O.faults sink.new)
-        (held page.old ++ ((mark_after leading ++ (letter ∷ decimal number)) ++ rest)) (held page.new ++ rest)) }
+        (held page.old ++ ((mark_after leading ++ (letter ∷ decimal number)) ++ rest))
+        (held page.new ++ rest)) }
     ensures err { OnErr result ((rest : List ℕ) →
         Broke (O.written sink.old) (O.written sink.new) (O.faults sink.old) (O.faults sink.new)
         (held page.old ++ ((mark_after leading ++ (letter ∷ decimal number)) ++ rest))) }

@@ -11,7 +11,8 @@ use ww_base::{Failed, Sink, StdSink, StdSource, write_all};
 
 // Tells that there is no memory for the words, and answers the status.
 fn tell_no_memory<E: Sink>(err: &mut E) -> u8
-    ensures told { result ≡ 7 → Appends (E.written err.old) (E.written err.new) (codes "no memory\n") }
+    ensures told { result ≡ 7 → Appends (E.written err.old) (E.written err.new)
+        (codes "no memory\n") }
     ensures failed { result ≢ 7 → (result ≡ 6) × Rose (E.faults err.old) (E.faults err.new) }
 {
     match write_all(err, b"no memory\n") {

@@ -61,7 +61,8 @@ fn started(
     requires carried { IsCarriedBy netlist.now.design planned.plan planned.ports }
     requires planned { IsPlanned netlist.now.flat planned.plan }
     requires some { 0 < contexts }
-    requires set { AreBitsSet (flat_latches netlist.now.flat) starts.now.bits (map string_bytes words.now) }
+    requires set { AreBitsSet (flat_latches netlist.now.flat) starts.now.bits
+        (map string_bytes words.now) }
     ensures printed { IfOk result (λ output. (text : List ℕ)
         → HasStarts contexts (map string_bytes words.now) text netlist.now.design
         → Compiles contexts (map string_bytes words.now) text (output_text output)) }

@@ -44,7 +44,8 @@ fn push_names(
     context: u64,
     contexts: u64,
 ) -> Result<(), AllocError>
-    ensures { OnOk result (names.new.items ≡ names.old.items ++ names_in_context contexts ports.now context) }
+    ensures { OnOk result (names.new.items ≡
+        names.old.items ++ names_in_context contexts ports.now context) }
 {
     for port in ports {
         let name = with_context(alloc, contexts, context, port.name.as_slice())?;
@@ -76,9 +77,11 @@ pub fn driven_by(
     words: &[String],
     text: &[u8],
 ) -> Result<Driven, TextError>
-    ensures is { IfOk result (λ d. IsSimulation cycles (map string_bytes words.now) text.now (simulation_of d)) }
+    ensures is { IfOk result (λ d. IsSimulation cycles (map string_bytes words.now) text.now
+        (simulation_of d)) }
     ensures streams { IfOk result (λ d. AreFor d.ports d.streams) }
-    ensures in_box { IfOk result (λ d. AreInBox d.pattern.width d.pattern.height (cells_of d.ports.ins)) }
+    ensures in_box { IfOk result (λ d. AreInBox d.pattern.width d.pattern.height
+        (cells_of d.ports.ins)) }
     ensures sound { IfOk result (λ d. IsSoundTable d.ports) }
     ensures inside { IfOk result (λ d. HasCellsInside d.pattern.width d.pattern.height d.ports) }
     ensures refused { IfErr result (HasStreamsCause cycles (map string_bytes words.now) text.now) }

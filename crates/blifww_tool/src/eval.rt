@@ -23,10 +23,13 @@ pub fn streams_for(
     netlist: &Netlist,
 ) -> Result<Streams, StreamError>
     requires { AreParts netlist.now.design netlist.now.flat netlist.now.order.nodes }
-    ensures streams { IfOk result (FeedsInputs 1 cycles (map string_bytes words.now) netlist.now.design) }
+    ensures streams { IfOk result (FeedsInputs 1 cycles
+        (map string_bytes words.now) netlist.now.design) }
     ensures many { IfOk result (λ streams. length streams.bits ≡ length netlist.now.flat.ins) }
-    ensures long { IfOk result (λ streams. All (λ bits. length bits ≡ streams.cycles) streams.bits) }
-    ensures fault { IfErr result (HasInputsCause cycles (map string_bytes words.now) netlist.now.design) }
+    ensures long { IfOk result (λ streams. All (λ bits. length bits ≡
+        streams.cycles) streams.bits) }
+    ensures fault { IfErr result (HasInputsCause cycles
+        (map string_bytes words.now) netlist.now.design) }
 {
     let ins = netlist.in_names(alloc)?;
     let streams = Streams::read(alloc, words, ins.as_slice(), cycles, 1)?;
@@ -38,7 +41,8 @@ fn run_lines(alloc: Global, netlist: Netlist, streams: &Streams) -> Result<Outpu
     requires parts { AreParts netlist.design netlist.flat netlist.order.nodes }
     requires many { length streams.now.bits ≡ length netlist.flat.ins }
     requires long { All (λ bits. length bits ≡ streams.now.cycles) streams.now.bits }
-    ensures printed { IfOk result (λ output. PrintsRun netlist.design streams.now (output_text output)) }
+    ensures printed { IfOk result (λ output. PrintsRun netlist.design streams.now
+        (output_text output)) }
     ensures writable { IfOk result IsWritableOutput }
     ensures refused { IfErr result (λ e. e ≡ NoMemory) }
 {
@@ -57,7 +61,8 @@ pub fn eval(
     ensures printed { IfOk result (λ output.
         Prints (eval cycles (map string_bytes words.now)) text.now (output_text output)) }
     ensures writable { IfOk result IsWritableOutput }
-    ensures refused { IfErr result (λ e. HasTextCause (eval cycles (map string_bytes words.now)) text.now e) }
+    ensures refused { IfErr result (λ e. HasTextCause
+        (eval cycles (map string_bytes words.now)) text.now e) }
 {
     let netlist = netlist_of(alloc, text)?;
     let streams = streams_for(alloc, cycles, words, &netlist)?;

@@ -39,9 +39,11 @@ pub fn text_for<S: Source>(
     ensures given { IfOk result (λ text.
         HasText (values_of command.now) (reading S.left S.faults src.old src.new) text) }
     ensures read { OnErr result (reads_text (values_of command.now) ≡ true) }
-    ensures fault { IsErrOf result ReadAllError.ReadFault → ReadFailed (reading S.left S.faults src.old src.new) }
+    ensures fault { IsErrOf result ReadAllError.ReadFault →
+        ReadFailed (reading S.left S.faults src.old src.new) }
     ensures too_long { IsErrOf result ReadAllError.TooLong →
-        (given : List ℕ) × Gave (reading S.left S.faults src.old src.new) given × (text_limit < length given) }
+        (given : List ℕ) × Gave (reading S.left S.faults src.old src.new) given ×
+        (text_limit < length given) }
     ensures front { (given : List ℕ) × Gave (reading S.left S.faults src.old src.new) given }
     ensures unread { reads_text (values_of command.now) ≡ false → src.new ≡ src.old }
 {

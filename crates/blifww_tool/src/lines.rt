@@ -32,7 +32,8 @@ pub fn output_lines(
     names: &[Bytes],
     bits: &[List<bool>],
 ) -> Result<Bytes, AllocError>
-    ensures { IfOk result (λ lines. lines ≡ flat_map (λ p. bits_line p.0 p.1) (zip names.now bits.now)) }
+    ensures { IfOk result (λ lines. lines ≡
+        flat_map (λ p. bits_line p.0 p.1) (zip names.now bits.now)) }
 {
     let mut lines = Vec::new(alloc);
     for (name, shown) in names.iter().zip(bits) {

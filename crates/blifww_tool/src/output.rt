@@ -28,9 +28,11 @@ impl Output {
     /// Writes it, or a front of it where a write fails. It takes no memory.
     pub fn write<O: Sink>(&self, out: &mut O) -> Result<(), Failed>
         requires { IsWritableOutput self.now }
-        ensures ok { OnOk result (Appends (O.written out.old) (O.written out.new) (output_text self.now)) }
+        ensures ok { OnOk result (Appends (O.written out.old) (O.written out.new)
+            (output_text self.now)) }
         ensures front { OnErr result
-            ((n : ℕ) × Appends (O.written out.old) (O.written out.new) (take n (output_text self.now))) }
+            ((n : ℕ) × Appends (O.written out.old) (O.written out.new)
+            (take n (output_text self.now))) }
         ensures cause { HasCause (O.faults out.old) (O.faults out.new) result }
     {
         match self {

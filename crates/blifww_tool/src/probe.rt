@@ -68,7 +68,8 @@ pub fn probe(
 ) -> Result<Output, TextError>
     requires some_cycle { 0 < cycles }
     ensures printed { IfOk result (λ output.
-        Prints (probe cycles name.now path.now (map string_bytes words.now)) text.now (output_text output)) }
+        Prints (probe cycles name.now path.now (map string_bytes words.now)) text.now
+        (output_text output)) }
     ensures writable { IfOk result IsWritableOutput }
     ensures refused { IfErr result (λ e.
         HasTextCause (probe cycles name.now path.now (map string_bytes words.now)) text.now e) }

@@ -59,7 +59,8 @@ pub fn summary(alloc: Global, seed: u32, size: u32, cycles: usize) -> Result<Out
     requires numbers { HasNumbersInRange (self_ seed size cycles) }
     ensures printed { IfOk result (λ output. TellsSummary seed size cycles (output_text output)) }
     ensures writable { IfOk result IsWritableOutput }
-    ensures refused { IfErr result (λ e. (text : List ℕ) → HasTextCause (self_ seed size cycles) text e) }
+    ensures refused { IfErr result (λ e. (text : List ℕ) →
+        HasTextCause (self_ seed size cycles) text e) }
 {
     let summary = summarize(alloc, seed, size, cycles)?;
     Ok(Output::Lines(summary_lines(alloc, &summary)?))

@@ -27,7 +27,8 @@ fn taped(alloc: Global, netlist: &Netlist, streams: &Streams) -> Result<Output, 
     requires long { All (λ bits. length bits ≡ streams.now.cycles) streams.now.bits }
     requires some { 1 ≤ streams.now.cycles }
     requires few { streams.now.cycles ≤ 4096 }
-    ensures taped { IfOk result (λ output. IsTapeOf netlist.now.design streams.now (output_text output)) }
+    ensures taped { IfOk result (λ output. IsTapeOf netlist.now.design streams.now
+        (output_text output)) }
     ensures writable { IfOk result IsWritableOutput }
     ensures refused { IfErr result (λ e. e ≡ NoMemory) }
 {
@@ -52,7 +53,8 @@ pub fn tape(
     ensures printed { IfOk result (λ output.
         Prints (tape cycles (map string_bytes words.now)) text.now (output_text output)) }
     ensures writable { IfOk result IsWritableOutput }
-    ensures refused { IfErr result (λ e. HasTextCause (tape cycles (map string_bytes words.now)) text.now e) }
+    ensures refused { IfErr result (λ e. HasTextCause
+        (tape cycles (map string_bytes words.now)) text.now e) }
 {
     let netlist = netlist_of(alloc, text)?;
     let streams = streams_for(alloc, cycles, words, &netlist)?;

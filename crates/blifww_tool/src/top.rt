@@ -29,7 +29,8 @@ use ww_base::{Failed, Sink, Source};
 // What a command prints of a text. All memory that the command needs is taken here.
 fn answer(alloc: Global, command: &Command, text: &[u8]) -> Result<Output, TextError>
     requires numbers { HasNumbersInRange (values_of command.now) }
-    ensures printed { IfOk result (λ output. Prints (values_of command.now) text.now (output_text output)) }
+    ensures printed { IfOk result (λ output. Prints (values_of command.now) text.now
+        (output_text output)) }
     ensures writable { IfOk result IsWritableOutput }
     ensures refused { IfErr result (λ e. HasTextCause (values_of command.now) text.now e) }
 {
@@ -65,7 +66,8 @@ fn answer(alloc: Global, command: &Command, text: &[u8]) -> Result<Output, TextE
 // Writes an output, and lets it go.
 fn send<O: Sink>(output: Output, out: &mut O) -> Result<(), Failed>
     requires { IsWritableOutput output }
-    ensures ok { OnOk result (Appends (O.written out.old) (O.written out.new) (output_text output)) }
+    ensures ok { OnOk result (Appends (O.written out.old) (O.written out.new)
+        (output_text output)) }
     ensures front { OnErr result
         ((n : ℕ) × Appends (O.written out.old) (O.written out.new) (take n (output_text output))) }
     ensures cause { HasCause (O.faults out.old) (O.faults out.new) result }
@@ -93,9 +95,11 @@ fn work<S: Source, O: Sink>(
     src: &mut S,
     out: &mut O,
 ) -> Result<(), Refusal>
-    ensures done { OnOk result (Does (map string_bytes words.now) (reading S.left S.faults src.old src.new)
+    ensures done { OnOk result (Does (map string_bytes words.now)
+        (reading S.left S.faults src.old src.new)
         (writing O.written O.faults out.old out.new) (λ output. output)) }
-    ensures stopped { IfErr result (λ r. HasStopped (map string_bytes words.now) (reading S.left S.faults src.old src.new)
+    ensures stopped { IfErr result (λ r. HasStopped (map string_bytes words.now)
+        (reading S.left S.faults src.old src.new)
         (writing O.written O.faults out.old out.new) r) }
     ensures front { (given : List ℕ) × Gave (reading S.left S.faults src.old src.new) given }
     ensures unread { AsksForNoText (map string_bytes words.now) → src.new ≡ src.old }
@@ -148,7 +152,8 @@ pub fn run<S: Source, O: Sink, E: Sink>(
 ) -> u8
     // The bytes that `compile` has written carry the design of the text that `src` had left,
     ensures headline { result ≡ 0 → Asks (map string_bytes words.now) (compile 1 [])
-        → WritesWhatItRead (reading S.left S.faults src.old src.new) (writing O.written O.faults out.old out.new) }
+        → WritesWhatItRead (reading S.left S.faults src.old src.new)
+        (writing O.written O.faults out.old out.new) }
 
     // and with `--contexts` carry it in so many contexts, each from the state that the words give it.
     ensures contexts { result ≡ 0 → (contexts : ℕ) (starts : List (List ℕ))
@@ -158,29 +163,34 @@ pub fn run<S: Source, O: Sink, E: Sink>(
 
     // The bytes that `tape` has written run by themselves as the netlist of the text that `src` had left, on the streams
     // of the words, and on zeros after them.
-    ensures tapes { result ≡ 0 → (cycles : ℕ) (streams : List (List ℕ)) → Asks (map string_bytes words.now) (tape cycles streams)
+    ensures tapes { result ≡ 0 → (cycles : ℕ) (streams : List (List ℕ)) →
+        Asks (map string_bytes words.now) (tape cycles streams)
         → WritesTape cycles streams (reading S.left S.faults src.old src.new)
         (writing O.written O.faults out.old out.new) }
 
     // The bytes that `aiger` has written carry the AIGER circuit of the text that `src` had left.
     ensures aigs { result ≡ 0 → Asks (map string_bytes words.now) aiger
-        → WritesItsAig (reading S.left S.faults src.old src.new) (writing O.written O.faults out.old out.new) }
+        → WritesItsAig (reading S.left S.faults src.old src.new)
+        (writing O.written O.faults out.old out.new) }
 
     // The bytes that `vcd` has written are a VCD text of what the nets of the pattern show that `src` had left, driven by
     // the streams of the words, and read as that alone.
-    ensures dumps { result ≡ 0 → (cycles : ℕ) (streams : List (List ℕ)) → Asks (map string_bytes words.now) (vcd cycles streams)
+    ensures dumps { result ≡ 0 → (cycles : ℕ) (streams : List (List ℕ)) →
+        Asks (map string_bytes words.now) (vcd cycles streams)
         → WritesDump cycles streams (reading S.left S.faults src.old src.new)
         (writing O.written O.faults out.old out.new) }
 
     // The bytes that `lift` has written are the text of a netlist without a fault or a loop, which the pattern carries that
     // `src` had left.
     ensures lifts { result ≡ 0 → Asks (map string_bytes words.now) lift
-        → WritesItsNetlist (reading S.left S.faults src.old src.new) (writing O.written O.faults out.old out.new) }
+        → WritesItsNetlist (reading S.left S.faults src.old src.new)
+        (writing O.written O.faults out.old out.new) }
 
     // How the run ends, for every command: done, refused or cut off, each status only where its cause is; and a cause
     // in the words or the text is told wherever it is, but for failed reads and writes and want of memory.
     ensures ends { Ends (call (map string_bytes words.now) (reading S.left S.faults src.old src.new)
-        (writing O.written O.faults out.old out.new) (writing E.written E.faults err.old err.new)) result }
+        (writing O.written O.faults out.old out.new)
+        (writing E.written E.faults err.old err.new)) result }
 
     // Words that are no command, and those of a command that reads nothing, leave the source alone.
     ensures unread { AsksForNoText (map string_bytes words.now) → src.new ≡ src.old }

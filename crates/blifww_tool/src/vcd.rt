@@ -17,7 +17,8 @@ pub fn vcd(alloc: Global, cycles: usize, words: &[String], text: &[u8]) -> Resul
     ensures printed { IfOk result (λ output.
         Prints (vcd cycles (map string_bytes words.now)) text.now (output_text output)) }
     ensures writable { IfOk result IsWritableOutput }
-    ensures refused { IfErr result (λ e. HasTextCause (vcd cycles (map string_bytes words.now)) text.now e) }
+    ensures refused { IfErr result (λ e. HasTextCause
+        (vcd cycles (map string_bytes words.now)) text.now e) }
 {
     let driven = driven_by(alloc, cycles, words, text)?;
     texts_say_waves();

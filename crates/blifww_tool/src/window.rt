@@ -42,7 +42,8 @@ pub fn window(alloc: Global, view: View, words: &[String], text: &[u8]) -> Resul
     ensures printed { IfOk result (λ output.
         Prints (window view (map string_bytes words.now)) text.now (output_text output)) }
     ensures writable { IfOk result IsWritableOutput }
-    ensures refused { IfErr result (λ e. HasTextCause (window view (map string_bytes words.now)) text.now e) }
+    ensures refused { IfErr result (λ e. HasTextCause
+        (window view (map string_bytes words.now)) text.now e) }
 {
     let driven = driven_by(alloc, cycles_in(words), words, text)?;
     let lines = probe_view::window(

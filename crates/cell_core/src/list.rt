@@ -34,7 +34,8 @@ impl CellList {
 
     /// Adds a cell at the end, whose sources are there. Where there is no memory the list is as before.
     pub fn push(&mut self, alloc: Global, cell: Cell) -> Result<(), CellError>
-        requires { IsTrue (reads_there self.old.inputs (length self.old.starts) (length self.old.cells) cell) }
+        requires { IsTrue (reads_there self.old.inputs (length self.old.starts)
+            (length self.old.cells) cell) }
         ensures done { OnOk result (Adds self.old self.new (cell ∷ [])) }
         ensures refused { OnErr result (Adds self.old self.new []) }
     {

@@ -30,7 +30,8 @@ fn put_inputs(sources: &mut [Src], lanes: &[u32])
 fn input_sources(alloc: Global, free: u32, ins: &[u32]) -> Result<Vec<Src>, AllocError>
     requires few { length ins.now < 2 ^ 32 }
     requires on_lanes { All (λ lane. lane < free) ins.now }
-    ensures { IfOk result (λ sources. sources.items ≡ sources_with_inputs 0 ins.now (replicate free Zero)) }
+    ensures { IfOk result (λ sources. sources.items ≡
+        sources_with_inputs 0 ins.now (replicate free Zero)) }
 {
     let mut sources = dark_sources(alloc, free as usize)?;
     put_inputs(&mut sources, ins);
@@ -39,7 +40,8 @@ fn input_sources(alloc: Global, free: u32, ins: &[u32]) -> Result<Vec<Src>, Allo
 
 // The loops, after other lanes.
 fn push_loops(sources: &mut Vec<Src>, loops: u32) -> Result<(), AllocError>
-    ensures { OnOk result (sources.new.items ≡ sources.old.items ++ map Latch (range_with_len 0 loops)) }
+    ensures { OnOk result (sources.new.items ≡
+        sources.old.items ++ map Latch (range_with_len 0 loops)) }
 {
     for number in 0..loops {
         sources.push(Src::Latch(number))?;

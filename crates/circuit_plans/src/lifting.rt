@@ -61,7 +61,8 @@ fn put_made(sources: &mut [Src], lane: usize, upper: Src, lower: Src)
 
 fn lift_instr(cells: &mut Vec<Cell>, sources: &mut [Src], instr: Instr) -> Result<(), LiftError>
     requires { IsOnLanes (length sources.old) instr }
-    ensures { OnOk result (lanes_of cells.new.items sources.new ≡ lift_instr (lanes_of cells.old.items sources.old) instr) }
+    ensures { OnOk result (lanes_of cells.new.items sources.new ≡
+        lift_instr (lanes_of cells.old.items sources.old) instr) }
 {
     let lane = instr.lane() as usize;
     let (a, b) = (sources[lane], sources[lane + 1]);
@@ -80,7 +81,8 @@ fn lift_instrs(
     instrs: &[Instr],
 ) -> Result<(), LiftError>
     requires { All (IsOnLanes (length sources.old)) instrs.now }
-    ensures { OnOk result (lanes_of cells.new.items sources.new ≡ lift_instrs (lanes_of cells.old.items sources.old) instrs.now) }
+    ensures { OnOk result (lanes_of cells.new.items sources.new ≡
+        lift_instrs (lanes_of cells.old.items sources.old) instrs.now) }
 {
     for instr in instrs {
         lift_instr(cells, sources, *instr)?;
@@ -94,7 +96,8 @@ fn lift_columns(
     columns: &[Column],
 ) -> Result<(), LiftError>
     requires { All (IsColumnOnLanes (length sources.old)) columns.now }
-    ensures { OnOk result (lanes_of cells.new.items sources.new ≡ lift_columns (lanes_of cells.old.items sources.old) columns.now) }
+    ensures { OnOk result (lanes_of cells.new.items sources.new ≡
+        lift_columns (lanes_of cells.old.items sources.old) columns.now) }
 {
     for column in columns {
         lift_instrs(cells, sources, column.instrs.as_slice())?;

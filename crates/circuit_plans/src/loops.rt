@@ -52,7 +52,8 @@ fn push_if(found: &mut Vec<Start>, bit: bool, start: Start) -> Result<(), AllocE
 /// The starts of loops that start with these bits, one for each loop.
 pub fn starts_of_bits(alloc: Global, lanes: u32, bits: &[bool]) -> Result<Starts, AllocError>
     requires { length bits.now ≤ lanes }
-    ensures { IfOk result (λ starts. starts.list ≡ starts_where lanes (length bits.now) (λ loop. get_or bits.now loop false)) }
+    ensures { IfOk result (λ starts. starts.list ≡
+        starts_where lanes (length bits.now) (λ loop. get_or bits.now loop false)) }
 {
     let loops = bits.len() as u32;
     let mut found = Vec::new(alloc);

@@ -101,7 +101,8 @@ fn earliest_in_latches(
     found: Option<NetUse>,
     latches: &[FlatLatch],
 ) -> Option<NetUse>
-    requires { All (λ latch. IsNetId clocks.now latch.input × IsNetId clocks.now latch.output) latches.now }
+    requires { All (λ latch. IsNetId clocks.now latch.input ×
+        IsNetId clocks.now latch.output) latches.now }
     ensures { result ≡ earliest_among clocks.now found (flat_map uses_of_latch latches.now) }
 {
     let mut found = found;

@@ -11,8 +11,10 @@ use std::alloc::Global;
 fn put(used: &mut [usize], instr: Instr) -> usize
     requires within { IsOnLanes (length used.old) instr }
     requires few { (lane : ℕ) → lane < length used.old → get_or used.old lane 0 + 1 < 2 ^ 64 }
-    ensures number { result ≡ max (get_or used.old (lane_of instr) 0) (get_or used.old (lane_of instr + 1) 0) }
-    ensures used { used.new ≡ set (set used.old (lane_of instr) (result + 1)) (lane_of instr + 1) (result + 1) }
+    ensures number { result ≡ max (get_or used.old (lane_of instr) 0)
+        (get_or used.old (lane_of instr + 1) 0) }
+    ensures used { used.new ≡ set (set used.old (lane_of instr) (result + 1)) (lane_of instr + 1)
+        (result + 1) }
 {
     let lane = instr.lane() as usize;
     let column = used[lane].max(used[lane + 1]);

@@ -136,9 +136,11 @@ pub fn map_cover(
 ) -> Result<Src, CellError>
     requires { HasSources list.old sources.now }
     ensures value { IfOk result (AnswersCover list.old list.new sources.now rows.now on) }
-    ensures single { IfOk result (λ src. (cell : Cell) → single_cell sources.now rows.now on ≡ Some cell →
+    ensures single { IfOk result (λ src. (cell : Cell) →
+        single_cell sources.now rows.now on ≡ Some cell →
         IsCell list.new src cell) }
-    ensures constant { IfOk result (λ src. (constant : Src) → constant_source (length sources.now) rows.now on ≡ Some constant →
+    ensures constant { IfOk result (λ src. (constant : Src) →
+        constant_source (length sources.now) rows.now on ≡ Some constant →
         src ≡ constant) }
 {
     if let Some(src) = constant_source(sources.len(), rows, on) {

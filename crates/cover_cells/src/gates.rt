@@ -19,7 +19,8 @@ pub fn add(
     alloc: Global,
     cell: Cell,
 ) -> Result<Src, CellError>
-    requires { IsTrue (reads_there list.old.inputs (length list.old.starts) (length list.old.cells) cell) }
+    requires { IsTrue (reads_there list.old.inputs (length list.old.starts)
+        (length list.old.cells) cell) }
     ensures value { IfOk result (λ src.
         Answers list.old list.new 1 (reads_one cell ≡ true) src (λ inputs state.
         cell_bit inputs state (cell_bits inputs state list.old.cells) cell)) }
@@ -102,7 +103,8 @@ pub fn with_column(
     ensures { IfOk result (λ src.
         Answers list.old list.new (2 * literals (character ∷ []))
         ((is_one product ≡ true) ⊎ (is_one source ≡ true)) src (λ inputs state.
-        bit_in list.old.cells inputs state product && fits character (bit_in list.old.cells inputs state source))) }
+        bit_in list.old.cells inputs state product &&
+        fits character (bit_in list.old.cells inputs state source))) }
 {
     match character {
         b'0' => and_not(list, places, alloc, product, source),

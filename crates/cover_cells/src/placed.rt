@@ -46,7 +46,8 @@ pub fn place(
 ) -> Result<Vec<Src>, CellError>
     requires there { HasSources list.old sources.now }
     requires in_order { IsTrue (are_in_order (length sources.now) 0 0 cells.now) }
-    ensures { IfOk result (λ made. ArePlaced list.old list.new sources.now cells.now (length cells.now) made.items) }
+    ensures { IfOk result (λ made. ArePlaced list.old list.new sources.now cells.now
+        (length cells.now) made.items) }
 {
     let mut made = Vec::new(alloc);
     for cell in cells {

@@ -101,7 +101,8 @@ pub fn settle(
     alloc: Global,
     cell: Cell,
 ) -> Result<Src, CellError>
-    requires { IsTrue (reads_there list.old.inputs (length list.old.starts) (length list.old.cells) cell) }
+    requires { IsTrue (reads_there list.old.inputs (length list.old.starts)
+        (length list.old.cells) cell) }
     ensures { IfOk result (λ src.
         Answers list.old list.new 1 (reads_one cell ≡ true) src (λ inputs state.
         cell_bit inputs state (cell_bits inputs state list.old.cells) cell)) }

@@ -32,8 +32,10 @@ impl Places {
     /// Notes where a cell was put.
     pub fn note(&mut self, cell: Cell, place: u32) -> Result<(), CellError>
         ensures noted { OnOk result (place_in ⟦<Cell as Ord>⟧.cmp self.new cell ≡ Some place) }
-        ensures others { OnOk result ((other : Cell) → is_at (⟦<Cell as Ord>⟧.cmp cell) other ≡ false →
-            place_in ⟦<Cell as Ord>⟧.cmp self.new other ≡ place_in ⟦<Cell as Ord>⟧.cmp self.old other) }
+        ensures others { OnOk result ((other : Cell) →
+            is_at (⟦<Cell as Ord>⟧.cmp cell) other ≡ false →
+            place_in ⟦<Cell as Ord>⟧.cmp self.new other ≡
+            place_in ⟦<Cell as Ord>⟧.cmp self.old other) }
     {
         self.by_cell.insert(cell, place)?;
         Ok(())
@@ -91,7 +93,8 @@ pub fn share(
     alloc: Global,
     cell: Cell,
 ) -> Result<Src, CellError>
-    requires { IsTrue (reads_there list.old.inputs (length list.old.starts) (length list.old.cells) cell) }
+    requires { IsTrue (reads_there list.old.inputs (length list.old.starts)
+        (length list.old.cells) cell) }
     ensures value { IfOk result (λ src.
         Answers list.old list.new 1 (reads_one cell ≡ true) src (λ inputs state.
         cell_bit inputs state (cell_bits inputs state list.old.cells) cell)) }

@@ -29,7 +29,8 @@ pub fn or_words(a: u64, b: u64) -> u64
 
 /// The table of what is 1 where exactly one of the two is.
 pub fn xor_words(a: u64, b: u64) -> u64
-    ensures { (n : ℕ) → has_bit result n ≡ ((has_bit a n || has_bit b n) && not (has_bit a n && has_bit b n)) }
+    ensures { (n : ℕ) → has_bit result n ≡
+        ((has_bit a n || has_bit b n) && not (has_bit a n && has_bit b n)) }
 {
     a ^ b
 }
@@ -57,7 +58,8 @@ pub fn net_word(i: usize) -> u64
 
 // A product with one more column.
 fn column_word(word: u64, net: u64, character: u8) -> u64
-    ensures { (n : ℕ) → n < 64 → has_bit result n ≡ (has_bit word n && fits character (has_bit net n)) }
+    ensures { (n : ℕ) → n < 64 → has_bit result n ≡
+        (has_bit word n && fits character (has_bit net n)) }
 {
     match character {
         b'0' => and_not_words(word, net),
@@ -69,7 +71,8 @@ fn column_word(word: u64, net: u64, character: u8) -> u64
 // The table of a row over so many nets.
 fn row_word(row: &[u8], nets: usize) -> u64
     requires { nets ≤ 6 }
-    ensures { (bits : List Bool) → length bits ≡ nets → table_bit bits result ≡ product_holds row.now bits }
+    ensures { (bits : List Bool) → length bits ≡ nets →
+        table_bit bits result ≡ product_holds row.now bits }
 {
     let mut word = u64::MAX;
     for i in 0..row.len().min(nets) {
@@ -81,7 +84,8 @@ fn row_word(row: &[u8], nets: usize) -> u64
 // The table of a cover over so many nets.
 pub fn rows_word(rows: &[Bytes], on: bool, nets: usize) -> u64
     requires { nets ≤ 6 }
-    ensures { (bits : List Bool) → length bits ≡ nets → table_bit bits result ≡ cover_value rows.now on bits }
+    ensures { (bits : List Bool) → length bits ≡ nets →
+        table_bit bits result ≡ cover_value rows.now on bits }
 {
     let mut word = 0;
     for row in rows {

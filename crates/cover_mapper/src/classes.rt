@@ -113,7 +113,8 @@ pub fn sources_of_listed(
 ) -> Result<Vec<Src>, MapError>
     ensures { IfOk result (λ found.
         found.items
-        ≡ sources_at sources.now (cond flat.now.listed (map (λ (net : flat_net.Net). net.class) flat.now.nets) [])
+        ≡ sources_at sources.now (cond flat.now.listed
+        (map (λ (net : flat_net.Net). net.class) flat.now.nets) [])
         ) }
 {
     if !flat.listed {

@@ -26,7 +26,8 @@ fn starts_of(alloc: Global, latches: &[FlatLatch]) -> Result<Vec<bool>, MapError
 pub fn start_list(alloc: Global, flat: &Flat) -> Result<CellList, MapError>
     requires { length flat.now.ins < 2 ^ 32 }
     ensures inputs { IfOk result (λ list. list.inputs ≡ length flat.now.ins) }
-    ensures starts { IfOk result (λ list. list.starts ≡ map (λ latch. latch.init == 1) flat.now.latches) }
+    ensures starts { IfOk result (λ list. list.starts ≡
+        map (λ latch. latch.init == 1) flat.now.latches) }
     ensures cells { IfOk result (λ list. list.cells ≡ []) }
 {
     let starts = starts_of(alloc, flat.latches.as_slice())?;
@@ -59,7 +60,8 @@ pub fn source_latches(flat: &Flat, list: &CellList, sources: &mut [Option<Src>])
     requires sound { IsSound flat.now }
     requires few { length flat.now.latches < 2 ^ 32 }
     requires starts { length list.now.starts ≡ length flat.now.latches }
-    requires inputs { AreSourced flat.now (IsAmongFirst (length flat.now.ins) 0 []) list.now sources.old }
+    requires inputs { AreSourced flat.now (IsAmongFirst
+        (length flat.now.ins) 0 []) list.now sources.old }
     ensures { AreSourced
         flat.now (IsAmongFirst (length flat.now.ins) (length flat.now.latches) []) list.now
         sources.new }

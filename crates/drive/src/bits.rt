@@ -22,7 +22,8 @@ pub const GREATEST_GENERATION: u128 = 4_294_967_296;
 // Puts the bits that cells show at the end of a row.
 fn push_bits(row: &mut Vec<bool>, run: &Run, cells: &[(u64, u64)]) -> Result<(), AllocError>
     requires { IsBandRun run.now }
-    ensures { OnOk result (row.new.items ≡ row.old.items ++ bits_on (planes_of run.now run.now.generation) cells.now) }
+    ensures { OnOk result (row.new.items ≡
+        row.old.items ++ bits_on (planes_of run.now run.now.generation) cells.now) }
 {
     for (x, y) in cells {
         row.push(run.is_head(*x, *y))?;
@@ -42,7 +43,8 @@ fn row_of_cycle(
     requires order { run.old.generation ≤ first }
     requires near { first + 32 * (contexts - 1) ≤ greatest_generation }
     ensures gone { OnOk result (HasGoneOn (first + 32 * (contexts - 1)) run.old run.new) }
-    ensures row { IfOk result (λ row. row.items ≡ row_of_cycle (planes_of run.old) contexts first cells.now) }
+    ensures row { IfOk result (λ row. row.items ≡
+        row_of_cycle (planes_of run.old) contexts first cells.now) }
 {
     let mut row = Vec::new(alloc);
     for context in 0..contexts {
@@ -67,8 +69,10 @@ fn rows_of_cycles(
     requires near { last_from first ports.now streams.now ≤ greatest_generation }
     ensures gone { OnOk result (HasGoneOn (last_from first ports.now streams.now) run.old run.new) }
     ensures rows { IfOk result (λ rows. rows.items ≡
-        rows_of_cycles (planes_of run.old) ports.now.c ports.now.p streams.now.cycles first cells.now) }
-    ensures refused { IfErr result (HasRunCause (first_miss_of run.old (last_from first ports.now streams.now))) }
+        rows_of_cycles (planes_of run.old) ports.now.c ports.now.p streams.now.cycles first
+        cells.now) }
+    ensures refused { IfErr result (HasRunCause (first_miss_of run.old
+        (last_from first ports.now streams.now))) }
 {
     let mut rows = Vec::new(alloc);
     for cycle in 0..streams.cycles {
@@ -95,8 +99,10 @@ fn columns_of_cells(
     requires near { last_from first ports.now streams.now ≤ greatest_generation }
     ensures gone { OnOk result (HasGoneOn (last_from first ports.now streams.now) run.old run.new) }
     ensures bits { IfOk result (λ bits. bits ≡
-        columns_of_cells (planes_of run.old) ports.now.c ports.now.p streams.now.cycles first cells.now) }
-    ensures refused { IfErr result (HasRunCause (first_miss_of run.old (last_from first ports.now streams.now))) }
+        columns_of_cells (planes_of run.old) ports.now.c ports.now.p streams.now.cycles first
+        cells.now) }
+    ensures refused { IfErr result (HasRunCause (first_miss_of run.old
+        (last_from first ports.now streams.now))) }
 {
     if cells.is_empty() {
         return Ok(List::of(Vec::new(alloc)));
@@ -135,11 +141,13 @@ pub fn bits_of_cells(
     requires in_box { AreInBox pattern.width pattern.height (cells_of ports.now.ins) }
     ensures near { OnOk result (last_from first ports.now streams.now ≤ greatest_generation) }
     ensures quiet { OnOk result (
-        first_miss ports.now streams.now (plane_of pattern.rows) (last_from first ports.now streams.now) ≡ None) }
+        first_miss ports.now streams.now (plane_of pattern.rows)
+        (last_from first ports.now streams.now) ≡ None) }
     ensures bits { IfOk result (λ bits.
         bits ≡ bits_of_cells ports.now streams.now (plane_of pattern.rows) first cells.now) }
     ensures refused { IfErr result (
-        HasSimulateCause ports.now streams.now (plane_of pattern.rows) (last_from first ports.now streams.now)) }
+        HasSimulateCause ports.now streams.now (plane_of pattern.rows)
+        (last_from first ports.now streams.now)) }
 {
     let generations = last_from(first, ports, streams);
     if generations > GREATEST_GENERATION {

@@ -24,7 +24,8 @@ fn push_row(
 ) -> Result<(), DriveError>
     requires { length inputs.now ≡ length row.now }
     ensures { OnOk result (
-        due.new.items ≡ due.old.items ++ injections_of_row generation (cells_of inputs.now) row.now) }
+        due.new.items ≡ due.old.items ++
+        injections_of_row generation (cells_of inputs.now) row.now) }
 {
     for (input, bit) in inputs.iter().zip(row) {
         if *bit {
@@ -49,7 +50,8 @@ fn push_cycle(
 ) -> Result<(), DriveError>
     requires room { generation + 32 * contexts < 2 ^ 128 }
     requires many { length bits.now ≡ contexts * length inputs.now }
-    ensures { OnOk result (due.new.items ≡ due.old.items ++ injections_from generation 32 (cells_of inputs.now)
+    ensures { OnOk result (due.new.items ≡
+        due.old.items ++ injections_from generation 32 (cells_of inputs.now)
         (map (λ context. take (length inputs.now) (drop (context * length inputs.now) bits.now))
         (range_with_len 0 contexts))) }
 {

@@ -28,7 +28,8 @@ pub fn move_all(bands: &mut Bands, generation: u64) -> bool
     requires room { generation + 1 < 2 ^ 64 }
     ensures at { AreAt (generation + 1) bands.new }
     ensures same { IsSamePattern bands.old bands.new }
-    ensures asleep { result ≡ true → (b x y : ℕ) → b < length bands.old.generations → ¬ IsAwake bands.old b x y }
+    ensures asleep { result ≡ true → (b x y : ℕ) → b < length bands.old.generations →
+        ¬ IsAwake bands.old b x y }
 {
     let mut is_asleep = true;
     for b in 0..bands.bands() {

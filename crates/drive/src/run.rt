@@ -173,7 +173,8 @@ impl Run {
         requires run { IsBandRun self.now }
         requires room { x + 2 < 2 ^ 128 }
         requires room_below { y + 2 < 2 ^ 128 }
-        ensures { result ≡ heads_around (evolution self.now.bands self.now.generation) (pos x) (pos y) }
+        ensures { result ≡ heads_around (evolution self.now.bands self.now.generation) (pos x)
+            (pos y) }
     {
         let over = self.head_before(x, y) + self.head_before(x + 1, y) + self.head_before(x + 2, y);
         let beside = self.head_before(x, y + 1) + self.head_before(x + 2, y + 1);
@@ -253,7 +254,8 @@ impl Run {
         ensures planes { planes_of self.new ≡ planes_of self.old }
         ensures shows { planes_of self.new self.new.generation ≡ planes_of self.new generation }
         ensures misses { first_miss_of self.new ≡ first_miss_of self.old }
-        ensures missed { first_miss_of self.new self.new.generation ≡ first_miss_of self.new generation }
+        ensures missed { first_miss_of self.new self.new.generation ≡
+            first_miss_of self.new generation }
     {
         while self.generation < generation && !self.is_still {
             self.next();
@@ -263,7 +265,8 @@ impl Run {
     // Whether no injection of a later generation is left.
     fn is_past(&self) -> bool
         requires { IsBandRun self.now }
-        ensures { result ≡ true → All (λ i. i.generation < self.now.generation + 1) self.now.bands.injections }
+        ensures { result ≡ true → All (λ i. i.generation <
+            self.now.generation + 1) self.now.bands.injections }
     {
         self.next_injection >= self.bands.injections().len()
     }
@@ -277,7 +280,8 @@ impl Run {
         ensures order { self.new.generation ≤ generation }
         ensures planes { planes_of self.new ≡ planes_of self.old }
         ensures misses { first_miss_of self.new ≡ first_miss_of self.old }
-        ensures missed { first_miss_of self.new self.new.generation ≡ first_miss_of self.new generation }
+        ensures missed { first_miss_of self.new self.new.generation ≡
+            first_miss_of self.new generation }
     {
         while self.generation < generation && !self.is_past() {
             self.next();

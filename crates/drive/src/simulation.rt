@@ -36,10 +36,13 @@ pub fn simulate(
     requires in_box { AreInBox pattern.width pattern.height (cells_of ports.now.ins) }
     ensures near { OnOk result (last_generation ports.now streams.now ≤ greatest_generation) }
     ensures quiet { OnOk result (
-        first_miss ports.now streams.now (plane_of pattern.rows) (last_generation ports.now streams.now) ≡ None) }
-    ensures bits { IfOk result (λ bits. bits ≡ shown_bits ports.now streams.now (plane_of pattern.rows)) }
+        first_miss ports.now streams.now (plane_of pattern.rows)
+        (last_generation ports.now streams.now) ≡ None) }
+    ensures bits { IfOk result (λ bits. bits ≡
+        shown_bits ports.now streams.now (plane_of pattern.rows)) }
     ensures refused { IfErr result (
-        HasSimulateCause ports.now streams.now (plane_of pattern.rows) (last_generation ports.now streams.now)) }
+        HasSimulateCause ports.now streams.now (plane_of pattern.rows)
+        (last_generation ports.now streams.now)) }
 {
     let cells = cells_of(alloc, ports.outs.as_slice())?;
     bits_of_cells(alloc, pattern, ports, streams, ports.l, &cells)

@@ -108,7 +108,8 @@ fn is_head(plan: &Plan, column: u64, lane: u64, kind: Kind, place: (u32, u32)) -
     requires admissible { IsAdmissible plan.now }
     requires far { column < 2 ^ 57 }
     requires low { lane < 2 ^ 57 }
-    ensures { result ≡ is_cell_of (pos place.0) (pos place.1) (heads_of (drawn_edges plan.now) column lane (interface kind)) }
+    ensures { result ≡ is_cell_of (pos place.0) (pos place.1)
+        (heads_of (drawn_edges plan.now) column lane (interface kind)) }
 {
     is_lit_entry(plan, column, lane, kind, 0, place)
         || is_lit_entry(plan, column, lane, kind, 1, place)
@@ -120,7 +121,8 @@ fn is_tail(plan: &Plan, column: u64, lane: u64, kind: Kind, place: (u32, u32)) -
     requires admissible { IsAdmissible plan.now }
     requires far { column < 2 ^ 57 }
     requires low { lane < 2 ^ 57 }
-    ensures { result ≡ is_cell_of (pos place.0) (pos place.1) (tails_of (drawn_edges plan.now) column lane (interface kind)) }
+    ensures { result ≡ is_cell_of (pos place.0) (pos place.1)
+        (tails_of (drawn_edges plan.now) column lane (interface kind)) }
 {
     is_lit_exit(plan, column, lane, kind, 0, place)
         || is_lit_exit(plan, column, lane, kind, 1, place)
@@ -145,8 +147,10 @@ fn has_electron(plan: &Plan, column: u64, lane: u64, kind: Kind, n: usize, y: u3
     requires far { column < 2 ^ 57 }
     requires low { lane < 2 ^ 57 }
     requires two { n < 2 }
-    ensures head { result ≡ false → (x : ℕ) → head_at (drawn_edges plan.now) column lane kind n x y ≡ false }
-    ensures tail { result ≡ false → (x : ℕ) → tail_at (drawn_edges plan.now) column lane kind n x y ≡ false }
+    ensures head { result ≡ false → (x : ℕ) → head_at
+        (drawn_edges plan.now) column lane kind n x y ≡ false }
+    ensures tail { result ≡ false → (x : ℕ) → tail_at
+        (drawn_edges plan.now) column lane kind n x y ≡ false }
 {
     has_head(plan, column, lane, kind, n, y) || has_tail(plan, column, lane, kind, n, y)
 }
@@ -157,7 +161,8 @@ fn has_head(plan: &Plan, column: u64, lane: u64, kind: Kind, n: usize, y: u32) -
     requires far { column < 2 ^ 57 }
     requires low { lane < 2 ^ 57 }
     requires two { n < 2 }
-    ensures { result ≡ false → (x : ℕ) → head_at (drawn_edges plan.now) column lane kind n x y ≡ false }
+    ensures { result ≡ false → (x : ℕ) → head_at (drawn_edges plan.now) column lane kind n x y ≡
+        false }
 {
     kind.entries()[n].1 == y && is_entry_lit(plan, column, lane, kind, n)
 }
@@ -168,7 +173,8 @@ fn has_tail(plan: &Plan, column: u64, lane: u64, kind: Kind, n: usize, y: u32) -
     requires far { column < 2 ^ 57 }
     requires low { lane < 2 ^ 57 }
     requires two { n < 2 }
-    ensures { result ≡ false → (x : ℕ) → tail_at (drawn_edges plan.now) column lane kind n x y ≡ false }
+    ensures { result ≡ false → (x : ℕ) → tail_at (drawn_edges plan.now) column lane kind n x y ≡
+        false }
 {
     kind.exits()[n].1 == y && is_exit_lit(plan, column, lane, kind, n)
 }
@@ -178,7 +184,8 @@ pub fn tile_cell(plan: &Plan, column: u64, lane: u64, kind: Kind, place: (u32, u
     requires admissible { IsAdmissible plan.now }
     requires far { column < 2 ^ 57 }
     requires low { lane < 2 ^ 57 }
-    ensures { result ≡ drawn_piece shipped_drawing (drawn_edges plan.now) column lane (Tile kind) place.0 place.1 }
+    ensures { result ≡ drawn_piece shipped_drawing (drawn_edges plan.now) column lane
+        (Tile kind) place.0 place.1 }
 {
     if !Shipped.cell(kind, place.0, place.1) {
         State::Empty
@@ -196,7 +203,8 @@ fn piece_cell(plan: &Plan, column: u64, lane: u64, piece: Piece, place: (u32, u3
     requires admissible { IsAdmissible plan.now }
     requires far { column < 2 ^ 57 }
     requires low { lane < 2 ^ 57 }
-    ensures { result ≡ drawn_piece shipped_drawing (drawn_edges plan.now) column lane (piece_of piece) place.0 place.1 }
+    ensures { result ≡ drawn_piece shipped_drawing (drawn_edges plan.now) column lane
+        (piece_of piece) place.0 place.1 }
 {
     match piece {
         Piece::Tile(kind) => tile_cell(plan, column, lane, kind, place),
@@ -209,7 +217,8 @@ pub fn output_cell(plan: &Plan, column: u64, lane: u64, place: (u32, u32)) -> St
     requires admissible { IsAdmissible plan.now }
     requires far { column < 2 ^ 57 }
     requires low { lane < 2 ^ 57 }
-    ensures { result ≡ drawn_piece shipped_drawing (drawn_edges plan.now) column lane Output place.0 place.1 }
+    ensures { result ≡ drawn_piece shipped_drawing
+        (drawn_edges plan.now) column lane Output place.0 place.1 }
 {
     if place != (0, 8) {
         State::Empty
@@ -225,7 +234,8 @@ pub fn slot_cell(plan: &Plan, column: u64, lane: u64, slot: Slot, x: u32, y: u32
     requires admissible { IsAdmissible plan.now }
     requires slot { slot_of slot ≡ drawn_tiling plan.now column lane }
     requires in_block { y < 16 }
-    ensures { result ≡ drawn_slot shipped_drawing (drawn_edges plan.now) column lane (slot_of slot) x y }
+    ensures { result ≡ drawn_slot shipped_drawing (drawn_edges plan.now) column lane
+        (slot_of slot) x y }
 {
     match slot {
         Slot::Nothing => State::Empty,
@@ -236,7 +246,8 @@ pub fn slot_cell(plan: &Plan, column: u64, lane: u64, slot: Slot, x: u32, y: u32
 
 // Whether a piece has no cell in a row of its box.
 fn is_piece_blank(piece: Piece, y: u32) -> bool
-    ensures { result ≡ true → (edges : Lit) (column lane x : ℕ) → drawn_piece shipped_drawing edges column lane (piece_of piece) x y ≡ Empty }
+    ensures { result ≡ true → (edges : Lit) (column lane x : ℕ) →
+        drawn_piece shipped_drawing edges column lane (piece_of piece) x y ≡ Empty }
 {
     match piece {
         Piece::Tile(kind) => Shipped.is_row_blank(kind, y),
@@ -247,7 +258,8 @@ fn is_piece_blank(piece: Piece, y: u32) -> bool
 /// Whether a slot has no cell in a row of its block.
 pub fn is_slot_blank(slot: Slot, y: u32) -> bool
     requires in_block { y < 16 }
-    ensures { result ≡ true → (edges : Lit) (column lane x : ℕ) → drawn_slot shipped_drawing edges column lane (slot_of slot) x y ≡ Empty }
+    ensures { result ≡ true → (edges : Lit) (column lane x : ℕ) →
+        drawn_slot shipped_drawing edges column lane (slot_of slot) x y ≡ Empty }
 {
     match slot {
         Slot::Nothing => true,

@@ -21,7 +21,8 @@ fn tile_run(plan: &Plan, column: u64, lane: u64, kind: Kind, place: (u32, u32)) 
     requires far { column < 2 ^ 57 }
     requires low { lane < 2 ^ 57 }
     requires in_box { place.0 < 32 }
-    ensures { IsRowRun (λ x. drawn_piece shipped_drawing (drawn_edges plan.now) column lane (Tile kind) x place.1)
+    ensures { IsRowRun (λ x. drawn_piece shipped_drawing (drawn_edges plan.now) column lane
+        (Tile kind) x place.1)
         place.0 (32 - place.0) result }
 {
     if Shipped.is_row_blank(kind, place.1) {
@@ -43,7 +44,8 @@ fn piece_run(plan: &Plan, column: u64, lane: u64, piece: Piece, place: (u32, u32
     requires far { column < 2 ^ 57 }
     requires low { lane < 2 ^ 57 }
     requires in_box { place.0 < 32 }
-    ensures { IsRowRun (λ x. drawn_piece shipped_drawing (drawn_edges plan.now) column lane (piece_of piece) x place.1)
+    ensures { IsRowRun (λ x. drawn_piece shipped_drawing (drawn_edges plan.now) column lane
+        (piece_of piece) x place.1)
         place.0 (32 - place.0) result }
 {
     match piece {
@@ -58,7 +60,8 @@ fn slot_run(plan: &Plan, column: u64, lane: u64, slot: Slot, x: u32, y: u32) -> 
     requires slot { slot_of slot ≡ drawn_tiling plan.now column lane }
     requires in_box { x < 32 }
     requires in_block { y < 16 }
-    ensures { IsRowRun (λ x. drawn_slot shipped_drawing (drawn_edges plan.now) column lane (slot_of slot) x y)
+    ensures { IsRowRun (λ x. drawn_slot shipped_drawing (drawn_edges plan.now) column lane
+        (slot_of slot) x y)
         x (32 - x) result }
 {
     match slot {
@@ -77,7 +80,8 @@ pub fn run_in(plan: &Plan, slot: Slot, y: u64, x: u64, limit: u64) -> (State, u6
     requires admissible { IsAdmissible plan.now }
     requires slot { slot_of slot ≡ drawn_tiling plan.now (x / 32) (y / 16) }
     requires some { 1 ≤ limit }
-    ensures run { IsRowRun (λ x. drawn_plane shipped_drawing plan.now (pos x) (pos y)) x limit result }
+    ensures run { IsRowRun (λ x. drawn_plane shipped_drawing plan.now (pos x)
+        (pos y)) x limit result }
     ensures in_block { result.1 ≤ 32 - x % 32 }
 {
     let (column, lane) = (x / 32, y / 16);

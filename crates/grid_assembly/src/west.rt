@@ -62,7 +62,8 @@ pub fn west_of(plan: &Plan, y: u64) -> West
 fn next_cycle(plan: &Plan, column: u64) -> u64
     requires admissible { IsAdmissible plan.now }
     requires west { column < tape_shift plan.now }
-    ensures exact { result ≡ column + 1 + (tape_shift plan.now + plan.now.latches - (column + 1)) % cycle_tiles plan.now }
+    ensures exact { result ≡ column + 1 + (tape_shift plan.now +
+        plan.now.latches - (column + 1)) % cycle_tiles plan.now }
     ensures near { result < 2 ^ 57 }
 {
     let body = body_column(plan);
@@ -100,7 +101,8 @@ fn wire_run(plan: &Plan, y: u64, x: u64) -> (State, u64)
     requires low { y < 2 ^ 60 }
     requires near { x < 2 ^ 60 }
     requires west { x < tape_end plan.now }
-    ensures { IsRowRun (λ x. drawn_plane shipped_drawing plan.now (pos x) (pos y)) x (tape_end plan.now - x) result }
+    ensures { IsRowRun (λ x. drawn_plane shipped_drawing plan.now (pos x) (pos y)) x
+        (tape_end plan.now - x) result }
 {
     let next = next_cycle(plan, x / 32);
     if is_head_at(plan, y, x) {
@@ -121,7 +123,8 @@ pub fn run_on_tape(plan: &Plan, west: West, y: u64, x: u64, limit: u64) -> (Stat
     requires low { y < 2 ^ 60 }
     requires west { x < tape_end plan.now }
     requires some { 1 ≤ limit }
-    ensures run { IsRowRun (λ x. drawn_plane shipped_drawing plan.now (pos x) (pos y)) x limit result }
+    ensures run { IsRowRun (λ x. drawn_plane shipped_drawing plan.now (pos x)
+        (pos y)) x limit result }
     ensures inside { x + result.1 ≤ tape_end plan.now }
 {
     let (state, count) = match west {

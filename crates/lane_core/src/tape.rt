@@ -47,7 +47,8 @@ pub fn tape_shift(plan: &Plan) -> u64
 
 // Whether the list of this number has the bit 1 in a cycle.
 fn is_set(tape: &[List<bool>], number: usize, cycle: u64) -> bool
-    ensures { result ≡ get_or (map (λ bits. unwrap_or (slice_get bits cycle) false) tape.now) number false }
+    ensures { result ≡ get_or (map (λ bits. unwrap_or
+        (slice_get bits cycle) false) tape.now) number false }
 {
     match tape.get(number) {
         Some(bits) => bits
@@ -61,7 +62,8 @@ fn is_set(tape: &[List<bool>], number: usize, cycle: u64) -> bool
 
 // Whether the input of a lane has the bit 1 in a cycle.
 fn has_bit(ins: &[u32], tape: &[List<bool>], lane: u64, cycle: u64) -> bool
-    ensures { result ≡ lane_bit ins.now (map (λ bits. unwrap_or (slice_get bits cycle) false) tape.now) lane }
+    ensures { result ≡ lane_bit ins.now (map (λ bits. unwrap_or
+        (slice_get bits cycle) false) tape.now) lane }
 {
     for (i, input) in ins.iter().enumerate() {
         if *input as u64 == lane && is_set(tape, i, cycle) {

@@ -10,7 +10,8 @@ use std::alloc::{AllocError, Global};
 // So many lanes side by side are added, the first of them `first`.
 fn push_row(lanes: &mut Vec<u32>, first: u32, count: u32) -> Result<(), AllocError>
     requires { first + count < 2 ^ 32 }
-    ensures { OnOk result (lanes.new.items ≡ lanes.old.items ++ map (λ i. first + i) (range_with_len 0 count)) }
+    ensures { OnOk result (lanes.new.items ≡
+        lanes.old.items ++ map (λ i. first + i) (range_with_len 0 count)) }
 {
     let mut at = 0;
     while at < count {

@@ -59,7 +59,8 @@ impl<T> List<T> {
 
     /// The items, to be changed in their places.
     pub fn as_mut_slice(&mut self) -> &mut [T]
-        ensures* writes_back { sem 𝓛 (Lends (the_row T.row) (Array T.row 0) self.entry result (λ w. take (length self.entry.now) (w ++ drop (length w) self.entry.now))) }
+        ensures* writes_back { sem 𝓛 (Lends (the_row T.row) (Array T.row 0) self.entry result
+            (λ w. take (length self.entry.now) (w ++ drop (length w) self.entry.now))) }
         ensures value { result.now ≡ self.old }
     {
         &mut self.items

@@ -18,7 +18,8 @@ fn output_of(flat: &Flat, n: usize) -> NetId
 fn outputs_of(alloc: Global, flat: &Flat, nodes: &[usize]) -> Result<Vec<NetId>, AllocError>
     requires nodes { All (λ n. n < length flat.now.nodes) nodes.now }
     requires in_range { IsInRange flat.now }
-    ensures items { IfOk result (λ nets. nets.items ≡ map (λ n. (node_at flat.now n).out) nodes.now) }
+    ensures items { IfOk result (λ nets. nets.items ≡
+        map (λ n. (node_at flat.now n).out) nodes.now) }
     ensures nets { IfOk result (λ nets. All (IsNetId flat.now) nets.items) }
 {
     nodes.iter().map(|n| output_of(flat, *n)).collect(alloc)

@@ -26,7 +26,8 @@ pub fn driver_at(flat: &Flat, table: &[Option<usize>], n: usize, k: usize) -> Op
     requires table { IsTable flat.now table.now }
     requires node { n < length flat.now.nodes }
     requires input { k < length (in_classes flat.now n) }
-    ensures { IsDriverBefore flat.now (length flat.now.nodes) (get_or (in_classes flat.now n) k 0) result }
+    ensures { IsDriverBefore flat.now (length flat.now.nodes)
+        (get_or (in_classes flat.now n) k 0) result }
 {
     let net = *flat.nodes.get(n).ins.get(k);
     table[class_of(flat, net)]

@@ -47,7 +47,8 @@ fn push_head(text: &mut Vec<u8>, last: u32, latched: (u32, u32)) -> Result<(), A
 
 // Puts the `.names` line of a gate after a text.
 fn push_names(text: &mut Vec<u8>, gate: Gate) -> Result<(), AllocError>
-    ensures { OnOk result (text.new.items ≡ text.old.items ++ names_text gate.first gate.second gate.out) }
+    ensures { OnOk result (text.new.items ≡
+        text.old.items ++ names_text gate.first gate.second gate.out) }
 {
     text.extend_from_slice(b".names ")?;
     push_name(text, gate.first)?;

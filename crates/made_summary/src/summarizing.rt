@@ -74,7 +74,8 @@ fn outputs_by_name(
 ) -> Result<List<OutputBits>, AllocError>
     requires simulated { length simulated.now ≡ length names.now }
     requires evaluated { length evaluated.now ≡ length names.now }
-    ensures { IfOk result (λ outputs. outputs ≡ outputs_by_name names.now simulated.now evaluated.now) }
+    ensures { IfOk result (λ outputs. outputs ≡
+        outputs_by_name names.now simulated.now evaluated.now) }
 {
     let mut outputs = Vec::with_capacity(alloc, names.len())?;
     for k in 0..names.len() {
@@ -114,14 +115,17 @@ fn shown_by(
     requires admissible { IsAdmissible planned.now.plan }
     requires cycles { 0 < streams.now.cycles }
     requires streams { AreFor planned.now.ports streams.now }
-    requires in_box { AreInBox (start_grid planned.now.plan).width (start_grid planned.now.plan).height (cells_of planned.now.ports.ins) }
+    requires in_box { AreInBox (start_grid planned.now.plan).width
+        (start_grid planned.now.plan).height (cells_of planned.now.ports.ins) }
     requires quiet { IsQuietUnder planned.now streams.now }
-    ensures near { OnOk result (last_generation planned.now.ports streams.now ≤ greatest_generation) }
+    ensures near { OnOk result (last_generation planned.now.ports streams.now ≤
+        greatest_generation) }
     ensures bits { IfOk result (λ bits.
         bits
         ≡ shown_bits planned.now.ports streams.now (plane_of (start_grid planned.now.plan).rows)
         ) }
-    ensures refused { IfErr result (HasTooFarCause (last_generation planned.now.ports streams.now)) }
+    ensures refused { IfErr result (HasTooFarCause (last_generation planned.now.ports
+        streams.now)) }
 {
     let Ok(pattern) = pattern_of(alloc, &planned.plan) else {
         return Err(SummaryError::NoMemory);
@@ -164,7 +168,8 @@ fn told_by(
     requires admissible { IsAdmissible planned.now.plan }
     requires cycles { 0 < streams.now.cycles }
     requires streams { AreFor planned.now.ports streams.now }
-    requires in_box { AreInBox (start_grid planned.now.plan).width (start_grid planned.now.plan).height (cells_of planned.now.ports.ins) }
+    requires in_box { AreInBox (start_grid planned.now.plan).width
+        (start_grid planned.now.plan).height (cells_of planned.now.ports.ins) }
     requires parts { AreParts netlist.design netlist.flat netlist.order.nodes }
     requires many { length streams.now.bits ≡ length netlist.flat.ins }
     requires long { All (λ bits. length bits ≡ streams.now.cycles) streams.now.bits }
@@ -174,7 +179,8 @@ fn told_by(
         )
         ≡ length (main_outputs netlist.design) }
     ensures told { IfOk result (IsToldOf netlist planned.now streams.now) }
-    ensures refused { IfErr result (HasTooFarCause (last_generation planned.now.ports streams.now)) }
+    ensures refused { IfErr result (HasTooFarCause (last_generation planned.now.ports
+        streams.now)) }
 {
     let weight = netlist.flat.weight;
     let simulated = shown_by(alloc, planned, streams)?;

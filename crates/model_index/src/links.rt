@@ -18,7 +18,8 @@ fn lines_of(
 ) -> Result<List<Option<usize>>, AllocError>
     requires index { named.now ≡ models.now }
     requires model { n < length models.now }
-    ensures { IfOk result (λ numbers. (k : ℕ) → get_or numbers k None ≡ number_placed models.now n k) }
+    ensures { IfOk result (λ numbers. (k : ℕ) →
+        get_or numbers k None ≡ number_placed models.now n k) }
 {
     let count = models[n].subckts.len();
     let mut numbers = Vec::with_capacity(alloc, count)?;

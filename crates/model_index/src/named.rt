@@ -52,7 +52,8 @@ impl<'a> NamedModels<'a> {
     /// The number of the first model of this name.
     pub fn find(&self, name: &[u8]) -> Option<usize>
         ensures number { result ≡ position (is_model_named name.now) self.now }
-        ensures found { MatchOption result (model_named self.now name.now ≡ None) (IsNumberOf self.now name.now) }
+        ensures found { MatchOption result (model_named self.now name.now ≡ None)
+            (IsNumberOf self.now name.now) }
     {
         self.numbers.get(name).copied()
     }

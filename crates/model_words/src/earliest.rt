@@ -38,7 +38,8 @@ impl<'a> Earliest<'a> {
 
     /// Offers one more word.
     pub fn offer(&mut self, word: Word<'a>)
-        ensures { earliest_word self.new ≡ earliest_after (earliest_word self.old) (word_port word.entry ∷ []) }
+        ensures { earliest_word self.new ≡ earliest_after (earliest_word self.old)
+            (word_port word.entry ∷ []) }
     {
         self.word = match self.word {
             None => Some(word),
@@ -48,7 +49,8 @@ impl<'a> Earliest<'a> {
 
     /// The fault of this kind at the word, with a copy of its name.
     pub fn fault(&self, alloc: Global, kind: FaultKind) -> Result<Option<Fault>, AllocError>
-        ensures { IfOk result (λ found. found ≡ option_map (fault_of_port kind) (earliest_word self.now)) }
+        ensures { IfOk result (λ found. found ≡
+            option_map (fault_of_port kind) (earliest_word self.now)) }
     {
         match self.word {
             None => Ok(None),

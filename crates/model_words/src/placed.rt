@@ -44,7 +44,8 @@ fn ports_of<'a>(alloc: Global, models: &'a [Model]) -> Result<Vec<PortNames<'a>>
 
 // The names of the ports of each model, or none where no model has a subckt line.
 fn needed_ports<'a>(alloc: Global, models: &'a [Model]) -> Result<Vec<PortNames<'a>>, AllocError>
-    ensures { IfOk result (λ ports. AllZip AreNamesOfPorts ports.items models.now ⊎ ArePlain models.now) }
+    ensures { IfOk result (λ ports. AllZip AreNamesOfPorts ports.items models.now ⊎
+        ArePlain models.now) }
 {
     if are_plain(models) {
         return Ok(Vec::new(alloc));

@@ -45,21 +45,24 @@ impl<'a> PortNames<'a> {
 
     /// Whether an input has this name.
     pub fn has_input(&self, name: &[u8]) -> bool
-        ensures { (model : Model) → AreNamesOfPorts self.now model → result ≡ has_input name.now model }
+        ensures { (model : Model) → AreNamesOfPorts self.now model →
+            result ≡ has_input name.now model }
     {
         self.inputs.contains(name)
     }
 
     /// Whether an output has this name.
     pub fn has_output(&self, name: &[u8]) -> bool
-        ensures { (model : Model) → AreNamesOfPorts self.now model → result ≡ has_output name.now model }
+        ensures { (model : Model) → AreNamesOfPorts self.now model →
+            result ≡ has_output name.now model }
     {
         self.outputs.contains(name)
     }
 
     /// Whether a port has this name.
     pub fn has_port(&self, name: &[u8]) -> bool
-        ensures { (model : Model) → AreNamesOfPorts self.now model → result ≡ has_port name.now model }
+        ensures { (model : Model) → AreNamesOfPorts self.now model →
+            result ≡ has_port name.now model }
     {
         self.has_input(name) || self.has_output(name)
     }

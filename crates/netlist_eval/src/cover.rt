@@ -23,7 +23,8 @@ fn product_holds(flat: &Flat, bits: &[bool], ins: &[NetId], row: &[u8]) -> bool
     requires in_range { IsInRange flat.now }
     requires bits { length bits.now ≡ length flat.now.nets }
     requires ins { All (IsNetId flat.now) ins.now }
-    ensures { result ≡ product_holds row.now (map (λ net. class_bit bits.now (class_of flat.now net)) ins.now) }
+    ensures { result ≡ product_holds row.now (map
+        (λ net. class_bit bits.now (class_of flat.now net)) ins.now) }
 {
     for (character, net) in row.iter().zip(ins) {
         if !fits(*character, net_bit(flat, bits, *net)) {
@@ -37,7 +38,8 @@ fn any_holds(flat: &Flat, bits: &[bool], ins: &[NetId], rows: &[Bytes]) -> bool
     requires in_range { IsInRange flat.now }
     requires bits { length bits.now ≡ length flat.now.nets }
     requires ins { All (IsNetId flat.now) ins.now }
-    ensures { result ≡ any_holds rows.now (map (λ net. class_bit bits.now (class_of flat.now net)) ins.now) }
+    ensures { result ≡ any_holds rows.now (map
+        (λ net. class_bit bits.now (class_of flat.now net)) ins.now) }
 {
     rows.iter()
         .any(|row| product_holds(flat, bits, ins, row.as_slice()))
@@ -47,7 +49,8 @@ fn cover_bit(flat: &Flat, bits: &[bool], ins: &[NetId], rows: &[Bytes], on: bool
     requires in_range { IsInRange flat.now }
     requires bits { length bits.now ≡ length flat.now.nets }
     requires ins { All (IsNetId flat.now) ins.now }
-    ensures { result ≡ cover_value rows.now on (map (λ net. class_bit bits.now (class_of flat.now net)) ins.now) }
+    ensures { result ≡ cover_value rows.now on
+        (map (λ net. class_bit bits.now (class_of flat.now net)) ins.now) }
 {
     if rows.is_empty() {
         return false;

@@ -52,7 +52,8 @@ pub fn read_outputs(flat: &Flat, bits: &[bool], outputs: &mut [bool])
     requires in_range { IsInRange flat.now }
     requires bits { length bits.now ≡ length flat.now.nets }
     requires outputs { length outputs.old ≡ length flat.now.outs }
-    ensures { outputs.new ≡ map (λ port. class_bit bits.now (class_of flat.now port.net)) flat.now.outs }
+    ensures { outputs.new ≡ map (λ port. class_bit bits.now
+        (class_of flat.now port.net)) flat.now.outs }
 {
     for (k, port) in flat.outs.as_slice().iter().enumerate() {
         outputs[k] = net_bit(flat, bits, port.net);
@@ -64,7 +65,8 @@ pub fn read_state(flat: &Flat, bits: &[bool], state: &mut [bool])
     requires in_range { IsInRange flat.now }
     requires bits { length bits.now ≡ length flat.now.nets }
     requires state { length state.old ≡ length flat.now.latches }
-    ensures { state.new ≡ map (λ latch. class_bit bits.now (class_of flat.now latch.input)) flat.now.latches }
+    ensures { state.new ≡ map (λ latch. class_bit bits.now
+        (class_of flat.now latch.input)) flat.now.latches }
 {
     for (k, latch) in flat.latches.as_slice().iter().enumerate() {
         state[k] = net_bit(flat, bits, latch.input);
@@ -88,11 +90,13 @@ pub fn run_cycle(
     requires outputs { length outputs.old ≡ length flat.now.outs }
     ensures outputs { outputs.new
         ≡ map
-        (λ port. class_bit (evaluated flat.now order.now inputs.now state.old bits.old) (class_of flat.now port.net))
+        (λ port. class_bit (evaluated flat.now order.now inputs.now state.old bits.old)
+        (class_of flat.now port.net))
         flat.now.outs }
     ensures state { state.new
         ≡ map
-        (λ latch. class_bit (evaluated flat.now order.now inputs.now state.old bits.old) (class_of flat.now latch.input))
+        (λ latch. class_bit (evaluated flat.now order.now inputs.now state.old bits.old)
+        (class_of flat.now latch.input))
         flat.now.latches }
 {
     put_inputs(flat, inputs, bits);

@@ -44,7 +44,8 @@ fn join_pins(
     requires line { IsLineTo numbers.now parent at line.now }
     requires settled { settled.now ≡ map (class_of_net numbers.now) (nets_before numbers.now at) }
     requires own { own.old ≡ own_numbers numbers.now at }
-    ensures { own.new ≡ map (class_of_net numbers.now) (nets_at numbers.now (place_at numbers.now at)) }
+    ensures { own.new ≡ map (class_of_net numbers.now)
+        (nets_at numbers.now (place_at numbers.now at)) }
 {
     for pin in line.pins.as_slice() {
         let formal = numbers.position(at, pin.formal.as_slice());

@@ -12,7 +12,12 @@ use std::alloc::{AllocError, Global};
 
 // A net of a place, with its class.
 fn net_of(alloc: Global, place: &[u32], name: &[u8], class: u32) -> Result<Net, AllocError>
-    ensures { IfOk result (λ net. net ≡ record { place = place.now; name = name.now; class = class }) }
+    ensures { IfOk result (λ net. net ≡ record {
+      place = place.now;
+      name = name.now;
+      class =
+          class;
+    }) }
 {
     Ok(Net {
         place: copied_place(alloc, place)?,
@@ -52,7 +57,8 @@ pub fn nets_of(
     classes: &[u32],
 ) -> Result<Vec<Net>, AllocError>
     requires { classes.now ≡ map (class_of_net numbers.now) (nets_in_order numbers.now) }
-    ensures { IfOk result (λ nets. nets.items ≡ map (flat_net numbers.now) (nets_in_order numbers.now)) }
+    ensures { IfOk result (λ nets. nets.items ≡
+        map (flat_net numbers.now) (nets_in_order numbers.now)) }
 {
     let mut nets = Vec::with_capacity(alloc, classes.len())?;
     for at in 0..numbers.len() {

@@ -22,8 +22,10 @@ fn ids_of(
     names: &[Name],
 ) -> Result<Vec<NetId>, AllocError>
     requires place { at < length (places_in_order numbers.now) }
-    requires nets { All (λ name. IsNet numbers.now (net_at (place_at numbers.now at) name)) names.now }
-    ensures { IfOk result (λ ids. ids.items ≡ map (id_of numbers.now (place_at numbers.now at)) names.now) }
+    requires nets { All (λ name. IsNet numbers.now (net_at
+        (place_at numbers.now at) name)) names.now }
+    ensures { IfOk result (λ ids. ids.items ≡
+        map (id_of numbers.now (place_at numbers.now at)) names.now) }
 {
     let mut ids = Vec::with_capacity(alloc, names.len())?;
     for name in names {
@@ -43,7 +45,8 @@ fn node_of(
     requires nets { All (λ name.
         IsNet numbers.now (net_at (place_at numbers.now at) name)
         ) (cover_names cover.now) }
-    ensures { IfOk result (λ node. node ≡ flat_node numbers.now (place_at numbers.now at) cover.now) }
+    ensures { IfOk result (λ node. node ≡
+        flat_node numbers.now (place_at numbers.now at) cover.now) }
 {
     Ok(Node {
         line: cover.line,

@@ -48,7 +48,8 @@ fn control_classes(
     latches: &[FlatLatch],
 ) -> Result<Vec<bool>, AllocError>
     requires classes { All (λ class. class < length classes.now) classes.now }
-    requires latches { All (λ latch. MatchOption latch.control ⊤ (λ id. id.0 < length classes.now)) latches.now }
+    requires latches { All (λ latch. MatchOption latch.control ⊤
+        (λ id. id.0 < length classes.now)) latches.now }
     ensures many { IfOk result (λ marks. length marks.items ≡ length classes.now) }
     ensures marked { IfOk result (λ marks. (class : ℕ) → (get_or marks.items class false ≡ true)
         ↔ HasControlClass classes.now latches.now class) }
@@ -83,7 +84,8 @@ fn inputs_of(
     requires faultless { AreFaultless numbers.now.models }
     requires nets { All (λ port. IsNet numbers.now (net_at [] port.name)) ports.now }
     requires classes { classes.now ≡ map (class_of_net numbers.now) (nets_in_order numbers.now) }
-    requires latches { latches.now ≡ at_places numbers.now (λ model. model.latches) (flat_latch numbers.now) }
+    requires latches { latches.now ≡ at_places numbers.now (λ model. model.latches)
+        (flat_latch numbers.now) }
     ensures { IfOk result (λ inputs. AreInputs numbers.now ports.now inputs.items) }
 {
     let marks = control_classes(alloc, classes, latches)?;
@@ -114,7 +116,8 @@ pub fn flat_ports(
 ) -> Result<FlatPorts, AllocError>
     requires faultless { AreFaultless numbers.now.models }
     requires classes { classes.now ≡ map (class_of_net numbers.now) (nets_in_order numbers.now) }
-    requires latches { latches.now ≡ at_places numbers.now (λ model. model.latches) (flat_latch numbers.now) }
+    requires latches { latches.now ≡ at_places numbers.now (λ model. model.latches)
+        (flat_latch numbers.now) }
     ensures ins { IfOk result (λ ports.
         AreInputs numbers.now (main_ports (λ model. model.ins) numbers.now) ports.ins
         ) }

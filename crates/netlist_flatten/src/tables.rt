@@ -43,7 +43,8 @@ pub fn names_by_model<'a>(
 // How many names a model has.
 fn count_of(names: &[Option<ModelNames<'_>>], model: usize) -> usize
     requires { model < length names.now }
-    ensures { (own : List Name) → slice_get names.now model ≡ Some (Some own) → result ≡ length own }
+    ensures { (own : List Name) → slice_get names.now model ≡ Some (Some own) →
+        result ≡ length own }
 {
     match &names[model] {
         None => 0,

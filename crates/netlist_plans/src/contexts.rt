@@ -86,7 +86,8 @@ pub fn plan_contexts(
     ensures admissible { IfOk result (λ p. IsAdmissible p.plan) }
     ensures edges { IfOk result (λ p. HasStartEdges p.plan) }
     ensures bare { IfOk result (λ p. p.plan.tape ≡ []) }
-    ensures padded { IfOk result (λ p. IsPaddedPlan (contexts_size plan.latches (length starts.now)) plan p.plan) }
+    ensures padded { IfOk result (λ p. IsPaddedPlan (contexts_size plan.latches
+        (length starts.now)) plan p.plan) }
     ensures starts { IfOk result (λ p.
         StartsContexts p.plan (map (loop_starting_bits plan) starts.now) (start_edges p.plan)
         ) }

@@ -77,12 +77,14 @@ pub fn plan_netlist(alloc: Global, flat: &Flat, order: &Order) -> Result<Planned
     ensures bare { IfOk result (λ p. p.plan.tape ≡ []) }
     ensures planned { IfOk result (λ p. IsPlanned flat.now p.plan) }
     ensures table { IfOk result (λ p. IsTableOf flat.now p.plan 1 p.ports) }
-    ensures carries { IfOk result (λ p. CarriesFlat (pattern_text (start_grid p.plan) p.ports) flat.now) }
+    ensures carries { IfOk result (λ p. CarriesFlat (pattern_text
+        (start_grid p.plan) p.ports) flat.now) }
     ensures small { IfOk result (λ p. IsSmall flat.now p.plan) }
     ensures cells { IfOk result (λ p. ComputesCells flat.now p.plan) }
     ensures lanes { IfOk result (λ p. HasLanes flat.now p.plan) }
     ensures places { IfOk result (λ p. HasNetPlaces flat.now p.plan) }
-    ensures period { IfOk result (λ p. length flat.now.latches ≡ 0 → any_needs_one flat.now ≡ false → p.ports.p ≡ 32) }
+    ensures period { IfOk result (λ p. length flat.now.latches ≡ 0 →
+        any_needs_one flat.now ≡ false → p.ports.p ≡ 32) }
 {
     let plan = plan_of_cells(alloc, flat, order)?;
     plans_have_ports();

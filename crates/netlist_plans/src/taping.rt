@@ -47,7 +47,8 @@ pub fn load_netlist(
     ensures loaded { IfOk result (λ p. p.plan ≡ with_tape streams.now.bits plan) }
     ensures table { IfOk result (λ p. IsTableOf flat.now p.plan 1 p.ports) }
     ensures small { IsSmall flat.now plan → IfOk result (λ p. IsSmall flat.now p.plan) }
-    ensures runs { IfOk result (λ p. RunsByItselfFlat (pattern_text (start_grid p.plan) p.ports) flat.now (rows_of streams.now)) }
+    ensures runs { IfOk result (λ p. RunsByItselfFlat
+        (pattern_text (start_grid p.plan) p.ports) flat.now (rows_of streams.now)) }
 {
     plans_have_ports();
     let plan = load(alloc, plan, streams.bits.as_slice())?;

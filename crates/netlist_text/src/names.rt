@@ -40,7 +40,8 @@ impl Netlist {
     pub fn in_names(&self, alloc: Global) -> Result<List<Name>, AllocError>
         requires { AreParts self.now.design self.now.flat self.now.order.nodes }
         ensures names { IfOk result (IsInNames self.now.design) }
-        ensures flat { IfOk result (λ names. names ≡ names_of_ports self.now.flat self.now.flat.ins) }
+        ensures flat { IfOk result (λ names. names ≡
+            names_of_ports self.now.flat self.now.flat.ins) }
     {
         names_of_ports(alloc, &self.flat, self.flat.ins.as_slice())
     }

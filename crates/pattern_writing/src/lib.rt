@@ -34,7 +34,8 @@ pub fn written_text_reads()
 pub fn samples_are_so()
     ensures gate { writer_text or_grid or_port_lines ≡ or_text }
     ensures gate_length { length or_text ≡ 246 }
-    ensures gate_with_nets { writer_text or_grid (or_port_lines ++ or_net_lines) ≡ or_text_with_nets }
+    ensures gate_with_nets { writer_text or_grid (or_port_lines ++ or_net_lines) ≡
+        or_text_with_nets }
     ensures gate_with_nets_length { length or_text_with_nets ≡ 321 }
     ensures bare { writer_text bare_grid bare_lines ≡ bare_text }
     ensures mixed { writer_text mixed_grid [] ≡ mixed_text }

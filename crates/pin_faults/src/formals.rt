@@ -17,7 +17,9 @@ use std::alloc::{AllocError, Global};
 // Offers the formals of a line that are not among these names.
 fn offer_others<'a>(earliest: &mut Earliest<'a>, names: &PortNames<'_>, line: &'a Subckt)
     ensures { (model : Model) → AreNamesOfPorts names.now model →
-        earliest_word earliest.new ≡ earliest_after (earliest_word earliest.old) (formals_unless (λ name. has_port name model) line.now) }
+        earliest_word earliest.new ≡
+        earliest_after (earliest_word earliest.old)
+        (formals_unless (λ name. has_port name model) line.now) }
 {
     for pin in line.pins.as_slice() {
         let word = Word {
@@ -31,7 +33,8 @@ fn offer_others<'a>(earliest: &mut Earliest<'a>, names: &PortNames<'_>, line: &'
 // Offers the formals of a line that are no ports of the model that it names.
 fn offer_line<'a>(earliest: &mut Earliest<'a>, placed: &PlacedPorts<'_, '_>, line: &'a Subckt)
     ensures { (models : List Model) → KnowsPorts placed.now models → ¬ ArePlain models →
-        earliest_word earliest.new ≡ earliest_after (earliest_word earliest.old) (unknown_formals models line.now) }
+        earliest_word earliest.new ≡
+        earliest_after (earliest_word earliest.old) (unknown_formals models line.now) }
 {
     if let Some(names) = placed.find(line.model.as_slice()) {
         offer_others(earliest, names, line);

@@ -7,7 +7,8 @@ use netlist_core::{Model, Subckt};
 use std::alloc::{AllocError, Global};
 
 fn push_lines<'a>(lines: &mut Vec<&'a Subckt>, model: &'a Model) -> Result<(), AllocError>
-    ensures { OnOk result (lines_now lines.new.items ≡ lines_now lines.old.items ++ model.now.subckts) }
+    ensures { OnOk result (lines_now lines.new.items ≡
+        lines_now lines.old.items ++ model.now.subckts) }
 {
     for line in model.subckts.as_slice() {
         lines.push(line)?;

@@ -69,7 +69,8 @@ fn line_fault(
 
 // Whether a fault stands on this line or before it.
 fn is_up_to(fault: &Option<Fault>, line: u64) -> bool
-    ensures { result ≡ option_map_or (λ (fault : text.Fault). nat_le fault.line line) fault.now false }
+    ensures { result ≡ option_map_or (λ (fault : text.Fault). nat_le fault.line line) fault.now
+        false }
 {
     match fault {
         None => false,
@@ -84,8 +85,10 @@ fn earlier_fault(
     line: &Subckt,
     first: Option<Fault>,
 ) -> Result<Option<Fault>, AllocError>
-    ensures { IfOk result (λ found. (word : Option names.Port) → first ≡ option_map (fault_of_port PinMissing) word →
-        found ≡ option_map (fault_of_port PinMissing) (earliest_after word (missing_pin named.now line.now))) }
+    ensures { IfOk result (λ found. (word : Option names.Port) →
+        first ≡ option_map (fault_of_port PinMissing) word →
+        found ≡ option_map (fault_of_port PinMissing)
+        (earliest_after word (missing_pin named.now line.now))) }
 {
     if is_up_to(&first, line.line) {
         return Ok(first);

@@ -36,7 +36,8 @@ fn input_lines(alloc: Global, flat: &Flat, plan: &Plan) -> Result<Vec<PortLine>,
     requires admissible { IsAdmissible plan.now }
     requires ports { HasPortsOf flat.now plan.now }
     ensures cells { IfOk result (λ lines. cells_of lines.items ≡ drawn_input_cells plan.now) }
-    ensures names { IfOk result (λ lines. names_of lines.items ≡ names_of_ports flat.now flat.now.ins) }
+    ensures names { IfOk result (λ lines. names_of lines.items ≡
+        names_of_ports flat.now flat.now.ins) }
 {
     let mut lines = Vec::with_capacity(alloc, flat.ins.len())?;
     for i in 0..flat.ins.len() {
@@ -69,7 +70,8 @@ fn output_lines(alloc: Global, flat: &Flat, plan: &Plan) -> Result<Vec<PortLine>
     requires admissible { IsAdmissible plan.now }
     requires ports { HasPortsOf flat.now plan.now }
     ensures cells { IfOk result (λ lines. cells_of lines.items ≡ drawn_output_cells plan.now) }
-    ensures names { IfOk result (λ lines. names_of lines.items ≡ names_of_ports flat.now flat.now.outs) }
+    ensures names { IfOk result (λ lines. names_of lines.items ≡
+        names_of_ports flat.now flat.now.outs) }
 {
     let mut lines = Vec::with_capacity(alloc, flat.outs.len())?;
     for i in 0..flat.outs.len() {

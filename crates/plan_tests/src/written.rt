@@ -56,12 +56,17 @@ fn are_there(sources: &[Src], inputs: usize, latches: usize, cells: usize) -> bo
 
 // Fails where no list is written down, or a large one.
 fn check(written: &Written<'_>) -> Result<(), &'static str>
-    ensures order { OnOk result (IsTrue (are_in_order written.now.inputs (length written.now.starts.now) 0 written.now.cells.now)) }
-    ensures outs { OnOk result (IsTrue (are_there written.now.inputs (length written.now.starts.now) (length written.now.cells.now) written.now.outs.now)) }
-    ensures latches { OnOk result (IsTrue (are_there written.now.inputs (length written.now.starts.now) (length written.now.cells.now) written.now.latches.now)) }
-    ensures nets { OnOk result (IsTrue (are_there written.now.inputs (length written.now.starts.now) (length written.now.cells.now) written.now.nets.now)) }
+    ensures order { OnOk result (IsTrue (are_in_order written.now.inputs
+        (length written.now.starts.now) 0 written.now.cells.now)) }
+    ensures outs { OnOk result (IsTrue (are_there written.now.inputs (length written.now.starts.now)
+        (length written.now.cells.now) written.now.outs.now)) }
+    ensures latches { OnOk result (IsTrue (are_there written.now.inputs
+        (length written.now.starts.now) (length written.now.cells.now) written.now.latches.now)) }
+    ensures nets { OnOk result (IsTrue (are_there written.now.inputs (length written.now.starts.now)
+        (length written.now.cells.now) written.now.nets.now)) }
     ensures starts { OnOk result (length written.now.starts.now ≡ length written.now.latches.now) }
-    ensures small { OnOk result (written.now.inputs + length written.now.starts.now + length written.now.outs.now + length written.now.cells.now < 4000) }
+    ensures small { OnOk result (written.now.inputs + length written.now.starts.now +
+        length written.now.outs.now + length written.now.cells.now < 4000) }
 {
     let inputs = written.inputs as usize;
     let (latches, cells) = (written.starts.len(), written.cells.len());

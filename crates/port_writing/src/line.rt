@@ -39,7 +39,8 @@ fn put_line<O: Sink>(sink: &mut O, page: &mut Page, ports: &Ports, n: usize) -> 
 /// Where a write fails, a front of the line stands written. It takes no memory.
 pub fn write_line<O: Sink>(ports: &Ports, n: usize, sink: &mut O) -> Result<(), Failed>
     requires { n < length (port_lines ports.now) }
-    ensures ok { OnOk result (Appends (O.written sink.old) (O.written sink.new) (ended_line ports.now n)) }
+    ensures ok { OnOk result (Appends (O.written sink.old) (O.written sink.new)
+        (ended_line ports.now n)) }
     ensures front { OnErr result (
         (k : ℕ)
         × Appends (O.written sink.old) (O.written sink.new) (take k (ended_line ports.now n))

@@ -47,7 +47,8 @@ fn begin_line<O: Sink>(sink: &mut O, page: &mut Page, fields: &[&[u8]]) -> Resul
     ensures column { column_of page.new ≡ column_of page.old }
     ensures ok { OnOk result ((rest : List ℕ) →
         Wrote (O.written sink.old) (O.written sink.new) (O.faults sink.old) (O.faults sink.new)
-        (held page.old ++ (codes "#C BLIFWW" ++ (spaced fields.now ++ rest))) (held page.new ++ rest)) }
+        (held page.old ++ (codes "#C BLIFWW" ++ (spaced fields.now ++ rest)))
+        (held page.new ++ rest)) }
     ensures err { OnErr result ((rest : List ℕ) →
         Broke (O.written sink.old) (O.written sink.new) (O.faults sink.old) (O.faults sink.new)
         (held page.old ++ (codes "#C BLIFWW" ++ (spaced fields.now ++ rest)))) }
@@ -97,7 +98,8 @@ fn write_unnamed<O: Sink>(sink: &mut O, page: &mut Page, fields: &[&[u8]]) -> Re
     ensures column { column_of page.new ≡ column_of page.old }
     ensures ok { OnOk result ((rest : List ℕ) →
         Wrote (O.written sink.old) (O.written sink.new) (O.faults sink.old) (O.faults sink.new)
-        (held page.old ++ (codes "#C BLIFWW" ++ (spaced fields.now ++ (10 ∷ rest)))) (held page.new ++ rest)) }
+        (held page.old ++ (codes "#C BLIFWW" ++ (spaced fields.now ++ (10 ∷ rest))))
+        (held page.new ++ rest)) }
     ensures err { OnErr result ((rest : List ℕ) →
         Broke (O.written sink.old) (O.written sink.new) (O.faults sink.old) (O.faults sink.new)
         (held page.old ++ (codes "#C BLIFWW" ++ (spaced fields.now ++ (10 ∷ rest))))) }
@@ -116,7 +118,8 @@ pub fn write_version<O: Sink>(
     ensures column { column_of page.new ≡ column_of page.old }
     ensures ok { OnOk result ((rest : List ℕ) →
         Wrote (O.written sink.old) (O.written sink.new) (O.faults sink.old) (O.faults sink.new)
-        (held page.old ++ (spelled_line (Version period latency contexts) ++ (10 ∷ rest))) (held page.new ++ rest)) }
+        (held page.old ++ (spelled_line (Version period latency contexts) ++ (10 ∷ rest)))
+        (held page.new ++ rest)) }
     ensures err { OnErr result ((rest : List ℕ) →
         Broke (O.written sink.old) (O.written sink.new) (O.faults sink.old) (O.faults sink.new)
         (held page.old ++ (spelled_line (Version period latency contexts) ++ (10 ∷ rest)))) }
@@ -181,7 +184,8 @@ fn write_ports<O: Sink>(
     ensures column { column_of page.new ≡ column_of page.old }
     ensures ok { OnOk result ((rest : List ℕ) →
         Wrote (O.written sink.old) (O.written sink.new) (O.faults sink.old) (O.faults sink.new)
-        (held page.old ++ (ended_lines (map (port_text kind.now) ports.now) ++ rest)) (held page.new ++ rest)) }
+        (held page.old ++ (ended_lines (map (port_text kind.now) ports.now) ++ rest))
+        (held page.new ++ rest)) }
     ensures err { OnErr result ((rest : List ℕ) →
         Broke (O.written sink.old) (O.written sink.new) (O.faults sink.old) (O.faults sink.new)
         (held page.old ++ (ended_lines (map (port_text kind.now) ports.now) ++ rest))) }
@@ -196,7 +200,8 @@ fn write_nets<O: Sink>(sink: &mut O, page: &mut Page, nets: &[NetLine]) -> Resul
     ensures column { column_of page.new ≡ column_of page.old }
     ensures ok { OnOk result ((rest : List ℕ) →
         Wrote (O.written sink.old) (O.written sink.new) (O.faults sink.old) (O.faults sink.new)
-        (held page.old ++ (ended_lines (map (λ net. spelled_line (Net net)) nets.now) ++ rest)) (held page.new ++ rest)) }
+        (held page.old ++ (ended_lines (map (λ net. spelled_line (Net net)) nets.now) ++ rest))
+        (held page.new ++ rest)) }
     ensures err { OnErr result ((rest : List ℕ) →
         Broke (O.written sink.old) (O.written sink.new) (O.faults sink.old) (O.faults sink.new)
         (held page.old ++ (ended_lines (map (λ net. spelled_line (Net net)) nets.now) ++ rest))) }

@@ -50,8 +50,10 @@ pub fn probe(
     requires cycles { 0 < streams.now.cycles }
     requires streams { AreFor ports.now streams.now }
     requires in_box { AreInBox pattern.width pattern.height (cells_of ports.now.ins) }
-    ensures bits { IfOk result (HasProbed ports.now streams.now (plane_of pattern.rows) name.now path.now) }
-    ensures refused { IfErr result (HasProbeCause ports.now streams.now (plane_of pattern.rows) name.now path.now) }
+    ensures bits { IfOk result (HasProbed ports.now streams.now
+        (plane_of pattern.rows) name.now path.now) }
+    ensures refused { IfErr result (HasProbeCause ports.now streams.now
+        (plane_of pattern.rows) name.now path.now) }
 {
     let Some(net) = net_named(ports.nets.as_slice(), name, path) else {
         return Err(ProbeError::NoSuchNet);

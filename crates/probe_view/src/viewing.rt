@@ -29,7 +29,8 @@ fn tag_of(state: State) -> u8
 // Puts the tags of so many cells of a row at the end of a text.
 fn push_tags(text: &mut Vec<u8>, run: &Run, row: u128, x: u64, width: u64) -> Result<(), AllocError>
     requires { IsBandRun run.now }
-    ensures { OnOk result (text.new.items ≡ text.old.items ++ window_tags (planes_of run.now run.now.generation) row x width) }
+    ensures { OnOk result (text.new.items ≡
+        text.old.items ++ window_tags (planes_of run.now run.now.generation) row x width) }
 {
     for i in 0..width {
         let state = run.state(x as u128 + i as u128, row);
@@ -48,7 +49,8 @@ fn lines_of(
     height: u64,
 ) -> Result<Vec<u8>, AllocError>
     requires { IsBandRun run.now }
-    ensures { IfOk result (λ text. text.items ≡ window_text (planes_of run.now run.now.generation) x y width height) }
+    ensures { IfOk result (λ text. text.items ≡
+        window_text (planes_of run.now run.now.generation) x y width height) }
 {
     let mut text = Vec::new(alloc);
     for i in 0..height {
@@ -77,9 +79,12 @@ pub fn window(
     requires streams { AreFor ports.now streams.now }
     requires in_box { AreInBox pattern.width pattern.height (cells_of ports.now.ins) }
     ensures text { IfOk result (λ text. text ≡
-        window_text (driven_by ports.now streams.now (plane_of pattern.rows) generation) x y width height) }
-    ensures quiet { OnOk result (first_miss ports.now streams.now (plane_of pattern.rows) generation ≡ None) }
-    ensures refused { IfErr result (HasWindowCause ports.now streams.now (plane_of pattern.rows) generation) }
+        window_text (driven_by ports.now streams.now
+        (plane_of pattern.rows) generation) x y width height) }
+    ensures quiet { OnOk result (first_miss ports.now streams.now
+        (plane_of pattern.rows) generation ≡ None) }
+    ensures refused { IfErr result (HasWindowCause ports.now streams.now
+        (plane_of pattern.rows) generation) }
 {
     let mut run = Run::of_streams(alloc, pattern, ports, streams)?;
     run.go_on(generation);

@@ -57,7 +57,9 @@ pub fn draw_text(drawing: &mut Drawing, lines_before: u64, text: &[u8]) -> Resul
         let reached = drawn_with (drawn_of drawing.old) (items_of_lines lines) in
         MatchResult result
         (λ _. reached ≡ Ended (drawn_of drawing.new))
-        (λ fault. (reached ≡ Fault (rle_fault_of fault)) ⊎ ((d : Drawn) × (reached ≡ Open d) × (fault.kind ≡ NoEnd) × (fault.line ≡ lines_before + length lines))) }
+        (λ fault. (reached ≡ Fault (rle_fault_of fault)) ⊎
+        ((d : Drawn) × (reached ≡ Open d) × (fault.kind ≡ NoEnd) ×
+        (fault.line ≡ lines_before + length lines))) }
 {
     let mut rest = text;
     let mut lines = lines_before;

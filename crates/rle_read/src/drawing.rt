@@ -52,7 +52,8 @@ impl Drawing {
     /// What is at fault in an item that begins at this place.
     pub fn item_fault(&self, item: Item) -> Option<RleFaultKind>
         ensures { result
-            ≡ item_fault self.now.width self.now.height (place_of 0 (drawn_of self.now) (item_of item)) (
+            ≡ item_fault self.now.width self.now.height
+            (place_of 0 (drawn_of self.now) (item_of item)) (
             item_of item
             ) }
     {
@@ -92,7 +93,8 @@ impl Drawing {
     pub fn draw(&mut self, item: Item)
         requires in_rows { IsGrid self.old.width self.old.height self.old.rows }
         requires counted { IsCounted (item_of item) }
-        requires sound { item_fault self.old.width self.old.height (place_of 0 (drawn_of self.old) (item_of item)) (
+        requires sound { item_fault self.old.width self.old.height
+            (place_of 0 (drawn_of self.old) (item_of item)) (
             item_of item
             )
             ≡ None }

@@ -48,7 +48,8 @@ fn split_header(text: &[u8]) -> Result<(Line<'_>, &[u8]), RleFault>
 
 // The header that a line says.
 fn read_header(line: Line<'_>) -> Result<Header<'_>, RleFault>
-    ensures header { IfOk result (λ header. (header_in line.entry.bytes.now ≡ Some (header_of header))
+    ensures header { IfOk result (λ header. (header_in line.entry.bytes.now ≡
+        Some (header_of header))
         × (is_wireworld (header_of header).rule ≡ true)) }
     ensures fault { IfErr result (λ fault. IsHeaderFault line.entry.bytes.now fault.kind
         × (fault.line ≡ line.entry.number)) }
@@ -106,7 +107,8 @@ pub fn read(alloc: Global, text: &[u8]) -> Result<Pattern, RleReadError>
     ensures reads { (grid : Grid) → ReadsWithinLimit text.now grid →
         MatchResult result (λ pattern. grid_of pattern ≡ grid) (λ e. e ≡ NoMemory) }
     ensures faulty { (kind : RleFaultKind) (line : ℕ) → HasReaderFault text.now kind line →
-        MatchResult result (λ _. ⊥) (λ e. (e ≡ Fault (record { kind = kind; line = line })) ⊎ (e ≡ NoMemory)) }
+        MatchResult result (λ _. ⊥) (λ e. (e ≡ Fault (record { kind = kind; line = line })) ⊎
+        (e ≡ NoMemory)) }
     ensures large { (width height : ℕ) → HasLargeBox text.now width height →
         MatchResult result (λ _. ⊥) (λ e. e ≡ TooLarge width height) }
 {

@@ -63,11 +63,13 @@ fn write_long<O: Sink>(sink: &mut O, page: &mut Page, count: usize, tag: u8) -> 
     requires { 100 ≤ count }
     ensures ok { OnOk result ((items : List (List ℕ)) →
         Wrote (O.written sink.old) (O.written sink.new) (O.faults sink.old) (O.faults sink.new)
-        (line_left (held page.old) (column_of page.old) (run_text (record { count = count; tag = tag }) ∷ items))
+        (line_left (held page.old) (column_of page.old)
+        (run_text (record { count = count; tag = tag }) ∷ items))
         (line_left (held page.new) (column_of page.new) items)) }
     ensures err { OnErr result ((items : List (List ℕ)) →
         Broke (O.written sink.old) (O.written sink.new) (O.faults sink.old) (O.faults sink.new)
-        (line_left (held page.old) (column_of page.old) (run_text (record { count = count; tag = tag }) ∷ items))) }
+        (line_left (held page.old) (column_of page.old)
+        (run_text (record { count = count; tag = tag }) ∷ items))) }
 {
     let mut buffer = Buffer::new();
     let digits = count_digits(&mut buffer, count);
@@ -96,11 +98,13 @@ pub fn write_item<O: Sink>(
 ) -> Result<(), Failed>
     ensures ok { OnOk result ((items : List (List ℕ)) →
         Wrote (O.written sink.old) (O.written sink.new) (O.faults sink.old) (O.faults sink.new)
-        (line_left (held page.old) (column_of page.old) (run_text (record { count = count; tag = tag }) ∷ items))
+        (line_left (held page.old) (column_of page.old)
+        (run_text (record { count = count; tag = tag }) ∷ items))
         (line_left (held page.new) (column_of page.new) items)) }
     ensures err { OnErr result ((items : List (List ℕ)) →
         Broke (O.written sink.old) (O.written sink.new) (O.faults sink.old) (O.faults sink.new)
-        (line_left (held page.old) (column_of page.old) (run_text (record { count = count; tag = tag }) ∷ items))) }
+        (line_left (held page.old) (column_of page.old)
+        (run_text (record { count = count; tag = tag }) ∷ items))) }
 {
     if count == 1 {
         write_bytes(sink, page, &[tag])

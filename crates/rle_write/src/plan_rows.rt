@@ -54,10 +54,12 @@ fn next_run(
     requires kept { AreBlocks plan.now (y / 16) blocks.now }
     requires end { end ≡ tape_end plan.now }
     requires row { IsWest plan.now y west }
-    requires before { tape_end plan.now ≤ x → x % 32 ≢ 0 → slot_of before ≡ drawn_tiling plan.now (x / 32) (y / 16) }
+    requires before { tape_end plan.now ≤ x → x % 32 ≢ 0 →
+        slot_of before ≡ drawn_tiling plan.now (x / 32) (y / 16) }
     requires low { y < 2 ^ 60 }
     requires some { 1 ≤ limit }
-    ensures run { IsRowRun (λ x. drawn_plane shipped_drawing plan.now (pos x) (pos y)) x limit result.1 }
+    ensures run { IsRowRun (λ x. drawn_plane shipped_drawing plan.now (pos x)
+        (pos y)) x limit result.1 }
     ensures slot { tape_end plan.now ≤ x + result.1.1 → (x + result.1.1) % 32 ≢ 0 →
         slot_of result.0 ≡ drawn_tiling plan.now ((x + result.1.1) / 32) (y / 16) }
 {
@@ -87,11 +89,13 @@ fn write_plan_row<O: Sink>(
     ensures one_more { IfOk result (λ after. after ≤ ends + 1) }
     ensures ok { IfOk result (λ after. (rows : List (List State)) →
         Wrote (O.written sink.old) (O.written sink.new) (O.faults sink.old) (O.faults sink.new)
-        (text_left (held page.old) (column_of page.old) (rows_left ends (start_row plan.now y ∷ rows)))
+        (text_left (held page.old) (column_of page.old)
+        (rows_left ends (start_row plan.now y ∷ rows)))
         (text_left (held page.new) (column_of page.new) (rows_left after rows))) }
     ensures err { OnErr result ((rows : List (List State)) →
         Broke (O.written sink.old) (O.written sink.new) (O.faults sink.old) (O.faults sink.new)
-        (text_left (held page.old) (column_of page.old) (rows_left ends (start_row plan.now y ∷ rows)))) }
+        (text_left (held page.old) (column_of page.old)
+        (rows_left ends (start_row plan.now y ∷ rows)))) }
 {
     let (end, west) = (tape_end(plan), west_of(plan, y));
     let mut kept = Kept::begin(ends);
@@ -122,7 +126,8 @@ pub fn write_plan_rows<O: Sink>(
     requires begun { column_of page.old ≡ 0 }
     ensures ok { OnOk result ((rest : List ℕ) →
         Wrote (O.written sink.old) (O.written sink.new) (O.faults sink.old) (O.faults sink.new)
-        (held page.old ++ (wrapped 0 (item_texts (start_grid plan.now).rows) ++ (10 ∷ rest))) (held page.new ++ rest)) }
+        (held page.old ++ (wrapped 0 (item_texts (start_grid plan.now).rows) ++ (10 ∷ rest)))
+        (held page.new ++ rest)) }
     ensures err { OnErr result ((rest : List ℕ) →
         Broke (O.written sink.old) (O.written sink.new) (O.faults sink.old) (O.faults sink.new)
         (held page.old ++ (wrapped 0 (item_texts (start_grid plan.now).rows) ++ (10 ∷ rest)))) }

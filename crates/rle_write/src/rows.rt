@@ -76,13 +76,17 @@ fn write_ends<O: Sink>(sink: &mut O, page: &mut Page, ends: usize) -> Result<(),
 fn write_run<O: Sink>(sink: &mut O, page: &mut Page, ends: usize, run: Run) -> Result<usize, Failed>
     requires { run.tag ≢ row_end }
     ensures fewer { IfOk result (λ after. after ≤ ends) }
-    ensures ok { IfOk result (λ after. (tags : List ℕ) (rows : List (List State)) → IsRunBefore run.count run.tag tags →
+    ensures ok { IfOk result (λ after. (tags : List ℕ) (rows : List (List State)) →
+        IsRunBefore run.count run.tag tags →
         Wrote (O.written sink.old) (O.written sink.new) (O.faults sink.old) (O.faults sink.new)
-        (text_left (held page.old) (column_of page.old) (row_left ends (replicate run.count run.tag ++ tags) rows))
+        (text_left (held page.old) (column_of page.old)
+        (row_left ends (replicate run.count run.tag ++ tags) rows))
         (text_left (held page.new) (column_of page.new) (row_left after tags rows))) }
-    ensures err { OnErr result ((tags : List ℕ) (rows : List (List State)) → IsRunBefore run.count run.tag tags →
+    ensures err { OnErr result ((tags : List ℕ) (rows : List (List State)) →
+        IsRunBefore run.count run.tag tags →
         Broke (O.written sink.old) (O.written sink.new) (O.faults sink.old) (O.faults sink.new)
-        (text_left (held page.old) (column_of page.old) (row_left ends (replicate run.count run.tag ++ tags) rows))) }
+        (text_left (held page.old) (column_of page.old)
+        (row_left ends (replicate run.count run.tag ++ tags) rows))) }
 {
     if run.count == 0 {
         return Ok(ends);
@@ -98,11 +102,13 @@ fn end_run<O: Sink>(sink: &mut O, page: &mut Page, ends: usize, run: Run) -> Res
     ensures fewer { IfOk result (λ after. after ≤ ends) }
     ensures ok { IfOk result (λ after. (rows : List (List State)) →
         Wrote (O.written sink.old) (O.written sink.new) (O.faults sink.old) (O.faults sink.new)
-        (text_left (held page.old) (column_of page.old) (row_left ends (replicate run.count run.tag ++ []) rows))
+        (text_left (held page.old) (column_of page.old)
+        (row_left ends (replicate run.count run.tag ++ []) rows))
         (text_left (held page.new) (column_of page.new) (row_left after [] rows))) }
     ensures err { OnErr result ((rows : List (List State)) →
         Broke (O.written sink.old) (O.written sink.new) (O.faults sink.old) (O.faults sink.new)
-        (text_left (held page.old) (column_of page.old) (row_left ends (replicate run.count run.tag ++ []) rows))) }
+        (text_left (held page.old) (column_of page.old)
+        (row_left ends (replicate run.count run.tag ++ []) rows))) }
 {
     if run.tag == EMPTY {
         return Ok(ends);
@@ -117,11 +123,13 @@ pub fn end_row<O: Sink>(sink: &mut O, page: &mut Page, kept: Kept) -> Result<usi
     ensures one_more { IfOk result (λ after. after ≤ kept.due + 1) }
     ensures ok { IfOk result (λ after. (rows : List (List State)) →
         Wrote (O.written sink.old) (O.written sink.new) (O.faults sink.old) (O.faults sink.new)
-        (text_left (held page.old) (column_of page.old) (row_left kept.due (replicate kept.run.count kept.run.tag ++ []) rows))
+        (text_left (held page.old) (column_of page.old)
+        (row_left kept.due (replicate kept.run.count kept.run.tag ++ []) rows))
         (text_left (held page.new) (column_of page.new) (rows_left after rows))) }
     ensures err { OnErr result ((rows : List (List State)) →
         Broke (O.written sink.old) (O.written sink.new) (O.faults sink.old) (O.faults sink.new)
-        (text_left (held page.old) (column_of page.old) (row_left kept.due (replicate kept.run.count kept.run.tag ++ []) rows))) }
+        (text_left (held page.old) (column_of page.old)
+        (row_left kept.due (replicate kept.run.count kept.run.tag ++ []) rows))) }
 {
     let last = end_run(sink, page, kept.due, kept.run)?;
     Ok(last + 1)
@@ -145,12 +153,15 @@ pub fn write_same<O: Sink>(
     ensures ok { IfOk result (λ k. (more : List ℕ) (rows : List (List State)) →
         Wrote (O.written sink.old) (O.written sink.new) (O.faults sink.old) (O.faults sink.new)
         (text_left (held page.old) (column_of page.old)
-        (row_left kept.due (replicate kept.run.count kept.run.tag ++ (replicate count (tag_of state) ++ more)) rows))
-        (text_left (held page.new) (column_of page.new) (row_left k.due (replicate k.run.count k.run.tag ++ more) rows))) }
+        (row_left kept.due (replicate kept.run.count kept.run.tag ++
+        (replicate count (tag_of state) ++ more)) rows))
+        (text_left (held page.new) (column_of page.new)
+        (row_left k.due (replicate k.run.count k.run.tag ++ more) rows))) }
     ensures err { OnErr result ((more : List ℕ) (rows : List (List State)) →
         Broke (O.written sink.old) (O.written sink.new) (O.faults sink.old) (O.faults sink.new)
         (text_left (held page.old) (column_of page.old)
-        (row_left kept.due (replicate kept.run.count kept.run.tag ++ (replicate count (tag_of state) ++ more)) rows))) }
+        (row_left kept.due (replicate kept.run.count kept.run.tag ++
+        (replicate count (tag_of state) ++ more)) rows))) }
 {
     let tag = letter(state);
     if tag == kept.run.tag {

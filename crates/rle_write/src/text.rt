@@ -71,9 +71,11 @@ fn write_header<O: Sink>(
 pub fn write<O: Sink>(plan: &Plan, ports: &Ports, sink: &mut O) -> Result<(), Failed>
     requires { IsAdmissible plan.now }
     ensures ok { OnOk result (
-        Appends (O.written sink.old) (O.written sink.new) (writer_text (start_grid plan.now) (port_lines ports.now))) }
+        Appends (O.written sink.old) (O.written sink.new)
+        (writer_text (start_grid plan.now) (port_lines ports.now))) }
     ensures front { OnErr result ((n : ℕ) ×
-        Appends (O.written sink.old) (O.written sink.new) (take n (writer_text (start_grid plan.now) (port_lines ports.now)))) }
+        Appends (O.written sink.old) (O.written sink.new)
+        (take n (writer_text (start_grid plan.now) (port_lines ports.now)))) }
     ensures cause { HasCause (O.faults sink.old) (O.faults sink.new) result }
 {
     let mut page = Page::new();

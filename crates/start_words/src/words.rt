@@ -80,7 +80,8 @@ pub fn start_in(
         → list_any (sets (flat_latches flat.now) start.context start.class) before ≡ false
         ) }
     ensures context { IfOk result (λ start. start.context ≡ context_in word.now) }
-    ensures class { IfOk result (λ start. flat_latches flat.now (net_of_word word.now) ≡ Some start.class) }
+    ensures class { IfOk result (λ start. flat_latches flat.now (net_of_word word.now) ≡
+        Some start.class) }
     ensures bit { IfOk result (λ start. start.bit ≡ is_char_one (bits_in word.now)) }
     ensures fault { IfErr result (λ kind.
         (before : List (List ℕ))

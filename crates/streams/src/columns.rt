@@ -29,7 +29,8 @@ pub fn columns_of(
     long: usize,
 ) -> Result<List<List<bool>>, AllocError>
     requires { All (λ bits. length bits ≡ long) lists.now }
-    ensures { IfOk result (λ columns. columns ≡ map (bits_across lists.now) (range_with_len 0 long)) }
+    ensures { IfOk result (λ columns. columns ≡
+        map (bits_across lists.now) (range_with_len 0 long)) }
 {
     let mut columns = Vec::with_capacity(alloc, long)?;
     for place in 0..long {

@@ -64,10 +64,12 @@ fn push_context<'a>(
     contexts: u64,
 ) -> Result<(), StreamError>
     ensures streams { OnOk result ((words : List (List ℕ)) → AreBitsOf contexts given.now words
-        → streams.new.items ≡ streams.old.items ++ streams_of contexts words (inputs_of_context context names.now)) }
+        → streams.new.items ≡ streams.old.items ++
+        streams_of contexts words (inputs_of_context context names.now)) }
     ensures none_missing { OnOk result ((words : List (List ℕ)) → AreBitsOf contexts given.now words
         → missing_inputs contexts words (inputs_of_context context names.now) ≡ []) }
-    ensures missing { IfErr result (λ error. (words : List (List ℕ)) → AreBitsOf contexts given.now words
+    ensures missing { IfErr result (λ error. (words : List (List ℕ)) →
+        AreBitsOf contexts given.now words
         → IsMissing contexts words (inputs_of_context context names.now) error) }
 {
     for name in names {
@@ -86,11 +88,14 @@ fn streams_of<'a>(
     names: &'a [Bytes],
     contexts: u64,
 ) -> Result<List<List<bool>>, StreamError>
-    ensures streams { IfOk result (λ streams. (words : List (List ℕ)) → AreBitsOf contexts given.now words
+    ensures streams { IfOk result (λ streams. (words : List (List ℕ)) →
+        AreBitsOf contexts given.now words
         → streams ≡ streams_of contexts words (inputs_of_contexts contexts names.now)) }
-    ensures none_missing { IfOk result (λ streams. (words : List (List ℕ)) → AreBitsOf contexts given.now words
+    ensures none_missing { IfOk result (λ streams. (words : List (List ℕ)) →
+        AreBitsOf contexts given.now words
         → missing_inputs contexts words (inputs_of_contexts contexts names.now) ≡ []) }
-    ensures missing { IfErr result (λ error. (words : List (List ℕ)) → AreBitsOf contexts given.now words
+    ensures missing { IfErr result (λ error. (words : List (List ℕ)) →
+        AreBitsOf contexts given.now words
         → IsMissing contexts words (inputs_of_contexts contexts names.now) error) }
 {
     let mut streams = Vec::new(alloc);
@@ -123,7 +128,8 @@ impl Streams {
             ) }
         ensures many { IfOk result (λ streams. length streams.bits ≡ c * length names.now) }
         ensures long { IfOk result (λ streams. All (λ bits. length bits ≡ cycles) streams.bits) }
-        ensures fault { IfErr result (HasStreamCause c (map string_bytes words.now) names.now cycles) }
+        ensures fault { IfErr result (HasStreamCause c (map string_bytes words.now) names.now
+            cycles) }
     {
         let given = bits_by_input(alloc, words, names, cycles, c)?;
         let bits = streams_of(alloc, &given, names, c)?;

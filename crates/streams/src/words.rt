@@ -27,7 +27,8 @@ fn are_bits(bytes: &[u8]) -> bool
 
 // Whether there is an input of that name.
 fn is_input(known: &BTreeSet<&[u8]>, name: &[u8]) -> bool
-    ensures { (names : List (List ℕ)) → AreNamesOf known.now names → result ≡ is_among name.now names }
+    ensures { (names : List (List ℕ)) → AreNamesOf known.now names →
+        result ≡ is_among name.now names }
 {
     known.contains(name)
 }

@@ -40,7 +40,8 @@ pub fn run_from(rows: &[[u8; 32]], x: u32, y: u32) -> (bool, u32)
 /// The same of the rows with west and east changed.
 pub fn run_from_mirrored(rows: &[[u8; 32]], x: u32, y: u32) -> (bool, u32)
     requires { x < 32 }
-    ensures { IsRowRun (λ x. mirrored_drawing (drawn_rows rows.now) (pos x) (pos y)) x (32 - x) result }
+    ensures { IsRowRun (λ x. mirrored_drawing (drawn_rows rows.now) (pos x) (pos y)) x
+        (32 - x) result }
 {
     let drawn = is_drawn_mirrored(rows, x, y);
     for end in x + 1..32 {

@@ -54,15 +54,18 @@ fn is_lit(ports: &[(u32, u32)], bits: [bool; 2], x: usize, y: usize) -> bool
 }
 
 fn are_dark(cells: &[State], ports: &[(u32, u32)]) -> bool
-    ensures { IsTrue result ↔ All (λ port. shown cells.now 32 (pos port.0) (pos port.1) ≢ State.Head) ports.now }
+    ensures { IsTrue result ↔ All (λ port. shown cells.now 32 (pos port.0) (pos port.1) ≢
+        State.Head) ports.now }
 {
     ports.iter().all(|(x, y)| !is_head_at(cells, *x, *y))
 }
 
 fn is_lit_as(cells: &[State], ports: &[(u32, u32)], bits: [bool; 2]) -> bool
     requires few { length ports.now ≤ 2 }
-    ensures { IsTrue result ↔ All (λ port. (shown cells.now 32 (pos port.0) (pos port.1) ≡ State.Head)
-        ↔ (is_cell_of (pos port.0) (pos port.1) (chosen (map cell_at ports.now) bits) ≡ true)) ports.now }
+    ensures { IsTrue result ↔ All (λ port. (shown cells.now 32 (pos port.0) (pos port.1) ≡
+        State.Head)
+        ↔ (is_cell_of (pos port.0) (pos port.1) (chosen (map cell_at ports.now) bits) ≡
+        true)) ports.now }
 {
     ports.iter().all(|(x, y)| is_head_at(cells, *x, *y)
         == is_lit(ports, bits, *x as usize, *y as usize))
@@ -86,7 +89,8 @@ fn exits_are_dark(cells: &[State], kind: Kind) -> bool
 
 fn exits_answer(cells: &[State], kind: Kind, lit: [bool; 2]) -> bool
     ensures { IsTrue result
-        ↔ AreLitAs (exit_cells (interface kind)) (lit_exits (interface kind) (get_or lit 0 false) (get_or lit 1 false)) (
+        ↔ AreLitAs (exit_cells (interface kind))
+        (lit_exits (interface kind) (get_or lit 0 false) (get_or lit 1 false)) (
         shown cells.now 32
         ) }
 {
@@ -150,7 +154,8 @@ fn draw_marked(
 )
     requires few { length ports.now ≤ 2 }
     requires same_length { length cells.old ≡ length base.now }
-    ensures shows { shown cells.new 32 ≡ marked (drawing_of base.now) (chosen (map cell_at ports.now) bits) mark }
+    ensures shows { shown cells.new 32 ≡ marked (drawing_of base.now)
+        (chosen (map cell_at ports.now) bits) mark }
     ensures same_length { length cells.new ≡ length base.now }
 {
     for (i, cell) in cells.iter_mut().enumerate() {
@@ -250,7 +255,8 @@ fn always_keeps_time(base: &[State], kind: Kind, now: &mut [State], next: &mut [
     requires whole { length base.now % 32 ≡ 0 }
     requires now_length { length now.old ≡ length base.now }
     requires next_length { length next.old ≡ length base.now }
-    ensures { IsTrue result ↔ ((a b : Bool) → KeepsTime (interface kind) (drawing_of base.now) a b) }
+    ensures { IsTrue result ↔ ((a b : Bool) →
+        KeepsTime (interface kind) (drawing_of base.now) a b) }
 {
     for lit in &CHOICES {
         if !keeps_time(base, kind, *lit, now, next) {
@@ -261,7 +267,8 @@ fn always_keeps_time(base: &[State], kind: Kind, now: &mut [State], next: &mut [
 }
 
 fn are_filled(cells: &[State], ports: &[(u32, u32)]) -> bool
-    ensures { IsTrue result ↔ All (λ port. drawing_of cells.now (pos port.0) (pos port.1) ≡ true) ports.now }
+    ensures { IsTrue result ↔ All (λ port. drawing_of cells.now (pos port.0) (pos port.1) ≡
+        true) ports.now }
 {
     ports.iter().all(|(x, y)| is_filled_at(cells, *x, *y))
 }
@@ -287,7 +294,8 @@ fn is_on_border(kind: Kind, x: usize, y: usize) -> bool
 
 // Whether the cell is an entry or an exit.
 fn is_any_port(kind: Kind, x: usize, y: usize) -> bool
-    ensures { result ≡ is_cell_of (pos x) (pos y) (entry_cells (interface kind) ++ exit_cells (interface kind)) }
+    ensures { result ≡ is_cell_of (pos x) (pos y)
+        (entry_cells (interface kind) ++ exit_cells (interface kind)) }
 {
     let lanes = kind.lanes() as usize;
     let entries = kind.entries();
@@ -341,7 +349,8 @@ fn has_ports(cells: &[State], kind: Kind) -> bool
 
 // Whether there are neither heads nor tails.
 fn is_unlit(cells: &[State]) -> bool
-    ensures { IsTrue result ↔ All (λ cell. (cell ≡ State.Empty) ⊎ (cell ≡ State.Conductor)) cells.now }
+    ensures { IsTrue result ↔ All (λ cell. (cell ≡ State.Empty) ⊎
+        (cell ≡ State.Conductor)) cells.now }
 {
     cells.iter().all(|cell| is_same(*cell, State::Empty) || is_same(*cell, State::Conductor))
 }

@@ -9,7 +9,8 @@ use ww_rule::State;
 fn head_before(cells: &[State], width: usize, x: usize, y: usize) -> usize
     requires wide { 0 < width }
     requires whole { length cells.now % width ≡ 0 }
-    ensures counted { result ≡ count_head (shown cells.now width (pos x -ℤ pos 1) (pos y -ℤ pos 1)) }
+    ensures counted { result ≡ count_head (shown cells.now width (pos x -ℤ pos 1)
+        (pos y -ℤ pos 1)) }
     ensures few { result ≤ 1 }
 {
     if x == 0 || y == 0 || x > width || y > cells.len() / width {

@@ -74,7 +74,8 @@ impl DueBits {
     pub fn put_next(&mut self, bit: DueBit, raster: &Raster) -> Result<(), AllocError>
         requires { IsWithin raster.now bit }
         ensures unbegun { OnOk result (self.new.unbegun.items ≡ self.old.unbegun.items) }
-        ensures begun { OnOk result (self.new.begun.items ≡ self.old.begun.items ++ next_bit raster.now bit) }
+        ensures begun { OnOk result (self.new.begun.items ≡
+            self.old.begun.items ++ next_bit raster.now bit) }
     {
         if raster.bits - bit.place <= raster.variables {
             return Ok(());

@@ -35,13 +35,15 @@ pub fn of(
     requires in_box { AreInBox pattern.width pattern.height (cells_of ports.now.ins) }
     ensures near { OnOk result (last_of_all_nets ports.now streams.now ≤ greatest_generation) }
     ensures quiet { OnOk result (
-        first_miss ports.now streams.now (plane_of pattern.rows) (last_of_all_nets ports.now streams.now) ≡ None) }
+        first_miss ports.now streams.now (plane_of pattern.rows)
+        (last_of_all_nets ports.now streams.now) ≡ None) }
     ensures waves { IfOk result (λ vcd.
         AreSameWaves (waves_in vcd) (net_waves ports.now streams.now (plane_of pattern.rows))) }
     ensures says { OnOk result (IsSoundTable ports.now
         → SaysWaves (net_waves ports.now streams.now (plane_of pattern.rows))) }
     ensures refused { IfErr result (
-        HasSimulateCause ports.now streams.now (plane_of pattern.rows) (last_of_all_nets ports.now streams.now)) }
+        HasSimulateCause ports.now streams.now (plane_of pattern.rows)
+        (last_of_all_nets ports.now streams.now)) }
 {
     let generations = last_of_all_nets(ports, streams);
     if generations > GREATEST_GENERATION {

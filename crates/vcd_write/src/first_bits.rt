@@ -48,7 +48,8 @@ fn unsorted(alloc: Global, ports: &Ports) -> Result<Vec<DueBit>, AllocError>
 /// Those in the order of their generations.
 pub fn sorted_first_bits(alloc: Global, ports: &Ports) -> Result<Vec<DueBit>, AllocError>
     requires room { All (λ net. net.offset + 32 * (ports.now.c - 1) < 2 ^ 64) ports.now.nets }
-    ensures same { IfOk result (λ due. IsPermutation (first_due_bits 0 (nets_in_contexts ports.now)) due.items) }
+    ensures same { IfOk result (λ due. IsPermutation
+        (first_due_bits 0 (nets_in_contexts ports.now)) due.items) }
     ensures order { IfOk result (λ due. AreDueFrom 0 due.items) }
 {
     let mut due = unsorted(alloc, ports)?;

@@ -49,10 +49,12 @@ pub fn write_var<O: Sink>(
 ) -> Result<(), Failed>
     ensures ok { OnOk result ((rest : List ℕ) →
         Wrote (O.written sink.old) (O.written sink.new) (O.faults sink.old) (O.faults sink.new)
-        (held page.old ++ (var_line (record { id = vcd_id n; reference = reference.now }) ++ (10 ∷ rest))) (held page.new ++ rest)) }
+        (held page.old ++ (var_line (record { id = vcd_id n; reference = reference.now }) ++
+        (10 ∷ rest))) (held page.new ++ rest)) }
     ensures err { OnErr result ((rest : List ℕ) →
         Broke (O.written sink.old) (O.written sink.new) (O.faults sink.old) (O.faults sink.new)
-        (held page.old ++ (var_line (record { id = vcd_id n; reference = reference.now }) ++ (10 ∷ rest)))) }
+        (held page.old ++ (var_line (record { id = vcd_id n; reference = reference.now }) ++
+        (10 ∷ rest)))) }
 {
     page.put(sink, b"$var wire 1 ")?;
     write_id(sink, page, n)?;
@@ -86,7 +88,8 @@ pub fn write_value<O: Sink>(
 ) -> Result<(), Failed>
     ensures ok { OnOk result ((rest : List ℕ) →
         Wrote (O.written sink.old) (O.written sink.new) (O.faults sink.old) (O.faults sink.new)
-        (held page.old ++ (value_line (record { id = vcd_id n; bit = bit }) ++ (10 ∷ rest))) (held page.new ++ rest)) }
+        (held page.old ++ (value_line (record { id = vcd_id n; bit = bit }) ++ (10 ∷ rest)))
+        (held page.new ++ rest)) }
     ensures err { OnErr result ((rest : List ℕ) →
         Broke (O.written sink.old) (O.written sink.new) (O.faults sink.old) (O.faults sink.new)
         (held page.old ++ (value_line (record { id = vcd_id n; bit = bit }) ++ (10 ∷ rest)))) }

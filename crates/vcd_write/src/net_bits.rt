@@ -42,7 +42,13 @@ pub fn last_of_all_nets(ports: &Ports, streams: &Streams) -> u128
 /// The raster of so many variables, if memory could have places for all bits.
 pub fn raster_of(ports: &Ports, cycles: usize, variables: usize, last: u64) -> Option<Raster>
     ensures raster { IfSome result (λ raster. raster
-        ≡ record { variables = variables; period = ports.now.p; bits = cycles * variables; last = last }) }
+        ≡ record {
+          variables = variables;
+          period = ports.now.p;
+          bits = cycles * variables;
+          last =
+              last;
+        }) }
     ensures small { cycles < 2 ^ 64 }
 {
     let bits = cycles.checked_mul(variables)?;
@@ -67,10 +73,12 @@ pub fn bits_of_nets(
     requires fits { (cycles : ℕ) × FitsNets ports.now cycles raster.now }
     ensures gone { OnOk result (HasGoneOn raster.now.last run.old run.new) }
     ensures long { IfOk result (λ bits. length bits ≡ raster.now.bits) }
-    ensures bits { IfOk result (λ bits. (n cycle : ℕ) (variable : NetInContext) → slice_get (nets_in_contexts ports.now) n ≡ Some variable
+    ensures bits { IfOk result (λ bits. (n cycle : ℕ) (variable : NetInContext) →
+        slice_get (nets_in_contexts ports.now) n ≡ Some variable
         → cycle * raster.now.variables + n < raster.now.bits
         → get_or bits (cycle * raster.now.variables + n) false
-        ≡ is_head (planes_of run.old (variable.net.offset + 32 * variable.context + cycle * ports.now.p) (pos variable.net.x) (pos variable.net.y))) }
+        ≡ is_head (planes_of run.old (variable.net.offset + 32 * variable.context +
+        cycle * ports.now.p) (pos variable.net.x) (pos variable.net.y))) }
     ensures refused { IfErr result (HasRunCause (first_miss_of run.old raster.now.last)) }
 {
     let first = sorted_first_bits(alloc, ports)?;

@@ -18,7 +18,8 @@ fn read_bit(run: &mut Run, bits: &mut PackedBits, bit: DueBit)
     ensures gone { HasGoneOn bit.generation run.old run.new }
     ensures long { length bits.new ≡ length bits.old }
     ensures bits { (k : ℕ) → get_or bits.new k false
-        ≡ ((k == bit.place && is_head (planes_of run.old bit.generation (pos bit.x) (pos bit.y))) || get_or bits.old k false) }
+        ≡ ((k == bit.place && is_head (planes_of run.old bit.generation (pos bit.x) (pos bit.y))) ||
+        get_or bits.old k false) }
 {
     run.go_on(bit.generation);
     if run.is_head(bit.x, bit.y) {
@@ -40,7 +41,8 @@ pub fn read_bits(
     requires within { All (IsWithin raster.now) first.items }
     ensures gone { OnOk result (HasGoneOn raster.now.last run.old run.new) }
     ensures long { IfOk result (λ bits. length bits ≡ raster.now.bits) }
-    ensures bits { IfOk result (λ bits. (shown : ℕ → Bool) → AreFirstBits shown (planes_of run.old) raster.now first.items
+    ensures bits { IfOk result (λ bits. (shown : ℕ → Bool) →
+        AreFirstBits shown (planes_of run.old) raster.now first.items
         → (k : ℕ) → k < raster.now.bits → get_or bits k false ≡ shown k) }
     ensures refused { IfErr result (HasRunCause (first_miss_of run.old raster.now.last)) }
 {

@@ -28,7 +28,8 @@ fn hex_digit(n: u8) -> u8
 
 // Puts a byte at the end, or an escape that stands for it.
 fn push_byte(text: &mut Vec<u8>, byte: u8) -> Result<(), AllocError>
-    ensures text { OnOk result (text.new.items ≡ text.old.items ++ escaped_byte is_plain_in_reference byte) }
+    ensures text { OnOk result (text.new.items ≡
+        text.old.items ++ escaped_byte is_plain_in_reference byte) }
     ensures small { byte < 256 }
 {
     if is_plain_in_reference(byte) {

@@ -23,7 +23,8 @@ fn reference(vcd: &Vcd, n: usize) -> &[u8]
 fn write_vars<O: Sink>(sink: &mut O, page: &mut Page, vcd: &Vcd) -> Result<(), Failed>
     ensures ok { OnOk result ((rest : List ℕ) →
         Wrote (O.written sink.old) (O.written sink.new) (O.faults sink.old) (O.faults sink.new)
-        (held page.old ++ (vars_text (waves_in vcd.now) 0 (length vcd.now.references) ++ rest)) (held page.new ++ rest)) }
+        (held page.old ++ (vars_text (waves_in vcd.now) 0 (length vcd.now.references) ++ rest))
+        (held page.new ++ rest)) }
     ensures err { OnErr result ((rest : List ℕ) →
         Broke (O.written sink.old) (O.written sink.new) (O.faults sink.old) (O.faults sink.new)
         (held page.old ++ (vars_text (waves_in vcd.now) 0 (length vcd.now.references) ++ rest))) }
@@ -77,7 +78,8 @@ fn write_if_changed<O: Sink>(
     requires variable { n < length vcd.now.references }
     ensures ok { OnOk result ((rest : List ℕ) →
         Wrote (O.written sink.old) (O.written sink.new) (O.faults sink.old) (O.faults sink.new)
-        (held page.old ++ (values_text (waves_in vcd.now) cycle n 1 ++ rest)) (held page.new ++ rest)) }
+        (held page.old ++ (values_text (waves_in vcd.now) cycle n 1 ++ rest))
+        (held page.new ++ rest)) }
     ensures err { OnErr result ((rest : List ℕ) →
         Broke (O.written sink.old) (O.written sink.new) (O.faults sink.old) (O.faults sink.new)
         (held page.old ++ (values_text (waves_in vcd.now) cycle n 1 ++ rest))) }
@@ -98,10 +100,12 @@ fn write_values<O: Sink>(
     requires { cycle < vcd.now.cycles }
     ensures ok { OnOk result ((rest : List ℕ) →
         Wrote (O.written sink.old) (O.written sink.new) (O.faults sink.old) (O.faults sink.new)
-        (held page.old ++ (values_text (waves_in vcd.now) cycle 0 (length vcd.now.references) ++ rest)) (held page.new ++ rest)) }
+        (held page.old ++ (values_text (waves_in vcd.now) cycle 0 (length vcd.now.references) ++
+        rest)) (held page.new ++ rest)) }
     ensures err { OnErr result ((rest : List ℕ) →
         Broke (O.written sink.old) (O.written sink.new) (O.faults sink.old) (O.faults sink.new)
-        (held page.old ++ (values_text (waves_in vcd.now) cycle 0 (length vcd.now.references) ++ rest))) }
+        (held page.old ++ (values_text (waves_in vcd.now) cycle 0 (length vcd.now.references) ++
+        rest))) }
 {
     for n in 0..vcd.references.len() {
         write_if_changed(sink, page, vcd, cycle, n)?;
@@ -113,7 +117,8 @@ fn write_values<O: Sink>(
 fn write_blocks<O: Sink>(sink: &mut O, page: &mut Page, vcd: &Vcd) -> Result<(), Failed>
     ensures ok { OnOk result ((rest : List ℕ) →
         Wrote (O.written sink.old) (O.written sink.new) (O.faults sink.old) (O.faults sink.new)
-        (held page.old ++ (blocks_text (waves_in vcd.now) 0 vcd.now.cycles ++ rest)) (held page.new ++ rest)) }
+        (held page.old ++ (blocks_text (waves_in vcd.now) 0 vcd.now.cycles ++ rest))
+        (held page.new ++ rest)) }
     ensures err { OnErr result ((rest : List ℕ) →
         Broke (O.written sink.old) (O.written sink.new) (O.faults sink.old) (O.faults sink.new)
         (held page.old ++ (blocks_text (waves_in vcd.now) 0 vcd.now.cycles ++ rest))) }

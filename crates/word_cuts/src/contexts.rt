@@ -36,7 +36,8 @@ fn is_unpadded_number(bytes: &[u8]) -> bool
 // The number that digits write, if it is below a bound.
 fn number_below(digits: &[u8], bound: u64) -> Option<u64>
     requires { list_all is_ascii_digit digits.now ≡ true }
-    ensures { result ≡ then_some (nat_lt (digits_value 10 digits.now) bound) (digits_value 10 digits.now) }
+    ensures { result ≡ then_some (nat_lt (digits_value 10 digits.now) bound)
+        (digits_value 10 digits.now) }
 {
     let limit = u128::from(bound);
     let mut number: u128 = 0;
@@ -55,7 +56,8 @@ fn number_below(digits: &[u8], bound: u64) -> Option<u64>
 
 // The number of one of so many contexts, if the bytes write one, without leading zeros.
 fn context_in(bytes: &[u8], contexts: u64) -> Option<u64>
-    ensures { result ≡ then_some (is_unpadded_number bytes.now && nat_lt (digits_value 10 bytes.now) contexts) (digits_value 10 bytes.now) }
+    ensures { result ≡ then_some (is_unpadded_number bytes.now &&
+        nat_lt (digits_value 10 bytes.now) contexts) (digits_value 10 bytes.now) }
 {
     if is_unpadded_number(bytes) {
         number_below(bytes, contexts)
@@ -68,7 +70,8 @@ fn context_in(bytes: &[u8], contexts: u64) -> Option<u64>
 /// there also where there is one context.
 pub fn cut_at_context(name: &[u8], contexts: u64) -> Option<(u64, &[u8])>
     ensures { MatchOption result (has_context contexts name.now ≡ false)
-        (λ parts. (has_context contexts name.now ≡ true) × (parts.0 ≡ context_of name.now) × (parts.1.now ≡ name_after name.now)) }
+        (λ parts. (has_context contexts name.now ≡ true) × (parts.0 ≡ context_of name.now) ×
+        (parts.1.now ≡ name_after name.now)) }
 {
     let (number, rest) = cut_at_colon(name)?;
     let context = context_in(number, contexts)?;
@@ -80,7 +83,9 @@ pub fn cut_at_context(name: &[u8], contexts: u64) -> Option<(u64, &[u8])>
 /// number of one and a `:`.
 pub fn cut_if_several(name: &[u8], contexts: u64) -> Option<(u64, &[u8])>
     ensures { MatchOption result (names_context contexts name.now ≡ false)
-        (λ parts. (names_context contexts name.now ≡ true) × (parts.0 ≡ context_named contexts name.now) × (parts.1.now ≡ without_context contexts name.now)) }
+        (λ parts. (names_context contexts name.now ≡ true) ×
+        (parts.0 ≡ context_named contexts name.now) ×
+        (parts.1.now ≡ without_context contexts name.now)) }
 {
     if contexts == 1 {
         Some((0, name))

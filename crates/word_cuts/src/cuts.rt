@@ -14,7 +14,8 @@ fn bits_after(word: &[u8]) -> Option<usize>
 /// The name before the last `=` of a word, and the bits after it.
 pub fn cut(word: &[u8]) -> Option<(&[u8], &[u8])>
     ensures { MatchOption result (list_any is_equals_sign word.now ≡ false)
-        (λ parts. (list_any is_equals_sign word.now ≡ true) × (parts.0.now ≡ name_in word.now) × (parts.1.now ≡ bits_in word.now)) }
+        (λ parts. (list_any is_equals_sign word.now ≡ true) × (parts.0.now ≡ name_in word.now) ×
+        (parts.1.now ≡ bits_in word.now)) }
 {
     let count = bits_after(word)?;
     let start = word.len() - count;
@@ -31,7 +32,8 @@ fn colon_in(name: &[u8]) -> Option<usize>
 /// What stands before the first `:` of a name, and after it.
 pub fn cut_at_colon(name: &[u8]) -> Option<(&[u8], &[u8])>
     ensures { MatchOption result (list_any is_colon name.now ≡ false)
-        (λ parts. (list_any is_colon name.now ≡ true) × (parts.0.now ≡ before_first is_colon name.now) × (parts.1.now ≡ name_after name.now)) }
+        (λ parts. (list_any is_colon name.now ≡ true) ×
+        (parts.0.now ≡ before_first is_colon name.now) × (parts.1.now ≡ name_after name.now)) }
 {
     let place = colon_in(name)?;
     Some((&name[..place], &name[place + 1..]))

@@ -71,7 +71,8 @@ impl Source for MemSource {
 
     fn read(&mut self, buf: &mut [u8]) -> Result<usize, Failed>
         ensures bound { ReadsAtMost result buf.new }
-        ensures bytes { ReadConsumes (Some (bytes_left self.old)) (Some (bytes_left self.new)) result buf.new }
+        ensures bytes { ReadConsumes (Some (bytes_left self.old))
+            (Some (bytes_left self.new)) result buf.new }
         ensures cause { HasCause (source_faults self.old) (source_faults self.new) result }
         ensures fails { IsErr result ↔ Contains (source_fails self.old) (source_call self.old) }
         ensures count { IfOk result (λ n.
@@ -166,7 +167,8 @@ impl Sink for MemSink {
     fn write(&mut self, piece: &[u8]) -> Result<usize, Failed>
         ensures bound { WritesAtMost result piece.now }
         ensures some { IfOk result (λ n. 0 < length piece.now → 0 < n) }
-        ensures bytes { WriteAppends (Some (held_of self.old)) (Some (held_of self.new)) result piece.now }
+        ensures bytes { WriteAppends (Some (held_of self.old))
+            (Some (held_of self.new)) result piece.now }
         ensures cause { HasCause (sink_faults self.old) (sink_faults self.new) result }
         ensures fails { IsErr result ↔ (Contains (sink_fails self.old) (sink_call self.old)
             ⊎ ((0 < length piece.now) × (length (held_of self.old) ≡ sink_room self.old))) }

@@ -8,9 +8,11 @@ use crate::whole::write_all;
 // Writes a piece, or a front of it where a write fails.
 fn send<O: Sink>(sink: &mut O, piece: &[u8]) -> Result<(), Failed>
     ensures ok { OnOk result ((rest : List ℕ) →
-        Wrote (O.written sink.old) (O.written sink.new) (O.faults sink.old) (O.faults sink.new) (piece.now ++ rest) rest) }
+        Wrote (O.written sink.old) (O.written sink.new) (O.faults sink.old) (O.faults sink.new)
+        (piece.now ++ rest) rest) }
     ensures err { OnErr result ((rest : List ℕ) →
-        Broke (O.written sink.old) (O.written sink.new) (O.faults sink.old) (O.faults sink.new) (piece.now ++ rest)) }
+        Broke (O.written sink.old) (O.written sink.new) (O.faults sink.old) (O.faults sink.new)
+        (piece.now ++ rest)) }
 {
     write_all(sink, piece)
 }
@@ -84,9 +86,11 @@ impl Page {
         ensures empty { OnOk result (held self.new ≡ []) }
         ensures column { column_of self.new ≡ column_of self.old }
         ensures ok { OnOk result ((rest : List ℕ) →
-            Wrote (O.written sink.old) (O.written sink.new) (O.faults sink.old) (O.faults sink.new) (held self.old ++ rest) rest) }
+            Wrote (O.written sink.old) (O.written sink.new) (O.faults sink.old) (O.faults sink.new)
+            (held self.old ++ rest) rest) }
         ensures err { OnErr result ((rest : List ℕ) →
-            Broke (O.written sink.old) (O.written sink.new) (O.faults sink.old) (O.faults sink.new) (held self.old ++ rest)) }
+            Broke (O.written sink.old) (O.written sink.new) (O.faults sink.old) (O.faults sink.new)
+            (held self.old ++ rest)) }
     {
         send(sink, &self.bytes[..self.used])?;
         self.used = 0;
@@ -102,7 +106,8 @@ impl Page {
             Wrote (O.written sink.old) (O.written sink.new) (O.faults sink.old) (O.faults sink.new)
             (held self.old ++ rest) (held self.new ++ rest)) }
         ensures err { OnErr result ((rest : List ℕ) →
-            Broke (O.written sink.old) (O.written sink.new) (O.faults sink.old) (O.faults sink.new) (held self.old ++ rest)) }
+            Broke (O.written sink.old) (O.written sink.new) (O.faults sink.old) (O.faults sink.new)
+            (held self.old ++ rest)) }
     {
         if size <= PAGE - self.used {
             return Ok(());

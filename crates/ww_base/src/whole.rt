@@ -41,10 +41,13 @@ pub fn read_all<S: Source>(alloc: Global, src: &mut S, limit: usize) -> Result<B
     ensures end { OnOk result (IsAtEnd (S.left src.new)) }
     ensures within { IfOk result (λ bytes. length bytes ≤ limit) }
     ensures faults { S.faults src.old ≤ S.faults src.new }
-    ensures fault { IsErrOf result ReadAllError.ReadFault → Rose (S.faults src.old) (S.faults src.new) }
+    ensures fault { IsErrOf result ReadAllError.ReadFault →
+        Rose (S.faults src.old) (S.faults src.new) }
     ensures too_long { IsErrOf result ReadAllError.TooLong →
-        (given : List ℕ) × Consumes (S.left src.old) (S.left src.new) given × (limit < length given) }
-    ensures front { OnErr result ((given : List ℕ) × Consumes (S.left src.old) (S.left src.new) given) }
+        (given : List ℕ) × Consumes (S.left src.old) (S.left src.new) given ×
+        (limit < length given) }
+    ensures front { OnErr result ((given : List ℕ) ×
+        Consumes (S.left src.old) (S.left src.new) given) }
 {
     let mut bytes = Vec::new(alloc);
     let mut buf = [0u8; 4096];

@@ -84,7 +84,8 @@ fn put_cell(row: &mut [State], x: usize, state: State)
 fn put_in(cells: &mut [State], width: usize, x: usize, y: usize, state: State)
     requires in_cells { y * width + width ≤ length cells.old }
     requires in_row { x < width }
-    ensures { cells.new ≡ with_row cells.old width y (slice_set (take width (drop (y * width) cells.old)) x state) }
+    ensures { cells.new ≡ with_row cells.old width y
+        (slice_set (take width (drop (y * width) cells.old)) x state) }
 {
     let start = y * width;
     put_cell(&mut cells[start..start + width], x, state);

@@ -41,7 +41,8 @@ impl Plane {
         requires in_box { AreInBox self.width self.height injections.now }
         ensures width { result.width ≡ self.width }
         ensures height { result.height ≡ self.height }
-        ensures cells { plane_of result.rows ≡ injected (has_cell injections.now) (plane_of self.rows) }
+        ensures cells { plane_of result.rows ≡ injected (has_cell injections.now)
+            (plane_of self.rows) }
     {
         let Plane {
             width,
@@ -79,7 +80,8 @@ impl From<Pattern> for Plane {
 pub fn step_plain(alloc: Global, plane: &Plane) -> Result<Plane, RuleError>
     ensures width { IfOk result (λ next. next.width ≡ plane.now.width) }
     ensures height { IfOk result (λ next. next.height ≡ plane.now.height) }
-    ensures cells { IfOk result (λ next. plane_of next.rows ≡ next_plane (plane_of plane.now.rows)) }
+    ensures cells { IfOk result (λ next. plane_of next.rows ≡
+        next_plane (plane_of plane.now.rows)) }
 {
     let old = &plane.rows;
     let mut rows = CellRows::with_room(alloc, 0, 0)?;

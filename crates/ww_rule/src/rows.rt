@@ -45,7 +45,8 @@ fn head_before(row: &[State], x: usize) -> usize
 // How many of the eight cells around column x of the middle one of three rows are heads.
 fn heads_near(above: &[State], row: &[State], below: &[State], x: usize) -> usize
     requires in_row { x < length row.now }
-    ensures counted { result ≡ heads_around (plane_of (above.now ∷ row.now ∷ below.now ∷ [])) (pos x) (pos 1) }
+    ensures counted { result ≡ heads_around (plane_of (above.now ∷ row.now ∷ below.now ∷ []))
+        (pos x) (pos 1) }
     ensures few { result ≤ 8 }
 {
     let over = head_before(above, x) + head_before(above, x + 1) + head_before(above, x + 2);
@@ -63,7 +64,8 @@ pub fn next_row(
 ) -> Result<List<State>, RuleError>
     ensures long { IfOk result (λ next. length next ≡ length row.now) }
     ensures cells { IfOk result (λ next. (x : ℕ) → x < length row.now →
-        get_or next x Empty ≡ next_plane (plane_of (above.now ∷ row.now ∷ below.now ∷ [])) (pos x) (pos 1)) }
+        get_or next x Empty ≡ next_plane (plane_of (above.now ∷ row.now ∷ below.now ∷ [])) (pos x)
+        (pos 1)) }
 {
     let mut next = Vec::with_capacity(alloc, row.len())?;
     for (x, state) in row.iter().enumerate() {

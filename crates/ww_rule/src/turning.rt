@@ -14,8 +14,10 @@ fn put_column(rows: &mut CellRows, x: usize, column: &[State])
     requires long { (y : ℕ) → y < length column.now → x < length (get_or rows.old y []) }
     ensures many { length rows.new ≡ length rows.old }
     ensures long { (y : ℕ) → length (get_or rows.new y []) ≡ length (get_or rows.old y []) }
-    ensures here { (y : ℕ) → y < length column.now → get_or (get_or rows.new y []) x Empty ≡ get_or column.now y Empty }
-    ensures others { (u y : ℕ) → u ≢ x → get_or (get_or rows.new y []) u Empty ≡ get_or (get_or rows.old y []) u Empty }
+    ensures here { (y : ℕ) → y < length column.now →
+        get_or (get_or rows.new y []) x Empty ≡ get_or column.now y Empty }
+    ensures others { (u y : ℕ) → u ≢ x → get_or (get_or rows.new y []) u Empty ≡
+        get_or (get_or rows.old y []) u Empty }
 {
     for (y, state) in column.iter().enumerate() {
         rows.put(x, y, *state);
