@@ -18,7 +18,8 @@ use std::alloc::{AllocError, Global};
 // A line for each output in each context, by the bits that it shows.
 fn shown_lines(alloc: Global, ports: &Ports, bits: &[List<bool>]) -> Result<Bytes, AllocError>
     ensures { IfOk result (λ lines. lines ≡ flat_map (λ p. bits_line p.0 p.1)
-        (zip (flat_map (names_in_context ports.now.c ports.now.outs) (range_with_len 0 ports.now.c)) bits.now)) }
+        (zip (flat_map (names_in_context ports.now.c ports.now.outs)
+        (range_with_len 0 ports.now.c)) bits.now)) }
 {
     let outs = names_in_contexts(alloc, ports.outs.as_slice(), ports.c)?;
     output_lines(alloc, &outs, bits)
