@@ -66,8 +66,8 @@ fn answer(alloc: Global, command: &Command, text: &[u8]) -> Result<Output, TextE
 // Writes an output, and lets it go.
 fn send<O: Sink>(output: Output, out: &mut O) -> Result<(), Failed>
     requires { IsWritableOutput output }
-    ensures ok { OnOk result (Appends (O.written out.old) (O.written out.new)
-        (output_text output)) }
+    ensures ok { OnOk result
+        (Appends (O.written out.old) (O.written out.new) (output_text output)) }
     ensures front { OnErr result
         ((n : ℕ) × Appends (O.written out.old) (O.written out.new) (take n (output_text output))) }
     ensures cause { HasCause (O.faults out.old) (O.faults out.new) result }
