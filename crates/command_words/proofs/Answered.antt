@@ -3,7 +3,7 @@ use Rattle.std.proofs.Common.{◌≡◌, ◌∙◌, ◌≤◌, List, length, ref
 use Rattle.std.specs.Prelude.{MatchResult, OnOk}
 use Rattle.clap.specs.Lexer.{usize_max}
 use Rattle.clap.specs.Walk.{Text}
-use Rattle.command_words.specs.Driven.{Reads}
+use Rattle.command_words.specs.StreamCommands.{Reads}
 use Rattle.command_words.specs.Shapes.{CommandValues, HasNumbersInRange, IsCommand, IsWritten, command_values, values_of}
 use Rattle.command_words.specs.declared.command.Command.{Command}
 use Rattle.command_words.specs.declared.error.WordsError.{WordsError}

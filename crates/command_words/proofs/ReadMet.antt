@@ -2,7 +2,7 @@
 use Rattle.std.proofs.Common.{◌≡◌, ◌∙◌, sym, ap, ap₂, subst, List, Option, Some, None, option_map, Result}
 use Rattle.std.proofs.lemmas.Option.{none-some, same_Some}
 use Rattle.clap.specs.Walk.{Row, Text}
-use Rattle.command_words.specs.Driven.{Reads}
+use Rattle.command_words.specs.StreamCommands.{Reads}
 use Rattle.command_words.specs.Shapes.{CommandValues, values_met}
 use Rattle.command_words.specs.declared.command.Command.{Command}
 use Rattle.command_words.specs.declared.error.WordsError.{WordsError}

@@ -4,4 +4,4 @@ pub mod Errors
 pub mod Laws
 pub mod Numbers
 pub mod Shapes
-pub mod Driven
+pub mod StreamCommands

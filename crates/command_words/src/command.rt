@@ -4,7 +4,7 @@ ghost use Rattle.clap.specs.Simple.{subcommand_rows_of};
 ghost use Rattle.clap.specs.Lexer.{usize_max};
 ghost use Rattle.clap.specs.Walk.{Row, first_of, rows_of};
 ghost use Rattle.clap.specs.Words.{found_of};
-ghost use Rattle.command_words.specs.Driven.{Reads, range_of, values_by, values_of_kind};
+ghost use Rattle.command_words.specs.StreamCommands.{Reads, range_of, values_by, values_of_kind};
 ghost use Rattle.command_words.specs.Numbers.{TakesNumber, contexts_range, cycles_range, seed_range, size_range, tape_cycles_range};
 ghost use Rattle.command_words.specs.Shapes.{CommandValues, HasNumbersInRange, HasViewInRange, IsCommand, IsTaken, IsWritten, command_values, compile_by, contexts_met, driven_command_by, make_by, number_met, probe_by, self_by, streams_met, values_by_name, values_met, values_of, view_met, window_by};
 
@@ -77,22 +77,22 @@ pub enum Command {
 
 // A command that is driven by streams.
 #[derive(Clone, Copy)]
-enum Driven {
+enum StreamCommand {
     Simulate,
     Eval,
     Tape,
     Vcd,
 }
 
-impl Driven {
+impl StreamCommand {
     // How many cycles the options give it.
     fn cycles_in(self, found: &ArgMatches<'_>) -> Option<usize>
         ensures value { result ≡ number_met (range_of self) (rows_of (found_of found.now)) }
         ensures bounds { IfSome result (TakesNumber (range_of self)) }
     {
         match self {
-            Driven::Tape => tape_cycles_in(found),
-            Driven::Simulate | Driven::Eval | Driven::Vcd => cycles_in(found),
+            StreamCommand::Tape => tape_cycles_in(found),
+            StreamCommand::Simulate | StreamCommand::Eval | StreamCommand::Vcd => cycles_in(found),
         }
     }
 
@@ -103,10 +103,10 @@ impl Driven {
         ensures numbers { HasNumbersInRange (values_of result) }
     {
         match self {
-            Driven::Simulate => Command::Simulate { cycles, streams },
-            Driven::Eval => Command::Eval { cycles, streams },
-            Driven::Tape => Command::Tape { cycles, streams },
-            Driven::Vcd => Command::Vcd { cycles, streams },
+            StreamCommand::Simulate => Command::Simulate { cycles, streams },
+            StreamCommand::Eval => Command::Eval { cycles, streams },
+            StreamCommand::Tape => Command::Tape { cycles, streams },
+            StreamCommand::Vcd => Command::Vcd { cycles, streams },
         }
     }
 }
@@ -220,7 +220,11 @@ fn compile_in(alloc: Global, found: &ArgMatches<'_>) -> Result<Command, WordsErr
     Ok(Command::Compile { contexts, starts })
 }
 
-fn driven_in(alloc: Global, driven: Driven, found: &ArgMatches<'_>) -> Result<Command, WordsError>
+fn driven_in(
+    alloc: Global,
+    driven: StreamCommand,
+    found: &ArgMatches<'_>,
+) -> Result<Command, WordsError>
     ensures { Reads (driven_command_by (range_of driven) (values_by driven)
         (rows_of (found_of found.now))) result }
 {
@@ -275,7 +279,7 @@ fn self_in(found: &ArgMatches<'_>) -> Result<Command, WordsError>
 #[derive(Clone, Copy)]
 enum CommandKind {
     Compile,
-    Driven(Driven),
+    StreamCommand(StreamCommand),
     Probe,
     Window,
     Make,
@@ -291,15 +295,15 @@ fn kind_named(name: &str) -> Option<CommandKind>
 {
     match name {
         "compile" => Some(CommandKind::Compile),
-        "simulate" => Some(CommandKind::Driven(Driven::Simulate)),
-        "eval" => Some(CommandKind::Driven(Driven::Eval)),
+        "simulate" => Some(CommandKind::StreamCommand(StreamCommand::Simulate)),
+        "eval" => Some(CommandKind::StreamCommand(StreamCommand::Eval)),
         "probe" => Some(CommandKind::Probe),
         "window" => Some(CommandKind::Window),
         "make" => Some(CommandKind::Make),
         "self" => Some(CommandKind::Self_),
-        "tape" => Some(CommandKind::Driven(Driven::Tape)),
+        "tape" => Some(CommandKind::StreamCommand(StreamCommand::Tape)),
         "aiger" => Some(CommandKind::Aiger),
-        "vcd" => Some(CommandKind::Driven(Driven::Vcd)),
+        "vcd" => Some(CommandKind::StreamCommand(StreamCommand::Vcd)),
         "lift" => Some(CommandKind::Lift),
         _ => None,
     }
@@ -315,7 +319,7 @@ fn command_by(
 {
     match kind {
         CommandKind::Compile => compile_in(alloc, found),
-        CommandKind::Driven(driven) => driven_in(alloc, driven, found),
+        CommandKind::StreamCommand(driven) => driven_in(alloc, driven, found),
         CommandKind::Probe => probe_in(alloc, found),
         CommandKind::Window => window_in(alloc, found),
         CommandKind::Make => make_in(found),

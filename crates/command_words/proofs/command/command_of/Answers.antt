@@ -2,7 +2,7 @@ use Rattle.std.proofs.Common.{rules, ap, refl, sym, subst, ◌≡◌, ◌≤◌,
 use Rattle.std.proofs.lemmas.List.{length-map}
 use Rattle.clap.specs.Lexer.{usize_max}
 use Rattle.clap.specs.Simple.{app_of, subcommand_rows_of}
-use Rattle.command_words.specs.Driven.{Reads}
+use Rattle.command_words.specs.StreamCommands.{Reads}
 use Rattle.command_words.specs.Errors.{error_of}
 use Rattle.command_words.specs.Shapes.{CommandValues, command_values, values_met, values_of}
 use Rattle.command_words.specs.declared.error.WordsError.TheVariants.{Usage}

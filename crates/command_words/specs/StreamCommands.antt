@@ -6,27 +6,27 @@ use Rattle.command_words.specs.Shapes.{CommandValues, HasNumbersInRange, compile
 use Rattle.command_words.specs.declared.command.Command.{Command}
 use Rattle.command_words.specs.declared.command.CommandKind.{CommandKind}
 use Rattle.command_words.specs.declared.command.CommandKind.TheVariants as kind
-use Rattle.command_words.specs.declared.command.Driven.{Driven}
-use Rattle.command_words.specs.declared.command.Driven.TheVariants.{Simulate, Eval, Tape, Vcd}
+use Rattle.command_words.specs.declared.command.StreamCommand.{StreamCommand}
+use Rattle.command_words.specs.declared.command.StreamCommand.TheVariants.{Simulate, Eval, Tape, Vcd}
 use Rattle.command_words.specs.declared.error.WordsError.{WordsError}
 use Rattle.command_words.specs.declared.error.WordsError.TheVariants.{Usage, NoMemory}
 
 -- with a number of cycles and words
-abbrev pub values_by : Driven → ℕ → List Text → CommandValues
+abbrev pub values_by : StreamCommand → ℕ → List Text → CommandValues
 values_by Simulate cycles streams = simulate cycles streams
 values_by Eval cycles streams = eval cycles streams
 values_by Tape cycles streams = tape cycles streams
 values_by Vcd cycles streams = vcd cycles streams
 
 -- the numbers of cycles that it takes
-abbrev pub range_of : Driven → NumberRange
+abbrev pub range_of : StreamCommand → NumberRange
 range_of Tape = tape_cycles_range
 range_of _ = cycles_range
 
 -- the values of a command of this kind, by the matches of its options and words
 abbrev pub values_of_kind : CommandKind → List Row → Option CommandValues
 values_of_kind kind.Compile rows = compile_by rows
-values_of_kind (kind.Driven driven) rows = driven_command_by (range_of driven) (values_by driven) rows
+values_of_kind (kind.StreamCommand driven) rows = driven_command_by (range_of driven) (values_by driven) rows
 values_of_kind kind.Probe rows = probe_by rows
 values_of_kind kind.Window rows = window_by rows
 values_of_kind kind.Make rows = make_by rows
