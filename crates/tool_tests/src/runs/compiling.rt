@@ -240,10 +240,11 @@ fn expect_printed(
     words: &str,
     text: &[u8],
     lines: &str,
+    shown: &str,
 ) -> Result<(), Fail> {
     let asked = text_of(alloc, &[command, words])?;
     let got = run_amply(alloc, &asked, text)?;
-    expect(got.is(0, lines, ""), lines)
+    expect(got.is(0, lines, ""), shown)
 }
 
 // Fails where a netlist or its pattern prints something else.
@@ -251,7 +252,14 @@ fn expect_shown(alloc: Global, shown: &str) -> Result<(), Fail> {
     match case_of(shown) {
         Some(case) => {
             let text = case.text.as_bytes();
-            expect_printed(alloc, "eval --cycles ", case.commands, text, case.said)?;
+            expect_printed(
+                alloc,
+                "eval --cycles ",
+                case.commands,
+                text,
+                case.said,
+                shown,
+            )?;
             let pattern = written(alloc, "compile", text)?;
             expect_printed(
                 alloc,
@@ -259,6 +267,7 @@ fn expect_shown(alloc: Global, shown: &str) -> Result<(), Fail> {
                 case.commands,
                 &pattern,
                 case.said,
+                shown,
             )
         }
         None => Err(Fail::new("no case")),
@@ -372,10 +381,7 @@ fn evaluated(alloc: Global, driven: &Driven, net: &str) -> Result<Outcome, Fail>
 // Fails where another first line is printed. A port can't be an output once more.
 fn expect_first(alloc: Global, driven: &Driven, net: &str, line: &str) -> Result<(), Fail> {
     let got = evaluated(alloc, driven, net)?;
-    expect(
-        got.status == 1 || got.out.starts_with(line.as_bytes()),
-        line,
-    )
+    expect(got.status == 1 || got.out.starts_with(line.as_bytes()), net)
 }
 
 // Fails where a pattern shows another line at a net.
@@ -398,7 +404,7 @@ fn expect_probed(
         ],
     )?;
     let got = run_amply(alloc, &asked, pattern)?;
-    expect(got.out.strip_suffix(b"\n") == Some(line.as_bytes()), line)
+    expect(got.out.strip_suffix(b"\n") == Some(line.as_bytes()), &asked)
 }
 
 // A net with its path, and what is printed of it.
