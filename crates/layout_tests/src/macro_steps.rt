@@ -22,7 +22,8 @@ fn step_shipped(plan: &Plan, old: &Edges, new: &mut Edges)
     requires admissible { IsAdmissible plan.now }
     requires made { IsEdgesOf plan.now new.old }
     ensures made { IsEdgesOf plan.now new.new }
-    ensures plane { IsDrawnAfter32 shipped_drawing (drawn_tiling plan.now) (lit_of old.now) (lit_of new.new) }
+    ensures plane { IsDrawnAfter32 shipped_drawing (drawn_tiling plan.now) (lit_of old.now)
+        (lit_of new.new) }
 {
     keeps_law(&Shipped);
     macro_step(plan, old, new);

@@ -46,7 +46,8 @@ fn is_program(listed: &Listed<'_>) -> bool
     ensures few { IsTrue result → length listed.now.instrs.now < 1000 }
     ensures loops { IsTrue result → length listed.now.latches.now ≤ listed.now.lanes }
     ensures instrs { IsTrue result → All (IsOnLanes listed.now.lanes) listed.now.instrs.now }
-    ensures nets { IsTrue result → All (IsPlaceWithin listed.now.lanes (length listed.now.instrs.now)) listed.now.nets.now }
+    ensures nets { IsTrue result → All (IsPlaceWithin listed.now.lanes
+        (length listed.now.instrs.now)) listed.now.nets.now }
 {
     listed.instrs.len() < 1000
         && (listed.latches.len() as u64) <= listed.lanes as u64
