@@ -80,20 +80,22 @@ fn after_columns(plan: &Plan, bits: [bool; 3]) -> [bool; 3]
     bits
 }
 
-// Whether instructions, and the columns of a plan, are done in order.
-fn are_in_order(plan: &Plan) -> bool
+// Fails where instructions, or the columns of a plan, are not done in order.
+fn expect_order(plan: &Plan) -> Result<(), Fail>
     requires admissible { IsAdmissible plan.now }
     requires lanes { plan.now.lanes ≡ 3 }
 {
     let mut bits = [true, false, true];
     run_instrs(&[Instr::Fork(0), Instr::Xor(1)], &mut bits);
-    bits == [true, false, false] && after_columns(plan, [true, false, true]) == bits
+    expect_holds("the order of instructions", bits == [true, false, false])?;
+    let bits = after_columns(plan, [true, false, true]);
+    expect_holds("the order of columns", bits == [true, false, false])
 }
 
 #[test]
 fn instructions_and_columns_are_done_in_order(rt: HostRuntime) -> Result<(), Fail> {
     let plan = admitted(rt.alloc(), &FORK_AND_XOR)?;
-    expect_holds("the order", are_in_order(&plan))
+    expect_order(&plan)
 }
 
 // The instructions that are found on lanes.

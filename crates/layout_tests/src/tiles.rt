@@ -163,5 +163,6 @@ fn lights() -> [[bool; 2]; 4] {
 #[test]
 fn tiles_answer_by_themselves(rt: HostRuntime) {
     let want = [[false, true], [true, true], [true, false], [true, false]];
-    assert!(rt; lights() == want && tiles::SouthWest::ENTRIES == [(16, 0), (0, 0)]);
+    assert_eq!(rt; lights(), want);
+    assert_eq!(rt; tiles::SouthWest::ENTRIES, [(16, 0), (0, 0)]);
 }

@@ -16,10 +16,10 @@ fn stepped() -> [[State; 4]; 3] {
 
 #[test]
 fn electron_moves_and_passes_no_border(rt: HostRuntime) {
-    let want = [
-        [State::Conductor, State::Tail, State::Head, State::Conductor],
-        [State::Conductor, State::Tail, State::Head, State::Head],
-        [State::Conductor, State::Tail, State::Head, State::Conductor],
-    ];
-    assert!(rt; stepped() == want);
+    let [row, rows, column] = stepped();
+    let moved = [State::Conductor, State::Tail, State::Head, State::Conductor];
+    let lit_below = [State::Conductor, State::Tail, State::Head, State::Head];
+    assert!(rt; row == moved, "one row");
+    assert!(rt; rows == lit_below, "two rows");
+    assert!(rt; column == moved, "a column");
 }
