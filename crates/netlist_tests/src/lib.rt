@@ -1,6 +1,8 @@
-//! Tests of the public calls that read, weigh and map netlists.
+//! Tests of the public calls that read, weigh and map netlists, and of those that read AIGER texts and lower circuits.
 #![tactic(auto)]
 
+#[cfg(test)]
+mod aiger;
 #[cfg(test)]
 mod checks;
 #[cfg(test)]
