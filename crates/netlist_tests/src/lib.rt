@@ -1,8 +1,6 @@
-//! Tests of the public calls that read, weigh and map netlists, and of those that read AIGER texts and lower circuits.
+//! Tests of the public calls that read, weigh and map netlists.
 #![tactic(auto)]
 
-#[cfg(test)]
-mod aiger;
 #[cfg(test)]
 mod checks;
 #[cfg(test)]

@@ -1,5 +1,5 @@
 // Texts of circuits, and texts that are at fault.
-use crate::aiger::texts::{circuit_shown, fault_shown};
+use crate::texts::{circuit_shown, fault_shown};
 use aiger_reader::{AigReadError, read};
 use std::alloc::{AllocError, Global};
 use std::test::Fail;

@@ -1,8 +1,8 @@
 // Circuits as flat netlists: their weight, what they do, and why there is none.
 ghost use Rattle.std.specs.Prelude.{◌<◌};
 
-use crate::aiger::chains::chain;
-use crate::aiger::flats::lowered_said;
+use crate::chains::chain;
+use crate::flats::lowered_said;
 use std::alloc::Global;
 use std::test::Fail;
 use ww_base::expect;
