@@ -1,5 +1,6 @@
 // The literals that have a net of their own, in the order of the nets.
-ghost use Rattle.std.specs.Prelude.{◌≡◌, ◌≤◌, ◌==◌, ◌++◌, length, map, get_or, IfOk, OnOk};
+ghost use Rattle.std.specs.Prelude.{◌≡◌, ◌≤◌, ◌==◌, ◌++◌, length, map, IfOk, OnOk};
+ghost use Rattle.lists.specs.Items.{number_at};
 ghost use Rattle.std.specs.List.{position_or_len};
 ghost use Rattle.aiger_text.specs.declared.aig.AigLatch as latch_type;
 ghost use Rattle.aiger_text.specs.declared.aig.AigAnd as gate_type;
@@ -96,7 +97,7 @@ impl OwnLiterals {
 
     /// The literal of a net; 0 where it is no literal's.
     pub fn literal(&self, net: usize) -> u64
-        ensures { result ≡ get_or self.now net 0 }
+        ensures { result ≡ number_at self.now net }
     {
         self.literals.get(net).copied().unwrap_or(0)
     }

@@ -1,6 +1,6 @@
 // What is at fault in an entry.
 ghost use Rattle.std.specs.Prelude.{◌≡◌, not, ◌∷◌, [], ◌++◌, List, Some, None, IfOk, OnOk};
-ghost use Rattle.aiger_text.specs.EntryFaults.{defined_by, entry_fault, even, has_bad_literal, has_bad_reset, is_defined_before, is_past, is_undefinable, is_undefined, reads_undefined};
+ghost use Rattle.aiger_text.specs.EntryFaults.{defined_by, entry_fault, has_bad_literal, has_bad_reset, is_defined_before, is_past, is_undefinable, is_undefined, reads_undefined};
 ghost use Rattle.aiger_text.specs.declared.section.Entry as entries;
 ghost use Rattle.aiger_reader.specs.Known.{KnowsDefined};
 

@@ -1,5 +1,6 @@
 // The names of inputs and outputs.
-ghost use Rattle.std.specs.Prelude.{◌≡◌, ◌+◌, ◌^◌, ◌<◌, ◌≤◌, ◌++◌, List, [], not, true, Some, length, get_or, take, slice_get, option_map, IfOk, OnOk};
+ghost use Rattle.std.specs.Prelude.{◌≡◌, ◌+◌, ◌^◌, ◌<◌, ◌≤◌, ◌++◌, List, [], not, true, Some, length, take, slice_get, option_map, IfOk, OnOk};
+ghost use Rattle.lists.specs.Items.{list_at};
 ghost use Rattle.lists.specs.Names.{is_among};
 ghost use Rattle.aiger_text.specs.EntryFaults.{aig_fault_on};
 ghost use Rattle.aiger_text.specs.Names.{letter_of, names_for, plain_name, repeated_names};
@@ -95,7 +96,7 @@ fn note<'a>(seen: &mut BTreeSet<&'a [u8]>, names: &'a [Bytes], i: usize) -> Resu
     requires { i < length names.now }
     ensures fresh { IfOk result (λ fresh.
         KnowsEarlier names.now i seen.old
-        → fresh ≡ not (is_among (get_or names.now i []) (take i names.now))
+        → fresh ≡ not (is_among (list_at names.now i) (take i names.now))
         ) }
     ensures known { IfOk result (λ fresh.
         KnowsEarlier names.now i seen.old

@@ -1,6 +1,7 @@
 // Bands of a pattern at generation 0.
 ghost use Rattle.ww_rule.specs.Due.{AreInOrderFrom};
-ghost use Rattle.std.specs.Prelude.{◌≡◌, ◌+◌, ◌-◌, ◌*◌, ◌/◌, ◌<◌, ◌≤◌, ◌^◌, ◌==◌, ℕ, List, [], length, get_or, filter, drop, replicate, All, IfOk};
+ghost use Rattle.std.specs.Prelude.{◌≡◌, ◌+◌, ◌-◌, ◌*◌, ◌/◌, ◌<◌, ◌≤◌, ◌^◌, ◌==◌, ℕ, List, [], length, filter, drop, replicate, All, IfOk};
+ghost use Rattle.lists.specs.Items.{list_at};
 ghost use Rattle.ww_rule.specs.Wireworld.{Plane, Due, driven, injected};
 ghost use Rattle.ww_rule.specs.Grid.{plane_of};
 ghost use Rattle.ww_rule.specs.Injections.{due_of_list};
@@ -18,7 +19,7 @@ use ww_rule::{CellRows, Injection};
 // So many empty lists.
 fn empty_lists(alloc: Global, count: usize) -> Result<Vec<List<Injection>>, AllocError>
     ensures many { IfOk result (λ lists. length lists.items ≡ count) }
-    ensures empty { IfOk result (λ lists. (b : ℕ) → b < count → get_or lists.items b [] ≡ []) }
+    ensures empty { IfOk result (λ lists. (b : ℕ) → b < count → list_at lists.items b ≡ []) }
 {
     let mut lists = Vec::with_capacity(alloc, count)?;
     for b in 0..count {
@@ -40,7 +41,7 @@ fn shares(
     ensures each { IfOk result (λ shares.
         (b : ℕ)
         → b < count
-        → get_or shares.items b [] ≡ filter (λ i. i.y / height == b) injections.now
+        → list_at shares.items b ≡ filter (λ i. i.y / height == b) injections.now
         ) }
 {
     let mut shares = empty_lists(alloc, count)?;

@@ -10,7 +10,7 @@ use Rattle.lane_kernel.specs.Rows.{is_set, state_of, row_state}
 use Rattle.lists.specs.Bits.{has_bit}
 use Rattle.band_rows.specs.Rows.{Shows, ShowsHeads}
 use Rattle.lane_kernel.proofs.Counting.{count_is}
-use Rattle.lists.proofs.Numbers.{one_if}
+use Rattle.lists.specs.Items.{one_if}
 
 -- a part of row k
 abbrev pub field : (Row → List ℕ) → List Row → ℕ → List ℕ

@@ -1,6 +1,8 @@
 // Bits of rows of words.
-ghost use Rattle.std.specs.Prelude.{◌≡◌, ◌≢◌, ◌<◌, ◌≤◌, ◌*◌, ◌/◌, ◌==◌, ◌&&◌, ◌||◌, not, if◌then◌else◌, ℕ, length, get_or};
-ghost use Rattle.ww_rule.specs.declared.pattern.State.TheVariants.{Empty, Head};
+ghost use Rattle.std.specs.Prelude.{◌≡◌, ◌≢◌, ◌<◌, ◌≤◌, ◌*◌, ◌/◌, ◌==◌, ◌&&◌, ◌||◌, not, if◌then◌else◌, ℕ, length};
+ghost use Rattle.lists.specs.Items.{number_at};
+ghost use Rattle.ww_rule.specs.declared.pattern.State.TheVariants.{Head};
+ghost use Rattle.ww_rule.specs.Grid.{row_cell};
 ghost use Rattle.lane_kernel.specs.Rows.{is_set, row_state, AreDisjoint};
 ghost use Rattle.lane_kernel.specs.Spans.{AreZero};
 ghost use Rattle.band_rows.specs.Cells.{marks_head, marks_tail, marks_wire};
@@ -19,7 +21,7 @@ pub fn set_bit(words: &mut [u64], x: usize)
     requires { x / 64 < length words.old }
     ensures long { length words.new ≡ length words.old }
     ensures cells { (k : ℕ) → is_set words.new k ≡ (k == x || is_set words.old k) }
-    ensures others { (j : ℕ) → j ≢ x / 64 → get_or words.new j 0 ≡ get_or words.old j 0 }
+    ensures others { (j : ℕ) → j ≢ x / 64 → number_at words.new j ≡ number_at words.old j }
 {
     words[x / 64] |= 1 << (x % 64);
 }
@@ -29,7 +31,7 @@ fn clear_bit(words: &mut [u64], x: usize)
     requires { x / 64 < length words.old }
     ensures long { length words.new ≡ length words.old }
     ensures cells { (k : ℕ) → is_set words.new k ≡ (not (k == x) && is_set words.old k) }
-    ensures others { (j : ℕ) → j ≢ x / 64 → get_or words.new j 0 ≡ get_or words.old j 0 }
+    ensures others { (j : ℕ) → j ≢ x / 64 → number_at words.new j ≡ number_at words.old j }
 {
     words[x / 64] &= !(1 << (x % 64));
 }
@@ -78,7 +80,7 @@ pub fn mark_all(heads: &mut [u64], tails: &mut [u64], wires: &mut [u64], cells: 
     ensures long_tails { length tails.new ≡ length heads.old }
     ensures long_wires { length wires.new ≡ length heads.old }
     ensures apart { AreDisjoint heads.new tails.new wires.new }
-    ensures cells { (x : ℕ) → row_state heads.new tails.new wires.new x ≡ get_or cells.now x Empty }
+    ensures cells { (x : ℕ) → row_state heads.new tails.new wires.new x ≡ row_cell cells.now x }
 {
     for (x, state) in cells.iter().enumerate() {
         mark(heads, tails, wires, x, *state);
@@ -98,8 +100,8 @@ pub fn put_head(heads: &mut [u64], tails: &mut [u64], wires: &mut [u64], x: usiz
     ensures cells { (k : ℕ)
         → row_state heads.new tails.new wires.new k
         ≡ (if k == x then Head else row_state heads.old tails.old wires.old k) }
-    ensures other_heads { (j : ℕ) → j ≢ x / 64 → get_or heads.new j 0 ≡ get_or heads.old j 0 }
-    ensures other_tails { (j : ℕ) → j ≢ x / 64 → get_or tails.new j 0 ≡ get_or tails.old j 0 }
+    ensures other_heads { (j : ℕ) → j ≢ x / 64 → number_at heads.new j ≡ number_at heads.old j }
+    ensures other_tails { (j : ℕ) → j ≢ x / 64 → number_at tails.new j ≡ number_at tails.old j }
 {
     set_bit(heads, x);
     clear_bit(tails, x);

@@ -1,6 +1,8 @@
 // Rows that know where their light is.
-ghost use Rattle.std.specs.Prelude.{◌≡◌, ◌+◌, ◌-◌, ◌*◌, ◌/◌, ◌<◌, ◌≤◌, ◌^◌, ◌==◌, ◌&&◌, true, if◌then◌else◌, ℕ, length, get_or, IfOk};
-ghost use Rattle.ww_rule.specs.declared.pattern.State.TheVariants.{Empty, Head};
+ghost use Rattle.std.specs.Prelude.{◌≡◌, ◌+◌, ◌-◌, ◌*◌, ◌/◌, ◌<◌, ◌≤◌, ◌^◌, ◌==◌, ◌&&◌, true, if◌then◌else◌, ℕ, length, IfOk};
+ghost use Rattle.lists.specs.Items.{number_at};
+ghost use Rattle.ww_rule.specs.declared.pattern.State.TheVariants.{Head};
+ghost use Rattle.ww_rule.specs.Grid.{row_cell};
 ghost use Rattle.lane_kernel.specs.Rows.{row_state, next_in_rows, AreDisjoint};
 ghost use Rattle.lane_kernel.specs.Spans.{AreSameWords, IsDarkBeyond, IsLitWithin, stays_within};
 ghost use Rattle.band_rows.specs.Spans.{AreFacing, IsRow};
@@ -29,7 +31,7 @@ pub struct Row {
 
 // Words of a slice are below 2 ^ 64.
 fn all_fit(words: &[u64])
-    ensures { (j : ℕ) → get_or words.now j 0 < 2 ^ 64 }
+    ensures { (j : ℕ) → number_at words.now j < 2 ^ 64 }
 {
     let _long = words.len();
 }
@@ -113,7 +115,7 @@ impl Row {
         requires { length cells.now ≤ 64 * words }
         ensures long { IfOk result (λ row. length row.heads.items ≡ words) }
         ensures cells { IfOk result (λ row.
-            (x : ℕ) → state_in_row row x ≡ get_or cells.now x Empty
+            (x : ℕ) → state_in_row row x ≡ row_cell cells.now x
             ) }
     {
         let mut heads = vec![in alloc; 0; words]?;

@@ -1,7 +1,8 @@
 // Marks of rows: bit k of the words for row k.
-ghost use Rattle.std.specs.Prelude.{◌≡◌, ◌+◌, ◌*◌, ◌/◌, ◌<◌, ◌≤◌, ◌^◌, ◌↔◌, ◌==◌, ◌&&◌, ◌||◌, ℕ, All, true, false, length, get_or};
+ghost use Rattle.std.specs.Prelude.{◌≡◌, ◌+◌, ◌*◌, ◌/◌, ◌<◌, ◌≤◌, ◌^◌, ◌↔◌, ◌==◌, ◌&&◌, ◌||◌, ℕ, All, true, false, length};
+ghost use Rattle.lists.specs.Items.{number_at};
 ghost use Rattle.lane_kernel.specs.Rows.{is_set};
-ghost use Rattle.lane_kernel.specs.Words.{before, spread_of};
+ghost use Rattle.lane_kernel.specs.Words.{before};
 ghost use Rattle.band_rows.specs.Rows.{AreMarked, IsFar, IsBeside};
 
 use crate::bits::set_bit_if;
@@ -50,7 +51,7 @@ pub fn next_marked(marks: &[u64], from: usize) -> usize
 // The word after word j, 0 where there is none.
 fn word_after(marks: &[u64], j: usize) -> u64
     requires { j < length marks.now }
-    ensures { result ≡ get_or marks.now (j + 1) 0 }
+    ensures { result ≡ number_at marks.now (j + 1) }
 {
     if j + 1 < marks.len() { marks[j + 1] } else { 0 }
 }

@@ -1,5 +1,6 @@
 // Spans of words.
-ghost use Rattle.std.specs.Prelude.{◌≡◌, ◌+◌, ◌-◌, ◌<◌, ◌≤◌, ◌^◌, ◌≢◌, ◌==◌, ℕ, List, length, get_or, true, false, Some, None, IfSome};
+ghost use Rattle.std.specs.Prelude.{◌≡◌, ◌+◌, ◌-◌, ◌<◌, ◌≤◌, ◌^◌, ◌≢◌, ◌==◌, ℕ, List, length, true, false, Some, None, IfSome};
+ghost use Rattle.lists.specs.Items.{number_at};
 ghost use Rattle.lane_kernel.specs.Rows.{is_set};
 ghost use Rattle.lane_kernel.specs.Spans.{IsDarkBeyond};
 
@@ -99,7 +100,7 @@ pub fn trimmed(heads: &[u64], tails: &[u64], first: usize, end: usize) -> Span
 pub fn widened(span: Span, j: usize) -> Span
     requires { j + 1 < 2 ^ 64 }
     ensures wider { (old new : List ℕ)
-        → ((i : ℕ) → i ≢ j → get_or new i 0 ≡ get_or old i 0)
+        → ((i : ℕ) → i ≢ j → number_at new i ≡ number_at old i)
         → IsDarkBeyond span.first span.end old
         → IsDarkBeyond result.first result.end new }
     ensures within { (n : ℕ) → j < n → span.end ≤ n → result.end ≤ n }

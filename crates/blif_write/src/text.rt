@@ -1,5 +1,5 @@
 // The whole text.
-ghost use Rattle.std.specs.Prelude.{ℕ, List, ◌∷◌, ◌++◌, codes, take, OnOk, OnErr};
+ghost use Rattle.std.specs.Prelude.{ℕ, List, ◌++◌, take, OnOk, OnErr};
 ghost use Rattle.std.specs.Io.KnownBytes.{Appends};
 ghost use Rattle.ww_base.specs.Faults.{HasCause};
 ghost use Rattle.ww_base.specs.Pages.{held};

@@ -1,8 +1,9 @@
 // The words of lines.
-ghost use Rattle.std.specs.Prelude.{◌≡◌, ℕ, List, [], ◌∷◌, ◌++◌, decimal, get_or, OnOk, OnErr};
+ghost use Rattle.std.specs.Prelude.{◌≡◌, ℕ, List, ◌∷◌, ◌++◌, decimal, OnOk, OnErr};
+ghost use Rattle.lists.specs.Items.{list_at};
 ghost use Rattle.ww_base.specs.Pages.{held};
 ghost use Rattle.ww_base.specs.Progress.{Wrote, Broke};
-ghost use Rattle.lifted_designs.specs.Names.{source_name, zero_name};
+ghost use Rattle.lifted_designs.specs.Names.{zero_name};
 ghost use Rattle.blif_write.specs.Marks.{mark_after};
 ghost use Rattle.blif_write.specs.Words.{source_in, word_in};
 
@@ -66,7 +67,7 @@ fn write_zero<O: Sink>(sink: &mut O, page: &mut Page, leading: usize) -> Result<
 
 // The name of an input, which is empty where the input is not there.
 fn name_at(names: &[Bytes], number: usize) -> &[u8]
-    ensures { result.now ≡ get_or names.now number [] }
+    ensures { result.now ≡ list_at names.now number }
 {
     match names.get(number) {
         Some(name) => name.as_slice(),

@@ -1,5 +1,5 @@
 // Cells that move to other places, one after another.
-ghost use Rattle.std.specs.Prelude.{◌≡◌, map, slice_get, get_or, None, IfOk, IfSome, OnOk, Some, true, IsTrue, Contains};
+ghost use Rattle.std.specs.Prelude.{◌≡◌, map, slice_get, get_or, None, IfOk, IfSome, OnOk, Some, true, Contains};
 ghost use Rattle.cell_core.specs.declared.cells.Src.TheVariants.{Cell as Made};
 ghost use Rattle.cell_rewriting.specs.Moved.{new_source, new_cell, goes_to, AreMoved};
 ghost use Rattle.cell_rewriting.specs.Substitution.{AreEqual};

@@ -1,5 +1,5 @@
 // The list in which sources are read in place of cells, without the cells that then are not read.
-ghost use Rattle.std.specs.Prelude.{IfOk, IfSome, OnOk};
+ghost use Rattle.std.specs.Prelude.{IfOk, IfSome};
 ghost use Rattle.cell_rewriting.specs.Same.{Keeps};
 ghost use Rattle.cell_rewriting.specs.Moved.{AreMoved, IsRebuilt};
 ghost use Rattle.cell_rewriting.specs.Substitution.{AreEqual};

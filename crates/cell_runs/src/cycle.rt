@@ -1,5 +1,6 @@
 // The bits of a list of cells, cycle by cycle.
-ghost use Rattle.std.specs.Prelude.{◌≡◌, ◌<◌, All, false, get_or, length, map, IfOk, OnOk};
+ghost use Rattle.std.specs.Prelude.{◌≡◌, ◌<◌, All, length, map, IfOk, OnOk};
+ghost use Rattle.lists.specs.Items.{flag_at};
 ghost use Rattle.cell_core.specs.Meaning.{source_bit, cell_bit, cell_bits, bit_of};
 ghost use Rattle.streams.specs.Rows.{bits_across};
 
@@ -21,7 +22,7 @@ pub struct CycleBits {
 
 // The bit of that number, and 0 where there is none.
 fn bit_at(bits: &[bool], number: u32) -> bool
-    ensures { result ≡ get_or bits.now number false }
+    ensures { result ≡ flag_at bits.now number }
 {
     match bits.get(number as usize) {
         Some(bit) => *bit,

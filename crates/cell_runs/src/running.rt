@@ -1,5 +1,6 @@
 // A list of cells run under streams.
-ghost use Rattle.std.specs.Prelude.{◌≡◌, ◌<◌, ℕ, [], All, false, get_or, length, replicate, slice_set, IfOk};
+ghost use Rattle.std.specs.Prelude.{◌≡◌, ◌<◌, ℕ, All, false, length, replicate, slice_set, IfOk};
+ghost use Rattle.lists.specs.Items.{flag_at, list_at};
 ghost use Rattle.streams.specs.Rows.{rows_of};
 ghost use Rattle.cell_runs.specs.Runs.{shown_by};
 
@@ -23,9 +24,9 @@ fn dark_lists(alloc: Global, outputs: usize, cycles: usize) -> Result<Vec<List<b
 // Puts a bit at a place of a list.
 fn put_bit(lists: &mut [List<bool>], number: usize, place: usize, bit: bool)
     requires number { number < length lists.old }
-    requires place { place < length (get_or lists.old number []) }
+    requires place { place < length (list_at lists.old number) }
     ensures { lists.new
-        ≡ slice_set lists.old number (slice_set (get_or lists.old number []) place bit) }
+        ≡ slice_set lists.old number (slice_set (list_at lists.old number) place bit) }
 {
     lists[number].as_mut_slice()[place] = bit;
 }
@@ -36,8 +37,8 @@ fn put_column(lists: &mut [List<bool>], place: usize, column: &[bool])
     requires long { All (λ bits. place < length bits) lists.old }
     ensures many { length lists.new ≡ length lists.old }
     ensures each { (k : ℕ) → k < length lists.old
-        → get_or lists.new k []
-        ≡ slice_set (get_or lists.old k []) place (get_or column.now k false) }
+        → list_at lists.new k
+        ≡ slice_set (list_at lists.old k) place (flag_at column.now k) }
 {
     for (number, bit) in column.iter().enumerate() {
         put_bit(lists, number, place, *bit);

@@ -1,5 +1,5 @@
 // The sources that enter a plan's columns.
-ghost use Rattle.std.specs.Prelude.{◌≡◌, ◌≤◌, ◌<◌, ◌^◌, ◌++◌, All, length, vec_len, map, replicate, IfOk, OnOk};
+ghost use Rattle.std.specs.Prelude.{◌≡◌, ◌<◌, ◌^◌, ◌++◌, All, length, map, replicate, IfOk, OnOk};
 ghost use Rattle.std.specs.List.{range_with_len};
 ghost use Rattle.cell_core.specs.declared.cells.Src.TheVariants.{Latch, Zero};
 ghost use Rattle.lane_core.specs.Plans.{IsAdmissible};

@@ -1,5 +1,5 @@
 // The sources that leave a plan's columns.
-ghost use Rattle.std.specs.Prelude.{◌≡◌, ◌≤◌, ◌<◌, All, length, IfOk};
+ghost use Rattle.std.specs.Prelude.{◌≡◌, ◌≤◌, ◌<◌, IfOk};
 ghost use Rattle.circuit_plans.specs.Lifted.{source_on, sources_on, sources_leaving};
 
 use cell_core::Src;

@@ -1,6 +1,6 @@
 // Where the loops of a circuit enter its columns, and which of them start with 1.
-ghost use Rattle.std.specs.Prelude.{◌≡◌, ◌≤◌, ◌<◌, ◌++◌, [], ◌∷◌, false, cond, length, get_or, IfOk, OnOk};
-ghost use Rattle.lane_core.specs.Plans.{IsAdmissible};
+ghost use Rattle.std.specs.Prelude.{◌≡◌, ◌≤◌, ◌<◌, ◌++◌, length, IfOk, OnOk};
+ghost use Rattle.lists.specs.Items.{alone_if, flag_at};
 ghost use Rattle.circuit_plans.specs.Circuits.{loop_start, starts_with_one, first_bits, starts_where};
 
 use lane_core::{Plan, Start, Starts};
@@ -41,7 +41,7 @@ pub fn first_bits(alloc: Global, plan: &Plan) -> Result<Vec<bool>, AllocError>
 
 // Puts a start at the end, where the bit is 1.
 fn push_if(found: &mut Vec<Start>, bit: bool, start: Start) -> Result<(), AllocError>
-    ensures { OnOk result (found.new.items ≡ found.old.items ++ cond bit (start ∷ []) []) }
+    ensures { OnOk result (found.new.items ≡ found.old.items ++ alone_if bit start) }
 {
     if bit {
         found.push(start)?;
@@ -53,7 +53,7 @@ fn push_if(found: &mut Vec<Start>, bit: bool, start: Start) -> Result<(), AllocE
 pub fn starts_of_bits(alloc: Global, lanes: u32, bits: &[bool]) -> Result<Starts, AllocError>
     requires { length bits.now ≤ lanes }
     ensures { IfOk result (λ starts. starts.list ≡
-        starts_where lanes (length bits.now) (λ loop. get_or bits.now loop false)) }
+        starts_where lanes (length bits.now) (λ loop. flag_at bits.now loop)) }
 {
     let loops = bits.len() as u32;
     let mut found = Vec::new(alloc);

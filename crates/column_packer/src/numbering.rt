@@ -1,5 +1,6 @@
 // The number of the column of each instruction.
-ghost use Rattle.std.specs.Prelude.{◌≡◌, ◌<◌, ◌+◌, ◌^◌, ℕ, max, length, get_or, set, All, IfOk};
+ghost use Rattle.std.specs.Prelude.{◌≡◌, ◌<◌, ◌+◌, ◌^◌, ℕ, max, length, set, All, IfOk};
+ghost use Rattle.lists.specs.Items.{number_at};
 ghost use Rattle.lane_core.specs.Instrs.{IsOnLanes, lane_of};
 ghost use Rattle.column_packer.specs.Numbers.{column_numbers};
 
@@ -10,9 +11,9 @@ use std::alloc::Global;
 // The column of an instruction, whose lanes are used up to there from now on.
 fn put(used: &mut [usize], instr: Instr) -> usize
     requires within { IsOnLanes (length used.old) instr }
-    requires few { (lane : ℕ) → lane < length used.old → get_or used.old lane 0 + 1 < 2 ^ 64 }
-    ensures number { result ≡ max (get_or used.old (lane_of instr) 0)
-        (get_or used.old (lane_of instr + 1) 0) }
+    requires few { (lane : ℕ) → lane < length used.old → number_at used.old lane + 1 < 2 ^ 64 }
+    ensures number { result ≡ max (number_at used.old (lane_of instr))
+        (number_at used.old (lane_of instr + 1)) }
     ensures used { used.new ≡ set (set used.old (lane_of instr) (result + 1)) (lane_of instr + 1)
         (result + 1) }
 {

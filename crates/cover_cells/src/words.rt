@@ -1,5 +1,6 @@
 // Tables of covers and of cells, as words of 64 bits.
-ghost use Rattle.std.specs.Prelude.{◌≡◌, ◌<◌, ◌≤◌, ◌||◌, ◌&&◌, not, ℕ, Bool, List, length, get_or, true, false, [], IsTrue, IfOk};
+ghost use Rattle.std.specs.Prelude.{◌≡◌, ◌<◌, ◌≤◌, ◌||◌, ◌&&◌, not, ℕ, Bool, List, length, true, [], IsTrue, IfOk};
+ghost use Rattle.lists.specs.Items.{flag_at};
 ghost use Rattle.netlist_meaning.specs.CoverValue.{fits, product_holds, cover_value};
 ghost use Rattle.cell_core.specs.Sources.{is_there, reads_there, are_in_order};
 ghost use Rattle.cell_core.specs.Meaning.{source_bit, cell_bit, cell_bits};
@@ -51,7 +52,7 @@ pub fn and_not_words(a: u64, b: u64) -> u64
 /// The table of the bit at place i.
 pub fn net_word(i: usize) -> u64
     requires { i < 6 }
-    ensures { (bits : List Bool) → length bits ≤ 6 → table_bit bits result ≡ get_or bits i false }
+    ensures { (bits : List Bool) → length bits ≤ 6 → table_bit bits result ≡ flag_at bits i }
 {
     NETS[i]
 }

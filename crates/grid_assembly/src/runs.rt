@@ -1,5 +1,5 @@
 // Runs of equal cells in a row, block by block.
-ghost use Rattle.std.specs.Prelude.{◌≡◌, ◌-◌, ◌<◌, ◌≤◌, ◌^◌, ◌/◌, ◌%◌, ℕ, pos};
+ghost use Rattle.std.specs.Prelude.{◌≡◌, ◌-◌, ◌<◌, ◌≤◌, ◌^◌, ◌/◌, ◌%◌, pos};
 ghost use Rattle.lane_core.specs.Plans.{IsAdmissible};
 ghost use Rattle.plan_layout.specs.Tape.{drawn_edges, drawn_plane, drawn_tiling};
 ghost use Rattle.plan_layout.specs.Slots.{piece_of, slot_of};

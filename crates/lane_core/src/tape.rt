@@ -1,8 +1,9 @@
 // The tape of a plan: how long it is, and where its bits lie.
-ghost use Rattle.std.specs.Prelude.{◌≡◌, ◌*◌, ◌<◌, ◌≤◌, ◌^◌, get_or, map, slice_get, unwrap_or, false};
+ghost use Rattle.std.specs.Prelude.{◌≡◌, ◌*◌, ◌<◌, ◌≤◌, ◌^◌, map, slice_get, unwrap_or, false};
+ghost use Rattle.lists.specs.Items.{flag_at};
 ghost use Rattle.lane_core.specs.Entering.{lane_bit};
 ghost use Rattle.lane_core.specs.Plans.{IsAdmissible};
-ghost use Rattle.lane_core.specs.Tape.{cycles_of, cycle_tiles, tape_cycles, tape_tiles, tape_shift, tape_bit};
+ghost use Rattle.lane_core.specs.Tape.{cycle_tiles, tape_cycles, tape_tiles, tape_shift, tape_bit};
 
 use crate::{Plan, period};
 use lists::List;
@@ -47,8 +48,8 @@ pub fn tape_shift(plan: &Plan) -> u64
 
 // Whether the list of this number has the bit 1 in a cycle.
 fn is_set(tape: &[List<bool>], number: usize, cycle: u64) -> bool
-    ensures { result ≡ get_or (map (λ bits. unwrap_or
-        (slice_get bits cycle) false) tape.now) number false }
+    ensures { result ≡ flag_at (map (λ bits. unwrap_or
+        (slice_get bits cycle) false) tape.now) number }
 {
     match tape.get(number) {
         Some(bits) => bits

@@ -1,5 +1,5 @@
 // Whether lanes are apart.
-ghost use Rattle.std.specs.Prelude.{◌≡◌, ◌<◌, length, IfOk, IsTrue};
+ghost use Rattle.std.specs.Prelude.{◌<◌, IfOk, IsTrue};
 ghost use Rattle.lane_core.specs.Places.{AreDistinctBelow};
 
 use std::alloc::{AllocError, Global};

@@ -1,5 +1,6 @@
 // Homes of inputs, of loops, and of a dark lane.
-ghost use Rattle.std.specs.Prelude.{◌≡◌, ◌≤◌, ◌<◌, ◌+◌, ◌-◌, ◌^◌, ◌++◌, ◌∷◌, [], cond, length, map, IfOk, OnOk};
+ghost use Rattle.std.specs.Prelude.{◌≡◌, ◌≤◌, ◌<◌, ◌+◌, ◌-◌, ◌^◌, ◌++◌, length, map, IfOk, OnOk};
+ghost use Rattle.lists.specs.Items.{alone_if, one_if};
 ghost use Rattle.std.specs.List.{range_with_len};
 ghost use Rattle.lane_core.specs.Places.{AreDistinctBelow};
 ghost use Rattle.lane_homes.specs.Homes.{AreHomesAbove};
@@ -26,7 +27,7 @@ fn own_lanes(alloc: Global, above: u32, inputs: u32, is_dark: bool) -> Result<Ve
     requires { inputs ≤ above }
     ensures { IfOk result (λ lanes.
         lanes.items
-        ≡ map (λ i. above - inputs + i) (range_with_len 0 inputs) ++ cond is_dark (0 ∷ []) []
+        ≡ map (λ i. above - inputs + i) (range_with_len 0 inputs) ++ alone_if is_dark 0
         ) }
 {
     let mut lanes = Vec::new(alloc);
@@ -45,9 +46,9 @@ fn upper_lanes(
     is_dark: bool,
     wanted: &[u32],
 ) -> Result<Vec<u32>, AllocError>
-    requires room { inputs + cond is_dark 1 0 ≤ above }
+    requires room { inputs + one_if is_dark ≤ above }
     requires few { above < 2 ^ 32 - 1 }
-    ensures long { IfOk result (λ lanes. length lanes.items ≡ inputs + cond is_dark 1 0) }
+    ensures long { IfOk result (λ lanes. length lanes.items ≡ inputs + one_if is_dark) }
     ensures apart { IfOk result (λ lanes. AreDistinctBelow above lanes.items) }
 {
     let dark = if is_dark { 1 } else { 0 };
@@ -70,7 +71,7 @@ pub fn homes_of(
     is_dark: bool,
     wanted: &[u32],
 ) -> Result<Vec<u32>, AllocError>
-    requires room { inputs + cond is_dark 1 0 ≤ above }
+    requires room { inputs + one_if is_dark ≤ above }
     requires few { above + loops < 2 ^ 32 - 1 }
     ensures { IfOk result (λ homes. AreHomesAbove above inputs loops is_dark homes.items) }
 {

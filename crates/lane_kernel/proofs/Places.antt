@@ -14,7 +14,7 @@ use Rattle.lane_kernel.specs.Words.{ones_of, twos_of, from_west, from_east, befo
 use Rattle.lane_kernel.proofs.Bits.{differ, odd, most, ones_bit, twos_bit, fires_bit, xor_bit, no_bit, west_bit, east_bit, west_is, east_is, not_last, fire_bit}
 use Rattle.lane_kernel.proofs.Counting.{total, counts, count_is, next_is, no_clash, clash}
 use Rattle.lists.proofs.WordBits.{or_bit, and_bit}
-use Rattle.lists.proofs.Numbers.{one_if}
+use Rattle.lists.specs.Items.{one_if}
 
 -- words that fit
 abbrev pub Fit : List ℕ → Type 0

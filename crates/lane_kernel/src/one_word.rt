@@ -1,5 +1,6 @@
 // A row whose light lies in one word.
-ghost use Rattle.std.specs.Prelude.{◌≡◌, ◌+◌, ◌<◌, ◌≢◌, ◌==◌, not, true, ℕ, length, get_or};
+ghost use Rattle.std.specs.Prelude.{◌≡◌, ◌+◌, ◌<◌, ◌≢◌, ◌==◌, not, true, ℕ, length};
+ghost use Rattle.lists.specs.Items.{number_at};
 ghost use Rattle.std.specs.Int.RustNames.{bit_or};
 ghost use Rattle.lane_kernel.specs.Words.{heads_word};
 ghost use Rattle.lane_kernel.specs.Spans.{AreSameWords, AreDarkWhere, IsBeyond, IsDarkBeyond, IsLitWithin, stays_within};
@@ -38,7 +39,7 @@ pub fn step_one_word(
     ensures tails { AreSameWords tails.new heads.old }
     ensures dark_heads { IsDarkBeyond j (j + 1) heads.new }
     ensures dark_tails { IsDarkBeyond j (j + 1) tails.new }
-    ensures lit { result ≡ not (bit_or (get_or heads.new j 0) (get_or tails.new j 0) == 0) }
+    ensures lit { result ≡ not (bit_or (number_at heads.new j) (number_at tails.new j) == 0) }
 {
     let here = heads[j];
     let fired = heads_in(above, heads, below, wires, j);

@@ -1,5 +1,6 @@
 // A row that is dark but for a span of its words.
-ghost use Rattle.std.specs.Prelude.{◌≡◌, ◌-◌, ◌<◌, ◌≤◌, ◌==◌, ◌&&◌, true, ℕ, length, get_or};
+ghost use Rattle.std.specs.Prelude.{◌≡◌, ◌-◌, ◌<◌, ◌≤◌, ◌==◌, ◌&&◌, true, ℕ, length};
+ghost use Rattle.lists.specs.Items.{number_at};
 ghost use Rattle.lane_kernel.specs.Spans.{AreDarkWhere, IsBeyond, IsDarkBeyond, IsLitWithin, has_head, stays_east, stays_west, stays_within};
 ghost use Rattle.lane_kernel.specs.Steps.{IsStepped};
 
@@ -11,8 +12,8 @@ pub fn put_words(row: &mut [u64], lo: usize, hi: usize, from: &[u64])
     requires within { hi ≤ length row.old }
     requires same { length from.now ≡ length row.old }
     ensures long { length row.new ≡ length row.old }
-    ensures inside { (j : ℕ) → lo ≤ j → j < hi → get_or row.new j 0 ≡ get_or from.now j 0 }
-    ensures outside { (j : ℕ) → IsBeyond lo hi j → get_or row.new j 0 ≡ get_or row.old j 0 }
+    ensures inside { (j : ℕ) → lo ≤ j → j < hi → number_at row.new j ≡ number_at from.now j }
+    ensures outside { (j : ℕ) → IsBeyond lo hi j → number_at row.new j ≡ number_at row.old j }
 {
     row[lo..hi].copy_from_slice(&from[lo..hi]);
 }

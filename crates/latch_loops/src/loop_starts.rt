@@ -1,5 +1,6 @@
 // The starts of all loops in all contexts.
-ghost use Rattle.std.specs.Prelude.{◌≡◌, ◌<◌, ◌≤◌, ◌++◌, cond, length, All, IfOk, OnOk, [], ◌∷◌};
+ghost use Rattle.std.specs.Prelude.{◌≡◌, ◌<◌, ◌≤◌, ◌++◌, length, All, IfOk, OnOk};
+ghost use Rattle.lists.specs.Items.{alone_if};
 ghost use Rattle.lane_core.specs.Plans.{IsAdmissible};
 ghost use Rattle.plan_layout.specs.Layout.{tiling_of};
 ghost use Rattle.plan_layout.specs.Starts.{named_edges, NamesEdge};
@@ -14,7 +15,7 @@ use std::alloc::{AllocError, Global};
 
 // Puts a start at the end, where the bit is 1.
 fn push_if(found: &mut Vec<Start>, bit: bool, start: Start) -> Result<(), AllocError>
-    ensures { OnOk result (found.new.items ≡ found.old.items ++ cond bit (start ∷ []) []) }
+    ensures { OnOk result (found.new.items ≡ found.old.items ++ alone_if bit start) }
 {
     if bit {
         found.push(start)?;

@@ -1,13 +1,10 @@
 -- Numbers, by cases.
 use Rattle.std.proofs.Common.{ℕ, ◌≡◌, refl, ◌<◌, ◌≤◌, ◌+◌, ◌⊎◌, Bool, true, false, cond, [], ◌∷◌, length, arith}
+use Rattle.lists.specs.Items.{one_if}
 
 -- below the next number: below this one, or this one
 pub less_or_last : (i n : ℕ) → i < n + 1 → (i < n) ⊎ (i ≡ n)
 less_or_last i n l = grind arith
-
--- what one test adds to a count
-abbrev pub one_if : Bool → ℕ
-one_if b = cond b 1 0
 
 pub at_most_one : (b : Bool) → one_if b ≤ 1
 at_most_one true = omega arith

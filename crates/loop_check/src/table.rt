@@ -1,5 +1,6 @@
 // The node that drives each class.
-ghost use Rattle.std.specs.Prelude.{IfOk, All, length, ◌<◌, get_or};
+ghost use Rattle.std.specs.Prelude.{IfOk, All, length, ◌<◌};
+ghost use Rattle.lists.specs.Items.{number_at};
 ghost use Rattle.netlist_meaning.specs.Flat.{IsInRange, IsNetId, in_classes};
 ghost use Rattle.loop_check.specs.Tables.{IsTable, IsDriverBefore, AreFirsts, IsFirstFor, AreFirstsFor};
 
@@ -27,7 +28,7 @@ pub fn driver_at(flat: &Flat, table: &[Option<usize>], n: usize, k: usize) -> Op
     requires node { n < length flat.now.nodes }
     requires input { k < length (in_classes flat.now n) }
     ensures { IsDriverBefore flat.now (length flat.now.nodes)
-        (get_or (in_classes flat.now n) k 0) result }
+        (number_at (in_classes flat.now n) k) result }
 {
     let net = *flat.nodes.get(n).ins.get(k);
     table[class_of(flat, net)]

@@ -1,6 +1,7 @@
 // Which edges of a plan's drawing are lit. An edge is a side at which two blocks meet, named by the tile column and the lane of the
 // block east of it (`beside`) or south of it (`above`).
-ghost use Rattle.std.specs.Prelude.{◌≡◌, ◌+◌, ◌*◌, ◌^◌, ◌<◌, ◌≤◌, ◌&&◌, nat_lt, get_or, false, length, IfOk};
+ghost use Rattle.std.specs.Prelude.{◌≡◌, ◌+◌, ◌*◌, ◌^◌, ◌<◌, ◌≤◌, ◌&&◌, nat_lt, length, IfOk};
+ghost use Rattle.lists.specs.Items.{flag_at};
 ghost use Rattle.tiling.specs.Tiling as tiling;
 ghost use Rattle.tiling.specs.Tiling.Edge.{Beside, Above};
 ghost use Rattle.lane_core.specs.Plans.{IsAdmissible};
@@ -129,7 +130,7 @@ fn light_above(plan: &Plan, lanes: usize, bits: &mut [bool])
 
 // The bit of a block, and false where it has none.
 fn is_set(bits: &[bool], lanes: usize, column: u64, lane: u64) -> bool
-    ensures { result ≡ (nat_lt lane lanes && get_or bits.now (column * lanes + lane) false) }
+    ensures { result ≡ (nat_lt lane lanes && flag_at bits.now (column * lanes + lane)) }
 {
     if lane >= lanes as u64 {
         return false;

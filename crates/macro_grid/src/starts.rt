@@ -1,5 +1,5 @@
 // Whether the starts of a plan name edges of its drawing.
-ghost use Rattle.std.specs.Prelude.{◌↔◌, ◌≡◌, IsTrue, MatchOption};
+ghost use Rattle.std.specs.Prelude.{◌↔◌, IsTrue, MatchOption};
 ghost use Rattle.lane_core.specs.Plans.{IsAdmissible};
 ghost use Rattle.tiling.specs.Tiling as tiling;
 ghost use Rattle.plan_layout.specs.Edges.{as_edge};

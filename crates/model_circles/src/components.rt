@@ -1,5 +1,5 @@
 // Ranks of models by strongly connected components. Nothing is proved of the ranks here: whoever uses them checks them.
-ghost use Rattle.std.specs.Prelude.{◌≡◌, ◌<◌, length, All, IfOk, OnOk};
+ghost use Rattle.std.specs.Prelude.{◌≡◌, ◌<◌, length, IfOk, OnOk};
 ghost use Rattle.model_circles.specs.Ranks.{AreWithin};
 
 use model_index::{NamedModels, placed};

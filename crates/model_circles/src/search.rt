@@ -1,5 +1,6 @@
 // A search among models, breadth first, along the subckt lines that lead on from one of them.
-ghost use Rattle.std.specs.Prelude.{◌≡◌, ◌<◌, ℕ, List, length, get_or, MatchOption, IfOk, OnOk};
+ghost use Rattle.std.specs.Prelude.{◌≡◌, ◌<◌, ℕ, List, length, MatchOption, IfOk, OnOk};
+ghost use Rattle.lists.specs.Items.{number_at};
 ghost use Rattle.model_index.specs.Numbers.{PlacesSomewhere};
 ghost use Rattle.model_circles.specs.Search.{IsSearchOf, StillFound, IsFound, IsWholeSearch, Meets};
 ghost use Rattle.model_circles.specs.Ways.{IsWayBack, LeadsBackBy};
@@ -63,7 +64,7 @@ impl Search {
         ensures search { OnOk result (IsSearchOf models.now first self.new) }
         ensures kept { OnOk result (StillFound self.old.places.items self.new.places.items) }
         ensures met { OnOk result ((inner : ℕ) → PlacesSomewhere models.now
-            (get_or self.old.found.items at 0) inner
+            (number_at self.old.found.items at) inner
             → IsFound self.new.places.items inner) }
     {
         let n = self.found[at];
@@ -106,7 +107,7 @@ impl Search {
         requires search { IsSearchOf models.now first self.now }
         requires place { place < length self.now.found.items }
         ensures { IfOk result (λ way.
-            IsWayBack models.now first (get_or self.now.found.items place 0) way.items
+            IsWayBack models.now first (number_at self.now.found.items place) way.items
             ) }
     {
         let mut way = Vec::new(alloc);

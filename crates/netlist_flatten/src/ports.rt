@@ -1,5 +1,6 @@
 // The ports of the main model.
-ghost use Rattle.std.specs.Prelude.{ℕ, ◌≡◌, ◌<◌, ◌↔◌, [], All, length, map, false, true, get_or, ⊤, IfOk, MatchOption};
+ghost use Rattle.std.specs.Prelude.{ℕ, ◌≡◌, ◌<◌, ◌↔◌, [], All, length, map, true, ⊤, IfOk, MatchOption};
+ghost use Rattle.lists.specs.Items.{flag_at, number_at};
 ghost use Rattle.netlist_meaning.specs.Places.{main_ports};
 ghost use Rattle.netlist_meaning.specs.Nets.{net_at, IsNet};
 ghost use Rattle.netlist_meaning.specs.InOrder.{nets_in_order};
@@ -51,7 +52,7 @@ fn control_classes(
     requires latches { All (λ latch. MatchOption latch.control ⊤
         (λ id. id.0 < length classes.now)) latches.now }
     ensures many { IfOk result (λ marks. length marks.items ≡ length classes.now) }
-    ensures marked { IfOk result (λ marks. (class : ℕ) → (get_or marks.items class false ≡ true)
+    ensures marked { IfOk result (λ marks. (class : ℕ) → (flag_at marks.items class ≡ true)
         ↔ HasControlClass classes.now latches.now class) }
 {
     let mut marks = vec![in alloc; false; classes.len()]?;
@@ -68,7 +69,7 @@ fn is_control(classes: &[u32], marks: &[bool], port: FlatPort) -> bool
     requires port { port.net.0 < length classes.now }
     requires marks { length marks.now ≡ length classes.now }
     requires classes { All (λ class. class < length classes.now) classes.now }
-    ensures { result ≡ get_or marks.now (get_or classes.now port.net.0 0) false }
+    ensures { result ≡ flag_at marks.now (number_at classes.now port.net.0) }
 {
     marks[classes[port.net.0 as usize] as usize]
 }

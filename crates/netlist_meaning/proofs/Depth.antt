@@ -11,7 +11,7 @@ use Rattle.netlist_core.specs.Names.{Name, model_named}
 use Rattle.netlist_meaning.specs.Places.{Place, main_model, model_placed, model_below, model_at}
 use Rattle.netlist_meaning.specs.Laws.{PlacesAreShallow, WeightIsSumOverAll}
 use Rattle.lists.proofs.Names.{bytes_eq-same, bytes_eq-other, names_are_equal}
-use Rattle.lists.proofs.Numbers.{one_if}
+use Rattle.lists.specs.Items.{one_if}
 use Rattle.netlist_meaning.proofs.Names.{and_then-from}
 use Rattle.netlist_meaning.proofs.Places.{weight_is_sum}
 use Rattle.std.proofs.lemmas.Bool.{or_cases as either, or_left, or_right}

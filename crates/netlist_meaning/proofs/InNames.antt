@@ -17,7 +17,7 @@ use Rattle.std.proofs.lemmas.Bool.{and_parts, and_from, or_left, or_right, or_ca
 use Rattle.netlist_meaning.proofs.Roots.{joined_is_same_root}
 use Rattle.netlist_meaning.proofs.Depth.{weight_is_sum_over_all}
 use Rattle.std.proofs.lemmas.Map.Keys.{any_passes_from_place as any_at}
-use Rattle.lists.proofs.Numbers.{one_if}
+use Rattle.lists.specs.Items.{one_if}
 
 any_gives : {X : Type 0} (test : X → Bool) (xs : List X) → list_any test xs ≡ true → (k : ℕ) × (x : X) × (slice_get xs k ≡ Some x) × (test x ≡ true)
 any_gives test [] e = absurd (true≢false (sym e))

@@ -14,7 +14,7 @@ use Rattle.netlist_meaning.specs.Weight.{weight_below, of_model}
 use Rattle.netlist_core.specs.OwnWeight.{own_weight}
 use Rattle.netlist_meaning.specs.Laws.{WeightIsSum}
 use Rattle.lists.proofs.Sums.{sum_by-map, sum_by-same}
-use Rattle.lists.proofs.Numbers.{one_if}
+use Rattle.lists.specs.Items.{one_if}
 
 -- the places inside the models of some subckt lines, where each line has a list of its own
 next_line : Place → Place

@@ -1,5 +1,6 @@
 // The classes of clock nets.
-ghost use Rattle.std.specs.Prelude.{◌≡◌, ◌<◌, ◌==◌, cond, false, replicate, length, get_or, ℕ, All, IfOk};
+ghost use Rattle.std.specs.Prelude.{◌≡◌, ◌<◌, ◌==◌, cond, false, replicate, length, ℕ, All, IfOk};
+ghost use Rattle.lists.specs.Items.{flag_at};
 ghost use Rattle.std.specs.List.{list_any};
 ghost use Rattle.netlist_meaning.specs.Flat.{IsInRange, IsNetId, class_of, port_classes, is_clock_class};
 ghost use Rattle.netlist_meaning.specs.Marks.{MarksClocks};
@@ -34,9 +35,9 @@ fn mark_ports(flat: &Flat, marks: &mut [bool], ports: &[FlatPort], mark: bool)
     requires ports { All (λ port. IsNetId flat.now port.net) ports.now }
     ensures { (class : ℕ)
         → class < length flat.now.nets
-        → get_or marks.new class false
+        → flag_at marks.new class
         ≡ cond (list_any (λ marked. marked == class) (port_classes flat.now ports.now)) mark (
-        get_or marks.old class false
+        flag_at marks.old class
         ) }
 {
     for port in ports {

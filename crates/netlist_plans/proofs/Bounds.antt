@@ -4,7 +4,8 @@ use Rattle.std.specs.Prelude.{◌==◌, ◌^◌, max}
 use Rattle.std.proofs.lemmas.Bool.{false_from_ne_true}
 use Rattle.std.proofs.lemmas.List.{length-map}
 use Rattle.std.proofs.Math.Nat.{mul-le-mul, mul-mul-mul_comm}
-use Rattle.lists.proofs.Numbers.{at_most_one, one_if}
+use Rattle.lists.proofs.Numbers.{at_most_one}
+use Rattle.lists.specs.Items.{one_if}
 use Rattle.lane_core.specs.declared.plan.Plan.{Plan}
 use Rattle.lane_core.specs.Plans.{IsAdmissible, period_of}
 use Rattle.netlist_core.specs.declared.flat.Flat.{Flat}

@@ -1,5 +1,6 @@
 // The plan of a flat netlist in several contexts.
-ghost use Rattle.std.specs.Prelude.{◌≡◌, ◌<◌, ◌≤◌, ◌*◌, ◌^◌, ◌++◌, ℕ, List, true, [], ◌∷◌, cond, length, map, All, IfOk, OnOk};
+ghost use Rattle.std.specs.Prelude.{◌≡◌, ◌<◌, ◌≤◌, ◌*◌, ◌^◌, ◌++◌, ℕ, List, true, [], length, map, All, IfOk, OnOk};
+ghost use Rattle.lists.specs.Items.{alone_if};
 ghost use Rattle.carries.specs.FlatContexts.{CarriesFlatContexts};
 ghost use Rattle.grid_assembly.specs.PlanDrawing.{start_grid};
 ghost use Rattle.lane_core.specs.Plans.{IsAdmissible, period_of};
@@ -27,7 +28,7 @@ use std::alloc::{AllocError, Global};
 
 // Puts a bit 1 at the end, if it is wanted.
 fn push_one(bits: &mut Vec<bool>, wanted: bool) -> Result<(), AllocError>
-    ensures { OnOk result (bits.new.items ≡ bits.old.items ++ cond wanted (true ∷ []) []) }
+    ensures { OnOk result (bits.new.items ≡ bits.old.items ++ alone_if wanted true) }
 {
     if wanted {
         bits.push(true)?;

@@ -1,5 +1,5 @@
 // Which edges of a plan are lit at generation 0, and how they are named.
-ghost use Rattle.std.specs.Prelude.{◌≡◌, ◌<◌, ◌^◌, ◌||◌, ℕ};
+ghost use Rattle.std.specs.Prelude.{◌≡◌, ◌<◌, ◌^◌, ◌||◌};
 ghost use Rattle.lane_core.specs.Plans.{IsAdmissible};
 ghost use Rattle.plan_layout.specs.Edges.{as_edge, column_in, lane_in};
 ghost use Rattle.plan_layout.specs.Layout.{tiling_of};

@@ -1,5 +1,5 @@
 // The first fault of a table.
-ghost use Rattle.std.specs.Prelude.{◌≡◌, ◌==◌, ◌<◌, not, Some, None, [], ◌∷◌, ◌++◌, List, map, option_map, length, slice_get, IfOk};
+ghost use Rattle.std.specs.Prelude.{◌≡◌, ◌==◌, ◌<◌, Some, None, [], ◌∷◌, ◌++◌, List, map, option_map, length, slice_get, IfOk};
 ghost use Rattle.pattern_reading.specs.PortLines as lines;
 ghost use Rattle.pattern_reading.specs.PortTable.{is_version, is_outside, fault_of_form, faults_after};
 ghost use Rattle.port_table.specs.Lent.{form_of, table_line_of, port_fault_of};

@@ -1,5 +1,5 @@
 // Names with escapes.
-ghost use Rattle.std.specs.Prelude.{◌≡◌, ◌<◌, ℕ, List, true, ◌∷◌, ◌++◌, OnOk, OnErr};
+ghost use Rattle.std.specs.Prelude.{◌≡◌, ◌<◌, ℕ, List, true, ◌++◌, OnOk, OnErr};
 ghost use Rattle.std.specs.Fmt.{digit_glyph};
 ghost use Rattle.pattern_reading.specs.Escapes.{is_plain_in_name, escaped_byte};
 ghost use Rattle.pattern_reading.specs.Spelling.{escaped_name};

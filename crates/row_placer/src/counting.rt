@@ -1,5 +1,6 @@
 // Uses of values are counted from the last to the first, and with them the lanes that copies need.
-ghost use Rattle.std.specs.Prelude.{◌≡◌, ◌==◌, ◌≤◌, ◌<◌, ◌+◌, ◌-◌, ◌*◌, ◌^◌, ◌++◌, [], length, All, cond, get_or, set, IfOk};
+ghost use Rattle.std.specs.Prelude.{◌≡◌, ◌==◌, ◌≤◌, ◌<◌, ◌+◌, ◌-◌, ◌*◌, ◌^◌, ◌++◌, [], length, All, cond, set, IfOk};
+ghost use Rattle.lists.specs.Items.{number_at};
 ghost use Rattle.row_placer.specs.Uses.{uses_of, owed, owed_ports, unused, idle, AreCounted, ReadsBelow};
 
 use crate::{NumberedCell, PlaceError};
@@ -8,9 +9,9 @@ use std::alloc::Global;
 // One use more; 1 where there were uses.
 fn add_use(left: &mut Vec<u32>, value: u32) -> u32
     requires within { value < length left.old.items }
-    requires few { get_or left.old.items value 0 < 2 ^ 32 - 1 }
-    ensures need { result ≡ cond (get_or left.old.items value 0 == 0) 0 1 }
-    ensures left { left.new.items ≡ set left.old.items value (get_or left.old.items value 0 + 1) }
+    requires few { number_at left.old.items value < 2 ^ 32 - 1 }
+    ensures need { result ≡ cond (number_at left.old.items value == 0) 0 1 }
+    ensures left { left.new.items ≡ set left.old.items value (number_at left.old.items value + 1) }
 {
     let before = left[value as usize];
     left[value as usize] = before + 1;
@@ -20,7 +21,7 @@ fn add_use(left: &mut Vec<u32>, value: u32) -> u32
 // 1 where a value has no use.
 fn unused(left: &Vec<u32>, value: u32) -> u32
     requires { value < length left.now.items }
-    ensures { result ≡ unused (get_or left.now.items value 0) }
+    ensures { result ≡ unused (number_at left.now.items value) }
 {
     if left[value as usize] == 0 { 1 } else { 0 }
 }

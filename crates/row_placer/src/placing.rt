@@ -1,5 +1,6 @@
 // The placer.
-ghost use Rattle.std.specs.Prelude.{◌≡◌, ◌≤◌, ◌<◌, ◌+◌, ◌-◌, ◌*◌, ◌^◌, ◌++◌, length, get_or, map, max, cond, All, [], ◌∷◌, true, false, ◌⊎◌, IfOk, OnOk};
+ghost use Rattle.std.specs.Prelude.{◌≡◌, ◌≤◌, ◌<◌, ◌+◌, ◌-◌, ◌*◌, ◌^◌, ◌++◌, length, map, max, All, true, false, ◌⊎◌, IfOk, OnOk};
+ghost use Rattle.lists.specs.Items.{alone_if, number_at, one_if};
 ghost use Rattle.cell_core.specs.Loops.{loop_count, loop_data, loop_state, names_one};
 ghost use Rattle.row_placer.specs.Numbers.{number, ReadsWhatIsThere, NamesZero};
 ghost use Rattle.row_placer.specs.Placed.{HasHomeIfZero, HavePlaces, IsPlaceable, IsPlacedWithin, IsPrepared, AreOuts, net_place_of};
@@ -36,7 +37,7 @@ fn push_one(list: &CellList, ports: &mut Vec<u32>) -> Result<(), PlaceError>
     requires small { list.now.inputs + loop_count list.now + 1 + length list.now.cells < 2 ^ 32 }
     ensures { OnOk result (
         ports.new.items
-        ≡ ports.old.items ++ map (number list.now) (cond (names_one list.now) (One ∷ []) [])
+        ≡ ports.old.items ++ map (number list.now) (alone_if (names_one list.now) One)
         ) }
 {
     if list.names_one() {
@@ -89,7 +90,7 @@ pub fn prepare(
 }
 
 fn one_if(flag: bool) -> u32
-    ensures { result ≡ cond flag 1 0 }
+    ensures { result ≡ one_if flag }
 {
     if flag { 1 } else { 0 }
 }
@@ -107,9 +108,9 @@ fn first_home(owed: u32, idle: u32, dark: u32) -> u32
 // Whether constant 0 is used, or shown by a net.
 fn wants_zero(list: &CellList, left: &Vec<u32>, zero: u32) -> bool
     requires { zero < length left.now.items }
-    ensures used { 1 ≤ get_or left.now.items zero 0 → result ≡ true }
+    ensures used { 1 ≤ number_at left.now.items zero → result ≡ true }
     ensures nets { NamesZero list.now.nets result }
-    ensures none { get_or left.now.items zero 0 ≡ 0 → length list.now.nets ≡ 0 → result ≡ false }
+    ensures none { number_at left.now.items zero ≡ 0 → length list.now.nets ≡ 0 → result ≡ false }
 {
     if left[zero as usize] > 0 {
         return true;

@@ -1,5 +1,5 @@
 // The starts that words set, for each latch in each context.
-ghost use Rattle.std.specs.Prelude.{◌≡◌, ◌<◌, ◌^◌, ◌⊎◌, ℕ, List, length, map, string_bytes, None, IfOk, IfErr, OnOk, unwrap_or};
+ghost use Rattle.std.specs.Prelude.{◌≡◌, ◌<◌, ◌^◌, ◌⊎◌, ℕ, List, length, map, string_bytes, None, IfOk, IfErr, OnOk};
 ghost use Rattle.start_words.specs.Flats.{AreBitsSet, flat_latches, flat_start_bit, flat_start_bits, flat_starts};
 ghost use Rattle.start_words.specs.Words.{HasStartCause, first_fault, start_fault};
 ghost use Rattle.start_words.specs.declared.error.StartError.TheVariants.{NoMemory, Fault};

@@ -1,5 +1,6 @@
 // The kinds of tiles, and what the surroundings of a tile know of each.
-ghost use Rattle.std.specs.Prelude.{◌≡◌, get_or, false};
+ghost use Rattle.std.specs.Prelude.{◌≡◌};
+ghost use Rattle.lists.specs.Items.{flag_at};
 ghost use Rattle.tile_core.specs.Kinds.{lanes, entries, exits, answer};
 
 /// The kinds of tiles. The first five and `WestSwap` are two lanes high and work on two signals. The others are one lane
@@ -71,7 +72,7 @@ impl Kind {
     /// Which exits are lit 31 generations after the entries that `lit` names; the second bits of a tile of one lane are
     /// not looked at, and false.
     pub fn answer(self, lit: [bool; 2]) -> [bool; 2]
-        ensures { result ≡ answer self (get_or lit 0 false) (get_or lit 1 false) }
+        ensures { result ≡ answer self (flag_at lit 0) (flag_at lit 1) }
     {
         let [upper, lower] = lit;
         match self {

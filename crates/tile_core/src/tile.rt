@@ -1,5 +1,6 @@
 // What a tile is, and what a library of tiles is: the two traits whose laws are the timing law.
-ghost use Rattle.std.specs.Prelude.{◌≡◌, ℕ, pos, Bool, false, List, get_or};
+ghost use Rattle.std.specs.Prelude.{◌≡◌, ℕ, pos, Bool, List};
+ghost use Rattle.lists.specs.Items.{flag_at};
 ghost use Rattle.tile_core.specs.Drawing.{Drawing};
 ghost use Rattle.tile_core.specs.Interface.{IsInterface};
 ghost use Rattle.tile_core.specs.Kinds.{interface};
@@ -33,7 +34,7 @@ pub trait Tile {
 
     /// Which exits are heads at generation 31, if the entries that `lit` names are heads at generation 0.
     fn answer(&self, lit: [bool; 2]) -> [bool; 2]
-        ensures { result ≡ answers (get_or lit 0 false) (get_or lit 1 false) };
+        ensures { result ≡ answers (flag_at lit 0) (flag_at lit 1) };
 
     ghost form: { IsInterface (record { lanes = LANES; entries = ENTRIES; exits = EXITS; answer = answers }) };
 

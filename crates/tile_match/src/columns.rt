@@ -1,7 +1,6 @@
 // The columns of the body that rows of cells show.
 ghost use Rattle.std.specs.Prelude.{◌≡◌, ◌+◌, ◌*◌, ◌<◌, ◌^◌, ◌++◌, map, option_to_list, IfOk, OnOk};
-ghost use Rattle.std.specs.List.{range_with_len};
-ghost use Rattle.tile_match.specs.Blocks.{column_shown, column_start, columns_shown};
+ghost use Rattle.tile_match.specs.Blocks.{column_shown, columns_shown};
 
 use crate::reading::instr_in;
 use lane_core::{Column, Instr};

@@ -1,5 +1,6 @@
 // Marks for lanes: which of them have a port.
-ghost use Rattle.std.specs.Prelude.{◌≡◌, ◌≢◌, ◌<◌, ◌↔◌, ◌==◌, ℕ, false, IsTrue, All, AllPairs, IfOk, get_or};
+ghost use Rattle.std.specs.Prelude.{◌≡◌, ◌≢◌, ◌<◌, ◌↔◌, ◌==◌, ℕ, IsTrue, All, AllPairs, IfOk};
+ghost use Rattle.lists.specs.Items.{flag_at};
 ghost use Rattle.std.specs.List.{list_any};
 
 use std::alloc::{AllocError, Global};
@@ -24,7 +25,7 @@ pub fn are_distinct(alloc: Global, lanes: &[u32], limit: u32) -> Result<bool, Al
 pub fn marks_of(alloc: Global, lanes: &[u32], limit: u32) -> Result<Vec<bool>, AllocError>
     requires below { All (λ lane. lane < limit) lanes.now }
     ensures { IfOk result (λ marks.
-        (lane : ℕ) → get_or marks.items lane false ≡ list_any (λ out. out == lane) lanes.now
+        (lane : ℕ) → flag_at marks.items lane ≡ list_any (λ out. out == lane) lanes.now
         ) }
 {
     let mut marks = vec![in alloc; false; limit as usize]?;
@@ -36,7 +37,7 @@ pub fn marks_of(alloc: Global, lanes: &[u32], limit: u32) -> Result<Vec<bool>, A
 
 /// Whether a lane is marked.
 pub fn is_marked(marks: &[bool], lane: u64) -> bool
-    ensures { result ≡ get_or marks.now lane false }
+    ensures { result ≡ flag_at marks.now lane }
 {
     match marks.get(lane as usize) {
         Some(mark) => *mark,

@@ -1,8 +1,6 @@
 // The plan that a pattern with a port table shows, where some plan has its box and ports.
-ghost use Rattle.std.specs.Prelude.{◌≡◌, ◌<◌, ◌≤◌, ◌-◌, ◌*◌, ◌+◌, ◌^◌, [], map, length, IfOk, MatchOption};
+ghost use Rattle.std.specs.Prelude.{◌≡◌, ◌<◌, ◌≤◌, ◌-◌, ◌*◌, ◌+◌, ◌^◌, [], IfOk, MatchOption};
 ghost use Rattle.ww_rule.specs.Patterns.{grid_of};
-ghost use Rattle.lane_core.specs.Places.{AreDistinctBelow};
-ghost use Rattle.lane_core.specs.Plans.{input_cells, output_cells};
 ghost use Rattle.tile_match.specs.Circuit.{HasSomePlan};
 ghost use Rattle.tile_match.specs.Read.{IsPlanRead, IsBodyRead};
 

@@ -1,5 +1,6 @@
 // The timing law of a slice of cells, tried out choice by choice.
-ghost use Rattle.std.specs.Prelude.{◌⊎◌, [], Bool, ◌++◌, ◌≡◌, ◌*◌, ◌/◌, ◌%◌, ◌<◌, ◌≤◌, ◌↔◌, pos, length, IsTrue, true, false, map, get_or, All, take, drop, ◌≢◌};
+ghost use Rattle.std.specs.Prelude.{◌⊎◌, [], Bool, ◌++◌, ◌≡◌, ◌*◌, ◌/◌, ◌%◌, ◌<◌, ◌≤◌, ◌↔◌, pos, length, IsTrue, true, map, All, take, drop, ◌≢◌};
+ghost use Rattle.lists.specs.Items.{flag_at};
 ghost use Rattle.std.specs.List.{list_any};
 ghost use Rattle.tile_core.specs.Drawing.{is_cell_of, picture};
 ghost use Rattle.tile_core.specs.Interface.{cell_at, chosen, entry_cells, exit_cells, lit_exits, is_on_border};
@@ -90,7 +91,7 @@ fn exits_are_dark(cells: &[State], kind: Kind) -> bool
 fn exits_answer(cells: &[State], kind: Kind, lit: [bool; 2]) -> bool
     ensures { IsTrue result
         ↔ AreLitAs (exit_cells (interface kind))
-        (lit_exits (interface kind) (get_or lit 0 false) (get_or lit 1 false)) (
+        (lit_exits (interface kind) (flag_at lit 0) (flag_at lit 1)) (
         shown cells.now 32
         ) }
 {
@@ -101,7 +102,7 @@ fn exits_answer(cells: &[State], kind: Kind, lit: [bool; 2]) -> bool
 
 fn exits_are_in_time(cells: &[State], kind: Kind, lit: [bool; 2], generation: usize) -> bool
     ensures { IsTrue result
-        ↔ ExitsInTime (interface kind) (get_or lit 0 false) (get_or lit 1 false) generation (
+        ↔ ExitsInTime (interface kind) (flag_at lit 0) (flag_at lit 1) generation (
         shown cells.now 32
         ) }
 {
@@ -115,7 +116,7 @@ fn exits_are_in_time(cells: &[State], kind: Kind, lit: [bool; 2], generation: us
 // What the timing law says of the ports at one generation.
 fn is_in_time(cells: &[State], kind: Kind, lit: [bool; 2], generation: usize) -> bool
     ensures { IsTrue result
-        ↔ IsInTime (interface kind) (get_or lit 0 false) (get_or lit 1 false) generation (
+        ↔ IsInTime (interface kind) (flag_at lit 0) (flag_at lit 1) generation (
         shown cells.now 32
         ) }
 {
@@ -197,7 +198,7 @@ fn is_marked(
 fn light(base: &[State], cells: &mut [State], kind: Kind, lit: [bool; 2])
     requires same_length { length cells.old ≡ length base.now }
     ensures shows { shown cells.new 32
-        ≡ started (interface kind) (drawing_of base.now) (get_or lit 0 false) (get_or lit 1 false) }
+        ≡ started (interface kind) (drawing_of base.now) (flag_at lit 0) (flag_at lit 1) }
     ensures same_length { length cells.new ≡ length base.now }
 {
     let lanes = kind.lanes() as usize;
@@ -212,7 +213,7 @@ fn is_at_rest(base: &[State], cells: &[State], kind: Kind, lit: [bool; 2]) -> bo
         ↔ (
         shown cells.now 32
         ≡ picture (drawing_of base.now) [] (
-        lit_exits (interface kind) (get_or lit 0 false) (get_or lit 1 false)
+        lit_exits (interface kind) (flag_at lit 0) (flag_at lit 1)
         )
         ) }
 {
@@ -233,8 +234,8 @@ fn keeps_time(
     requires now_length { length now.old ≡ length base.now }
     requires next_length { length next.old ≡ length base.now }
     ensures { IsTrue result
-        ↔ KeepsTime (interface kind) (drawing_of base.now) (get_or lit 0 false) (
-        get_or lit 1 false
+        ↔ KeepsTime (interface kind) (drawing_of base.now) (flag_at lit 0) (
+        flag_at lit 1
         ) }
 {
     light(base, now, kind, lit);

@@ -1,6 +1,6 @@
 // Bits that are due, each at a generation.
 ghost use Rattle.std.specs.Prelude.{◌≡◌, ◌≤◌, ◌++◌, ℕ, [], IfSome, MatchOption, OnOk};
-ghost use Rattle.vcd_write.specs.DueBits.{AreDueFrom, AreInOrder, IsTakenFrom, IsWithin, comes_first, next_bit};
+ghost use Rattle.vcd_write.specs.DueBits.{AreInOrder, IsTakenFrom, IsWithin, comes_first, next_bit};
 
 use std::alloc::{AllocError, Global};
 use std::collections::VecDeque;

@@ -1,5 +1,5 @@
 // Single lines.
-ghost use Rattle.std.specs.Prelude.{◌≡◌, ◌≢◌, ◌<◌, ◌+◌, ◌%◌, ◌/◌, ℕ, List, [], ◌∷◌, ◌++◌, codes, decimal, OnOk, OnErr, if◌then◌else◌};
+ghost use Rattle.std.specs.Prelude.{◌≡◌, ◌<◌, ◌+◌, ◌%◌, ◌/◌, ℕ, List, ◌∷◌, ◌++◌, OnOk, OnErr, if◌then◌else◌};
 ghost use Rattle.ww_base.specs.Pages.{held};
 ghost use Rattle.ww_base.specs.Progress.{Wrote, Broke};
 ghost use Rattle.vcd_write.specs.Reading.{var_line, time_line, value_line};

@@ -1,5 +1,6 @@
 // The bits that all nets show in all contexts.
-ghost use Rattle.std.specs.Prelude.{◌≡◌, ◌≢◌, ◌≤◌, ◌<◌, ◌+◌, ◌*◌, ◌^◌, ℕ, false, pos, Some, IfErr, IfOk, IfSome, OnOk, length, get_or, slice_get};
+ghost use Rattle.std.specs.Prelude.{◌≡◌, ◌<◌, ◌+◌, ◌*◌, ◌^◌, ℕ, pos, Some, IfErr, IfOk, IfSome, OnOk, length, slice_get};
+ghost use Rattle.lists.specs.Items.{flag_at};
 ghost use Rattle.ww_rule.specs.Wireworld.{is_head};
 ghost use Rattle.drive.specs.Driving.{AreFor, HasRunCause};
 ghost use Rattle.drive.specs.Runs.{HasGoneOn, IsBandRun, first_miss_of, planes_of};
@@ -76,7 +77,7 @@ pub fn bits_of_nets(
     ensures bits { IfOk result (λ bits. (n cycle : ℕ) (variable : NetInContext) →
         slice_get (nets_in_contexts ports.now) n ≡ Some variable
         → cycle * raster.now.variables + n < raster.now.bits
-        → get_or bits (cycle * raster.now.variables + n) false
+        → flag_at bits (cycle * raster.now.variables + n)
         ≡ is_head (planes_of run.old (variable.net.offset + 32 * variable.context +
         cycle * ports.now.p) (pos variable.net.x) (pos variable.net.y))) }
     ensures refused { IfErr result (HasRunCause (first_miss_of run.old raster.now.last)) }

@@ -1,5 +1,6 @@
 // Bits in words of memory.
-ghost use Rattle.std.specs.Prelude.{◌≡◌, ◌<◌, ◌/◌, ◌==◌, ◌||◌, ℕ, false, IfOk, length, get_or, replicate};
+ghost use Rattle.std.specs.Prelude.{◌≡◌, ◌<◌, ◌/◌, ◌==◌, ◌||◌, ℕ, false, IfOk, length, replicate};
+ghost use Rattle.lists.specs.Items.{flag_at};
 ghost use Rattle.lane_kernel.specs.Rows.{is_set};
 
 use std::alloc::{AllocError, Global};
@@ -69,7 +70,7 @@ impl PackedBits {
     /// The bit at a place.
     pub fn get(&self, place: usize) -> bool
         requires { place < length self.now }
-        ensures { result ≡ get_or self.now place false }
+        ensures { result ≡ flag_at self.now place }
     {
         is_set(&self.words, place)
     }
@@ -78,7 +79,7 @@ impl PackedBits {
     pub fn set(&mut self, place: usize)
         requires { place < length self.old }
         ensures long { length self.new ≡ length self.old }
-        ensures bits { (k : ℕ) → get_or self.new k false ≡ (k == place || get_or self.old k false) }
+        ensures bits { (k : ℕ) → flag_at self.new k ≡ (k == place || flag_at self.old k) }
     {
         set_bit(&mut self.words, place);
     }

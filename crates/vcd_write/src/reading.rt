@@ -1,5 +1,6 @@
 // The bits that a run shows, read in the order of their generations.
-ghost use Rattle.std.specs.Prelude.{◌≡◌, ◌≤◌, ◌<◌, ◌==◌, ◌&&◌, ◌||◌, ℕ, Bool, false, pos, All, IfErr, IfOk, OnOk, length, get_or};
+ghost use Rattle.std.specs.Prelude.{◌≡◌, ◌≤◌, ◌<◌, ◌==◌, ◌&&◌, ◌||◌, ℕ, Bool, pos, All, IfErr, IfOk, OnOk, length};
+ghost use Rattle.lists.specs.Items.{flag_at};
 ghost use Rattle.ww_rule.specs.Wireworld.{is_head};
 ghost use Rattle.drive.specs.Driving.{HasRunCause};
 ghost use Rattle.drive.specs.Runs.{HasGoneOn, IsBandRun, first_miss_of, planes_of};
@@ -17,9 +18,9 @@ fn read_bit(run: &mut Run, bits: &mut PackedBits, bit: DueBit)
     requires place { bit.place < length bits.old }
     ensures gone { HasGoneOn bit.generation run.old run.new }
     ensures long { length bits.new ≡ length bits.old }
-    ensures bits { (k : ℕ) → get_or bits.new k false
+    ensures bits { (k : ℕ) → flag_at bits.new k
         ≡ ((k == bit.place && is_head (planes_of run.old bit.generation (pos bit.x) (pos bit.y))) ||
-        get_or bits.old k false) }
+        flag_at bits.old k) }
 {
     run.go_on(bit.generation);
     if run.is_head(bit.x, bit.y) {
@@ -43,7 +44,7 @@ pub fn read_bits(
     ensures long { IfOk result (λ bits. length bits ≡ raster.now.bits) }
     ensures bits { IfOk result (λ bits. (shown : ℕ → Bool) →
         AreFirstBits shown (planes_of run.old) raster.now first.items
-        → (k : ℕ) → k < raster.now.bits → get_or bits k false ≡ shown k) }
+        → (k : ℕ) → k < raster.now.bits → flag_at bits k ≡ shown k) }
     ensures refused { IfErr result (HasRunCause (first_miss_of run.old raster.now.last)) }
 {
     let mut bits = PackedBits::zeros(alloc, raster.bits)?;

@@ -1,6 +1,5 @@
 // The names under which nets are shown.
 ghost use Rattle.std.specs.Prelude.{◌≡◌, ◌<◌, ◌++◌, true, All, IfOk, OnOk, map};
-ghost use Rattle.std.specs.List.{AllByRecursion};
 ghost use Rattle.std.specs.Fmt.{digit_glyph};
 ghost use Rattle.pattern_reading.specs.Escapes.{escaped_byte};
 ghost use Rattle.vcd_write.specs.References.{escaped_reference, is_plain_in_reference};

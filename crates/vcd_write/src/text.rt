@@ -1,5 +1,6 @@
 // The whole text: the variables, and the blocks of cycles.
-ghost use Rattle.std.specs.Prelude.{◌≡◌, ◌<◌, ◌+◌, ◌*◌, ℕ, List, [], ◌++◌, length, get_or, take, OnOk, OnErr};
+ghost use Rattle.std.specs.Prelude.{◌≡◌, ◌<◌, ◌+◌, ◌*◌, ℕ, List, ◌++◌, length, take, OnOk, OnErr};
+ghost use Rattle.lists.specs.Items.{list_at};
 ghost use Rattle.std.specs.Io.KnownBytes.{Appends};
 ghost use Rattle.ww_base.specs.Faults.{HasCause};
 ghost use Rattle.ww_base.specs.Pages.{held};
@@ -14,7 +15,7 @@ use ww_base::{Failed, Page, Sink};
 // The reference of a variable.
 fn reference(vcd: &Vcd, n: usize) -> &[u8]
     requires { n < length vcd.now.references }
-    ensures { result.now ≡ get_or vcd.now.references n [] }
+    ensures { result.now ≡ list_at vcd.now.references n }
 {
     vcd.references.get(n).as_slice()
 }

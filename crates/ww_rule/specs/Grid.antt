@@ -3,6 +3,7 @@ use Rattle.std.specs.Prelude.{ℤ, pos, negsuc, ℕ, Bool, false, ◌&&◌, nat_
 use Rattle.ww_rule.specs.declared.pattern.State.{State}
 use Rattle.ww_rule.specs.declared.pattern.State.TheVariants.{Empty}
 use Rattle.ww_rule.specs.Wireworld.{Plane}
+use Rattle.lists.specs.Items.{list_at}
 
 -- a box of cells as a value: what a `Pattern` is, without where it lies in memory
 pub record Grid : Type 0 where
@@ -15,6 +16,14 @@ pub record IsGrid (width height : ℕ) (rows : List (List State)) : Type 0 where
   pub long : All (λ row. length row ≡ width) rows
   pub many : width * height ≢ 0 → length rows ≡ height
   pub none : width * height ≡ 0 → rows ≡ []
+
+-- rows that are all of one length
+abbrev pub AreOfOneLength : List (List State) → Type 0
+AreOfOneLength rows = All (λ row. length row ≡ length (list_at rows 0)) rows
+
+-- the state of a cell of a row; past the end cells are empty
+abbrev pub row_cell : List State → ℕ → State
+row_cell row x = get_or row x Empty
 
 -- the plane of a look-up by column and row, from 0 eastward and from 0 downward; all else is empty
 abbrev pub framed : (ℕ → ℕ → State) → Plane

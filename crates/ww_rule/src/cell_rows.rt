@@ -1,8 +1,9 @@
 // Rows of cells of one length, row by row in one vector.
-ghost use Rattle.std.specs.Prelude.{◌≡◌, ◌<◌, ◌≤◌, ◌+◌, ◌*◌, ◌^◌, [], ◌∷◌, ◌++◌, length, take, drop, get_or, slice_set, replicate, All, IfOk, OnErr};
+ghost use Rattle.std.specs.Prelude.{◌≡◌, ◌<◌, ◌≤◌, ◌+◌, ◌*◌, ◌^◌, [], ◌∷◌, ◌++◌, length, take, drop, slice_set, replicate, All, IfOk, OnErr};
+ghost use Rattle.lists.specs.Items.{list_at};
 ghost use Rattle.ww_rule.specs.declared.pattern.State.TheVariants.{Empty};
 ghost use Rattle.ww_rule.specs.Cuts.{with_row, with_run};
-ghost use Rattle.ww_rule.specs.Grid.{plane_of};
+ghost use Rattle.ww_rule.specs.Grid.{plane_of, AreOfOneLength};
 ghost use Rattle.ww_rule.specs.Turns.{turned};
 
 use crate::pattern::State;
@@ -125,7 +126,7 @@ impl CellRows {
 
     /// These rows, which are all of one length.
     pub fn of_rows(alloc: Global, rows: &[List<State>]) -> Result<CellRows, AllocError>
-        requires { All (λ row. length row ≡ length (get_or rows.now 0 [])) rows.now }
+        requires { AreOfOneLength rows.now }
         ensures { IfOk result (λ made. made ≡ rows.now) }
     {
         let mut made = CellRows::with_room(alloc, 0, 0)?;
@@ -157,14 +158,14 @@ impl CellRows {
     /// The cells of row y, from west to east.
     pub fn row(&self, y: usize) -> &[State]
         requires { y < length self.now }
-        ensures { result.now ≡ get_or self.now y [] }
+        ensures { result.now ≡ list_at self.now y }
     {
         row_in(&self.cells, self.width, y)
     }
 
     /// The cells of row y, or no cells where there is no such row.
     pub fn row_or_none(&self, y: usize) -> &[State]
-        ensures { result.now ≡ get_or self.now y [] }
+        ensures { result.now ≡ list_at self.now y }
     {
         if y < self.len() { self.row(y) } else { &[] }
     }
@@ -188,8 +189,8 @@ impl CellRows {
     /// Makes `count` cells, from column x of row y on, this state.
     pub fn fill(&mut self, x: usize, y: usize, count: usize, state: State)
         requires in_rows { y < length self.old }
-        requires in_row { x + count ≤ length (get_or self.old y []) }
-        ensures { self.new ≡ slice_set self.old y (with_run (get_or self.old y []) x count state) }
+        requires in_row { x + count ≤ length (list_at self.old y) }
+        ensures { self.new ≡ slice_set self.old y (with_run (list_at self.old y) x count state) }
     {
         fill_in(&mut self.cells, self.width, x, y, count, state);
     }
@@ -197,15 +198,15 @@ impl CellRows {
     /// Makes the cell of column x and row y this state.
     pub fn put(&mut self, x: usize, y: usize, state: State)
         requires in_rows { y < length self.old }
-        requires in_row { x < length (get_or self.old y []) }
-        ensures { self.new ≡ slice_set self.old y (slice_set (get_or self.old y []) x state) }
+        requires in_row { x < length (list_at self.old y) }
+        ensures { self.new ≡ slice_set self.old y (slice_set (list_at self.old y) x state) }
     {
         put_in(&mut self.cells, self.width, x, y, state);
     }
 
     /// The columns of the rows, from west to east, as rows. Rows of one cell each are turned with no memory.
     pub fn turned(self, alloc: Global) -> Result<CellRows, AllocError>
-        ensures many { IfOk result (λ made. length made ≡ length (get_or self 0 [])) }
+        ensures many { IfOk result (λ made. length made ≡ length (list_at self 0)) }
         ensures long { IfOk result (λ made. All (λ row. length row ≡ length self) made) }
         ensures cells { IfOk result (λ made. plane_of made ≡ turned (plane_of self)) }
     {

@@ -1,8 +1,9 @@
 // Rows of cells: from their ends to their starts, and their next states.
-ghost use Rattle.std.specs.Prelude.{◌≡◌, ◌<◌, ◌≤◌, ◌-ℤ◌, ℕ, pos, [], ◌∷◌, length, get_or, map, reverse, ◌-◌, All, IfOk};
-ghost use Rattle.ww_rule.specs.declared.pattern.State.TheVariants.{Empty, Head};
+ghost use Rattle.std.specs.Prelude.{◌≡◌, ◌<◌, ◌≤◌, ◌-ℤ◌, ℕ, pos, [], ◌∷◌, length, map, reverse, ◌-◌, IfOk};
+ghost use Rattle.lists.specs.Items.{list_at};
+ghost use Rattle.ww_rule.specs.declared.pattern.State.TheVariants.{Head};
 ghost use Rattle.ww_rule.specs.Wireworld.{count_head, heads_around, next_plane, next_state};
-ghost use Rattle.ww_rule.specs.Grid.{plane_of};
+ghost use Rattle.ww_rule.specs.Grid.{plane_of, row_cell, AreOfOneLength};
 
 use crate::cell_rows::CellRows;
 use crate::error::RuleError;
@@ -64,7 +65,7 @@ pub fn next_row(
 ) -> Result<List<State>, RuleError>
     ensures long { IfOk result (λ next. length next ≡ length row.now) }
     ensures cells { IfOk result (λ next. (x : ℕ) → x < length row.now →
-        get_or next x Empty ≡ next_plane (plane_of (above.now ∷ row.now ∷ below.now ∷ [])) (pos x)
+        row_cell next x ≡ next_plane (plane_of (above.now ∷ row.now ∷ below.now ∷ [])) (pos x)
         (pos 1)) }
 {
     let mut next = Vec::with_capacity(alloc, row.len())?;
@@ -77,7 +78,7 @@ pub fn next_row(
 /// The row before row y, counted from 1, or no cells where there is none.
 pub fn row_before(rows: &CellRows, y: usize) -> &[State]
     ensures first { y ≡ 0 → result.now ≡ [] }
-    ensures later { 0 < y → result.now ≡ get_or rows.now (y - 1) [] }
+    ensures later { 0 < y → result.now ≡ list_at rows.now (y - 1) }
 {
     if y == 0 {
         return &[];
@@ -94,7 +95,7 @@ fn reversed_row(alloc: Global, row: &[State]) -> Result<Vec<State>, RuleError>
 
 /// The rows, each from its end to its start.
 pub fn reversed(alloc: Global, rows: &CellRows) -> Result<CellRows, RuleError>
-    requires { All (λ row. length row ≡ length (get_or rows.now 0 [])) rows.now }
+    requires { AreOfOneLength rows.now }
     ensures { IfOk result (λ mirrored. mirrored ≡ map reverse rows.now) }
 {
     let mut mirrored = CellRows::with_room(alloc, 0, 0)?;

@@ -1,7 +1,7 @@
 // Columns of rows, as rows.
-ghost use Rattle.std.specs.Prelude.{◌≡◌, ◌≢◌, ◌<◌, ◌≤◌, ℕ, [], length, get_or, All, IfOk};
-ghost use Rattle.ww_rule.specs.declared.pattern.State.TheVariants.{Empty};
-ghost use Rattle.ww_rule.specs.Grid.{plane_of};
+ghost use Rattle.std.specs.Prelude.{◌≡◌, ◌≢◌, ◌<◌, ◌≤◌, ℕ, length, All, IfOk};
+ghost use Rattle.lists.specs.Items.{list_at};
+ghost use Rattle.ww_rule.specs.Grid.{plane_of, row_cell, AreOfOneLength};
 ghost use Rattle.ww_rule.specs.Turns.{turned, injection_turned};
 
 use crate::cell_rows::CellRows;
@@ -11,13 +11,13 @@ use std::alloc::{AllocError, Global};
 // Makes these cells column x of rows, from the first row on.
 fn put_column(rows: &mut CellRows, x: usize, column: &[State])
     requires many { length column.now ≤ length rows.old }
-    requires long { (y : ℕ) → y < length column.now → x < length (get_or rows.old y []) }
+    requires long { (y : ℕ) → y < length column.now → x < length (list_at rows.old y) }
     ensures many { length rows.new ≡ length rows.old }
-    ensures long { (y : ℕ) → length (get_or rows.new y []) ≡ length (get_or rows.old y []) }
+    ensures long { (y : ℕ) → length (list_at rows.new y) ≡ length (list_at rows.old y) }
     ensures here { (y : ℕ) → y < length column.now →
-        get_or (get_or rows.new y []) x Empty ≡ get_or column.now y Empty }
-    ensures others { (u y : ℕ) → u ≢ x → get_or (get_or rows.new y []) u Empty ≡
-        get_or (get_or rows.old y []) u Empty }
+        row_cell (list_at rows.new y) x ≡ row_cell column.now y }
+    ensures others { (u y : ℕ) → u ≢ x →
+        row_cell (list_at rows.new y) u ≡ row_cell (list_at rows.old y) u }
 {
     for (y, state) in column.iter().enumerate() {
         rows.put(x, y, *state);
@@ -26,8 +26,8 @@ fn put_column(rows: &mut CellRows, x: usize, column: &[State])
 
 /// The columns of rows of one length, from west to east, as rows.
 pub fn columns_of(alloc: Global, rows: &CellRows) -> Result<CellRows, AllocError>
-    requires { All (λ row. length row ≡ length (get_or rows.now 0 [])) rows.now }
-    ensures many { IfOk result (λ made. length made ≡ length (get_or rows.now 0 [])) }
+    requires { AreOfOneLength rows.now }
+    ensures many { IfOk result (λ made. length made ≡ length (list_at rows.now 0)) }
     ensures long { IfOk result (λ made. All (λ row. length row ≡ length rows.now) made) }
     ensures cells { IfOk result (λ made. plane_of made ≡ turned (plane_of rows.now)) }
 {

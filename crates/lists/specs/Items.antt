@@ -1,0 +1,20 @@
+-- What stands at a place of a list, and what a test puts into one.
+use Rattle.std.specs.Prelude.{ℕ, Bool, false, cond, List, [], ◌∷◌, get_or}
+
+-- the bit, the number and the list at a place; past the end 0 and the empty list
+abbrev pub flag_at : List Bool → ℕ → Bool
+flag_at flags k = get_or flags k false
+
+abbrev pub number_at : List ℕ → ℕ → ℕ
+number_at numbers k = get_or numbers k 0
+
+abbrev pub list_at : {A : Type 0} → List (List A) → ℕ → List A
+list_at lists k = get_or lists k []
+
+-- 1 where a test holds, else 0
+abbrev pub one_if : Bool → ℕ
+one_if test = cond test 1 0
+
+-- an item alone where a test holds, else none
+abbrev pub alone_if : {A : Type 0} → Bool → A → List A
+alone_if test item = cond test (item ∷ []) []
