@@ -24,7 +24,7 @@ pub fn refusal(alloc: Global, kind: StreamFaultKind, word: &[u8]) -> StreamError
 }
 
 // The names of the inputs.
-fn names_of(alloc: Global, names: &[Bytes]) -> Result<BTreeSet<&[u8]>, AllocError>
+fn known_names(alloc: Global, names: &[Bytes]) -> Result<BTreeSet<&[u8]>, AllocError>
     ensures { IfOk result (λ known. AreNamesOf known names.now) }
 {
     let mut known = BTreeSet::new(alloc);
@@ -52,7 +52,7 @@ pub fn bits_by_input<'a>(
         )
         ) }
 {
-    let known = names_of(alloc, names)?;
+    let known = known_names(alloc, names)?;
     let mut given = BTreeMap::new(alloc);
     for word in words {
         match cut_sound(&known, &given, cycles, contexts, word.as_bytes()) {

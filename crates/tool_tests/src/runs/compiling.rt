@@ -297,7 +297,7 @@ fn these_write_what_compile_writes(rt: HostRuntime) -> Result<(), Fail> {
 }
 
 // A netlist by its first line and its text, a number of cycles and streams, and nets, each with its path and what is printed of it.
-struct Driven {
+struct NetCase {
     model: &'static str,
     text: &'static str,
     words: &'static str,
@@ -305,8 +305,8 @@ struct Driven {
 }
 
 // Of nets in models below and of ports the bits are written here.
-const DRIVEN: &[Driven] = &[
-    Driven {
+const NET_CASES: &[NetCase] = &[
+    NetCase {
         model: ".model t\n",
         text: TOGGLE,
         words: "4",
@@ -315,7 +315,7 @@ q - q=0101
 n - n=1010
 ",
     },
-    Driven {
+    NetCase {
         model: ".model k\n",
         text: COUNTER,
         words: "5",
@@ -326,7 +326,7 @@ n0 - n0=10101
 n1 - n1=01100
 ",
     },
-    Driven {
+    NetCase {
         model: ".model add\n",
         text: ADDER,
         words: "1 a0=1 a1=1 b0=1 b1=0 ci=0",
@@ -372,15 +372,15 @@ fn with_output(alloc: Global, model: &str, text: &str, net: &str) -> Result<Stri
 }
 
 // What `eval` does with the net as the netlist's first output.
-fn evaluated(alloc: Global, driven: &Driven, net: &str) -> Result<Outcome, Fail> {
-    let asked = text_of(alloc, &["eval --cycles ", driven.words])?;
-    let wider = with_output(alloc, driven.model, driven.text, net)?;
+fn evaluated(alloc: Global, case: &NetCase, net: &str) -> Result<Outcome, Fail> {
+    let asked = text_of(alloc, &["eval --cycles ", case.words])?;
+    let wider = with_output(alloc, case.model, case.text, net)?;
     run_amply(alloc, &asked, wider.as_bytes())
 }
 
 // Fails where another first line is printed. A port can't be an output once more.
-fn expect_first(alloc: Global, driven: &Driven, net: &str, line: &str) -> Result<(), Fail> {
-    let got = evaluated(alloc, driven, net)?;
+fn expect_first(alloc: Global, case: &NetCase, net: &str, line: &str) -> Result<(), Fail> {
+    let got = evaluated(alloc, case, net)?;
     expect(got.status == 1 || got.out.starts_with(line.as_bytes()), net)
 }
 
@@ -417,15 +417,15 @@ fn cut(row: &'static str) -> Option<((&'static str, &'static str), &'static str)
 // Fails where a net shows something else in the netlist's pattern, or `eval` prints something else of it, as far as the main model has it.
 fn expect_net(
     alloc: Global,
-    driven: &Driven,
+    case: &NetCase,
     pattern: &[u8],
     row: &'static str,
 ) -> Result<(), Fail> {
     match cut(row) {
         Some((net, line)) => {
-            expect_probed(alloc, driven.words, pattern, net, line)?;
+            expect_probed(alloc, case.words, pattern, net, line)?;
             if net.1 == "-" {
-                expect_first(alloc, driven, net.0, line)
+                expect_first(alloc, case, net.0, line)
             } else {
                 Ok(())
             }
@@ -435,18 +435,18 @@ fn expect_net(
 }
 
 // Fails where one of the nets does so.
-fn expect_nets(alloc: Global, driven: &Driven) -> Result<(), Fail> {
-    let pattern = written(alloc, "compile", driven.text.as_bytes())?;
-    for row in driven.nets.lines() {
-        expect_net(alloc, driven, &pattern, row)?;
+fn expect_nets(alloc: Global, case: &NetCase) -> Result<(), Fail> {
+    let pattern = written(alloc, "compile", case.text.as_bytes())?;
+    for row in case.nets.lines() {
+        expect_net(alloc, case, &pattern, row)?;
     }
     Ok(())
 }
 
 #[test]
 fn each_net_is_evaluated_as_it_is_probed(rt: HostRuntime) -> Result<(), Fail> {
-    for driven in DRIVEN {
-        expect_nets(rt.alloc(), driven)?;
+    for case in NET_CASES {
+        expect_nets(rt.alloc(), case)?;
     }
     Ok(())
 }

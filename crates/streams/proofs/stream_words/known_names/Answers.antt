@@ -1,6 +1,6 @@
 use Rattle.std.proofs.Common.{◌∙◌}
 use Rattle.streams.proofs.GivenWords.{name_more}
-use Rattle.streams.proofs.stream_words.names_of.Goals as goal
+use Rattle.streams.proofs.stream_words.known_names.Goals as goal
 
 pub loop-name-preserved : goal.loop-name-preserved
 loop-name-preserved c =
