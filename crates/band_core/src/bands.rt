@@ -6,9 +6,9 @@ ghost use Rattle.ww_rule.specs.Patterns.{grid_of};
 ghost use Rattle.band_core.specs.Bands.{IsBandedPattern, IsCellOf, IsAwake, HasReasonToStay, begun, band_at, generation_of, moved_on, unready_neighbour};
 
 use crate::band::Band;
-use crate::error::{BandsError, NotReady, NotSkipped};
 use crate::making::begin_bands;
 use crate::moving::{awake_cell, move_band, rest_band, unready_neighbour};
+use crate::{BandsError, NotReady, NotSkipped};
 use std::alloc::Global;
 use std::marker::Model;
 use ww_rule::{CellRows, Injection, Pattern, State};

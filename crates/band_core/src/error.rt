@@ -1,33 +1,5 @@
-// Why no bands were made, and why a band did not move on.
-ghost use Rattle.std.specs.Prelude.{◌≡◌};
-
-use std::alloc::{AllocError, AllocFailed};
+// Why a band did not move on.
 use thiserror::Error;
-
-/// Why no bands were made.
-#[derive(Clone, Copy, Debug, Error)]
-pub enum BandsError {
-    #[error("out of memory")]
-    NoMemory,
-}
-
-ghost use Rattle.band_core.specs.declared.error.BandsError.TheVariants.{NoMemory};
-
-impl From<AllocError> for BandsError {
-    ghost from_gives = { λ _ e. e ≡ NoMemory };
-
-    fn from(_: AllocError) -> Self {
-        BandsError::NoMemory
-    }
-}
-
-impl<T: Drop> From<AllocFailed<T>> for BandsError {
-    ghost from_gives = { λ _ e. e ≡ NoMemory };
-
-    fn from(_: AllocFailed<T>) -> Self {
-        BandsError::NoMemory
-    }
-}
 
 /// A band that another one has to wait for: its number from the top, and its generation, which is neither the other one's
 /// nor one more.

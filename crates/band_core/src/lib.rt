@@ -13,4 +13,5 @@ mod moving;
 
 pub use band::due_count;
 pub use bands::Bands;
-pub use error::{BandsError, NotReady, NotSkipped};
+pub use error::{NotReady, NotSkipped};
+pub use lists::OutOfMemory as BandsError;

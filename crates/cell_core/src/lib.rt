@@ -4,10 +4,9 @@
 #![tactic(auto)]
 
 mod cells;
-mod error;
 pub mod laws;
 mod list;
 
 pub use cells::{Cell, Src};
-pub use error::CellError;
 pub use list::CellList;
+pub use lists::OutOfMemory as CellError;

@@ -4,11 +4,10 @@
 #![tactic(auto)]
 
 mod ending;
-mod error;
 pub mod laws;
 mod moving;
 mod reordering;
 
 pub use ending::ending_order;
-pub use error::ReorderError;
+pub use lists::OutOfMemory as ReorderError;
 pub use reordering::in_order;

@@ -4,8 +4,7 @@
 #![tactic(auto)]
 
 mod choosing;
-mod error;
 mod planning;
 
 pub use choosing::{Chosen, best_plan, plan_of};
-pub use error::PlanError;
+pub use lists::OutOfMemory as PlanError;

@@ -5,7 +5,6 @@
 #![tactic(auto)]
 
 mod copying;
-mod error;
 pub mod laws;
 mod moving;
 mod ordering;
@@ -14,5 +13,5 @@ mod rewriting;
 mod substitution;
 mod words;
 
-pub use error::RewriteError;
+pub use lists::OutOfMemory as RewriteError;
 pub use rewriting::rewritten;

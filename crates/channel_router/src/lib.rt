@@ -3,8 +3,7 @@
 //! Theorem: `bring`.
 #![tactic(auto)]
 
-mod error;
 mod route;
 
-pub use error::RouteError;
+pub use lists::OutOfMemory as RouteError;
 pub use route::bring;

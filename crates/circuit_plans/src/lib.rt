@@ -7,12 +7,11 @@
 #![tactic(auto)]
 
 mod entry;
-mod error;
 pub mod laws;
 mod leaving;
 mod lifting;
 mod loops;
 
-pub use error::LiftError;
 pub use lifting::cells_of;
+pub use lists::OutOfMemory as LiftError;
 pub use loops::{first_bits, loop_start, starts_of_bits};

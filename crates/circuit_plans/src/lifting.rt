@@ -10,9 +10,8 @@ ghost use Rattle.circuit_plans.specs.Lifted.{lanes_of, cells_made, upper_source,
 ghost use Rattle.circuit_plans.specs.Lists.{IsListOf};
 
 use crate::entry::entry_sources;
-use crate::error::LiftError;
-use crate::first_bits;
 use crate::leaving::{sources_leaving, sources_on};
+use crate::{LiftError, first_bits};
 use cell_core::{Cell, CellList, Src};
 use lane_core::{Column, Instr, Plan};
 use lists::List;

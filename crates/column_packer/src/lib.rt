@@ -3,10 +3,9 @@
 //! Theorem: `pack` (`packed`, `same`).
 #![tactic(auto)]
 
-mod error;
 mod numbering;
 mod packing;
 
-pub use error::PackError;
+pub use lists::OutOfMemory as PackError;
 pub use numbering::column_numbers;
 pub use packing::pack;

@@ -5,7 +5,7 @@ ghost use Rattle.netlist_core.specs.declared.flat.Net as flat_net;
 ghost use Rattle.netlist_meaning.specs.Flat.{class_of, port_classes};
 ghost use Rattle.cover_mapper.specs.Sourced.{sources_at};
 
-use crate::error::MapError;
+use crate::MapError;
 use cell_core::Src;
 use netlist_core::{Flat, FlatLatch, FlatPort, Net, NetId};
 use netlist_meaning::class_of;

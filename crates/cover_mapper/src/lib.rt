@@ -4,11 +4,10 @@
 #![tactic(auto)]
 
 mod classes;
-mod error;
 mod mapping;
 mod nodes;
 mod singles;
 mod start;
 
-pub use error::MapError;
+pub use lists::OutOfMemory as MapError;
 pub use mapping::{Mapped, map};

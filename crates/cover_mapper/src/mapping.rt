@@ -6,8 +6,8 @@ ghost use Rattle.netlist_meaning.specs.FlatValuation.{IsFlatValuation};
 ghost use Rattle.cell_meaning.specs.Mapped.{HasBits, IsMappedWith};
 ghost use Rattle.cover_mapper.specs.Sourced.{IsComplete};
 
+use crate::MapError;
 use crate::classes::{sources_of_data, sources_of_listed, sources_of_ports};
-use crate::error::MapError;
 use crate::nodes::map_nodes;
 use crate::singles::listed_singles;
 use crate::start::{source_inputs, source_latches, start_list};

@@ -4,8 +4,8 @@ ghost use Rattle.netlist_meaning.specs.Flat.{IsSound};
 ghost use Rattle.netlist_meaning.specs.FlatOrder.{IsOrder};
 ghost use Rattle.cover_mapper.specs.Sourced.{AreMapped, AreSourced, IsAmongFirst};
 
+use crate::MapError;
 use crate::classes::sources_of_nets;
-use crate::error::MapError;
 use cell_core::{CellList, Src};
 use cover_cells::{Places, map_cover};
 use netlist_core::Flat;

@@ -4,8 +4,8 @@ ghost use Rattle.std.specs.List.{filter_map};
 ghost use Rattle.std.specs.Option.{option_to_list};
 ghost use Rattle.cover_mapper.specs.Singles.{is_single, single_source};
 
+use crate::MapError;
 use crate::classes::source_of;
-use crate::error::MapError;
 use cell_core::Src;
 use cover_cells::single_cell;
 use netlist_core::{Flat, Node};

@@ -4,7 +4,7 @@ ghost use Rattle.netlist_meaning.specs.Flat.{IsSound};
 ghost use Rattle.cell_core.specs.declared.cells.Src.TheVariants.{Zero};
 ghost use Rattle.cover_mapper.specs.Sourced.{AreSourced, IsAmongFirst};
 
-use crate::error::MapError;
+use crate::MapError;
 use cell_core::{CellList, Src};
 use lists::List;
 use netlist_core::{Flat, FlatLatch};

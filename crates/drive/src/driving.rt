@@ -6,7 +6,7 @@ ghost use Rattle.ww_rule.specs.Injections.{due_of_list, injections_of_row, injec
 ghost use Rattle.pattern_reading.specs.Ports.{cells_of};
 ghost use Rattle.drive.specs.Driving.{AreFor, due_by, injections_of};
 
-use crate::error::DriveError;
+use crate::DriveError;
 use pattern_reading::{PortLine, Ports};
 use std::alloc::Global;
 use streams::{Streams, bits_across};

@@ -1,16 +1,9 @@
 // What a call answers where it gives no injections or no bits.
 ghost use Rattle.std.specs.Prelude.{◌≡◌, ◌<◌, ◌^◌};
 
-use band_core::BandsError;
+use crate::DriveError;
 use std::alloc::{AllocError, AllocFailed};
 use ww_rule::Injection;
-
-/// Why there are no injections.
-#[derive(Clone, Copy)]
-pub enum DriveError {
-    /// There was no memory for them.
-    NoMemory,
-}
 
 /// Why a pattern was not run.
 #[derive(Clone, Copy, Debug)]
@@ -24,32 +17,7 @@ pub enum SimulateError {
     NotQuiet { generation: u64, x: u64, y: u64 },
 }
 
-ghost use Rattle.drive.specs.declared.error.DriveError.TheVariants as driving;
 ghost use Rattle.drive.specs.declared.error.SimulateError.TheVariants as simulating;
-
-impl From<AllocError> for DriveError {
-    ghost from_gives = { λ _ e. e ≡ driving.NoMemory };
-
-    fn from(_: AllocError) -> Self {
-        DriveError::NoMemory
-    }
-}
-
-impl<T: Drop> From<AllocFailed<T>> for DriveError {
-    ghost from_gives = { λ _ e. e ≡ driving.NoMemory };
-
-    fn from(_: AllocFailed<T>) -> Self {
-        DriveError::NoMemory
-    }
-}
-
-impl From<BandsError> for DriveError {
-    ghost from_gives = { λ _ e. e ≡ driving.NoMemory };
-
-    fn from(_: BandsError) -> Self {
-        DriveError::NoMemory
-    }
-}
 
 impl From<AllocError> for SimulateError {
     ghost from_gives = { λ _ e. e ≡ simulating.NoMemory };

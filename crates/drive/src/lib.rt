@@ -13,7 +13,8 @@ mod simulation;
 
 pub use bits::{GREATEST_GENERATION, bits_of_cells, last_from};
 pub use driving::{CONTEXT_GENERATIONS, injections};
-pub use error::{DriveError, SimulateError};
+pub use error::SimulateError;
+pub use lists::OutOfMemory as DriveError;
 pub use run::Run;
 pub use simulation::simulate;
 pub use streams::{StreamError, StreamFault, StreamFaultKind, Streams};

@@ -12,9 +12,9 @@ ghost use Rattle.ww_rule.specs.Turns.{injection_turned};
 ghost use Rattle.drive.specs.Runs.{IsBandRun, evolution, first_miss_in, injection_misses, first_miss_of, planes_of};
 
 use crate::driving::injections;
-use crate::error::{DriveError, SimulateError};
 use crate::misses::first_on_pattern;
 use crate::moving::move_all;
+use crate::{DriveError, SimulateError};
 use band_core::{Bands, due_count};
 use pattern_reading::Ports;
 use std::alloc::Global;

@@ -5,7 +5,6 @@
 #![tactic(auto)]
 
 mod closing;
-mod error;
 pub mod laws;
 mod loop_starts;
 mod places;
@@ -13,7 +12,7 @@ mod starting;
 mod walking;
 
 pub use closing::{close, most_contexts};
-pub use error::CloseError;
+pub use lists::OutOfMemory as CloseError;
 pub use loop_starts::starts_of;
 pub use starting::start_contexts;
 pub use walking::tile_before;

@@ -1,12 +1,15 @@
-//! A list type of which contracts see the items alone, and not where they lie in memory; and general lemmas on lists,
-//! names and bits.
+//! A list type of which contracts see the items alone, and not where they lie in memory; the error of a call that fails
+//! for want of memory alone; and words and lemmas on lists, names and bits.
 //!
 //! Theorem: `of`, `get`, `as_slice`.
 #![tactic(auto)]
 
+mod memory;
+
 ghost use Rattle.std.specs.Prelude.{◌≡◌, ◌<◌, ◌++◌, List, length, take, drop, slice_get, Some, IfOk};
 ghost use Rattle.std.specs.Borrow.{sem, Lends, Array};
 
+pub use memory::OutOfMemory;
 use std::alloc::{AllocError, Global};
 use std::marker::Model;
 

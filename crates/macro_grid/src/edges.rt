@@ -14,29 +14,12 @@ use plan_layout::{Edge, is_lit};
 use std::alloc::{AllocError, Global};
 use std::marker::Model;
 
-/// Why there are no edges.
-#[derive(Clone, Copy, Debug)]
-pub enum EdgesError {
-    /// There is no memory for them.
-    NoMemory,
-}
-
 /// A bit for each edge of a plan, true where it is lit.
 #[derive(Drop)]
 pub struct Edges {
     pub(crate) lanes: usize,
     pub(crate) beside: Vec<bool>,
     pub(crate) above: Vec<bool>,
-}
-
-impl From<AllocError> for EdgesError {
-    ghost use Rattle.macro_grid.specs.declared.edges.EdgesError.TheVariants.{NoMemory};
-
-    ghost from_gives = { λ _ e. e ≡ NoMemory };
-
-    fn from(_error: AllocError) -> EdgesError {
-        EdgesError::NoMemory
-    }
 }
 
 impl Model for Edges {

@@ -10,7 +10,8 @@ mod rules;
 mod starts;
 mod step;
 
-pub use edges::{Edges, EdgesError};
+pub use edges::Edges;
 pub use laws::{plans_are_driven, plans_step_by_macro};
+pub use lists::OutOfMemory as EdgesError;
 pub use rules::admissible;
 pub use step::macro_step;

@@ -3,13 +3,12 @@
 //! Theorem: `make` (`text`), `reads_as_made`.
 #![tactic(auto)]
 
-mod error;
 mod gate;
 mod generator;
 pub mod instances;
 pub mod laws;
 mod made;
 
-pub use error::MakeError;
 pub use generator::draw;
+pub use lists::OutOfMemory as MakeError;
 pub use made::{Made, make};

@@ -2,7 +2,7 @@
 ghost use Rattle.std.specs.Prelude.{◌≡◌, ◌<◌, ◌≤◌, ◌^◌, ◌++◌, IfOk, OnOk, flat_map};
 ghost use Rattle.made_netlists.specs.Text.{drawn_gate_text, head_text, made_state, made_text, names_text, net_name};
 
-use crate::error::MakeError;
+use crate::MakeError;
 use crate::gate::{Gate, draw_gates};
 use crate::generator::draw;
 use itoa::Buffer;

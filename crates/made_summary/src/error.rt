@@ -2,9 +2,7 @@
 ghost use Rattle.std.specs.Prelude.{◌≡◌};
 ghost use Rattle.made_summary.specs.declared.error.SummaryError.TheVariants.{NoMemory};
 
-use made_netlists::MakeError;
-use netlist_plans::NetlistPlanError;
-use netlist_run::RunError;
+use lists::OutOfMemory;
 use std::alloc::{AllocError, AllocFailed};
 use thiserror::Error;
 
@@ -34,32 +32,10 @@ impl<T: Drop> From<AllocFailed<T>> for SummaryError {
     }
 }
 
-impl From<MakeError> for SummaryError {
+impl From<OutOfMemory> for SummaryError {
     ghost from_gives = { λ _ e. e ≡ NoMemory };
 
-    fn from(error: MakeError) -> Self {
-        match error {
-            MakeError::NoMemory => SummaryError::NoMemory,
-        }
-    }
-}
-
-impl From<NetlistPlanError> for SummaryError {
-    ghost from_gives = { λ _ e. e ≡ NoMemory };
-
-    fn from(error: NetlistPlanError) -> Self {
-        match error {
-            NetlistPlanError::NoMemory => SummaryError::NoMemory,
-        }
-    }
-}
-
-impl From<RunError> for SummaryError {
-    ghost from_gives = { λ _ e. e ≡ NoMemory };
-
-    fn from(error: RunError) -> Self {
-        match error {
-            RunError::NoMemory => SummaryError::NoMemory,
-        }
+    fn from(_: OutOfMemory) -> Self {
+        SummaryError::NoMemory
     }
 }

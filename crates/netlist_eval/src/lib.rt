@@ -9,4 +9,5 @@ mod machine;
 mod settle;
 
 pub use laws::ordered_have_one_valuation;
-pub use machine::{Machine, MachineError};
+pub use lists::OutOfMemory as MachineError;
+pub use machine::Machine;

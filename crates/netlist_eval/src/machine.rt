@@ -32,19 +32,6 @@ impl<'a> Model for Machine<'a> {
     ghost invariant = { λ m. IsSound m.flat.now × IsOrder m.flat.now m.order.nodes × (length m.bits.items ≡ length m.flat.now.nets) × (length m.state.items ≡ length m.flat.now.latches) };
 }
 
-/// Why there is no machine.
-#[derive(Clone, Copy, Debug)]
-pub enum MachineError {
-    /// There is no memory for it.
-    NoMemory,
-}
-
-impl From<AllocError> for MachineError {
-    fn from(_: AllocError) -> Self {
-        MachineError::NoMemory
-    }
-}
-
 impl<'a> Machine<'a> {
     /// The machine in its first state: a latch with init 1 is 1.
     pub fn new(alloc: Global, flat: &'a Flat, order: Order) -> Result<Machine<'a>, MachineError>

@@ -5,7 +5,6 @@
 #![tactic(auto)]
 
 mod contexts;
-mod error;
 mod planning;
 mod taping;
 
@@ -13,7 +12,7 @@ ghost use Rattle.netlist_plans.specs.Names.{TextsHavePortNames};
 ghost use Rattle.netlist_plans.specs.TextNames.{NamesAreWords, NetsAreWords};
 
 pub use contexts::plan_contexts;
-pub use error::NetlistPlanError;
+pub use lists::OutOfMemory as NetlistPlanError;
 pub use planning::{Planned, plan_netlist};
 pub use taping::load_netlist;
 

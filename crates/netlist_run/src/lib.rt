@@ -3,8 +3,7 @@
 //! Theorem: `run`.
 #![tactic(auto)]
 
-mod error;
 mod running;
 
-pub use error::RunError;
+pub use lists::OutOfMemory as RunError;
 pub use running::run;

@@ -7,7 +7,7 @@ ghost use Rattle.streams.specs.Rows.{bits_across};
 ghost use Rattle.netlist_run.specs.Runs.{AreRowsInRun, Ran, ShowsRun};
 ghost use Rattle.netlist_text.specs.Parts.{AreParts};
 
-use crate::error::RunError;
+use crate::RunError;
 use lists::List;
 use netlist_core::{Flat, Order};
 use netlist_eval::Machine;

@@ -1,6 +1,4 @@
 -- The error for each error of a part.
-use Rattle.blif_lex.specs.declared.error.LexError.{LexError}
-use Rattle.blif_lex.specs.declared.error.LexError.TheVariants as lex
 use Rattle.blif_reader.specs.declared.error.ReadError.{ReadError}
 use Rattle.blif_reader.specs.declared.error.ReadError.TheVariants as read
 use Rattle.blif_check.specs.declared.error.CheckError.{CheckError}
@@ -11,9 +9,6 @@ use Rattle.clock_check.specs.declared.error.ClockError.{ClockError}
 use Rattle.clock_check.specs.declared.error.ClockError.TheVariants as clock
 use Rattle.netlist_text.specs.declared.error.NetlistError.{NetlistError}
 use Rattle.netlist_text.specs.declared.error.NetlistError.TheVariants.{NoMemory, Fault, TooLarge}
-
-abbrev pub lex_error : LexError → NetlistError
-lex_error lex.NoMemory = NoMemory
 
 abbrev pub read_error : ReadError → NetlistError
 read_error (read.Fault fault) = Fault fault

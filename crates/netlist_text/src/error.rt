@@ -3,11 +3,10 @@ ghost use Rattle.std.specs.Prelude.{◌≡◌};
 ghost use Rattle.netlist_text.specs.declared.error.NetlistError.TheVariants.{NoMemory};
 
 use blif_check::CheckError;
-use blif_lex::LexError;
 use blif_reader::ReadError;
 use blif_text::Fault;
 use clock_check::ClockError;
-use lists::List;
+use lists::{List, OutOfMemory};
 use netlist_core::Name;
 use netlist_flatten::FlattenError;
 use std::alloc::AllocError;
@@ -30,15 +29,11 @@ pub enum NetlistError {
     NoMemory,
 }
 
-impl From<LexError> for NetlistError {
-    ghost use Rattle.netlist_text.specs.Errors.{lex_error};
+impl From<OutOfMemory> for NetlistError {
+    ghost from_gives = { λ _ r. r ≡ NoMemory };
 
-    ghost from_gives = { λ e r. r ≡ lex_error e };
-
-    fn from(error: LexError) -> Self {
-        match error {
-            LexError::NoMemory => NetlistError::NoMemory,
-        }
+    fn from(_: OutOfMemory) -> Self {
+        NetlistError::NoMemory
     }
 }
 

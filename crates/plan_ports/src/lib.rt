@@ -3,13 +3,12 @@
 //! Theorem: `of_plan`, `tables_are_readable`.
 #![tactic(auto)]
 
-mod error;
 mod nets;
 mod table;
 
 ghost use Rattle.plan_ports.specs.Laws.{TablesAreReadable};
 
-pub use error::PortsError;
+pub use lists::OutOfMemory as PortsError;
 pub use table::of_plan;
 
 /// Does nothing; its clause is the law.

@@ -6,7 +6,7 @@ ghost use Rattle.plan_tapes.specs.Loaded.{with_tape};
 ghost use Rattle.plan_tapes.specs.declared.loading.LoadError.TheVariants.{NoMemory};
 
 use lane_core::Plan;
-use lists::List;
+use lists::{List, OutOfMemory};
 use std::alloc::{AllocError, Global};
 
 /// Why a plan has not got its tape.
@@ -14,6 +14,14 @@ use std::alloc::{AllocError, Global};
 pub enum LoadError {
     /// There is no memory for a copy of the bits. The plan is handed back as it was.
     NoMemory(Plan),
+}
+
+impl From<LoadError> for OutOfMemory {
+    fn from(error: LoadError) -> Self {
+        match error {
+            LoadError::NoMemory(_) => OutOfMemory::NoMemory,
+        }
+    }
 }
 
 // A copy of lists of bits.

@@ -5,14 +5,10 @@ use aiger_meaning::LowerError;
 use aiger_reader::AigReadError;
 use aiger_text::AigFault;
 use blif_text::Fault;
-use circuit_plans::LiftError;
 use drive::{SimulateError, StreamError, StreamFault};
-use lists::List;
-use made_netlists::MakeError;
+use lists::{List, OutOfMemory};
 use made_summary::SummaryError;
 use netlist_core::Name;
-use netlist_plans::NetlistPlanError;
-use netlist_run::RunError;
 use netlist_text::NetlistError;
 use port_table::{PortFault, PortReadError};
 use probe_view::WindowError;
@@ -131,27 +127,13 @@ impl From<LowerError> for TextError {
     }
 }
 
-impl From<NetlistPlanError> for TextError {
+impl From<OutOfMemory> for TextError {
     ghost use Rattle.refusals.specs.declared.causes.TextError.TheVariants.{NoMemory};
 
     ghost from_gives = { λ _ r. r ≡ NoMemory };
 
-    fn from(error: NetlistPlanError) -> Self {
-        match error {
-            NetlistPlanError::NoMemory => TextError::NoMemory,
-        }
-    }
-}
-
-impl From<RunError> for TextError {
-    ghost use Rattle.refusals.specs.declared.causes.TextError.TheVariants.{NoMemory};
-
-    ghost from_gives = { λ _ r. r ≡ NoMemory };
-
-    fn from(error: RunError) -> Self {
-        match error {
-            RunError::NoMemory => TextError::NoMemory,
-        }
+    fn from(_: OutOfMemory) -> Self {
+        TextError::NoMemory
     }
 }
 
@@ -252,30 +234,6 @@ impl From<AuditError> for TextError {
         match error {
             AuditError::NotCircuit(fault) => TextError::Refused(Cause::NotCircuit(fault)),
             AuditError::NoMemory => TextError::NoMemory,
-        }
-    }
-}
-
-impl From<LiftError> for TextError {
-    ghost use Rattle.refusals.specs.declared.causes.TextError.TheVariants.{NoMemory};
-
-    ghost from_gives = { λ _ r. r ≡ NoMemory };
-
-    fn from(error: LiftError) -> Self {
-        match error {
-            LiftError::NoMemory => TextError::NoMemory,
-        }
-    }
-}
-
-impl From<MakeError> for TextError {
-    ghost use Rattle.refusals.specs.declared.causes.TextError.TheVariants.{NoMemory};
-
-    ghost from_gives = { λ _ r. r ≡ NoMemory };
-
-    fn from(error: MakeError) -> Self {
-        match error {
-            MakeError::NoMemory => TextError::NoMemory,
         }
     }
 }

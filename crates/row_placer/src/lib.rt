@@ -4,7 +4,6 @@
 #![tactic(auto)]
 
 mod counting;
-mod error;
 mod job;
 mod lanes;
 mod placing;
@@ -12,8 +11,8 @@ mod reading;
 mod roles;
 mod start;
 
-pub use error::PlaceError;
 use job::{CellKind, Job, NumberedCell};
 use lanes::Lanes;
+pub use lists::OutOfMemory as PlaceError;
 pub use placing::{place, place_at};
 use roles::{Role, Tag};

@@ -4,18 +4,6 @@ ghost use Rattle.std.specs.Prelude.{◌≡◌, ◌≤◌, ◌<◌, ◌+◌, ◌-
 use crate::{Failed, Sink, Source};
 use std::alloc::{AllocError, Global};
 
-/// Why a source or sink in memory is not made.
-#[derive(Clone, Copy, Debug)]
-pub enum FakeError {
-    NoMemory,
-}
-
-impl From<AllocError> for FakeError {
-    fn from(_: AllocError) -> Self {
-        FakeError::NoMemory
-    }
-}
-
 /// A source in memory.
 #[derive(Drop)]
 pub struct MemSource {

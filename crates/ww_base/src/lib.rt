@@ -12,7 +12,8 @@ mod streams;
 mod wanted;
 mod whole;
 
-pub use fakes::{FakeError, MemSink, MemSource};
+pub use fakes::{MemSink, MemSource};
+pub use lists::OutOfMemory as FakeError;
 pub use page::Page;
 pub use pieces::{put_pieces, write_pieces};
 pub use standard::{StdSink, StdSource};

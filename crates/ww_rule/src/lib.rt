@@ -4,7 +4,6 @@
 #![tactic(auto)]
 
 mod cell_rows;
-mod error;
 pub mod laws;
 mod mirror;
 mod pattern;
@@ -13,7 +12,7 @@ mod rows;
 mod turning;
 
 pub use cell_rows::CellRows;
-pub use error::RuleError;
+pub use lists::OutOfMemory as RuleError;
 pub use mirror::mirror_x;
 pub use pattern::{Injection, Pattern, State};
 pub use plane::{Plane, step_driven, step_plain};

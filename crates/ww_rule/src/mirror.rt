@@ -3,7 +3,7 @@ ghost use Rattle.std.specs.Prelude.{◌≡◌, ◌-ℤ◌, pos, IfOk};
 ghost use Rattle.ww_rule.specs.Grid.{plane_of};
 ghost use Rattle.ww_rule.specs.Laws.{mirrored};
 
-use crate::error::RuleError;
+use crate::RuleError;
 use crate::pattern::Pattern;
 use crate::rows::reversed;
 use std::alloc::Global;

@@ -4,8 +4,8 @@ ghost use Rattle.ww_rule.specs.Wireworld.{next_plane, injected};
 ghost use Rattle.ww_rule.specs.Grid.{IsGrid, AreInBox, plane_of};
 ghost use Rattle.ww_rule.specs.Injections.{has_cell};
 
+use crate::RuleError;
 use crate::cell_rows::CellRows;
-use crate::error::RuleError;
 use crate::pattern::{Pattern, State};
 use crate::rows::{next_row, row_before};
 use std::alloc::Global;

@@ -5,8 +5,8 @@ ghost use Rattle.ww_rule.specs.declared.pattern.State.TheVariants.{Head};
 ghost use Rattle.ww_rule.specs.Wireworld.{count_head, heads_around, next_plane, next_state};
 ghost use Rattle.ww_rule.specs.Grid.{plane_of, row_cell, AreOfOneLength};
 
+use crate::RuleError;
 use crate::cell_rows::CellRows;
-use crate::error::RuleError;
 use crate::pattern::State;
 use lists::List;
 use std::alloc::Global;
