@@ -9,9 +9,10 @@ ghost use Rattle.plan_layout.specs.Starts.{HasStartEdges};
 ghost use Rattle.plan_layout.specs.Tape.{drawn_edges};
 ghost use Rattle.macro_grid.specs.Edges.{IsEdgesOf, TellEdges, edge_columns, edge_lanes, lit_of};
 
+use crate::EdgesError;
 use lane_core::{Plan, tape_shift};
 use plan_layout::{Edge, is_lit};
-use std::alloc::{AllocError, Global};
+use std::alloc::Global;
 use std::marker::Model;
 
 /// A bit for each edge of a plan, true where it is lit.

@@ -5,9 +5,10 @@ ghost use Rattle.netlist_meaning.specs.Flat.{IsSound};
 ghost use Rattle.netlist_meaning.specs.FlatOrder.{IsOrder};
 ghost use Rattle.netlist_meaning.specs.FlatValuation.{IsCycle};
 
+use crate::MachineError;
 use crate::settle::{first_state, run_cycle};
 use netlist_core::{Flat, Order};
-use std::alloc::{AllocError, Global};
+use std::alloc::Global;
 use std::marker::Model;
 
 /// A machine holds the state of the latches.

@@ -1,8 +1,8 @@
 // A source and a sink in memory, whose calls can be made to fail.
 ghost use Rattle.std.specs.Prelude.{◌≡◌, ◌≤◌, ◌<◌, ◌+◌, ◌-◌, ◌↔◌, ◌⊎◌, Some, [], length, vec_len, vec_capacity, min, IfOk, IsErr, Contains};
 
-use crate::{Failed, Sink, Source};
-use std::alloc::{AllocError, Global};
+use crate::{Failed, FakeError, Sink, Source};
+use std::alloc::Global;
 
 /// A source in memory.
 #[derive(Drop)]
