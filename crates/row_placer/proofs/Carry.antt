@@ -1,30 +1,33 @@
--- A lane that is brought.
-use Rattle.std.proofs.Common.{◌≡◌, ◌∙◌, ap, ℕ, ◌+◌, ◌<◌, List, length, get_or, arith}
+-- Moves that follow one another.
+use Rattle.std.proofs.Common.{◌≡◌, ◌∙◌, ap, ℕ, ◌+◌, ◌*◌, ◌≤◌, length, get_or, arith}
 use Rattle.std.proofs.lemmas.Bool.Decides.{nat_tests}
-use Rattle.lane_core.specs.declared.instr.Instr.{Instr}
-use Rattle.channel_router.specs.Routes.{brought, swapped, distance}
-use Rattle.row_placer.specs.declared.roles.Tag.{Tag}
-use Rattle.row_placer.specs.Told.{SameTags, free_tag}
+use Rattle.channel_router.specs.Routes.{brought}
+use Rattle.row_placer.specs.declared.lanes.Lanes.{Lanes}
+use Rattle.row_placer.specs.Told.{free_tag}
+use Rattle.row_placer.specs.Steps.{KeepsGates, AddsAtMost, MovesTags}
 
 -- what is brought to a lane stands there
 pub brought_to : (from to : ℕ) → brought from to to ≡ from
 brought_to from to = grind (arith, nat_tests)
 
--- so far the lane has come to this one
-pub record Carried (tags tags' : List Tag) (instrs instrs' : List Instr) (from at : ℕ) : Type 0 where
-  pub lanes : (l : ℕ) → get_or tags' l free_tag ≡ get_or tags (brought from at l) free_tag
-  pub long : length tags' ≡ length tags
-  pub same : SameTags tags tags'
-  pub count : length instrs' ≡ length instrs + distance from at
-  pub within : at < length tags
+pub kept_on : (a b c : Lanes) → KeepsGates a b → KeepsGates b c → KeepsGates a c
+kept_on a b c first next = record { made = next.made ∙ first.made; job = next.job ∙ first.job }
 
-pub carried_more : (a b c : List Tag) (i j k : List Instr) (from at to lane : ℕ) → Carried a b i j from at
-    → ((l : ℕ) → get_or c l free_tag ≡ get_or b (swapped lane l) free_tag) → length c ≡ length b → SameTags b c → length k ≡ length j + 1
-    → distance from to ≡ distance from at + 1 → to < length a → ((l : ℕ) → brought from at (swapped lane l) ≡ brought from to l) → Carried a c i k from to
-carried_more a b c i j k from at to lane r lanes long same one far low moved = record {
-  lanes = λ l. lanes l ∙ r.lanes (swapped lane l) ∙ ap (λ n. get_or a n free_tag) (moved l);
-  long = long ∙ r.long;
-  same = λ p. same p ∙ r.same p;
-  count = omega (arith, one, r.count, far);
-  within = low;
+-- lanes that were moved are moved again
+pub moved_on : (a b c : Lanes) (from by to : ℕ → ℕ) (n m k : ℕ) → MovesTags a b from n → MovesTags b c by m → ((l : ℕ) → from (by l) ≡ to l) → k ≡ n + m → MovesTags a c to k
+moved_on a b c from by to n m k first next both sum = record {
+  lanes = λ l. next.lanes l ∙ first.lanes (by l) ∙ ap (λ i. get_or a.tags.items i free_tag) (both l);
+  same = λ p. next.same p ∙ first.same p;
+  long = next.long ∙ first.long;
+  count = omega (arith, next.count, first.count, sum);
+}
+
+more_count : (start now next n lanes : ℕ) → now ≤ start + n * lanes → next ≤ now + lanes → next ≤ start + (n + 1) * lanes
+more_count start now next n lanes le one = grind (arith, le, one)
+
+-- as many instructions as there are lanes are added once more
+pub adds_one : (a b c : Lanes) (n : ℕ) → AddsAtMost a b (n * length a.tags.items) → AddsAtMost b c (length b.tags.items) → AddsAtMost a c ((n + 1) * length a.tags.items)
+adds_one a b c n first next = record {
+  long = next.long ∙ first.long;
+  count = more_count (length a.instrs.items) (length b.instrs.items) (length c.instrs.items) n (length a.tags.items) first.count (omega (arith, next.count, first.long));
 }

@@ -1,5 +1,5 @@
 -- The uses of ports.
-use Rattle.std.proofs.Common.{◌≡◌, sym, ◌∙◌, ap, ap₂, subst, ℕ, suc, ◌+◌, ◌-◌, ◌*◌, ◌<◌, ◌≤◌, ⊎_elim, cond, List, [], ◌∷◌, ◌++◌, length, get_or, set, drop, arith}
+use Rattle.std.proofs.Common.{◌≡◌, sym, ◌∙◌, ap, ap₂, subst, ℕ, suc, ◌+◌, ◌-◌, ◌<◌, ◌≤◌, ⊎_elim, cond, List, [], ◌∷◌, ◌++◌, length, get_or, set, drop, arith}
 use Rattle.std.specs.Prelude.{◌==◌, slice_get, Some, All}
 use Rattle.std.proofs.lemmas.Bool.{cases_lt}
 use Rattle.std.proofs.lemmas.Bool.Decides.{nat_tests}
@@ -90,9 +90,6 @@ settled_more job n v tags tags' lane to settled known within here is room long l
 
 pub same_held : (job : Job) (n : ℕ) (tags tags' : List Tag) → SameTags tags tags' → HoldPorts job n tags → HoldPorts job n tags'
 same_held job n tags tags' same held i below = subst (λ k. 1 ≤ k) (sym (same (is_tag (get_or job.ports i 0) (Port i)))) (held i below)
-
-pub more_count : (start now next n lanes : ℕ) → now ≤ start + n * lanes → next ≤ now + lanes → next ≤ start + (n + 1) * lanes
-more_count start now next n lanes le one = grind (arith, le, one)
 
 pub port_has : (job : Job) (n i v : ℕ) (tags : List Tag) → HoldPorts job n tags → i < n → slice_get job.ports i ≡ Some v → 1 ≤ count v (Port i) tags
 port_has job n i v tags held below got = subst (λ w. 1 ≤ count w (Port i) tags) (get_or_from_slice_get job.ports i v 0 got) (held i below)

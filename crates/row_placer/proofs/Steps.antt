@@ -19,14 +19,14 @@ use Rattle.row_placer.specs.declared.roles.Role.TheVariants.{Kept}
 use Rattle.row_placer.specs.declared.roles.Tag.{Tag}
 use Rattle.row_placer.specs.declared.job.Job.{Job}
 use Rattle.row_placer.specs.declared.job.NumberedCell.{NumberedCell}
-use Rattle.row_placer.specs.Told.{role_code, Told, MadeTold, MadeAt, IsGateAt, instr_at, PutsTags, Tells, free_tag, tag, gate_instr, Exchanged, BothExchanged}
+use Rattle.row_placer.specs.Told.{role_code, Told, MadeTold, MadeAt, IsGateAt, instr_at, PutsTags, FitsTag, free_tag, tag, gate_instr, Exchanged, BothExchanged}
 use Rattle.lane_core.proofs.Lengths.{length-after_instrs as length-after}
 
 pub length-two : {X : Type 0} (xs : List X) (i j : ℕ) (a b : X) → length (set (set xs i a) j b) ≡ length xs
 length-two xs i j a b = length-set (set xs i a) j b ∙ length-set xs i a
 
-tells : (bit : ℕ → Bool) (t t' : Tag) (b b' : Bool) → t' ≡ t → b' ≡ b → Tells bit t b → Tells bit t' b'
-tells bit t t' b b' et eb h some = eb ∙ h (subst (λ (t : Tag). 0 < role_code t.role) et some) ∙ ap (λ (t : Tag). bit t.value) (sym et)
+FitsTag-same : (bit : ℕ → Bool) (t t' : Tag) (b b' : Bool) → t' ≡ t → b' ≡ b → FitsTag bit t b → FitsTag bit t' b'
+FitsTag-same bit t t' b b' et eb h some = eb ∙ h (subst (λ (t : Tag). 0 < role_code t.role) et some) ∙ ap (λ (t : Tag). bit t.value) (sym et)
 
 pub step_told : (job : Job) (tags : List Tag) (instrs : List Instr) (instr : Instr) (upper lower : Tag) → lane_of instr + 1 < length tags → length job.start ≡ length tags
     → PutsTags job tags instr upper lower → Told job tags instrs → Told job (set (set tags (lane_of instr) upper) (lane_of instr + 1) lower) (instrs ++ instr ∷ [])
@@ -41,10 +41,10 @@ step_told job tags instrs instr upper lower within long answers told bit agrees 
     let bs = two_set x i (upper_bit instr a b) (lower_bit instr a b) false lane (omega (arith, within, long, fits, length-after instrs bits)) in
     let e : bit_on (after_instrs (instrs ++ instr ∷ []) bits) lane ≡ bit_on (set (set x i (upper_bit instr a b)) (i + 1) (lower_bit instr a b)) lane = ap (λ y. bit_on y lane) (fold_push after_instr bits instrs instr) in
     ⊎_elim
-    (λ here. tells bit upper _ (upper_bit instr a b) _ (ts.0 here) (e ∙ bs.0 here) new.0)
+    (λ here. FitsTag-same bit upper _ (upper_bit instr a b) _ (ts.0 here) (e ∙ bs.0 here) new.0)
     (λ off. ⊎_elim
-    (λ below. tells bit lower _ (lower_bit instr a b) _ (ts.1 below) (e ∙ bs.1 below) new.1)
-    (λ away. tells bit (get_or tags lane free_tag) _ (bit_on x lane) _ (ts.2 off away) (e ∙ bs.2 off away) (now lane))
+    (λ below. FitsTag-same bit lower _ (lower_bit instr a b) _ (ts.1 below) (e ∙ bs.1 below) new.1)
+    (λ away. FitsTag-same bit (get_or tags lane free_tag) _ (bit_on x lane) _ (ts.2 off away) (e ∙ bs.2 off away) (now lane))
     (cases_eq lane (i + 1)))
     (cases_eq lane i)
 
@@ -90,10 +90,10 @@ pub mark_told : (job : Job) (tags : List Tag) (instrs : List Instr) (i : ℕ) (r
 mark_told job tags instrs i role within some told bit agrees bits fits holds lane =
     let now = told bit agrees bits fits holds in
     ⊎_elim
-    (λ here. tells bit (tag (get_or tags i free_tag).value role) _ (bit_on (after_instrs instrs bits) i) _
+    (λ here. FitsTag-same bit (tag (get_or tags i free_tag).value role) _ (bit_on (after_instrs instrs bits) i) _
     (ap (λ l. get_or (set tags i (tag (get_or tags i free_tag).value role)) l free_tag) here ∙ get_or-set_same tags i (tag (get_or tags i free_tag).value role) free_tag within)
     (ap (bit_on (after_instrs instrs bits)) here) (λ _. now i some))
-    (λ off. tells bit (get_or tags lane free_tag) _ (bit_on (after_instrs instrs bits) lane) _ (get_or-set_other tags i lane (tag (get_or tags i free_tag).value role) free_tag off) refl (now lane))
+    (λ off. FitsTag-same bit (get_or tags lane free_tag) _ (bit_on (after_instrs instrs bits) lane) _ (get_or-set_other tags i lane (tag (get_or tags i free_tag).value role) free_tag off) refl (now lane))
     (cases_eq lane i)
 
 -- a lane that is freed
@@ -102,7 +102,7 @@ free_told job tags instrs i within told bit agrees bits fits holds lane =
     ⊎_elim
     (λ here. λ some. (let e : get_or (set tags i free_tag) lane free_tag ≡ free_tag = ap (λ l. get_or (set tags i free_tag) l free_tag) here ∙ get_or-set_same tags i free_tag free_tag within in
     let none : 0 < 0 = subst (λ (t : Tag). 0 < role_code t.role) e some in absurd (omega (arith, none))))
-    (λ off. tells bit (get_or tags lane free_tag) _ (bit_on (after_instrs instrs bits) lane) _ (get_or-set_other tags i lane free_tag free_tag off) refl (told bit agrees bits fits holds lane))
+    (λ off. FitsTag-same bit (get_or tags lane free_tag) _ (bit_on (after_instrs instrs bits) lane) _ (get_or-set_other tags i lane free_tag free_tag off) refl (told bit agrees bits fits holds lane))
     (cases_eq lane i)
 
 pub freed : (tags tags' : List Tag) (i n value : ℕ) → i < length tags → n ≡ 0 → get_or tags i free_tag ≡ tag value Kept → tags' ≡ set tags i free_tag → Exchanged tags tags' (cond (n == 0) (tag value Kept) free_tag) free_tag
@@ -144,7 +144,7 @@ note_told job tags instrs made lane n last here told old bit agrees bits fits ho
     place : NetPlace
     place = record { lane = lane; after = Some n }
 
-    now : Tells bit (get_or tags lane free_tag) (bit_on (after_instrs instrs bits) lane)
+    now : FitsTag bit (get_or tags lane free_tag) (bit_on (after_instrs instrs bits) lane)
     now = told bit agrees bits fits holds lane
 
 -- gates stay where they are when an instruction is added, and the last one may be a gate

@@ -1,6 +1,7 @@
 pub mod Told
 pub mod Uses
 pub mod Ready
+pub mod Steps
 pub mod Numbers
 pub mod Programs
 pub mod Placed

@@ -35,12 +35,12 @@ tag_on tags lane = get_or tags lane free_tag
 abbrev pub taken_tag : ℕ → Bool → Tag
 taken_tag value last = cond last (tag value Kept) free_tag
 
--- a lane that is free tells nothing
-abbrev pub Tells : (ℕ → Bool) → Tag → Bool → Type 0
-Tells bit t b = 0 < role_code t.role → b ≡ bit t.value
+-- a bit fits a tag: it is that of the value, and on a free lane any bit does
+abbrev pub FitsTag : (ℕ → Bool) → Tag → Bool → Type 0
+FitsTag bit t b = 0 < role_code t.role → b ≡ bit t.value
 
 abbrev pub HoldsTags : (ℕ → Bool) → List Tag → List Bool → Type 0
-HoldsTags bit tags bits = (lane : ℕ) → Tells bit (get_or tags lane free_tag) (bit_on bits lane)
+HoldsTags bit tags bits = (lane : ℕ) → FitsTag bit (get_or tags lane free_tag) (bit_on bits lane)
 
 abbrev pub is_tag : ℕ → Role → Tag → Bool
 is_tag value role t = (role_code t.role == role_code role) && (t.value == value)
@@ -85,8 +85,8 @@ MadeAt job instrs made = (g : ℕ) (gate : NumberedCell) (place : NetPlace) → 
 -- an instruction puts the bits of these tags on its lanes
 abbrev pub PutsTags : Job → List Tag → Instr → Tag → Tag → Type 0
 PutsTags job tags instr upper lower =
-    (bit : ℕ → Bool) → Agrees job bit → (a b : Bool) → Tells bit (get_or tags (lane_of instr) free_tag) a → Tells bit (get_or tags (lane_of instr + 1) free_tag) b
-    → Tells bit upper (upper_bit instr a b) × Tells bit lower (lower_bit instr a b)
+    (bit : ℕ → Bool) → Agrees job bit → (a b : Bool) → FitsTag bit (get_or tags (lane_of instr) free_tag) a → FitsTag bit (get_or tags (lane_of instr + 1) free_tag) b
+    → FitsTag bit upper (upper_bit instr a b) × FitsTag bit lower (lower_bit instr a b)
 
 -- so many lanes have this tag
 abbrev pub count : ℕ → Role → List Tag → ℕ

@@ -1,11 +1,11 @@
 // Lanes, with their tags and clocks, and the instructions so far.
-ghost use Rattle.std.specs.Prelude.{◌≡◌, ◌==◌, ◌≤◌, ◌<◌, ◌+◌, ◌-◌, ◌*◌, ◌^◌, ◌++◌, ◌∷◌, [], length, All, get_or, slice_get, Some, set, OnOk, IfSome, IfOk, true, false};
+ghost use Rattle.std.specs.Prelude.{◌≡◌, ◌==◌, ◌≤◌, ◌<◌, ◌+◌, ◌-◌, ◌*◌, ◌^◌, ◌++◌, ◌∷◌, [], length, All, set, OnOk, IfSome, IfOk, true, false};
 ghost use Rattle.lane_core.specs.Instrs.{IsOnLanes, lane_of};
 ghost use Rattle.lane_core.specs.Places.{IsPlaceWithin};
 ghost use Rattle.row_placer.specs.declared.roles.Role.TheVariants.{Free, Kept, First, Second};
-ghost use Rattle.row_placer.specs.Told.{role_code, Told, MadeTold, MadeAt, PutsTags, SameTags, Exchanged, GateExchanged, Rearranged, count, free_tag, tag, tag_on, taken_tag, upper_operand, lower_operand, gate_instr};
+ghost use Rattle.row_placer.specs.Told.{role_code, Told, MadeTold, MadeAt, PutsTags, SameTags, Exchanged, count, free_tag, tag, tag_on, taken_tag, upper_operand, lower_operand, gate_instr};
 ghost use Rattle.row_placer.specs.Uses.{uses_left};
-ghost use Rattle.row_placer.specs.Ready.{ReadyForGate, ReadyForPort, HoldAllPorts, AreSettled, IsUsable, IsRunnable, IsGateOf, ArePortsKnown, value_count};
+ghost use Rattle.row_placer.specs.Ready.{ReadyForGate, ReadyForPort, HoldAllPorts, AreSettled, IsUsable, IsRunnable, ArePortsKnown, value_count};
 ghost use Rattle.row_placer.specs.Placed.{AreOuts};
 ghost use Rattle.row_placer.specs.declared.job.CellKind.TheVariants.{AndNot};
 ghost use Rattle.channel_router.specs.Routes.{swapped, brought, distance};
@@ -33,6 +33,8 @@ pub struct Lanes<'a> {
 }
 
 impl<'a> Lanes<'a> {
+    ghost use Rattle.row_placer.specs.Steps.{KeepsGates, AddsInstrs, AddsAtMost, MovesTags, CopiesTag, IsNextGate, EndsWithNextGate, MakesGate, ArePlaced, next_value};
+
     /// The lanes as they are at the start.
     pub fn new(alloc: Global, job: &'a Job) -> Result<Lanes<'a>, PlaceError>
         requires few { length job.now.start < 2 ^ 32 }
@@ -60,17 +62,7 @@ impl<'a> Lanes<'a> {
         left: &mut [u32],
     ) -> Result<Lanes<'a>, PlaceError>
         requires { IsRunnable job.now loops left.old }
-        ensures held { IfOk result (λ r. HoldAllPorts job.now r.tags.items) }
-        ensures settled { IfOk result (λ r. AreSettled job.now loops r.tags.items) }
-        ensures long { IfOk result (λ r. length r.tags.items ≡ length job.now.start) }
-        ensures made { IfOk result (λ r. length r.made.items ≡ length job.now.gates) }
-        ensures job { IfOk result (λ r. r.job.now ≡ job.now) }
-        ensures count { IfOk result (λ r.
-            length r.instrs.items
-            ≤ length job.now.gates * (3 * length job.now.start)
-            + length job.now.ports * length job.now.start
-            + loops * length job.now.start
-            ) }
+        ensures { IfOk result (ArePlaced job.now loops) }
     {
         let mut lanes = Lanes::new(alloc, job)?;
         lanes.place_gates(left)?;
@@ -88,8 +80,7 @@ impl<'a> Lanes<'a> {
             ≡ set (set self.old.tags.items (lane_of instr) upper) (lane_of instr + 1) lower
             ) }
         ensures instrs { OnOk result (self.new.instrs.items ≡ self.old.instrs.items ++ instr ∷ []) }
-        ensures made { self.new.made.items ≡ self.old.made.items }
-        ensures job { self.new.job ≡ self.old.job }
+        ensures kept { KeepsGates self.old self.new }
     {
         self.instrs.push(instr)?;
         let at = instr.lane() as usize;
@@ -104,16 +95,8 @@ impl<'a> Lanes<'a> {
     /// Exchanges two neighbouring lanes.
     fn swap(&mut self, lane: u32) -> Result<(), PlaceError>
         requires { lane + 1 < length self.old.tags.items }
-        ensures lanes { OnOk result (
-            Rearranged self.old.tags.items self.new.tags.items (swapped lane)
-            ) }
-        ensures long { OnOk result (length self.new.tags.items ≡ length self.old.tags.items) }
-        ensures same { OnOk result (SameTags self.old.tags.items self.new.tags.items) }
-        ensures count { OnOk result (
-            length self.new.instrs.items ≡ length self.old.instrs.items + 1
-            ) }
-        ensures made { self.new.made.items ≡ self.old.made.items }
-        ensures job { self.new.job ≡ self.old.job }
+        ensures moved { OnOk result (MovesTags self.old self.new (swapped lane) 1) }
+        ensures kept { KeepsGates self.old self.new }
     {
         let upper = self.tags[lane as usize + 1];
         let lower = self.tags[lane as usize];
@@ -124,24 +107,11 @@ impl<'a> Lanes<'a> {
     /// Copies a lane to the next one.
     fn fork(&mut self, lane: u32) -> Result<(), PlaceError>
         requires { lane + 1 < length self.old.tags.items }
-        ensures upper { OnOk result (
-            tag_on self.new.tags.items lane ≡ tag_on self.old.tags.items lane
+        ensures copied { OnOk result (
+            CopiesTag self.old self.new lane lane (tag_on self.old.tags.items (lane + 1))
             ) }
-        ensures lower { OnOk result (
-            tag_on self.new.tags.items (lane + 1) ≡ tag_on self.old.tags.items lane
-            ) }
-        ensures exchanged { OnOk result (
-            Exchanged
-            self.old.tags.items self.new.tags.items
-            (tag_on self.old.tags.items (lane + 1))
-            (tag_on self.old.tags.items lane)
-            ) }
-        ensures long { OnOk result (length self.new.tags.items ≡ length self.old.tags.items) }
-        ensures count { OnOk result (
-            length self.new.instrs.items ≡ length self.old.instrs.items + 1
-            ) }
-        ensures made { self.new.made.items ≡ self.old.made.items }
-        ensures job { self.new.job ≡ self.old.job }
+        ensures adds { OnOk result (AddsInstrs self.old self.new 1) }
+        ensures kept { KeepsGates self.old self.new }
     {
         let both = self.tags[lane as usize];
         self.step(Instr::Fork(lane), both, both)?;
@@ -156,9 +126,8 @@ impl<'a> Lanes<'a> {
             ≡ set self.old.tags.items lane (
             tag (tag_on self.old.tags.items lane).value role
             ) }
-        ensures count { length self.new.instrs.items ≡ length self.old.instrs.items }
-        ensures made { self.new.made.items ≡ self.old.made.items }
-        ensures job { self.new.job ≡ self.old.job }
+        ensures adds { AddsInstrs self.old self.new 0 }
+        ensures kept { KeepsGates self.old self.new }
     {
         let value = self.tags[lane as usize].value;
         self.tags[lane as usize] = Tag { value, role };
@@ -168,9 +137,8 @@ impl<'a> Lanes<'a> {
     fn free(&mut self, lane: u32)
         requires { lane < length self.old.tags.items }
         ensures tags { self.new.tags.items ≡ set self.old.tags.items lane free_tag }
-        ensures count { length self.new.instrs.items ≡ length self.old.instrs.items }
-        ensures made { self.new.made.items ≡ self.old.made.items }
-        ensures job { self.new.job ≡ self.old.job }
+        ensures adds { AddsInstrs self.old self.new 0 }
+        ensures kept { KeepsGates self.old self.new }
     {
         self.tags[lane as usize] = Tag {
             value: 0,
@@ -184,10 +152,8 @@ impl<'a> Lanes<'a> {
         ensures exchanged { Exchanged
             self.old.tags.items self.new.tags.items (taken_tag value (uses == 0))
             free_tag }
-        ensures long { length self.new.tags.items ≡ length self.old.tags.items }
-        ensures count { length self.new.instrs.items ≡ length self.old.instrs.items }
-        ensures made { self.new.made.items ≡ self.old.made.items }
-        ensures job { self.new.job ≡ self.old.job }
+        ensures adds { AddsInstrs self.old self.new 0 }
+        ensures kept { KeepsGates self.old self.new }
     {
         if uses > 0 {
             return;
@@ -216,16 +182,10 @@ impl<'a> Lanes<'a> {
     fn bring(&mut self, from: u32, to: u32) -> Result<(), PlaceError>
         requires from { from < length self.old.tags.items }
         requires to { to < length self.old.tags.items }
-        ensures lanes { OnOk result (
-            Rearranged self.old.tags.items self.new.tags.items (brought from to)
+        ensures moved { OnOk result (
+            MovesTags self.old self.new (brought from to) (distance from to)
             ) }
-        ensures long { OnOk result (length self.new.tags.items ≡ length self.old.tags.items) }
-        ensures same { OnOk result (SameTags self.old.tags.items self.new.tags.items) }
-        ensures count { OnOk result (
-            length self.new.instrs.items ≡ length self.old.instrs.items + distance from to
-            ) }
-        ensures made { self.new.made.items ≡ self.old.made.items }
-        ensures job { self.new.job ≡ self.old.job }
+        ensures kept { KeepsGates self.old self.new }
     {
         if from < to {
             self.bring_down(from, to)?;
@@ -240,16 +200,10 @@ impl<'a> Lanes<'a> {
     fn bring_down(&mut self, from: u32, to: u32) -> Result<(), PlaceError>
         requires order { from ≤ to }
         requires to { to < length self.old.tags.items }
-        ensures lanes { OnOk result (
-            Rearranged self.old.tags.items self.new.tags.items (brought from to)
+        ensures moved { OnOk result (
+            MovesTags self.old self.new (brought from to) (distance from to)
             ) }
-        ensures long { OnOk result (length self.new.tags.items ≡ length self.old.tags.items) }
-        ensures same { OnOk result (SameTags self.old.tags.items self.new.tags.items) }
-        ensures count { OnOk result (
-            length self.new.instrs.items ≡ length self.old.instrs.items + distance from to
-            ) }
-        ensures made { self.new.made.items ≡ self.old.made.items }
-        ensures job { self.new.job ≡ self.old.job }
+        ensures kept { KeepsGates self.old self.new }
     {
         let mut at = from;
         while at < to {
@@ -263,16 +217,10 @@ impl<'a> Lanes<'a> {
     fn bring_up(&mut self, from: u32, to: u32) -> Result<(), PlaceError>
         requires order { to ≤ from }
         requires from { from < length self.old.tags.items }
-        ensures lanes { OnOk result (
-            Rearranged self.old.tags.items self.new.tags.items (brought from to)
+        ensures moved { OnOk result (
+            MovesTags self.old self.new (brought from to) (distance from to)
             ) }
-        ensures long { OnOk result (length self.new.tags.items ≡ length self.old.tags.items) }
-        ensures same { OnOk result (SameTags self.old.tags.items self.new.tags.items) }
-        ensures count { OnOk result (
-            length self.new.instrs.items ≡ length self.old.instrs.items + distance from to
-            ) }
-        ensures made { self.new.made.items ≡ self.old.made.items }
-        ensures job { self.new.job ≡ self.old.job }
+        ensures kept { KeepsGates self.old self.new }
     {
         let mut at = from;
         while at > to {
@@ -317,13 +265,9 @@ impl<'a> Lanes<'a> {
         ensures second { OnOk result (
             tag_on self.new.tags.items (at + 1) ≡ tag_on self.old.tags.items lower
             ) }
-        ensures long { OnOk result (length self.new.tags.items ≡ length self.old.tags.items) }
         ensures same { OnOk result (SameTags self.old.tags.items self.new.tags.items) }
-        ensures count { OnOk result (
-            length self.new.instrs.items + 1 ≡ length self.old.instrs.items + (lower - upper)
-            ) }
-        ensures made { self.new.made.items ≡ self.old.made.items }
-        ensures job { self.new.job ≡ self.old.job }
+        ensures adds { OnOk result (AddsInstrs self.old self.new (lower - upper - 1)) }
+        ensures kept { KeepsGates self.old self.new }
     {
         self.bring(upper, at)?;
         self.bring(lower, at + 1)?;
@@ -402,24 +346,9 @@ impl<'a> Lanes<'a> {
         requires some { 0 < role_code (tag_on self.old.tags.items lane).role }
         requires free { 1 ≤ count 0 Free self.old.tags.items }
         ensures within { IfOk result (λ r. r + 1 < length self.old.tags.items) }
-        ensures upper { IfOk result (λ r.
-            tag_on self.new.tags.items r ≡ tag_on self.old.tags.items lane
-            ) }
-        ensures lower { IfOk result (λ r.
-            tag_on self.new.tags.items (r + 1) ≡ tag_on self.old.tags.items lane
-            ) }
-        ensures exchanged { OnOk result (
-            Exchanged self.old.tags.items self.new.tags.items free_tag (
-            tag_on self.old.tags.items lane
-            )
-            ) }
-        ensures long { OnOk result (length self.new.tags.items ≡ length self.old.tags.items) }
-        ensures count { OnOk result (
-            length self.new.instrs.items
-            ≤ length self.old.instrs.items + length self.old.tags.items
-            ) }
-        ensures made { self.new.made.items ≡ self.old.made.items }
-        ensures job { self.new.job ≡ self.old.job }
+        ensures copied { IfOk result (λ r. CopiesTag self.old self.new lane r free_tag) }
+        ensures adds { OnOk result (AddsAtMost self.old self.new (length self.old.tags.items)) }
+        ensures kept { KeepsGates self.old self.new }
     {
         let free = self.choose_free(lane);
         if lane < free {
@@ -445,13 +374,8 @@ impl<'a> Lanes<'a> {
             tag value role
             )
             ) }
-        ensures long { OnOk result (length self.new.tags.items ≡ length self.old.tags.items) }
-        ensures count { OnOk result (
-            length self.new.instrs.items
-            ≤ length self.old.instrs.items + length self.old.tags.items
-            ) }
-        ensures made { self.new.made.items ≡ self.old.made.items }
-        ensures job { self.new.job ≡ self.old.job }
+        ensures adds { OnOk result (AddsAtMost self.old self.new (length self.old.tags.items)) }
+        ensures kept { KeepsGates self.old self.new }
     {
         let lane = self.find(value, Role::Kept);
         if last {
@@ -472,15 +396,8 @@ impl<'a> Lanes<'a> {
     fn note(&mut self, lane: u32) -> Result<(), PlaceError>
         requires lane { lane < length self.old.tags.items }
         requires some { 0 < length self.old.instrs.items }
-        requires here { tag_on self.old.tags.items lane
-            ≡ tag (self.old.job.now.base + length self.old.made.items) Kept }
-        requires last { (gate : NumberedCell)
-            → slice_get self.old.instrs.items (length self.old.instrs.items - 1)
-            ≡ Some (
-            gate_instr
-            (get_or self.old.job.now.gates (length self.old.made.items) gate).kind
-            lane
-            ) }
+        requires here { tag_on self.old.tags.items lane ≡ tag (next_value self.old) Kept }
+        requires last { EndsWithNextGate self.old lane }
         ensures tags { self.new.tags.items ≡ self.old.tags.items }
         ensures instrs { self.new.instrs.items ≡ self.old.instrs.items }
         ensures made { OnOk result (length self.new.made.items ≡ length self.old.made.items + 1) }
@@ -497,21 +414,12 @@ impl<'a> Lanes<'a> {
     /// Makes the next gate of two neighbouring lanes; `turned` where the second operand is on the upper one.
     fn make(&mut self, lane: u32, gate: NumberedCell, turned: bool) -> Result<(), PlaceError>
         requires lane { lane + 1 < length self.old.tags.items }
-        requires within { length self.old.made.items < length self.old.job.now.gates }
-        requires known { IsGateOf self.old.job.now (length self.old.made.items) gate }
+        requires next { IsNextGate self.old gate }
         requires upper { tag_on self.old.tags.items lane ≡ upper_operand gate turned }
         requires lower { tag_on self.old.tags.items (lane + 1) ≡ lower_operand gate turned }
         requires order { gate.kind ≡ AndNot → turned ≡ false }
-        ensures exchanged { OnOk result (
-            GateExchanged self.old.tags.items self.new.tags.items gate (
-            self.old.job.now.base + length self.old.made.items
-            )
-            ) }
-        ensures long { OnOk result (length self.new.tags.items ≡ length self.old.tags.items) }
-        ensures count { OnOk result (
-            length self.new.instrs.items ≡ length self.old.instrs.items + 1
-            ) }
-        ensures made { OnOk result (length self.new.made.items ≡ length self.old.made.items + 1) }
+        ensures made { OnOk result (MakesGate self.old self.new gate) }
+        ensures adds { OnOk result (AddsInstrs self.old self.new 1) }
         ensures job { self.new.job ≡ self.old.job }
     {
         let value = self.job.base + self.made.len() as u32;
@@ -533,21 +441,11 @@ impl<'a> Lanes<'a> {
 
     /// Makes the next gate of its operands.
     fn gate(&mut self, gate: NumberedCell) -> Result<(), PlaceError>
-        requires within { length self.old.made.items < length self.old.job.now.gates }
-        requires known { IsGateOf self.old.job.now (length self.old.made.items) gate }
+        requires next { IsNextGate self.old gate }
         requires first { 1 ≤ count gate.first First self.old.tags.items }
         requires second { 1 ≤ count gate.second Second self.old.tags.items }
-        ensures exchanged { OnOk result (
-            GateExchanged self.old.tags.items self.new.tags.items gate (
-            self.old.job.now.base + length self.old.made.items
-            )
-            ) }
-        ensures long { OnOk result (length self.new.tags.items ≡ length self.old.tags.items) }
-        ensures count { OnOk result (
-            length self.new.instrs.items
-            ≤ length self.old.instrs.items + length self.old.tags.items
-            ) }
-        ensures made { OnOk result (length self.new.made.items ≡ length self.old.made.items + 1) }
+        ensures made { OnOk result (MakesGate self.old self.new gate) }
+        ensures adds { OnOk result (AddsAtMost self.old self.new (length self.old.tags.items)) }
         ensures job { self.new.job ≡ self.old.job }
     {
         let x = self.find(gate.first, Role::First);
@@ -588,13 +486,8 @@ impl<'a> Lanes<'a> {
             (tag value role)
             ) }
         ensures left { left.new ≡ set left.old value (uses_left left.old value - 1) }
-        ensures long { OnOk result (length self.new.tags.items ≡ length self.old.tags.items) }
-        ensures count { OnOk result (
-            length self.new.instrs.items
-            ≤ length self.old.instrs.items + length self.old.tags.items
-            ) }
-        ensures made { self.new.made.items ≡ self.old.made.items }
-        ensures job { self.new.job ≡ self.old.job }
+        ensures adds { OnOk result (AddsAtMost self.old self.new (length self.old.tags.items)) }
+        ensures kept { KeepsGates self.old self.new }
     {
         left[value as usize] -= 1;
         let last = left[value as usize] == 0;
@@ -624,10 +517,8 @@ impl<'a> Lanes<'a> {
             ReadyForGate
             self.old.job.now (length self.old.made.items + 1) self.new.tags.items left.new
             ) }
-        ensures long { OnOk result (length self.new.tags.items ≡ length self.old.tags.items) }
-        ensures count { OnOk result (
-            length self.new.instrs.items
-            ≤ length self.old.instrs.items + 3 * length self.old.tags.items
+        ensures adds { OnOk result (
+            AddsAtMost self.old self.new (3 * length self.old.tags.items)
             ) }
         ensures made { OnOk result (length self.new.made.items ≡ length self.old.made.items + 1) }
         ensures job { self.new.job ≡ self.old.job }
@@ -650,11 +541,9 @@ impl<'a> Lanes<'a> {
         requires ready { ReadyForGate self.old.job.now 0 self.old.tags.items left.old }
         requires wide { value_count self.old.job.now ≤ length left.old }
         ensures ready { OnOk result (ReadyForPort self.old.job.now 0 self.new.tags.items left.new) }
-        ensures long { OnOk result (length self.new.tags.items ≡ length self.old.tags.items) }
-        ensures count { OnOk result (
-            length self.new.instrs.items
-            ≤ length self.old.instrs.items
-            + length self.old.job.now.gates * (3 * length self.old.tags.items)
+        ensures adds { OnOk result (
+            AddsAtMost self.old self.new
+            (length self.old.job.now.gates * (3 * length self.old.tags.items))
             ) }
         ensures made { OnOk result (length self.new.made.items ≡ length self.old.job.now.gates) }
         ensures job { self.new.job ≡ self.old.job }
@@ -671,14 +560,11 @@ impl<'a> Lanes<'a> {
         requires ready { ReadyForPort self.old.job.now 0 self.old.tags.items left.old }
         requires known { ArePortsKnown self.old.job.now }
         ensures held { OnOk result (HoldAllPorts self.old.job.now self.new.tags.items) }
-        ensures long { OnOk result (length self.new.tags.items ≡ length self.old.tags.items) }
-        ensures count { OnOk result (
-            length self.new.instrs.items
-            ≤ length self.old.instrs.items
-            + length self.old.job.now.ports * length self.old.tags.items
+        ensures adds { OnOk result (
+            AddsAtMost self.old self.new
+            (length self.old.job.now.ports * length self.old.tags.items)
             ) }
-        ensures made { self.new.made.items ≡ self.old.made.items }
-        ensures job { self.new.job ≡ self.old.job }
+        ensures kept { KeepsGates self.old self.new }
     {
         let mut port = 0;
         while (port as usize) < self.job.ports.len() {
@@ -697,13 +583,10 @@ impl<'a> Lanes<'a> {
         requires held { HoldAllPorts self.old.job.now self.old.tags.items }
         ensures held { OnOk result (HoldAllPorts self.old.job.now self.new.tags.items) }
         ensures settled { OnOk result (AreSettled self.old.job.now loops self.new.tags.items) }
-        ensures long { OnOk result (length self.new.tags.items ≡ length self.old.tags.items) }
-        ensures count { OnOk result (
-            length self.new.instrs.items
-            ≤ length self.old.instrs.items + loops * length self.old.tags.items
+        ensures adds { OnOk result (
+            AddsAtMost self.old self.new (loops * length self.old.tags.items)
             ) }
-        ensures made { self.new.made.items ≡ self.old.made.items }
-        ensures job { self.new.job ≡ self.old.job }
+        ensures kept { KeepsGates self.old self.new }
     {
         let mut port = 0;
         while port < loops {

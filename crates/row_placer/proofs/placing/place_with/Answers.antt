@@ -42,10 +42,10 @@ ends_of-requires-clause-loops c = c.requires.loops
 pub ends_of-requires-clause-ports : goal.ends_of-requires-clause-ports
 ends_of-requires-clause-ports c =
     let ports = length-ports c.args.list.now c.in_ok-job.field-0.job.ports (sound c.args.list.now) c.in_ok-job.ensures.job_of.ports in
-    subst (λ (j : Job). c.args.loops ≤ length j.ports) (sym c.in_ok-lanes.ensures.job) (omega (arith, ports, c.requires.loops))
+    subst (λ (j : Job). c.args.loops ≤ length j.ports) (sym c.in_ok-lanes.ensures.job_is) (omega (arith, ports, c.requires.loops))
 
 pub ends_of-requires-clause-held : goal.ends_of-requires-clause-held
-ends_of-requires-clause-held c = subst (λ (j : Job). HoldPorts j (length j.ports) c.in_ok-lanes.lanes.tags.items) (sym c.in_ok-lanes.ensures.job) c.in_ok-lanes.ensures.held
+ends_of-requires-clause-held c = subst (λ (j : Job). HoldPorts j (length j.ports) c.in_ok-lanes.lanes.tags.items) (sym c.in_ok-lanes.ensures.job_is) c.in_ok-lanes.ensures.held
 
 pub ends_of-requires-clause-places : goal.ends_of-requires-clause-places
 ends_of-requires-clause-places c =
@@ -72,11 +72,11 @@ invariant_of-program c =
     let left = c.in_ok-job.field-0.left.items in
     let homes = c.in_ok-job.field-0.homes.items in
     let loops = c.requires.loops in
-    let r = subst (λ (x : Job). IsPrepared list c.args.spare x left homes) (sym le.job) c.in_ok-job.ensures in
+    let r = subst (λ (x : Job). IsPrepared list c.args.spare x left homes) (sym le.job_is) c.in_ok-job.ensures in
     let count : length L.tags.items ≡ c.len-count.result = sym (c.len-count.ensures ∙ L.tags.ok.0) in
-    let settled = subst (λ n. AreSettled L.job.now n L.tags.items) loops (subst (λ (x : Job). AreSettled x c.args.loops L.tags.items) (sym le.job) le.settled) in
+    let settled = subst (λ n. AreSettled L.job.now n L.tags.items) loops (subst (λ (x : Job). AreSettled x c.args.loops L.tags.items) (sym le.job_is) le.settled) in
     let outs = subst (λ n. AreOuts L.job.now n L.tags.items c.of-4.result) loops (subst (AreOuts L.job.now c.args.loops L.tags.items) (sym c.of-4.ensures) c.in_ok-outs.ensures.outs) in
-    let all : length L.made.items ≡ length L.job.now.gates = le.made ∙ ap (λ (x : Job). length x.gates) (sym le.job) in
+    let all : length L.made.items ≡ length L.job.now.gates = le.made ∙ ap (λ (x : Job). length x.gates) (sym le.job_is) in
     let nets = c.of-5.ensures ∙ c.in_ok-outs.ensures.nets ∙ ap (λ hs. map (net_place_of list hs L.made.items) list.nets) c.deref.ensures.value in
     let ins = c.of-2.ensures ∙ c.truncate.ensures.items in
     let latches = c.of-3.ensures ∙ c.in_ok-latches.ensures in
@@ -102,14 +102,14 @@ returns c =
     let homes = c.in_ok-job.field-0.homes.items in
     let loops = c.requires.loops in
     let ready = c.in_ok-job.ensures in
-    let r = subst (λ (x : Job). IsPrepared list c.args.spare x left homes) (sym le.job) ready in
+    let r = subst (λ (x : Job). IsPrepared list c.args.spare x left homes) (sym le.job_is) ready in
     let count : length L.tags.items ≡ c.len-count.result = sym (c.len-count.ensures ∙ L.tags.ok.0) in
     let wide : length job.start ≡ c.len-count.result = sym le.long ∙ count in
-    let settled = subst (λ n. AreSettled L.job.now n L.tags.items) loops (subst (λ (x : Job). AreSettled x c.args.loops L.tags.items) (sym le.job) le.settled) in
+    let settled = subst (λ n. AreSettled L.job.now n L.tags.items) loops (subst (λ (x : Job). AreSettled x c.args.loops L.tags.items) (sym le.job_is) le.settled) in
     let outs = subst (λ n. AreOuts L.job.now n L.tags.items c.of-4.result) loops (subst (AreOuts L.job.now c.args.loops L.tags.items) (sym c.of-4.ensures) c.in_ok-outs.ensures.outs) in
-    let all : length L.made.items ≡ length L.job.now.gates = le.made ∙ ap (λ (x : Job). length x.gates) (sym le.job) in
+    let all : length L.made.items ≡ length L.job.now.gates = le.made ∙ ap (λ (x : Job). length x.gates) (sym le.job_is) in
     let cells : length job.gates ≡ length list.cells = ap length ready.job_of.gates ∙ length-map list.cells (gate_of list) in
-    let gates : L.job.now.gates ≡ map (gate_of list) list.cells = ap (λ (x : Job). x.gates) le.job ∙ ready.job_of.gates in
+    let gates : L.job.now.gates ≡ map (gate_of list) list.cells = ap (λ (x : Job). x.gates) le.job_is ∙ ready.job_of.gates in
     let nets = c.of-5.ensures ∙ c.in_ok-outs.ensures.nets ∙ ap (λ hs. map (net_place_of list hs L.made.items) list.nets) c.deref.ensures.value in
     let ins = c.of-2.ensures ∙ c.truncate.ensures.items in
     let few = instr_count (length L.instrs.items) (length job.gates) (length job.ports) c.args.loops (length job.start) (length list.cells) (length list.outs) (loop_count list) c.len-count.result

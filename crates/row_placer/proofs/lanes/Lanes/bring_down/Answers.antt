@@ -1,25 +1,27 @@
-use Rattle.std.proofs.Common.{◌≡◌, ◌∙◌, ap, ◌+◌, ◌<◌, get_or, arith}
-use Rattle.channel_router.specs.Routes.{brought}
+use Rattle.std.proofs.Common.{◌≡◌, subst, ◌+◌, ◌<◌, arith}
+use Rattle.channel_router.specs.Routes.{brought, swapped, distance}
 use Rattle.channel_router.proofs.Swaps.{down_one}
-use Rattle.row_placer.specs.Told.{free_tag}
-use Rattle.row_placer.proofs.Carry.{carried_more}
+use Rattle.row_placer.specs.Steps.{MovesTags}
+use Rattle.row_placer.proofs.Carry.{kept_on, moved_on}
 use Rattle.row_placer.proofs.lanes.Lanes.bring_down.Goals as goal
 
 pub loop-at-preserved : goal.loop-at-preserved
 loop-at-preserved c =
     let i = c.loop-at.invariant in
-    let less : c.loop-at.at < c.args.to = omega (arith, c.loop-at-test.true) in
-    let e = c.in_ok-swap.ensures in (
-      carried_more c.args.self.now.tags.items c.loop-at.self.tags.items c.swap.new.self.tags.items c.args.self.now.instrs.items c.loop-at.self.instrs.items c.swap.new.self.instrs.items
-          c.args.from c.loop-at.at (c.loop-at.at + 1) c.loop-at.at i.0 e.lanes e.long e.same e.count (omega (arith, i.1)) (omega (arith, less, c.requires.to)) (λ l. down_one c.args.from c.loop-at.at l i.1),
-      omega (arith, i.1),
-      omega (arith, less),
-      e.made ∙ i.3,
-      e.job ∙ i.4,
-    )
+    let at = c.loop-at.at in
+    let from = c.args.from in
+    let less : at < c.args.to = omega (arith, c.loop-at-test.true) in
+    let e = c.in_ok-swap.ensures in
+    record {
+      moved = moved_on c.args.self.now c.loop-at.self c.swap.new.self (brought from at) (swapped at) (brought from (at + 1)) (distance from at) 1 (distance from (at + 1))
+          i.moved e.moved (λ l. down_one from at l i.low) (omega (arith, i.low));
+      low = omega (arith, i.low);
+      high = omega (arith, less);
+      kept = kept_on c.args.self.now c.loop-at.self c.swap.new.self i.kept e.kept;
+    }
 
-pub returns-clause-lanes : goal.returns-clause-lanes
-returns-clause-lanes c l =
+pub returns-clause-moved : goal.returns-clause-moved
+returns-clause-moved c =
     let i = c.loop-at.invariant in
-    let same : c.loop-at.at ≡ c.args.to = omega (arith, i.2, c.loop-at-test.false) in
-    i.0.lanes l ∙ ap (λ n. get_or c.args.self.now.tags.items (brought c.args.from n l) free_tag) same
+    let same : c.loop-at.at ≡ c.args.to = omega (arith, i.high, c.loop-at-test.false) in
+    subst (λ n. MovesTags c.args.self.now c.loop-at.self (brought c.args.from n) (distance c.args.from n)) same i.moved

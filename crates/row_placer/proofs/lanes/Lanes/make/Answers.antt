@@ -9,15 +9,18 @@ use Rattle.row_placer.specs.declared.roles.Role.TheVariants.{Kept, First, Second
 use Rattle.row_placer.proofs.Steps.{gate_exchanged}
 use Rattle.row_placer.proofs.lanes.Lanes.make.Goals as goal
 
-pub returns-clause-exchanged : goal.returns-clause-exchanged
-returns-clause-exchanged c =
+pub returns-clause-made : goal.returns-clause-made
+returns-clause-made c =
     let s = c.args.self.now in
     let made = tag (s.job.now.base + length s.made.items) Kept in
     let t = tag c.args.gate.first First in
     let u = tag c.args.gate.second Second in
     let all : c.len.result ≡ length s.made.items = omega (arith, c.len.ensures, s.made.ok) in
-    subst (λ tags. BothExchanged s.tags.items tags t u made free_tag) (sym (c.in_ok-note.ensures.tags ∙ c.in_ok-step.ensures.tags ∙ ap₂ (λ l n. set (set s.tags.items l (tag (s.job.now.base + n) Kept)) (l + 1) free_tag) c.instr_of-instr.ensures.lane all))
-    (gate_exchanged s.tags.items c.args.lane t u made c.args.turned c.requires.lane c.requires.upper c.requires.lower)
+    record {
+      exchanged = subst (λ tags. BothExchanged s.tags.items tags t u made free_tag) (sym (c.in_ok-note.ensures.tags ∙ c.in_ok-step.ensures.tags ∙ ap₂ (λ l n. set (set s.tags.items l (tag (s.job.now.base + n) Kept)) (l + 1) free_tag) c.instr_of-instr.ensures.lane all))
+          (gate_exchanged s.tags.items c.args.lane t u made c.args.turned c.requires.lane c.requires.upper c.requires.lower);
+      made = c.in_ok-note.ensures.made ∙ ap (λ m. length m + 1) c.in_ok-step.ensures.kept.made;
+    }
 
 pub note-requires-clause-last : goal.note-requires-clause-last
 note-requires-clause-last c gate =
@@ -26,6 +29,6 @@ note-requires-clause-last c gate =
     let items : c.step.new.self.instrs.items ≡ s.instrs.items ++ instr ∷ [] = c.in_ok-step.ensures.instrs in
     let last : length c.step.new.self.instrs.items - 1 ≡ length s.instrs.items = (let n = length_push s.instrs.items instr in omega (arith, n, ap length items)) in
     let kind : (get_or s.job.now.gates (length s.made.items) gate).kind ≡ c.args.gate.kind =
-    ap (λ (q : NumberedCell). q.kind) (get_or_default s.job.now.gates (length s.made.items) gate c.args.gate c.requires.within ∙ c.requires.known) in
+    ap (λ (q : NumberedCell). q.kind) (get_or_default s.job.now.gates (length s.made.items) gate c.args.gate c.requires.next.within ∙ c.requires.next.known) in
     ap₂ (λ is n. slice_get is n) items last ∙ slice_get_push s.instrs.items instr ∙ ap Some c.instr_of-instr.ensures.value ∙ ap (λ k. Some (gate_instr k c.args.lane)) (sym kind)
-    ∙ ap₂ (λ (j : Bor Job) m. Some (gate_instr (get_or j.now.gates (length m) gate).kind c.args.lane)) (sym c.in_ok-step.ensures.job) (sym c.in_ok-step.ensures.made)
+    ∙ ap₂ (λ (j : Bor Job) m. Some (gate_instr (get_or j.now.gates (length m) gate).kind c.args.lane)) (sym c.in_ok-step.ensures.kept.job) (sym c.in_ok-step.ensures.kept.made)

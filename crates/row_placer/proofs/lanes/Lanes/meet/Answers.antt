@@ -10,7 +10,7 @@ stays lower at low = grind (arith, nat_tests)
 
 pub returns-clause-first : goal.returns-clause-first
 returns-clause-first c =
-    c.in_ok-bring-2.ensures.lanes c.args.at
+    c.in_ok-bring-2.ensures.moved.lanes c.args.at
     ∙ ap (λ l. get_or c.bring.new.self.tags.items l free_tag) (stays c.args.lower c.args.at c.requires.high)
-    ∙ c.in_ok-bring.ensures.lanes c.args.at
+    ∙ c.in_ok-bring.ensures.moved.lanes c.args.at
     ∙ ap (λ l. get_or c.args.self.now.tags.items l free_tag) (brought_to c.args.upper c.args.at)

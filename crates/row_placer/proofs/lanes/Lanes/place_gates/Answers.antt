@@ -7,4 +7,4 @@ pub returns-clause-ready : goal.returns-clause-ready
 returns-clause-ready c =
     let s = c.loop-self.self in
     let i = c.loop-self.invariant in
-    all_gates c.args.self.now.job.now (length s.made.items) s.tags.items c.loop-self.left (omega (arith, c.loop-self-test.false, c.len.ensures, c.len-in-loop-self.ensures, s.made.ok.0, i.3, ap (λ (j : Bor Job). length j.now.gates) i.4)) i.0
+    all_gates c.args.self.now.job.now (length s.made.items) s.tags.items c.loop-self.left (omega (arith, c.loop-self-test.false, c.len.ensures, c.len-in-loop-self.ensures, s.made.ok.0, i.within, ap (λ (j : Bor Job). length j.now.gates) i.job)) i.ready

@@ -1,8 +1,9 @@
-use Rattle.std.proofs.Common.{◌≡◌, ◌∙◌, ap, subst, Bor, ◌<◌, length, arith}
+use Rattle.std.proofs.Common.{◌≡◌, ap, subst, Bor, ◌<◌, length, arith}
 use Rattle.std.specs.Prelude.{slice_get, Some}
 use Rattle.row_placer.specs.declared.job.Job.{Job}
 use Rattle.row_placer.specs.Ready.{HoldPorts}
-use Rattle.row_placer.proofs.Ports.{ported, port_used, port_held, more_count}
+use Rattle.row_placer.proofs.Carry.{kept_on, adds_one}
+use Rattle.row_placer.proofs.Ports.{ported, port_used, port_held}
 use Rattle.row_placer.proofs.lanes.Lanes.place_ports.Goals as goal
 
 pub use_value-requires-clause-usable : goal.use_value-requires-clause-usable
@@ -10,8 +11,8 @@ use_value-requires-clause-usable c =
     let s = c.loop-port.self in
     let i = c.loop-port.invariant in
     let job = c.args.self.now.job.now in
-    let less : c.loop-port.port < length job.ports = omega (arith, c.loop-port-test.true, c.len.ensures, ap (λ (j : Bor Job). length j.now.ports) i.6) in
-    let p = ported job c.loop-port.port c.get-value.result.now s.tags.items c.loop-port.left (subst (λ (j : Bor Job). slice_get j.now.ports c.loop-port.port ≡ Some c.get-value.result.now) i.6 c.get-value.ensures) less c.requires.known i.0 in
+    let less : c.loop-port.port < length job.ports = omega (arith, c.loop-port-test.true, c.len.ensures, ap (λ (j : Bor Job). length j.now.ports) i.kept.job) in
+    let p = ported job c.loop-port.port c.get-value.result.now s.tags.items c.loop-port.left (subst (λ (j : Bor Job). slice_get j.now.ports c.loop-port.port ≡ Some c.get-value.result.now) i.kept.job c.get-value.ensures) less c.requires.known i.ready in
     p.usable
 
 pub loop-port-preserved : goal.loop-port-preserved
@@ -19,20 +20,19 @@ loop-port-preserved c =
     let s = c.loop-port.self in
     let i = c.loop-port.invariant in
     let job = c.args.self.now.job.now in
-    let less : c.loop-port.port < length job.ports = omega (arith, c.loop-port-test.true, c.len.ensures, ap (λ (j : Bor Job). length j.now.ports) i.6) in
-    let p = ported job c.loop-port.port c.get-value.result.now s.tags.items c.loop-port.left (subst (λ (j : Bor Job). slice_get j.now.ports c.loop-port.port ≡ Some c.get-value.result.now) i.6 c.get-value.ensures) less c.requires.known i.0 in
-    let e = c.in_ok-use_value.ensures in (
-      port_used job c.loop-port.port c.get-value.result.now s.tags.items c.use_value.new.self.tags.items c.loop-port.left c.use_value.new.left p e.exchanged e.left,
-      port_held job c.loop-port.port c.get-value.result.now s.tags.items c.use_value.new.self.tags.items c.loop-port.left p e.exchanged i.1,
-      e.long ∙ i.2,
-      more_count (length c.args.self.now.instrs.items) (length s.instrs.items) (length c.use_value.new.self.instrs.items) c.loop-port.port (length c.args.self.now.tags.items) i.3 (omega (arith, e.count, i.2)),
-      omega (arith, less),
-      e.made ∙ i.5,
-      e.job ∙ i.6,
-    )
+    let less : c.loop-port.port < length job.ports = omega (arith, c.loop-port-test.true, c.len.ensures, ap (λ (j : Bor Job). length j.now.ports) i.kept.job) in
+    let p = ported job c.loop-port.port c.get-value.result.now s.tags.items c.loop-port.left (subst (λ (j : Bor Job). slice_get j.now.ports c.loop-port.port ≡ Some c.get-value.result.now) i.kept.job c.get-value.ensures) less c.requires.known i.ready in
+    let e = c.in_ok-use_value.ensures in
+    record {
+      ready = port_used job c.loop-port.port c.get-value.result.now s.tags.items c.use_value.new.self.tags.items c.loop-port.left c.use_value.new.left p e.exchanged e.left;
+      held = port_held job c.loop-port.port c.get-value.result.now s.tags.items c.use_value.new.self.tags.items c.loop-port.left p e.exchanged i.held;
+      adds = adds_one c.args.self.now s c.use_value.new.self c.loop-port.port i.adds e.adds;
+      within = omega (arith, less);
+      kept = kept_on c.args.self.now s c.use_value.new.self i.kept e.kept;
+    }
 
 pub returns-clause-held : goal.returns-clause-held
 returns-clause-held c =
     let i = c.loop-port.invariant in
-    let same : c.loop-port.port ≡ length c.args.self.now.job.now.ports = omega (arith, c.loop-port-test.false, c.len.ensures, ap (λ (j : Bor Job). length j.now.ports) i.6, i.4) in
-    subst (λ n. HoldPorts c.args.self.now.job.now n c.loop-port.self.tags.items) same i.1
+    let same : c.loop-port.port ≡ length c.args.self.now.job.now.ports = omega (arith, c.loop-port-test.false, c.len.ensures, ap (λ (j : Bor Job). length j.now.ports) i.kept.job, i.within) in
+    subst (λ n. HoldPorts c.args.self.now.job.now n c.loop-port.self.tags.items) same i.held

@@ -1,0 +1,64 @@
+-- What the steps of a placer do to its lanes.
+use Rattle.std.specs.Prelude.{ℕ, ◌+◌, ◌-◌, ◌*◌, ◌<◌, ◌≤◌, ◌≡◌, length, get_or, slice_get, Some}
+use Rattle.row_placer.specs.declared.roles.Tag.{Tag}
+use Rattle.row_placer.specs.declared.job.Job.{Job}
+use Rattle.row_placer.specs.declared.job.NumberedCell.{NumberedCell}
+use Rattle.row_placer.specs.declared.lanes.Lanes.{Lanes}
+use Rattle.row_placer.specs.Told.{tag_on, gate_instr, SameTags, Exchanged, GateExchanged, Rearranged}
+use Rattle.row_placer.specs.Ready.{IsGateOf, HoldAllPorts, AreSettled}
+
+-- no gate is made, and the job stays
+pub record KeepsGates (old new : Lanes) : Type 0 where
+  pub made : new.made.items ≡ old.made.items
+  pub job : new.job ≡ old.job
+
+-- so many instructions are added, on the same number of lanes
+pub record AddsInstrs (old new : Lanes) (n : ℕ) : Type 0 where
+  pub long : length new.tags.items ≡ length old.tags.items
+  pub count : length new.instrs.items ≡ length old.instrs.items + n
+
+-- so many at most
+pub record AddsAtMost (old new : Lanes) (most : ℕ) : Type 0 where
+  pub long : length new.tags.items ≡ length old.tags.items
+  pub count : length new.instrs.items ≤ length old.instrs.items + most
+
+-- each lane gets the tag of the lane that `from` names, by so many instructions
+pub record MovesTags (old new : Lanes) (from : ℕ → ℕ) (n : ℕ) : Type 0 where
+  pub lanes : Rearranged old.tags.items new.tags.items from
+  pub same : SameTags old.tags.items new.tags.items
+  pub long : length new.tags.items ≡ length old.tags.items
+  pub count : length new.instrs.items ≡ length old.instrs.items + n
+
+-- the lane `at` and the next one have the tag of the lane `from`, where a lane had the tag `over`
+pub record CopiesTag (old new : Lanes) (from at : ℕ) (over : Tag) : Type 0 where
+  pub upper : tag_on new.tags.items at ≡ tag_on old.tags.items from
+  pub lower : tag_on new.tags.items (at + 1) ≡ tag_on old.tags.items from
+  pub exchanged : Exchanged old.tags.items new.tags.items over (tag_on old.tags.items from)
+
+-- the value that the next gate makes
+abbrev pub next_value : Lanes → ℕ
+next_value lanes = lanes.job.now.base + length lanes.made.items
+
+-- the gate that is made next
+pub record IsNextGate (lanes : Lanes) (gate : NumberedCell) : Type 0 where
+  pub within : length lanes.made.items < length lanes.job.now.gates
+  pub known : IsGateOf lanes.job.now (length lanes.made.items) gate
+
+-- the last instruction is that of the next gate, on this lane
+abbrev pub EndsWithNextGate : Lanes → ℕ → Type 0
+EndsWithNextGate lanes lane =
+    (gate : NumberedCell) → slice_get lanes.instrs.items (length lanes.instrs.items - 1) ≡ Some (gate_instr (get_or lanes.job.now.gates (length lanes.made.items) gate).kind lane)
+
+-- the next gate is made: its operands are exchanged for its value
+pub record MakesGate (old new : Lanes) (gate : NumberedCell) : Type 0 where
+  pub exchanged : GateExchanged old.tags.items new.tags.items gate (next_value old)
+  pub made : length new.made.items ≡ length old.made.items + 1
+
+-- all that a job asks for is placed, by so many instructions at most: its gates, its ports, and of these the loops on the lowest lanes
+pub record ArePlaced (job : Job) (loops : ℕ) (lanes : Lanes) : Type 0 where
+  pub job_is : lanes.job.now ≡ job
+  pub long : length lanes.tags.items ≡ length job.start
+  pub made : length lanes.made.items ≡ length job.gates
+  pub held : HoldAllPorts job lanes.tags.items
+  pub settled : AreSettled job loops lanes.tags.items
+  pub count : length lanes.instrs.items ≤ length job.gates * (3 * length job.start) + length job.ports * length job.start + loops * length job.start
