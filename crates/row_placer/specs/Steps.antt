@@ -12,7 +12,7 @@ pub record KeepsGates (old new : Lanes) : Type 0 where
   pub made : new.made.items ≡ old.made.items
   pub job : new.job ≡ old.job
 
--- so many instructions are added, on the same number of lanes
+-- so many instructions are added, and there are as many lanes as before
 pub record AddsInstrs (old new : Lanes) (n : ℕ) : Type 0 where
   pub long : length new.tags.items ≡ length old.tags.items
   pub count : length new.instrs.items ≡ length old.instrs.items + n
