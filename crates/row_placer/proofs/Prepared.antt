@@ -15,7 +15,7 @@ use Rattle.row_placer.specs.Uses.{uses_of, owed, idle, times, AreCounted, ReadsB
 use Rattle.row_placer.specs.Ready.{Ready}
 use Rattle.cell_core.specs.Loops.{loop_count, loop_data}
 use Rattle.row_placer.specs.Numbers.{number, gate_of, IsThere, ReadsWhatIsThere}
-use Rattle.row_placer.specs.Placed.{IsStart}
+use Rattle.row_placer.specs.Placed.{IsStart, IsPlaceable}
 use Rattle.row_placer.proofs.Steps.{counts_set}
 use Rattle.row_placer.proofs.Uses.{this_tag}
 use Rattle.row_placer.proofs.There.{number_low, gate_low}
@@ -66,6 +66,10 @@ job_facts list loops gates ports same sound gates_are ports_are =
       gates_low = gates_below (list.inputs + loops + 1) (list.inputs + loops + 1 + length gates) gates known refl;
       ports_low = ports_below list ports (list.inputs + loops + 1 + length gates) sound ports_are (omega (arith, base, cells));
     }
+
+pub owed_small : (list : CellList) (loops : ℕ) (g gates : List NumberedCell) (p ports : List ℕ) (owed : ℕ) → JobFacts list loops g p → gates ≡ g → ports ≡ p → owed ≤ length gates + length ports + 1
+    → IsPlaceable list → owed ≤ 1048576
+owed_small list loops g gates p ports owed facts same same' few small = omega (arith, ap length same, ap length same', facts.cells, facts.many, few, small)
 
 -- a lane with a tag is counted
 pub counted_tag : (tags : List Tag) (lane v : ℕ) → lane < length tags → get_or tags lane free_tag ≡ tag v Kept → 1 ≤ count v Kept tags

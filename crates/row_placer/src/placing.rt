@@ -153,14 +153,15 @@ fn latest(clocks: &Vec<u64>) -> u64 {
     latest
 }
 
-// The lanes of a program's outputs, and the places of its nets.
+// The lanes of a program's outputs, the places of its nets, and the bits with which its loops start.
 #[derive(Drop)]
 struct Ends {
     outs: Vec<u32>,
     nets: Vec<NetPlace>,
+    latches: Vec<bool>,
 }
 
-// Where outputs and nets are found, when all is placed.
+// Where outputs and nets are found, when all is placed, and how the loops start.
 fn ends_of(
     alloc: Global,
     list: &CellList,
@@ -180,10 +181,16 @@ fn ends_of(
     ensures nets { IfOk result (λ r.
         r.nets.items ≡ map (net_place_of list.now homes.now lanes.now.made.items) list.now.nets
         ) }
+    ensures latches { IfOk result (λ r. r.latches.items ≡ loop_state list.now list.now.starts) }
 {
     let outs = lanes.find_outs(alloc, loops)?;
     let nets = places_of(alloc, list, loops, homes, &lanes.made)?;
-    Ok(Ends { outs, nets })
+    let latches = latches_of(alloc, list)?;
+    Ok(Ends {
+        outs,
+        nets,
+        latches,
+    })
 }
 
 // A program with so many spare lanes that computes the list, with inputs on the wanted lanes, if these will do.
@@ -199,12 +206,15 @@ fn place_with(
     requires spare { spare < 2 ^ 20 }
     ensures { IfOk result (λ r. IsPlacedWithin list.now spare r.program) }
 {
-    let latches = latches_of(alloc, list)?;
     let Prepared { job, left, homes } = prepare(alloc, list, loops, spare, wanted)?;
     let mut left = left;
     let lanes = Lanes::run(alloc, &job, loops, left.as_mut_slice())?;
     let columns = latest(&lanes.clocks);
-    let Ends { outs, nets } = ends_of(alloc, list, loops, &homes, &lanes)?;
+    let Ends {
+        outs,
+        nets,
+        latches,
+    } = ends_of(alloc, list, loops, &homes, &lanes)?;
     let mut ins = homes;
     ins.truncate(list.inputs as usize);
     let count = lanes.tags.len() as u32;

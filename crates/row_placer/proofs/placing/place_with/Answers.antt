@@ -79,7 +79,7 @@ invariant_of-program c =
     let all : length L.made.items ≡ length L.job.now.gates = le.made ∙ ap (λ (x : Job). length x.gates) (sym le.job_is) in
     let nets = c.of-5.ensures ∙ c.in_ok-outs.ensures.nets ∙ ap (λ hs. map (net_place_of list hs L.made.items) list.nets) c.deref.ensures.value in
     let ins = c.of-2.ensures ∙ c.truncate.ensures.items in
-    let latches = c.of-3.ensures ∙ c.in_ok-latches.ensures in
+    let latches = c.of-3.ensures ∙ c.in_ok-outs.ensures.latches in
     let few : length c.of-3.result ≡ loop_count list = ap length latches ∙ length-loops list list.starts refl in
     record {
       loops_fit = omega (arith, few, r.room, L.long, count);
@@ -121,7 +121,7 @@ returns c =
         told = subst (Told L.job.now L.tags.items) (sym c.of.ensures) L.told;
         made_told = subst (λ is. MadeTold L.job.now is L.made.items) (sym c.of.ensures) L.made_told;
         all_made = all;
-        latches = c.of-3.ensures ∙ c.in_ok-latches.ensures;
+        latches = c.of-3.ensures ∙ c.in_ok-outs.ensures.latches;
         settled = settled;
         outs = outs;
         outs_long = omega (arith, ap length c.of-4.ensures, c.in_ok-outs.ensures.long, loops);

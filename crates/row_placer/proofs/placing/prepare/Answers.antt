@@ -1,11 +1,12 @@
 use Rattle.std.proofs.Common.{◌≡◌, ◌≢◌, refl, sym, ◌∙◌, ap, ap₂, subst, ℕ, ◌+◌, ◌<◌, ◌≤◌, ◌++◌, cond, length, get_or, arith}
 use Rattle.std.specs.Prelude.{All, AllPairs}
+use Rattle.std.proofs.lemmas.Result.{err_from_is_err_and}
 use Rattle.lists.proofs.Numbers.{at_most_one}
 use Rattle.row_placer.specs.Uses.{uses_of, owed, idle, AreCounted, ReadsBelow, AreKnown}
 use Rattle.row_placer.specs.Ready.{Ready}
 use Rattle.cell_core.specs.Loops.{loop_count}
 use Rattle.row_placer.specs.Placed.{IsStart, AreAtHome}
-use Rattle.row_placer.proofs.Prepared.{job_facts, start_ready, nothing_used}
+use Rattle.row_placer.proofs.Prepared.{job_facts, owed_small, start_ready, nothing_used}
 use Rattle.row_placer.proofs.Sides.{homes_within, homes_of_list}
 use Rattle.lane_homes.specs.Homes.{AreHomesAbove}
 use Rattle.row_placer.proofs.placing.prepare.Goals as goal
@@ -31,6 +32,77 @@ count_uses-requires c =
           (subst (All (λ v. v < base + length c.in_ok-gates.gates.items)) (sym ports_are) facts.ports_low);
       few = omega (arith, ap length gates_are, ap length ports_are, facts.cells, facts.many, c.requires.small);
     }
+
+pub wants_zero-zero-requires : goal.wants_zero-zero-requires
+wants_zero-zero-requires c = omega (arith, c.in_ok-left.ensures.long)
+
+pub count_idle-idle-requires : goal.count_idle-idle-requires
+count_idle-idle-requires c =
+    let small = at_most_one c.wants_zero-zero.result in
+    omega (arith, c.in_ok-left.ensures.long, c.one_if-dark.ensures, small)
+
+pub first_home-least-requires : goal.first_home-least-requires
+first_home-least-requires c =
+    let list = c.args.list.now in
+    let facts = job_facts list c.args.loops c.in_ok-gates.gates.items c.in_ok-ports.ports.items c.requires.loops c.requires.sound c.in_ok-gates.ensures c.in_ok-ports.ensures in
+    let low = owed_small list c.args.loops c.in_ok-gates.gates.items c.deref.result.now c.in_ok-ports.ports.items c.deref-2.result.now c.in_ok-left.owed
+    facts c.deref.ensures.value c.deref-2.ensures.value c.in_ok-left.ensures.few c.requires.small in
+    let small = at_most_one c.wants_zero-zero.result in
+    omega (arith, c.one_if-dark.ensures, small, low)
+
+pub overflow_add-above : goal.overflow_add-above
+overflow_add-above c =
+    let list = c.args.list.now in
+    let facts = job_facts list c.args.loops c.in_ok-gates.gates.items c.in_ok-ports.ports.items c.requires.loops c.requires.sound c.in_ok-gates.ensures c.in_ok-ports.ensures in
+    let low = owed_small list c.args.loops c.in_ok-gates.gates.items c.deref.result.now c.in_ok-ports.ports.items c.deref-2.result.now c.in_ok-left.owed
+    facts c.deref.ensures.value c.deref-2.ensures.value c.in_ok-left.ensures.few c.requires.small in
+    let small = at_most_one c.wants_zero-zero.result in
+    omega (arith, c.first_home-least.ensures.most, c.one_if-dark.ensures, small, low, c.requires.small, c.requires.spare)
+
+pub overflow_add-above-2 : goal.overflow_add-above-2
+overflow_add-above-2 c =
+    let list = c.args.list.now in
+    let facts = job_facts list c.args.loops c.in_ok-gates.gates.items c.in_ok-ports.ports.items c.requires.loops c.requires.sound c.in_ok-gates.ensures c.in_ok-ports.ensures in
+    let low = owed_small list c.args.loops c.in_ok-gates.gates.items c.deref.result.now c.in_ok-ports.ports.items c.deref-2.result.now c.in_ok-left.owed
+    facts c.deref.ensures.value c.deref-2.ensures.value c.in_ok-left.ensures.few c.requires.small in
+    let small = at_most_one c.wants_zero-zero.result in
+    omega (arith, c.first_home-least.ensures.most, c.one_if-dark.ensures, small, low, c.requires.small, c.requires.spare)
+
+pub homes_of-requires : goal.homes_of-requires
+homes_of-requires c =
+    let list = c.args.list.now in
+    let facts = job_facts list c.args.loops c.in_ok-gates.gates.items c.in_ok-ports.ports.items c.requires.loops c.requires.sound c.in_ok-gates.ensures c.in_ok-ports.ensures in
+    let low = owed_small list c.args.loops c.in_ok-gates.gates.items c.deref.result.now c.in_ok-ports.ports.items c.deref-2.result.now c.in_ok-left.owed
+    facts c.deref.ensures.value c.deref-2.ensures.value c.in_ok-left.ensures.few c.requires.small in
+    let small = at_most_one c.wants_zero-zero.result in
+    record {
+      room = omega (arith, c.first_home-least.ensures.dark, c.one_if-dark.ensures);
+      few = omega (arith, c.first_home-least.ensures.most, c.one_if-dark.ensures, small, low, c.requires.small, c.requires.spare, c.requires.loops);
+    }
+
+pub overflow_add-above-3 : goal.overflow_add-above-3
+overflow_add-above-3 c =
+    let list = c.args.list.now in
+    let facts = job_facts list c.args.loops c.in_ok-gates.gates.items c.in_ok-ports.ports.items c.requires.loops c.requires.sound c.in_ok-gates.ensures c.in_ok-ports.ensures in
+    let low = owed_small list c.args.loops c.in_ok-gates.gates.items c.deref.result.now c.in_ok-ports.ports.items c.deref-2.result.now c.in_ok-left.owed
+    facts c.deref.ensures.value c.deref-2.ensures.value c.in_ok-left.ensures.few c.requires.small in
+    let small = at_most_one c.wants_zero-zero.result in
+    omega (arith, c.first_home-least.ensures.most, c.one_if-dark.ensures, small, low, c.requires.small, c.requires.spare, c.requires.loops)
+
+pub returns-in_err-gates : goal.returns-in_err-gates
+returns-in_err-gates c = rw ((err_from_is_err_and c.from_residual.result c.from_residual.ensures.1).1) tt
+
+pub returns-in_err-ports : goal.returns-in_err-ports
+returns-in_err-ports c = rw ((err_from_is_err_and c.from_residual-in_err-ports.result c.from_residual-in_err-ports.ensures.1).1) tt
+
+pub returns-in_err-left : goal.returns-in_err-left
+returns-in_err-left c = rw ((err_from_is_err_and c.from_residual-in_err-left.result c.from_residual-in_err-left.ensures.1).1) tt
+
+pub returns-in_err-homes : goal.returns-in_err-homes
+returns-in_err-homes c = rw ((err_from_is_err_and c.from_residual-in_err-homes.result c.from_residual-in_err-homes.ensures.1).1) tt
+
+pub returns-in_err-start : goal.returns-in_err-start
+returns-in_err-start c = rw ((err_from_is_err_and c.from_residual-in_err-start.result c.from_residual-in_err-start.ensures.1).1) tt
 
 pub start_tags-requires : goal.start_tags-requires
 start_tags-requires c =

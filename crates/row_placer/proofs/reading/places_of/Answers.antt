@@ -1,9 +1,22 @@
-use Rattle.std.proofs.Common.{sym, ◌∙◌, ap, ap₂, ◌<◌, ◌++◌, ◌∷◌, [], length, arith}
+use Rattle.std.proofs.Common.{sym, ◌∙◌, ap, ap₂, subst, ◌<◌, ◌++◌, ◌∷◌, [], length, arith}
 use Rattle.std.proofs.lemmas.List.{map_more}
 use Rattle.std.proofs.lemmas.Option.{get_or_from_slice_get}
 use Rattle.cell_core.specs.declared.cells.Src.TheVariants.{Zero}
-use Rattle.row_placer.specs.Placed.{net_place_of}
+use Rattle.row_placer.specs.Numbers.{IsThere}
+use Rattle.row_placer.specs.Placed.{HasHomeIfZero, net_place_of}
 use Rattle.row_placer.proofs.reading.places_of.Goals as goal
+
+pub find_place-requires : goal.find_place-requires
+find_place-requires c =
+    let list = c.args.list.now in
+    let below : c.loop-at.at < length list.nets = omega (arith, c.loop-at-test.true, c.len.ensures) in
+    let is = get_or_from_slice_get list.nets c.loop-at.at c.get.result.now Zero c.get.ensures in
+    record {
+      loops = c.requires.loops;
+      there = subst (IsThere list (length list.cells)) is (c.requires.sound.nets c.loop-at.at Zero below);
+      places = c.requires.places;
+      zero = subst (HasHomeIfZero list c.args.homes.now) is (c.requires.zero c.loop-at.at Zero below);
+    }
 
 pub loop-at-preserved : goal.loop-at-preserved
 loop-at-preserved c =
