@@ -16,7 +16,7 @@ use Rattle.row_placer.specs.Ready.{AreSettled}
 use Rattle.cell_core.specs.Loops.{loop_state, loop_count, names_one}
 use Rattle.row_placer.specs.Numbers.{gate_of, IsThere, ReadsWhatIsThere}
 use Rattle.cell_meaning.specs.Computes.{ComputesByProgram}
-use Rattle.row_placer.specs.Placed.{IsPrepared, IsPlacedWithin, AreOuts, AreHomes, net_place_of}
+use Rattle.row_placer.specs.Placed.{IsPrepared, IsPlacedOn, IsPlacedWithin, AreFewLanes, AreOuts, AreHomes, net_place_of}
 use Rattle.row_placer.proofs.Whole.{computes}
 use Rattle.row_placer.proofs.Homes.{homes_hold}
 use Rattle.row_placer.proofs.Prepared.{length-ports}
@@ -35,8 +35,8 @@ pub record Ends (list : CellList) (job : Job) (tags : List Tag) (made : List Net
   pub nets : p.nets ≡ map (net_place_of list homes made) list.nets
   pub ins : p.ins ≡ take list.inputs homes
 
-pub finish : (list : CellList) (p : Program) (job : Job) (tags : List Tag) (made : List NetPlace) (spare : ℕ) (left homes : List ℕ) → ReadsWhatIsThere list → IsPrepared list spare job left homes → Ends list job tags made homes p → ComputesByProgram list p
-finish list p job tags made spare left homes sound r e =
+pub finish : (list : CellList) (p : Program) (job : Job) (tags : List Tag) (made : List NetPlace) (left homes : List ℕ) → ReadsWhatIsThere list → IsPrepared list job left homes → Ends list job tags made homes p → ComputesByProgram list p
+finish list p job tags made left homes sound r e =
     computes list job p homes tags made sound
     (record {
       job_of = r.job_of;
@@ -89,6 +89,17 @@ instr_count i g p l s c o k n le eg ep el es =
     let same : g * (3 * s) + p * s + l * s ≡ c * (3 * n) + (k + o) * n + k * n =
     ap₂ (λ a b. a + b) (ap₂ (λ a b. a + b) (ap₂ (λ a b. a * (3 * b)) eg es) (ap₂ (λ a b. a * b) ep es)) (ap₂ (λ a b. a * b) el es) in
     subst (λ m. i ≤ m) (same ∙ sums c o k n) le
+
+-- what is placed on few lanes is placed within the spare ones
+pub within_few : (list : CellList) (lanes spare : ℕ) (p : Program) → AreFewLanes list spare lanes → IsPlacedOn list lanes p → IsPlacedWithin list spare p
+within_few list lanes spare p few placed = record {
+  computes = placed.computes;
+  instrs = placed.instrs;
+  lanes = omega (arith, few.most, placed.wide);
+  empty = λ none. (let least = few.empty none in omega (arith, least, placed.wide));
+  entries = placed.entries;
+  made = placed.made;
+}
 
 -- what is placed within a few spare lanes is placed within more
 pub within_more : (list : CellList) (few many : ℕ) (p : Program) → few ≤ many → IsPlacedWithin list few p → IsPlacedWithin list many p

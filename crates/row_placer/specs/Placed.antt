@@ -82,8 +82,13 @@ pub record IsStart (homes left : List ℕ) (lanes : ℕ) (start : List Tag) : Ty
 abbrev pub AreOuts : Job → ℕ → List Tag → List ℕ → Type 0
 AreOuts job loops tags outs = (o : ℕ) → o < length outs → (get_or outs o 0 < length tags) × (get_or tags (get_or outs o 0) free_tag ≡ tag (get_or job.ports (loops + o) 0) (Port (loops + o)))
 
--- a job that can begin, with so many spare lanes
-pub record IsPrepared (list : CellList) (spare : ℕ) (job : Job) (left homes : List ℕ) : Type 0 where
+-- lanes are few, with so many to spare, and no more than these where the list is empty
+pub record AreFewLanes (list : CellList) (spare lanes : ℕ) : Type 0 where
+  pub most : lanes ≤ list.inputs + 2 * loop_count list + length list.outs + length list.cells + 2 + spare
+  pub empty : IsEmpty list → lanes ≤ spare
+
+-- a job that can begin
+pub record IsPrepared (list : CellList) (job : Job) (left homes : List ℕ) : Type 0 where
   pub job_of : IsJobOf list job
   pub ready : ReadyForGate job 0 job.start left
   pub counted : length left ≡ job.base + length job.gates
@@ -93,8 +98,6 @@ pub record IsPrepared (list : CellList) (spare : ℕ) (job : Job) (left homes : 
   pub ports : All (λ v. v < job.base + length job.gates) job.ports
   pub room : loop_count list ≤ length job.start
   pub below : All (λ lane. lane < length job.start) homes
-  pub lanes : length job.start ≤ list.inputs + 2 * loop_count list + length list.outs + length list.cells + 2 + spare
-  pub empty : IsEmpty list → length job.start ≤ spare
 
 -- where the source is constant 0, that has a home
 abbrev pub HasHomeIfZero : CellList → List ℕ → Src → Type 0
@@ -109,6 +112,14 @@ pub record HavePlaces (list : CellList) (homes : List ℕ) (made : List NetPlace
 -- the list is short enough to be placed
 abbrev pub IsPlaceable : CellList → Type 0
 IsPlaceable list = list.inputs + loop_count list + length list.outs + length list.cells < 2 ^ 20
+
+-- a program that is placed on so many lanes
+pub record IsPlacedOn (list : CellList) (lanes : ℕ) (p : Program) : Type 0 where
+  pub wide : p.lanes ≡ lanes
+  pub computes : ComputesByProgram list p
+  pub instrs : length p.instrs ≤ (3 * length list.cells + length list.outs + 2 * loop_count list) * p.lanes
+  pub entries : AreAtEntries list p.lanes p.ins p.nets
+  pub made : AreAtCells list p.instrs p.nets
 
 -- a program that is placed with no more spare lanes than these, and with these alone where the list is empty
 pub record IsPlacedWithin (list : CellList) (spare : ℕ) (p : Program) : Type 0 where

@@ -3,7 +3,7 @@ ghost use Rattle.std.specs.Prelude.{◌≡◌, ◌≤◌, ◌<◌, ◌+◌, ◌-
 ghost use Rattle.lists.specs.Items.{alone_if, number_at, one_if};
 ghost use Rattle.cell_core.specs.Loops.{loop_count, loop_data, loop_state, names_one};
 ghost use Rattle.row_placer.specs.Numbers.{number, ReadsWhatIsThere, NamesZero};
-ghost use Rattle.row_placer.specs.Placed.{HasHomeIfZero, HavePlaces, IsPlaceable, IsPlacedWithin, IsPrepared, AreOuts, net_place_of};
+ghost use Rattle.row_placer.specs.Placed.{HasHomeIfZero, HavePlaces, IsPlaceable, IsPlacedOn, IsPlacedWithin, IsPrepared, AreFewLanes, AreOuts, net_place_of};
 ghost use Rattle.row_placer.specs.Ready.{HoldAllPorts};
 ghost use Rattle.cell_core.specs.declared.cells.Src.TheVariants.{One};
 
@@ -67,7 +67,8 @@ pub fn prepare(
     requires spare { spare < 2 ^ 20 }
     requires sound { ReadsWhatIsThere list.now }
     requires small { IsPlaceable list.now }
-    ensures { IfOk result (λ r. IsPrepared list.now spare r.job r.left.items r.homes.items) }
+    ensures prepared { IfOk result (λ r. IsPrepared list.now r.job r.left.items r.homes.items) }
+    ensures few { IfOk result (λ r. AreFewLanes list.now spare (length r.job.start)) }
 {
     let inner = list.inputs + loops;
     let gates = gates_of(alloc, list, loops)?;
@@ -193,22 +194,22 @@ fn ends_of(
     })
 }
 
-// A program with so many spare lanes that computes the list, with inputs on the wanted lanes, if these will do.
-fn place_with(
+// The program of a job that is prepared.
+fn place_job(
     alloc: Global,
     list: &CellList,
     loops: u32,
-    spare: u32,
-    wanted: &[u32],
+    job: &Job,
+    left: &mut [u32],
+    homes: Vec<u32>,
 ) -> Result<Placed, PlaceError>
     requires loops { loops ≡ loop_count list.now }
     requires small { IsPlaceable list.now }
-    requires spare { spare < 2 ^ 20 }
-    ensures { IfOk result (λ r. IsPlacedWithin list.now spare r.program) }
+    requires few { length job.now.start < 2 ^ 32 }
+    requires prepared { IsPrepared list.now job.now left.old homes.items }
+    ensures { IfOk result (λ r. IsPlacedOn list.now (length job.now.start) r.program) }
 {
-    let Prepared { job, left, homes } = prepare(alloc, list, loops, spare, wanted)?;
-    let mut left = left;
-    let lanes = Lanes::run(alloc, &job, loops, left.as_mut_slice())?;
+    let lanes = Lanes::run(alloc, job, loops, left)?;
     let columns = latest(&lanes.clocks);
     let Ends {
         outs,
@@ -227,6 +228,24 @@ fn place_with(
         nets: List::of(nets),
     };
     Ok(Placed { program, columns })
+}
+
+// A program with so many spare lanes that computes the list, with inputs on the wanted lanes, if these will do.
+fn place_with(
+    alloc: Global,
+    list: &CellList,
+    loops: u32,
+    spare: u32,
+    wanted: &[u32],
+) -> Result<Placed, PlaceError>
+    requires loops { loops ≡ loop_count list.now }
+    requires small { IsPlaceable list.now }
+    requires spare { spare < 2 ^ 20 }
+    ensures { IfOk result (λ r. IsPlacedWithin list.now spare r.program) }
+{
+    let Prepared { job, left, homes } = prepare(alloc, list, loops, spare, wanted)?;
+    let mut left = left;
+    place_job(alloc, list, loops, &job, left.as_mut_slice(), homes)
 }
 
 // The most spare lanes: as many as there are inputs or outputs.

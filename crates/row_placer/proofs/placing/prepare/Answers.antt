@@ -90,19 +90,29 @@ overflow_add-above-3 c =
     omega (arith, c.first_home-least.ensures.most, c.one_if-dark.ensures, small, low, c.requires.small, c.requires.spare, c.requires.loops)
 
 pub returns-in_err-gates : goal.returns-in_err-gates
-returns-in_err-gates c = rw ((err_from_is_err_and c.from_residual.result c.from_residual.ensures.1).1) tt
+returns-in_err-gates c =
+    let p = (err_from_is_err_and c.from_residual.result c.from_residual.ensures.1).1 in
+    record { prepared = rw p tt; few = rw p tt }
 
 pub returns-in_err-ports : goal.returns-in_err-ports
-returns-in_err-ports c = rw ((err_from_is_err_and c.from_residual-in_err-ports.result c.from_residual-in_err-ports.ensures.1).1) tt
+returns-in_err-ports c =
+    let p = (err_from_is_err_and c.from_residual-in_err-ports.result c.from_residual-in_err-ports.ensures.1).1 in
+    record { prepared = rw p tt; few = rw p tt }
 
 pub returns-in_err-left : goal.returns-in_err-left
-returns-in_err-left c = rw ((err_from_is_err_and c.from_residual-in_err-left.result c.from_residual-in_err-left.ensures.1).1) tt
+returns-in_err-left c =
+    let p = (err_from_is_err_and c.from_residual-in_err-left.result c.from_residual-in_err-left.ensures.1).1 in
+    record { prepared = rw p tt; few = rw p tt }
 
 pub returns-in_err-homes : goal.returns-in_err-homes
-returns-in_err-homes c = rw ((err_from_is_err_and c.from_residual-in_err-homes.result c.from_residual-in_err-homes.ensures.1).1) tt
+returns-in_err-homes c =
+    let p = (err_from_is_err_and c.from_residual-in_err-homes.result c.from_residual-in_err-homes.ensures.1).1 in
+    record { prepared = rw p tt; few = rw p tt }
 
 pub returns-in_err-start : goal.returns-in_err-start
-returns-in_err-start c = rw ((err_from_is_err_and c.from_residual-in_err-start.result c.from_residual-in_err-start.ensures.1).1) tt
+returns-in_err-start c =
+    let p = (err_from_is_err_and c.from_residual-in_err-start.result c.from_residual-in_err-start.ensures.1).1 in
+    record { prepared = rw p tt; few = rw p tt }
 
 pub start_tags-requires : goal.start_tags-requires
 start_tags-requires c =
@@ -132,8 +142,8 @@ invariant_of-job c =
       few = omega (arith, ap length c.of.ensures, facts.cells, facts.base, c.requires.small);
     }
 
-pub returns : goal.returns
-returns c =
+pub returns-clause-prepared : goal.returns-clause-prepared
+returns-clause-prepared c =
     let list = c.args.list.now in
     let g = c.in_ok-gates.gates.items in
     let ports = c.in_ok-ports.ports.items in
@@ -143,7 +153,6 @@ returns c =
     let left = c.in_ok-left.left.items in
     let wide : length left ≡ base + length g = c.in_ok-left.ensures.long ∙ ap (λ gs. base + length gs) c.deref.ensures.value in
     let dark = c.wants_zero-zero.result in
-    let small = at_most_one dark in
     let first = c.first_home-least.result + c.args.spare in
     let homes = c.in_ok-homes.homes.items in
     let above = first + list.inputs in
@@ -154,7 +163,6 @@ returns c =
     let counted : AreCounted left (uses_of g ++ ports) = subst (AreCounted left) (ap₂ (λ gs ps. uses_of gs ++ ps) c.deref.ensures.value c.deref-2.ensures.value) c.in_ok-left.ensures.left in
     let owes : c.in_ok-left.owed ≡ owed ports base g = c.in_ok-left.ensures.owed ∙ ap₂ (λ gs ps. owed ps base gs) c.deref.ensures.value c.deref-2.ensures.value in
     let idles : c.count_idle-idle.result ≡ idle left (length homes) = c.count_idle-idle.ensures ∙ ap (idle left) (ap (λ n. inner + n) c.one_if-dark.ensures ∙ sym s.long) in
-    let few : c.in_ok-left.owed ≤ length g + length ports + 1 = omega (arith, c.in_ok-left.ensures.few, ap length c.deref.ensures.value, ap length c.deref-2.ensures.value) in
     let ready = start_ready g ports homes left inner (above + c.args.loops) first base dark start is low counted refl wide s.long c.wants_zero-zero.ensures.used (omega arith)
     (omega (arith, owes, idles, c.first_home-least.ensures.enough, c.one_if-dark.ensures)) in
     let long : length c.of-3.result ≡ above + c.args.loops = ap length c.of-3.ensures ∙ is.long in
@@ -170,7 +178,31 @@ returns c =
       ports = subst (λ gs. All (λ v. v < base + length gs) c.of-2.result) (sym c.of.ensures) (subst (All (λ v. v < base + length g)) (sym c.of-2.ensures) facts.ports_low);
       room = omega (arith, long, c.requires.loops);
       below = subst (λ n. All (λ lane. lane < n) homes) (sym long) low;
-      lanes = omega (arith, long, c.first_home-least.ensures.most, c.one_if-dark.ensures, small, few, facts.cells, facts.many, c.requires.loops);
+    }
+
+pub returns-clause-few : goal.returns-clause-few
+returns-clause-few c =
+    let list = c.args.list.now in
+    let g = c.in_ok-gates.gates.items in
+    let ports = c.in_ok-ports.ports.items in
+    let inner = list.inputs + c.args.loops in
+    let base = inner + 1 in
+    let facts = job_facts list c.args.loops g ports c.requires.loops c.requires.sound c.in_ok-gates.ensures c.in_ok-ports.ensures in
+    let left = c.in_ok-left.left.items in
+    let wide : length left ≡ base + length g = c.in_ok-left.ensures.long ∙ ap (λ gs. base + length gs) c.deref.ensures.value in
+    let dark = c.wants_zero-zero.result in
+    let small = at_most_one dark in
+    let first = c.first_home-least.result + c.args.spare in
+    let homes = c.in_ok-homes.homes.items in
+    let above = first + list.inputs in
+    let start = c.in_ok-start.start.items in
+    let is : IsStart homes left (above + c.args.loops) start = subst (λ hs. IsStart hs left (above + c.args.loops) start) c.deref-3.ensures.value (subst (λ l. IsStart c.deref-3.result.now l (above + c.args.loops) start) c.deref-4.ensures.value c.in_ok-start.ensures) in
+    let counted : AreCounted left (uses_of g ++ ports) = subst (AreCounted left) (ap₂ (λ gs ps. uses_of gs ++ ps) c.deref.ensures.value c.deref-2.ensures.value) c.in_ok-left.ensures.left in
+    let owes : c.in_ok-left.owed ≡ owed ports base g = c.in_ok-left.ensures.owed ∙ ap₂ (λ gs ps. owed ps base gs) c.deref.ensures.value c.deref-2.ensures.value in
+    let few : c.in_ok-left.owed ≤ length g + length ports + 1 = omega (arith, c.in_ok-left.ensures.few, ap length c.deref.ensures.value, ap length c.deref-2.ensures.value) in
+    let long : length c.of-3.result ≡ above + c.args.loops = ap length c.of-3.ensures ∙ is.long in
+    record {
+      most = omega (arith, long, c.first_home-least.ensures.most, c.one_if-dark.ensures, small, few, facts.cells, facts.many, c.requires.loops);
       empty = λ (h : list.inputs + loop_count list + length list.cells + length list.outs + length list.nets ≡ 0).
           (let used = nothing_used base g ports (omega (arith, h, facts.cells)) (omega (arith, h, facts.many)) in
           let unused : get_or left inner 0 ≡ 0 = counted inner (omega (arith, wide)) ∙ used.1 inner in

@@ -2,10 +2,12 @@ use Rattle.std.proofs.Common.{◌≡◌, sym, ◌∙◌, ap, ap₂, subst, Bor, 
 use Rattle.std.specs.Prelude.{slice_get, Some}
 use Rattle.std.proofs.lemmas.List.{length_push, get_or_default}
 use Rattle.lists.proofs.Appends.{slice_get_push}
+use Rattle.lane_core.specs.Instrs.{lane_of}
 use Rattle.row_placer.specs.declared.job.Job.{Job}
 use Rattle.row_placer.specs.declared.job.NumberedCell.{NumberedCell}
 use Rattle.row_placer.specs.Told.{BothExchanged, tag, free_tag, gate_instr}
 use Rattle.row_placer.specs.declared.roles.Role.TheVariants.{Kept, First, Second}
+use Rattle.row_placer.proofs.Carry.{one_added}
 use Rattle.row_placer.proofs.Steps.{gate_exchanged}
 use Rattle.row_placer.proofs.lanes.Lanes.make.Goals as goal
 
@@ -32,3 +34,33 @@ note-requires-clause-last c gate =
     ap (λ (q : NumberedCell). q.kind) (get_or_default s.job.now.gates (length s.made.items) gate c.args.gate c.requires.next.within ∙ c.requires.next.known) in
     ap₂ (λ is n. slice_get is n) items last ∙ slice_get_push s.instrs.items instr ∙ ap Some c.instr_of-instr.ensures.value ∙ ap (λ k. Some (gate_instr k c.args.lane)) (sym kind)
     ∙ ap₂ (λ (j : Bor Job) m. Some (gate_instr (get_or j.now.gates (length m) gate).kind c.args.lane)) (sym c.in_ok-step.ensures.kept.job) (sym c.in_ok-step.ensures.kept.made)
+
+pub step-requires-clause-within : goal.step-requires-clause-within
+step-requires-clause-within c = omega (arith, c.instr_of-instr.ensures.lane, c.requires.lane)
+
+pub returns-clause-adds : goal.returns-clause-adds
+returns-clause-adds c =
+    let s = c.args.self.now in
+    let instr = c.instr_of-instr.result in
+    let made = tag (s.job.now.base + c.len.result) Kept in
+    let one = one_added s c.step.new.self (lane_of instr) made free_tag instr c.in_ok-step.ensures.tags c.in_ok-step.ensures.instrs in
+    record { long = ap length c.in_ok-note.ensures.tags ∙ one.long; count = ap length c.in_ok-note.ensures.instrs ∙ one.count }
+
+pub returns-clause-job : goal.returns-clause-job
+returns-clause-job c = c.in_ok-note.ensures.job ∙ c.in_ok-step.ensures.kept.job
+
+pub returns-in_err-note-clause-job : goal.returns-in_err-note-clause-job
+returns-in_err-note-clause-job c = c.note.ensures.job ∙ c.in_ok-step.ensures.kept.job
+
+pub note-requires-clause-lane : goal.note-requires-clause-lane
+note-requires-clause-lane c =
+    let s = c.args.self.now in
+    let instr = c.instr_of-instr.result in
+    let made = tag (s.job.now.base + c.len.result) Kept in
+    let one = one_added s c.step.new.self (lane_of instr) made free_tag instr c.in_ok-step.ensures.tags c.in_ok-step.ensures.instrs in
+    omega (arith, one.long, c.requires.lane)
+
+pub note-requires-clause-some : goal.note-requires-clause-some
+note-requires-clause-some c =
+    let n = length_push c.args.self.now.instrs.items c.instr_of-instr.result in
+    omega (arith, ap length c.in_ok-step.ensures.instrs, n)

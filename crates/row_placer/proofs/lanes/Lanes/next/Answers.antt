@@ -5,7 +5,7 @@ use Rattle.row_placer.specs.declared.job.Job.{Job}
 use Rattle.row_placer.specs.Told.{count, tag, free_tag, Exchanged, BothExchanged}
 use Rattle.row_placer.specs.declared.roles.Role.TheVariants.{Kept, First, Second}
 use Rattle.row_placer.proofs.Gates.{begun, halfway, whole}
-use Rattle.row_placer.proofs.Uses.{result_there}
+use Rattle.row_placer.proofs.Uses.{result_there, first_used, second_used, comes, stays}
 use Rattle.row_placer.proofs.lanes.Lanes.next.Goals as goal
 
 pub use_value-requires-clause-usable : goal.use_value-requires-clause-usable
@@ -34,6 +34,20 @@ gate-requires-clause-next c =
       known = ap₂ (λ (j : Bor Job) m. get_or j.now.gates (length m) gate) jobs mades ∙ b.known;
     }
 
+pub gate-requires-clause-first : goal.gate-requires-clause-first
+gate-requires-clause-first c =
+    let s = c.args.self.now in
+    let gate = c.get-gate.result.now in
+    let one = c.in_ok-use_value.ensures.exchanged in
+    let two = c.in_ok-use_value-2.ensures.exchanged in
+    stays gate.first First gate.second Second (get_or c.use_value.new.left gate.second 0) c.use_value.new.self.tags.items c.use_value-2.new.self.tags.items first_used two
+    (comes gate.first First (get_or c.args.left.now gate.first 0) s.tags.items c.use_value.new.self.tags.items first_used one)
+
+pub gate-requires-clause-second : goal.gate-requires-clause-second
+gate-requires-clause-second c =
+    let gate = c.get-gate.result.now in
+    comes gate.second Second (get_or c.use_value.new.left gate.second 0) c.use_value.new.self.tags.items c.use_value-2.new.self.tags.items second_used c.in_ok-use_value-2.ensures.exchanged
+
 pub end-requires : goal.end-requires
 end-requires c =
     let s = c.args.self.now in
@@ -61,3 +75,35 @@ returns-clause-ready c =
     (subst (λ n. BothExchanged c.use_value-2.new.self.tags.items c.gate.new.self.tags.items (tag gate.first First) (tag gate.second Second) (tag n Kept) free_tag) mine c.in_ok-gate.ensures.made.exchanged)
     end
     (omega (arith, c.requires.wide, c.requires.within, ap length c.in_ok-use_value.ensures.left, length-set c.args.left.now gate.first (get_or c.args.left.now gate.first 0 - 1)))
+
+pub returns-clause-adds : goal.returns-clause-adds
+returns-clause-adds c =
+    let one = c.in_ok-use_value.ensures.adds in
+    let two = c.in_ok-use_value-2.ensures.adds in
+    let made = c.in_ok-gate.ensures.adds in
+    let end = c.end.ensures.adds in
+    record {
+      long = end.long ∙ made.long ∙ two.long ∙ one.long;
+      count = omega (arith, end.count, made.count, two.count, one.count, two.long, one.long);
+    }
+
+pub returns-clause-made : goal.returns-clause-made
+returns-clause-made c =
+    ap length c.end.ensures.kept.made ∙ c.in_ok-gate.ensures.made.made ∙ ap (λ m. length m + 1) (c.in_ok-use_value-2.ensures.kept.made ∙ c.in_ok-use_value.ensures.kept.made)
+
+pub returns-clause-job : goal.returns-clause-job
+returns-clause-job c = c.end.ensures.kept.job ∙ c.in_ok-gate.ensures.job ∙ c.in_ok-use_value-2.ensures.kept.job ∙ c.in_ok-use_value.ensures.kept.job
+
+pub returns-clause-left : goal.returns-clause-left
+returns-clause-left c =
+    let gate = c.get-gate.result.now in
+    let first = c.args.left.now in
+    let later = c.use_value.new.left in
+    ap length c.in_ok-use_value-2.ensures.left ∙ length-set later gate.second (get_or later gate.second 0 - 1)
+    ∙ ap length c.in_ok-use_value.ensures.left ∙ length-set first gate.first (get_or first gate.first 0 - 1)
+
+pub returns-in_err-use_value-2-clause-job : goal.returns-in_err-use_value-2-clause-job
+returns-in_err-use_value-2-clause-job c = c.use_value-2.ensures.kept.job ∙ c.in_ok-use_value.ensures.kept.job
+
+pub returns-in_err-gate-clause-job : goal.returns-in_err-gate-clause-job
+returns-in_err-gate-clause-job c = c.gate.ensures.job ∙ c.in_ok-use_value-2.ensures.kept.job ∙ c.in_ok-use_value.ensures.kept.job
