@@ -11,14 +11,6 @@ use Rattle.aiger_text.specs.declared.aig.Aig.{Aig}
 use Rattle.aiger_text.specs.SoundAig.{input_names, output_names, sides_of}
 use Rattle.aiger_meaning.specs.FlatOf.{first_gate, latch_between, latches_from, net_names, nets_from, node_of, node_reads, nodes_from, buffer, zero_node}
 
--- one more element of a list, mapped
-pub mapped_more : {X Y : Type 0} (f : X → Y) (front items new : List Y) (xs : List X) (i : ℕ) (d : X) → i < length xs → items ≡ front ++ map f (take i xs) → new ≡ items ++ f (get_or xs i d) ∷ [] → new ≡ front ++ map f (take (i + 1) xs)
-mapped_more f front items new xs i d low was pushed =
-    pushed
-    ∙ ap (λ ys. ys ++ f (get_or xs i d) ∷ []) was
-    ∙ append_assoc front (map f (take i xs)) (f (get_or xs i d) ∷ [])
-    ∙ ap (λ ys. front ++ ys) (sym (map_more f xs i d low))
-
 nets_push : (n : ℕ) (names : List Name) (name : Name) → nets_from n (names ++ name ∷ []) ≡ nets_from n names ++ nets_from (n + length names) (name ∷ [])
 nets_push n [] name = ap (λ m. nets_from m (name ∷ [])) (let e : n ≡ n + 0 = omega arith in e)
 nets_push n (first ∷ names) name =

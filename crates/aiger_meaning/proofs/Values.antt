@@ -42,9 +42,6 @@ many_own aig = length-map aig.latches (λ (latch : AigLatch). latch.lit)
 many_nexts : (aig : Aig) → length (nexts_of aig) ≡ length aig.latches
 many_nexts aig = length-map aig.latches (λ (latch : AigLatch). latch.next)
 
-many_sides : (aig : Aig) → length (sides aig) ≡ length aig.ands
-many_sides aig = length-map aig.ands (λ (gate : AigAnd). gate.lhs)
-
 many_first : (aig : Aig) → length (aig.inputs ++ own_of aig) ≡ length aig.inputs + length aig.latches
 many_first aig = length-append aig.inputs (own_of aig) ∙ ap (λ n. length aig.inputs + n) (many_own aig)
 

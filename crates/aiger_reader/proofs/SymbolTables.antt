@@ -106,9 +106,6 @@ is_free kind table symbols place count h many =
 pub no_fault : (c : Counts) (before : List Symbol) (symbol : Symbol) → is_bad_symbol c before symbol ≡ false → symbol_fault c before (Some symbol) ≡ None
 no_fault c before symbol e = ap (λ (b : Bool). if b then Some BadSymbol else None) e
 
-pub a_fault : (c : Counts) (before : List Symbol) (symbol : Symbol) → is_bad_symbol c before symbol ≡ true → symbol_fault c before (Some symbol) ≡ Some BadSymbol
-a_fault c before symbol e = ap (λ (b : Bool). if b then Some BadSymbol else None) e
-
 pub put_parts : (place count : ℕ) (o : Option (Bor (List ℕ))) → (nat_lt place count && not (is_some o)) ≡ true → (place < count) × (is_some o ≡ false)
 put_parts place count o e = let p = and_parts (nat_lt place count) (not (is_some o)) e in (ltb-true place count p.0, flip (is_some o) p.1)
   where

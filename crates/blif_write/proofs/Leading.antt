@@ -1,21 +1,11 @@
 -- With how many `_` names begin, step by step.
-use Rattle.std.proofs.Common.{◌≡◌, ◌≢◌, sym, ap, ◌∙◌, ℕ, suc, ◌+◌, ◌<◌, ◌≤◌, max, cond, List, [], ◌∷◌, ◌++◌, drop, get_or, length, arith, drop_of_length-le}
-use Rattle.std.proofs.lemmas.Bool.{ne_eqb, eq-eqb}
+use Rattle.std.proofs.Common.{◌≡◌, sym, ap, ◌∙◌, ℕ, ◌+◌, ◌<◌, ◌≤◌, max, List, [], ◌∷◌, ◌++◌, drop, get_or, length, arith, drop_of_length-le}
 use Rattle.std.proofs.lemmas.List.{drop_more}
 use Rattle.netlist_core.specs.Names.{Name}
 use Rattle.lifted_designs.specs.Names.{leading, most_leading}
 
 left_at : {X : Type 0} (xs : List X) (i : ℕ) (x : X) → i < length xs → x ≡ get_or xs i x → drop i xs ≡ x ∷ drop (i + 1) xs
 left_at xs i x low is = drop_more xs i x low ∙ ap (λ y. y ∷ drop (i + 1) xs) (sym is)
-
-pub leading_next : (name : Name) (i byte : ℕ) → i < length name → byte ≡ get_or name i byte → byte ≡ 95 → leading (drop i name) ≡ suc (leading (drop (i + 1) name))
-leading_next name i byte low is e = ap leading (left_at name i byte low is) ∙ ap (λ b. cond b (suc (leading (drop (i + 1) name))) 0) (eq-eqb byte 95 e)
-
-pub leading_stop : (name : Name) (i byte : ℕ) → i < length name → byte ≡ get_or name i byte → byte ≢ 95 → leading (drop i name) ≡ 0
-leading_stop name i byte low is e = ap leading (left_at name i byte low is) ∙ ap (λ b. cond b (suc (leading (drop (i + 1) name))) 0) (ne_eqb byte 95 e)
-
-pub leading_none : (name : Name) (i : ℕ) → length name ≤ i → leading (drop i name) ≡ 0
-leading_none name i past = ap leading (drop_of_length-le name past)
 
 pub most_next : (names : List Name) (i : ℕ) (name : Name) (most : ℕ) → i < length names → name ≡ get_or names i name
     → max (max most (leading name)) (most_leading (drop (i + 1) names)) ≡ max most (most_leading (drop i names))

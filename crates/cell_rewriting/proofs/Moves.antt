@@ -16,7 +16,6 @@ use Rattle.cell_core.specs.Meaning.{cell_bit, cell_bits, bit_in, bit_of}
 use Rattle.cell_core.proofs.Bits.{appending_keeps_bits, pushed_bit}
 use Rattle.cell_core.proofs.Order.{in_order_push}
 use Rattle.cell_core.proofs.OwnBits.{cell_in_order, bit_of_cell}
-use Rattle.cell_meaning.specs.Mapped.{IsCell}
 use Rattle.cell_rewriting.specs.Same.{is_cell, cell_over, StaysCell, Keeps}
 use Rattle.cell_rewriting.specs.Substitution.{AreEquivalent}
 use Rattle.cell_rewriting.specs.Moved.{NewSources, new_source, new_cell, goes_to, AreMoved, IsRebuilt}
@@ -278,9 +277,6 @@ stays_cell list new news src i k old found wanted is at goes there by same = λ 
     let number : is_cell.0 ≡ i = same_number is_cell.0 i (sym is_cell.1 ∙ is) in
     let one : cell ≡ old = same_Some _ _ (sym is_cell.2 ∙ ap (slice_get list.cells) number ∙ at) in
     (k, sym (found_at news src (Made k) goes), there ∙ ap Some (same ∙ by_parts news old wanted by ∙ ap (cell_over (goes_to news)) (sym one)))
-
-pub not_cell_stays : (list new : CellList) (to : Src → Src) (src : Src) → is_cell src ≡ false → StaysCell list new to src
-not_cell_stays list new to src other = λ cell at. absurd (true≢false (sym (ap is_cell at.1) ∙ other))
 
 -- the first of the sources do
 pub DoStay : CellList → CellList → (Src → Src) → List Src → Type 0

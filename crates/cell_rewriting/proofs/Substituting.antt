@@ -1,17 +1,16 @@
 -- Sources that are read in place of cells.
-use Rattle.std.proofs.Common.{◌≡◌, ◌≢◌, refl, sym, ◌∙◌, ap, ℕ, ◌+◌, ◌<◌, ◌≤◌, Bool, true, List, [], ◌∷◌, ◌++◌, length, get_or, Option, Some, None, subst, slice_set, replicate, ⊎_elim, arith}
-use Rattle.std.proofs.lemmas.Bool.{lt-ltb, cases_eq}
-use Rattle.std.proofs.lemmas.List.{length-append, get_or-set_same, get_or-set_other, append-nil, append_assoc}
-use Rattle.std.proofs.lemmas.Option.{none-some, same_Some}
+use Rattle.std.proofs.Common.{◌≡◌, refl, sym, ◌∙◌, ap, ℕ, ◌+◌, ◌≤◌, Bool, true, List, [], ◌++◌, length, get_or, Option, None, replicate, arith}
+use Rattle.std.proofs.lemmas.Bool.{lt-ltb}
+use Rattle.std.proofs.lemmas.List.{length-append, append-nil, append_assoc}
+use Rattle.std.proofs.lemmas.Option.{none-some}
 use Rattle.cell_core.specs.declared.cells.Src.{Src}
 use Rattle.cell_core.specs.declared.cells.Src.TheVariants.{Cell as Made}
 use Rattle.cell_core.specs.declared.cells.Cell.{Cell}
 use Rattle.cell_core.specs.declared.list.CellList.{CellList}
-use Rattle.cell_core.specs.Adding.{Adds}
 use Rattle.cell_core.specs.Meaning.{bit_in}
 use Rattle.cell_core.specs.Sources.{is_there}
 use Rattle.cell_core.proofs.Bits.{appending_keeps_bits}
-use Rattle.cell_rewriting.specs.Substitution.{AreEquivalent, AreEqual, IsSubstitute, Extends}
+use Rattle.cell_rewriting.specs.Substitution.{AreEqual, Extends}
 use Rattle.cell_rewriting.proofs.Moves.{all_the_same, still_there}
 
 -- ---- cells are added
@@ -64,26 +63,3 @@ none_replaced list instead n is =
       there = λ i src e. absurd (none-some src (sym (none i) ∙ e));
       bit = λ i src e. absurd (none-some src (sym (none i) ∙ e));
     }
-
-pub put_equal : (list : CellList) (instead : List (Option Src)) → AreEqual list instead → (cell : ℕ) (by : Src) → IsSubstitute list cell by → cell < length instead → AreEqual list (slice_set instead cell (Some by))
-put_equal list instead are cell by is inside =
-    let other : (i : ℕ) (src : Src) → i ≢ cell → get_or (slice_set instead cell (Some by)) i None ≡ Some src → get_or instead i None ≡ Some src =
-    λ i src ne e. sym (get_or-set_other instead cell i (Some by) None ne) ∙ e in
-    let own : (i : ℕ) (src : Src) → i ≡ cell → get_or (slice_set instead cell (Some by)) i None ≡ Some src → by ≡ src =
-    λ i src h e. same_Some _ _ (sym (get_or-set_same instead cell (Some by) None inside) ∙ ap (λ j. get_or (slice_set instead cell (Some by)) j None) (sym h) ∙ e) in
-    record {
-      within = λ i src e. ⊎_elim (λ (h : i ≡ cell). (let w = is.within in omega (arith, w, h))) (λ (ne : i ≢ cell). are.within i src (other i src ne e)) (cases_eq i cell);
-      there = λ i src e. ⊎_elim
-          (λ (h : i ≡ cell). subst (λ s. is_there list.inputs (length list.starts) (length list.cells) s ≡ true) (own i src h e) is.there)
-          (λ (ne : i ≢ cell). are.there i src (other i src ne e)) (cases_eq i cell);
-      bit = λ i src e. ⊎_elim
-          (λ (h : i ≡ cell). subst (λ s. AreEquivalent list (Made i) s) (own i src h e) (subst (λ j. AreEquivalent list (Made j) by) (sym h) is.bit))
-          (λ (ne : i ≢ cell). are.bit i src (other i src ne e)) (cases_eq i cell);
-    }
-
--- ---- what is read at last
-pub one_bit_itself : (list : CellList) (src : Src) → AreEquivalent list src src
-one_bit_itself list src = λ inputs state. refl
-
-pub one_bit_then : (list : CellList) (a b c : Src) → AreEquivalent list a b → AreEquivalent list b c → AreEquivalent list a c
-one_bit_then list a b c p q = λ inputs state. p inputs state ∙ q inputs state

@@ -1,17 +1,17 @@
 -- Words over leaves.
-use Rattle.std.proofs.Common.{◌≡◌, sym, ◌∙◌, ap, ap₂, ℕ, ◌<◌, ◌≤◌, ◌==◌, Bool, false, ◌&&◌, ◌||◌, not, List, [], ◌∷◌, ◌++◌, map, length, get_or, slice_get, Some, subst, arith}
-use Rattle.std.proofs.lemmas.List.{length-map, get_or-map}
-use Rattle.std.proofs.lemmas.List.Elements.{All-push, All-get_or}
+use Rattle.std.proofs.Common.{◌≡◌, sym, ◌∙◌, ap, ap₂, ℕ, ◌<◌, ◌≤◌, ◌==◌, Bool, ◌&&◌, not, List, [], ◌∷◌, ◌++◌, map, length, slice_get, Some, arith}
+use Rattle.std.proofs.lemmas.List.{length-map}
+use Rattle.std.proofs.lemmas.List.Elements.{All-push}
 use Rattle.std.proofs.lemmas.Option.{slice_get_within, get_or_from_slice_get}
 use Rattle.std.proofs.lemmas.Nat.Bits.{bit_at-zero}
 use Rattle.cell_core.specs.declared.cells.Src.{Src}
 use Rattle.cell_core.specs.declared.cells.Src.TheVariants.{One, Zero, Cell as Made}
 use Rattle.cell_core.specs.declared.cells.Cell.{Cell}
-use Rattle.cell_core.specs.declared.cells.Cell.TheVariants.{Or, Xor, AndNot}
+use Rattle.cell_core.specs.declared.cells.Cell.TheVariants.{AndNot}
 use Rattle.cell_core.specs.declared.list.CellList.{CellList}
 use Rattle.cell_core.specs.Meaning.{cell_bit, cell_bits, bit_of}
 use Rattle.cell_core.proofs.OwnBits.{bit_of_cell}
-use Rattle.cover_cells.specs.Words.{table_bit, bits_number}
+use Rattle.cover_cells.specs.Words.{bits_number}
 use Rattle.cover_cells.proofs.Tables.{number_small}
 use Rattle.cover_cells.proofs.Tabled.{ones_shown}
 use Rattle.lists.specs.Bits.{has_bit}
@@ -26,14 +26,6 @@ leaf_bits_few list leaves inputs state few = let e = length-map leaves (bit_of l
 pub number_is_small : (list : CellList) (leaves : List Src) (inputs state : List Bool) → length leaves ≤ 6 → bits_number (map (bit_of list inputs state) leaves) < 64
 number_is_small list leaves inputs state few = number_small (map (bit_of list inputs state) leaves) (leaf_bits_few list leaves inputs state few)
 
--- ---- sources
-pub leaf_is : (list : CellList) (leaves : List Src) (src : Src) (i word : ℕ) → length leaves ≤ 6 → slice_get leaves i ≡ Some src
-    → ((bits : List Bool) → length bits ≤ 6 → table_bit bits word ≡ get_or bits i false) → IsWordOf list leaves src word
-leaf_is list leaves src i word few at shows = λ inputs state.
-    shows (map (bit_of list inputs state) leaves) (leaf_bits_few list leaves inputs state few)
-    ∙ get_or-map (bit_of list inputs state) leaves i src false (slice_get_within leaves i src at)
-    ∙ ap (bit_of list inputs state) (get_or_from_slice_get leaves i src src at)
-
 pub ones_are : (list : CellList) (leaves : List Src) → length leaves ≤ 6 → IsWordOf list leaves One 18446744073709551615
 ones_are list leaves few = λ inputs state. ones_shown (map (bit_of list inputs state) leaves) (length leaves) few (length-map leaves (bit_of list inputs state))
 
@@ -46,16 +38,6 @@ pub and_not_is : (list : CellList) (leaves : List Src) (a b : Src) (x y word : �
 and_not_is list leaves a b x y word few p q made = λ inputs state.
     made (bits_number (map (bit_of list inputs state) leaves)) (number_is_small list leaves inputs state few) ∙ ap₂ (λ u v. u && not v) (p inputs state) (q inputs state)
 
-pub or_is : (list : CellList) (leaves : List Src) (a b : Src) (x y word : ℕ) → IsWordOf list leaves a x → IsWordOf list leaves b y
-    → ((n : ℕ) → has_bit word n ≡ (has_bit x n || has_bit y n)) → IsWordOfCell list leaves (Or a b) word
-or_is list leaves a b x y word p q made = λ inputs state.
-    made (bits_number (map (bit_of list inputs state) leaves)) ∙ ap₂ (λ u v. u || v) (p inputs state) (q inputs state)
-
-pub xor_is : (list : CellList) (leaves : List Src) (a b : Src) (x y word : ℕ) → IsWordOf list leaves a x → IsWordOf list leaves b y
-    → ((n : ℕ) → has_bit word n ≡ ((has_bit x n || has_bit y n) && not (has_bit x n && has_bit y n))) → IsWordOfCell list leaves (Xor a b) word
-xor_is list leaves a b x y word p q made = λ inputs state.
-    made (bits_number (map (bit_of list inputs state) leaves)) ∙ ap₂ (λ u v. (u || v) && not (u && v)) (p inputs state) (q inputs state)
-
 -- ---- the words of cells, one after another
 pub cell_is : (list : CellList) (leaves : List Src) (i : ℕ) (cell : Cell) (word : ℕ) → slice_get list.cells i ≡ Some cell → IsWordOfCell list leaves cell word → IsWordOf list leaves (Made i) word
 cell_is list leaves i cell word at made = λ inputs state.
@@ -64,15 +46,6 @@ cell_is list leaves i cell word at made = λ inputs state.
 
 pub word_added : (list : CellList) (leaves : List Src) (words : List CellWord) (new : CellWord) → AreWords list leaves words → IsWordOf list leaves (Made new.cell) new.word → AreWords list leaves (words ++ new ∷ [])
 word_added list leaves words new are made = All-push (λ (w : CellWord). IsWordOf list leaves (Made w.cell) w.word) words new are made
-
-pub word_found : (list : CellList) (leaves : List Src) (words : List CellWord) (i : ℕ) (d : CellWord) (number : ℕ) → AreWords list leaves words → i < length words → (get_or words i d).cell ≡ number
-    → IsWordOf list leaves (Made number) (get_or words i d).word
-word_found list leaves words i d number are within is =
-    subst (λ n. IsWordOf list leaves (Made n) (get_or words i d).word) is (All-get_or (λ (w : CellWord). IsWordOf list leaves (Made w.cell) w.word) words i d within are)
-
--- ---- the word of a source that has another one's bit
-pub word_by : (list : CellList) (leaves : List Src) (a b : Src) (word : ℕ) → AreEquivalent list a b → IsWordOf list leaves b word → IsWordOf list leaves a word
-word_by list leaves a b word same is = λ inputs state. is inputs state ∙ sym (same inputs state)
 
 -- ---- equal words
 pub one_bit : (list : CellList) (leaves : List Src) (a b : Src) (x y : ℕ) → IsWordOf list leaves a x → IsWordOf list leaves b y → x ≡ y → AreEquivalent list a b

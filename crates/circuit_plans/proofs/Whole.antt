@@ -73,10 +73,6 @@ entry_sound plan =
           (inputs_plain 0 plan.ins (replicate (first_loop_lane plan.lanes plan.latches) Zero) (dark_plain (first_loop_lane plan.lanes plan.latches))) (loops_plain 0 plan.latches);
     }
 
--- what leaves is sound
-pub leaving_lanes : Plan → Lanes
-leaving_lanes plan = lift_columns (entry_lanes plan) plan.columns
-
 pub lifted : (plan : Plan) → IsLifted (length plan.ins) plan.latches (entry_lanes plan) (lift_columns (entry_lanes plan) plan.columns) (after_columns plan.columns)
 lifted plan = columns_lifted (length plan.ins) plan.latches (entry_lanes plan) (entry_sound plan) plan.columns
 

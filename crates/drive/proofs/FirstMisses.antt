@@ -1,5 +1,5 @@
 -- The first injection at a cell that is no conductor, generation after generation.
-use Rattle.std.proofs.Common.{pos, ℕ, suc, ◌≡◌, ◌≤◌, ◌<◌, ◌+◌, ◌==◌, refl, sym, ap, ap₂, subst, ◌∙◌, Bool, true, false, cond, Option, Some, List, [], ◌∷◌, ◌++◌, length, take, drop, filter, get_or, All, arith}
+use Rattle.std.proofs.Common.{pos, ℕ, suc, ◌≡◌, ◌≤◌, ◌<◌, ◌+◌, ◌==◌, refl, sym, ap, ap₂, subst, ◌∙◌, Bool, true, false, cond, Some, List, [], ◌∷◌, ◌++◌, length, take, drop, filter, get_or, All, arith}
 use Rattle.std.specs.Prelude.{nat_le, not}
 use Rattle.std.specs.List.{find}
 use Rattle.std.specs.Option.{option_or}
@@ -15,13 +15,6 @@ use Rattle.ww_rule.specs.Due.{AreInOrderFrom, AreLeftAt, due_count}
 use Rattle.ww_rule.proofs.Due.{from_earlier}
 use Rattle.ww_rule.specs.Injections.{before_injections}
 use Rattle.drive.specs.Misses.{is_conductor, misses, first_of_misses}
-
--- the first of elements that two tests do not tell apart
-pub find_alike : {X : Type 0} (p q : X → Bool) (xs : List X) → All (λ x. p x ≡ q x) xs → find p xs ≡ find q xs
-find_alike p q [] same = refl
-find_alike {X} p q (x ∷ xs) same =
-    let Same : X → Type 0 = λ x. p x ≡ q x in
-    ap₂ (λ (here : Bool) (later : Option X). cond here (Some x) later) (All-head Same x xs same) (find_alike p q xs (All-tail Same x xs same))
 
 abbrev pub up_to : ℕ → Injection → Bool
 up_to g i = nat_le i.generation g

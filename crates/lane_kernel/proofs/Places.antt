@@ -230,17 +230,6 @@ stepped_apart above heads below tails wires new_heads new_tails new_wires fa fh 
     ap (λ t. clash (is_set new_heads x) (has_bit t (x % 64)) (is_set new_wires x)) (et (x / 64))
     ∙ stay_apart above heads below tails wires fa fh fb new_heads new_wires eh ew apart x
 
--- rows whose words have no bit in common are apart
-pub apart_words : (h t w : List ℕ) → ((j : ℕ) → bit_or (bit_or (bit_and (get_or h j 0) (get_or t j 0)) (bit_and (get_or h j 0) (get_or w j 0))) (bit_and (get_or t j 0) (get_or w j 0)) ≡ 0) → AreDisjoint h t w
-apart_words h t w none x =
-    let i = x % 64 in
-    let a = get_or h (x / 64) 0 in
-    let b = get_or t (x / 64) 0 in
-    let c = get_or w (x / 64) 0 in
-    sym (or_bit (bit_or (bit_and a b) (bit_and a c)) (bit_and b c) i ∙ ap₂ (λ p q. p || q) (or_bit (bit_and a b) (bit_and a c) i ∙ ap₂ (λ p q. p || q) (and_bit a b i) (and_bit a c i)) (and_bit b c i))
-    ∙ ap (λ n. has_bit n i) (none (x / 64))
-    ∙ no_bit i
-
 -- a row of words shows the row y of a plane; its heads show the plane's heads there
 abbrev pub Shows : List ℕ → List ℕ → List ℕ → (ℤ → ℤ → State) → ℤ → Type 0
 Shows heads tails wires p y = (x : ℕ) → row_state heads tails wires x ≡ p (pos x) y

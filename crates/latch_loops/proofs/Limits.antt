@@ -1,5 +1,5 @@
 -- How many contexts fit, and closing in two steps.
-use Rattle.std.proofs.Common.{◌≡◌, sym, ◌∙◌, ap, subst, ℕ, ◌+◌, ◌*◌, ◌<◌, ◌≤◌, ◌^◌, max, min, Bool, false, ⊎_elim, List, length, All, arith}
+use Rattle.std.proofs.Common.{◌≡◌, sym, ◌∙◌, ap, subst, ℕ, ◌+◌, ◌*◌, ◌<◌, ◌≤◌, max, min, false, ⊎_elim, List, length, arith}
 use Rattle.std.specs.Prelude.{◌==◌}
 use Rattle.std.proofs.lemmas.Bool.{cases_eq, cond-true, cond-false, eq-eqb}
 use Rattle.std.proofs.lemmas.Bool.Decides.{nat_tests}
@@ -9,8 +9,8 @@ use Rattle.lane_core.specs.declared.plan.Plan.{Plan}
 use Rattle.lane_core.specs.Plans.{period_of}
 use Rattle.lane_core.specs.Tape.{cycle_tiles}
 use Rattle.plan_waves.proofs.CycleTiles.{period_is, tiles_with_loops, tiles_without}
-use Rattle.latch_loops.specs.Closed.{IsPadded, contexts_size, least_size, IsClosed, contexts_limit, DoesAsProgram}
-use Rattle.latch_loops.specs.Padded.{IsPaddedPlan, DoesAsPlan}
+use Rattle.latch_loops.specs.Closed.{IsPadded, contexts_size, least_size, IsClosed, contexts_limit}
+use Rattle.latch_loops.specs.Padded.{IsPaddedPlan}
 use Rattle.latch_loops.proofs.Padding.{small_size, padded_more}
 
 limit_without : (columns : List Column) (program : Program) → length program.latches ≡ 0 → contexts_limit columns program ≡ 1
@@ -67,21 +67,3 @@ closed_more program columns contexts middle plan c p = record {
         let none = small_size (length program.latches) 0 (omega arith) in
         let same : contexts_size middle.latches contexts ≡ contexts_size (length program.latches) contexts = ap (λ k. contexts_size k contexts) c.latches in
         omega (arith, none, same)
-
-pub does_as_padded : (program : Program) (middle plan : Plan) → DoesAsProgram program middle → DoesAsPlan middle plan → DoesAsProgram program plan
-does_as_padded program middle plan d s = record { end = λ bits. s.end bits ∙ d.end bits; nets = λ bits. s.nets bits ∙ d.nets bits }
-
--- what is asked of the plan in between
-pub fits_between : (program : Program) (columns : List Column) (contexts : ℕ) (middle : Plan) → IsClosed program columns 0 middle → contexts ≤ contexts_limit columns program → contexts ≤ cycle_tiles middle
-fits_between program columns contexts middle c fit = omega (arith, fit, limit_is_tiles program columns 0 middle (omega arith) c)
-
-pub long_between : (program : Program) (columns : List Column) (starts : List (List Bool)) (middle : Plan) → IsClosed program columns 0 middle
-    → All (λ bits. length bits ≡ length program.latches) starts → All (λ bits. length bits ≡ middle.latches) starts
-long_between program columns starts middle c long = λ k d within. long k d within ∙ sym c.latches
-
-pub few_between : (program : Program) (columns : List Column) (contexts : ℕ) (middle : Plan) → IsClosed program columns 0 middle → program.lanes < 2 ^ 32
-    → (1 < contexts → length columns < 2 ^ 39) → 1 < contexts → length middle.columns < 2 ^ 39
-few_between program columns contexts middle c small few more =
-    let n = few more in
-    let loops = program.loops_fit in
-    omega (arith, n, loops, small, count_is program columns 0 middle (omega arith) c)

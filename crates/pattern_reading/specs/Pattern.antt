@@ -11,16 +11,6 @@ use Rattle.pattern_reading.specs.Numbers.{◌>>=◌, after_word}
 use Rattle.pattern_reading.specs.Header.{Header, header_in, header_line, is_wireworld, lines_after_header}
 use Rattle.pattern_reading.specs.Items.{Item, Cells, NoItem, LineItem, Placed, is_end, items_of_lines, placed_after}
 
--- the numbers that the program prints before the names of the faults, as in `G4 BadItem`
-abbrev pub rle_fault_number : RleFaultKind → ℕ
-rle_fault_number NoHeader = 1
-rle_fault_number BadHeader = 2
-rle_fault_number OtherRule = 3
-rle_fault_number BadItem = 4
-rle_fault_number CellOutside = 5
-rle_fault_number NoEnd = 6
-rle_fault_number GridTooLarge = 7
-
 -- The text has a header without fault, and these are its numbers.
 pub record HasBox (text : List ℕ) (width height : ℕ) : Type 0 where
   pub line : Line

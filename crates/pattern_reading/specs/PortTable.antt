@@ -10,13 +10,6 @@ use Rattle.pattern_reading.specs.declared.faults.PortFaultKind.TheVariants.{BadL
 use Rattle.pattern_reading.specs.Numbers.{◌>>=◌}
 use Rattle.pattern_reading.specs.PortLines.{PortForm, Version, In, Out, Net, TableLine, table_of}
 
--- the numbers that the program prints before the names of the faults, as in `H1 BadLine`
-abbrev pub port_fault_number : PortFaultKind → ℕ
-port_fault_number BadLine = 1
-port_fault_number BadOrder = 2
-port_fault_number CellOutside = 3
-port_fault_number Twice = 4
-
 abbrev pub is_version : PortForm → Bool
 is_version (Version p l c) = true
 is_version _ = false

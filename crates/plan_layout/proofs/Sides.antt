@@ -67,13 +67,6 @@ east_kind (instr.Xor i) = (record { entered = refl; left = refl }, record { ente
 east_kind (instr.Or i) = (record { entered = refl; left = refl }, record { entered = refl; left = refl })
 east_kind (instr.AndNot i) = (record { entered = refl; left = refl }, record { entered = refl; left = refl })
 
-up_kind : (i : Instr) → IsUpGoing (Upper (Tile (kind_of i))) × IsUpGoing (Lower (Tile (kind_of i)))
-up_kind (instr.Swap i) = (record { entered = refl; left = refl }, record { entered = refl; left = refl })
-up_kind (instr.Fork i) = (record { entered = refl; left = refl }, record { entered = refl; left = refl })
-up_kind (instr.Xor i) = (record { entered = refl; left = refl }, record { entered = refl; left = refl })
-up_kind (instr.Or i) = (record { entered = refl; left = refl }, record { entered = refl; left = refl })
-up_kind (instr.AndNot i) = (record { entered = refl; left = refl }, record { entered = refl; left = refl })
-
 down_kind : (i : Instr) → IsDownGoing (Upper (Tile (kind_of i))) × IsDownGoing (Lower (Tile (kind_of i)))
 down_kind (instr.Swap i) = (record { entered = refl; left = refl }, record { entered = refl; left = refl })
 down_kind (instr.Fork i) = (record { entered = refl; left = refl }, record { entered = refl; left = refl })

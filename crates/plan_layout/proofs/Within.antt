@@ -47,12 +47,6 @@ within plan q l some =
     let low : l < plan.lanes + plan.latches = ⊎_elim (λ (h : l < plan.lanes + plan.latches). h) (λ far. absurd (some (tiling_of-below plan q l far))) (cases_lt l (plan.lanes + plan.latches)) in
     (omega (arith, near), low)
 
--- in an admissible plan that is not far
-pub stands_near : (plan : Plan) → IsAdmissible plan → (q l : ℕ) → (tiling_of plan q l ≡ Nothing → ⊥) → (q < 2 ^ 41) × (l < 2 ^ 33)
-stands_near plan h q l some =
-    let w = within plan q l some in
-    (omega (arith, w.0, h.size.lanes, h.size.columns, h.size.loops_on_lanes), omega (arith, w.1, h.size.lanes, h.size.loops_on_lanes))
-
 port_stands : (slot : Slot) (x y : ℕ) → is_port slot x y ≡ true → slot ≡ Nothing → ⊥
 port_stands slot x y e none = true≢false (sym e ∙ ap (λ s. is_port s x y) none)
 

@@ -3,8 +3,7 @@ use Rattle.std.proofs.Common.{ℕ, ◌+◌, ◌*◌, ◌^◌, ◌<◌, ◌≤◌
 use Rattle.std.specs.Prelude.{Some, None, slice_get}
 use Rattle.std.proofs.lemmas.Option.{none-some}
 use denote.Ref.{Bor}
-use Rattle.pattern_reading.specs.declared.faults.RleFaultKind.{RleFaultKind}
-use Rattle.pattern_reading.specs.declared.faults.RleFaultKind.TheVariants.{NoHeader, BadHeader, OtherRule, BadItem, CellOutside, NoEnd, GridTooLarge}
+use Rattle.pattern_reading.specs.declared.faults.RleFaultKind.TheVariants.{NoEnd}
 use Rattle.pattern_reading.specs.Lines.{Line, lines_from, with_line_feeds}
 use Rattle.pattern_reading.specs.Header.{Header, header_in, header_line, is_wireworld, lines_after_header}
 use Rattle.pattern_reading.specs.Items.{items_of_lines}
@@ -14,12 +13,12 @@ use Rattle.pattern_reading.proofs.RleVerdict.{IsJudged, items_verdict, rle_judge
 use Rattle.pattern_lines.specs.declared.lines.Line as lent
 use Rattle.rle_read.specs.declared.error.RleFault.{RleFault}
 use Rattle.rle_read.specs.declared.error.RleReadError.TheVariants as errors
-use Rattle.rle_read.specs.Answers.{IsHeaderAt, IsHeaderFault, HasReadReason}
+use Rattle.rle_read.specs.Answers.{IsHeaderAt, HasReadReason}
 use Rattle.rle_read.specs.Drawn.{Drawn, Fault, Ended, Open, blank_drawing, drawn_with, rle_fault_of}
 use Rattle.rle_read.proofs.DrawnText.{IsSaid, blank_drawn, said}
 use Rattle.pattern_reading.proofs.Counted.{lines_counted}
 use Rattle.std.proofs.lemmas.Option.{same_Some}
-use Rattle.pattern_reading.proofs.RleVerdict.{first_fault, no_form}
+use Rattle.pattern_reading.proofs.RleVerdict.{first_fault}
 
 -- a text has one header
 module _ (text : List ℕ) (width height : ℕ) (box : HasBox text width height) where
@@ -58,15 +57,6 @@ no_box text line e none large = none-some _ (sym none ∙ box_form text large.0 
 other_rule : (text : List ℕ) (line : Line) (header : Header) → header_line text ≡ Some line → header_in line.bytes ≡ Some header → is_wireworld header.rule ≡ false → IsGridTooLarge text → ⊥
 other_rule text line header e form other large =
     true≢false (sym large.2.0.rule ∙ ap (λ h. is_wireworld h.rule) (box_header text large.0 large.1 large.2.0 line header e form) ∙ other)
-
-header_reason : (text : List ℕ) (line : Line) (n : ℕ) → header_line text ≡ Some line → n ≡ line.number → (kind : RleFaultKind) → IsHeaderFault line.bytes kind → HasRleFault text kind n × ¬ (IsGridTooLarge text)
-header_reason text line n e at NoHeader h = (inr (line, e, h, at), no_box text line e (no_form line.bytes h))
-header_reason text line n e at BadHeader h = ((line, e, h.0, h.1, at), no_box text line e h.1)
-header_reason text line n e at OtherRule h = ((line, e, h.0, h.1, h.2, at), other_rule text line h.0 e h.1 h.2)
-header_reason text line n e at BadItem h = absurd h
-header_reason text line n e at CellOutside h = absurd h
-header_reason text line n e at NoEnd h = absurd h
-header_reason text line n e at GridTooLarge h = absurd h
 
 -- what is drawn
 module _ (text : List ℕ) (parts : lent.Line × Bor (List ℕ)) (head : IsHeaderAt text parts) (width height : ℕ) (box : HasBox text width height) (start : Drawn) (blank : start ≡ blank_drawing width height) where

@@ -11,10 +11,6 @@ use Rattle.lane_core.specs.declared.plan.Plan.{Plan}
 use Rattle.plan_layout.specs.Tape.{drawn_plane}
 use Rattle.tile_match.specs.Drawn.{IsSpanDrawn, IsBoxDrawn}
 
--- no cells
-pub no_span : (plan : Plan) (cells : List State) (y from until : ℕ) → until ≤ from → IsSpanDrawn plan cells y from until
-no_span plan cells y from until le = record { each = λ x low high. absurd (omega (arith, le, low, high)) }
-
 -- a part of a span, and two spans side by side
 pub span_part : (plan : Plan) (cells : List State) (y from until from' until' : ℕ) → from ≤ from' → until' ≤ until
     → IsSpanDrawn plan cells y from until → IsSpanDrawn plan cells y from' until'

@@ -1,11 +1,11 @@
 -- Marks of lanes, one after another.
-use Rattle.std.proofs.Common.{◌≡◌, sym, ◌∙◌, subst, ⊎_elim, ℕ, ◌+◌, ◌<◌, Bool, true, false, ◌==◌, List, [], length, get_or, set, take, replicate, eq-eqb, get_or-set_other, get_or-set_same, arith}
+use Rattle.std.proofs.Common.{◌≡◌, sym, ◌∙◌, subst, ⊎_elim, ℕ, ◌+◌, ◌<◌, Bool, true, false, ◌==◌, List, length, get_or, set, take, eq-eqb, get_or-set_other, get_or-set_same, arith}
 use Rattle.std.specs.Prelude.{◌≢◌, AllPairs}
 use Rattle.std.specs.List.{list_any}
-use Rattle.std.proofs.lemmas.Bool.{cases_eq, cases_lt, eqb-true}
+use Rattle.std.proofs.lemmas.Bool.{cases_eq, eqb-true}
 use Rattle.std.proofs.lemmas.Bool.Decides.{nat_tests}
 use Rattle.std.proofs.lemmas.Grind.{get_or_default_zero}
-use Rattle.std.proofs.lemmas.List.{get_or-replicate, get_or-take, get_or_past, length-replicate, length-set, length-take, take_more}
+use Rattle.std.proofs.lemmas.List.{get_or-take, length-set, length-take, take_more}
 use Rattle.std.proofs.lemmas.List.Folds.{list_any_more, list_any_at, Any-from_list_any}
 use Rattle.std.proofs.lemmas.List.Quantifiers.{all_pairs_push}
 
@@ -13,15 +13,6 @@ use Rattle.std.proofs.lemmas.List.Quantifiers.{all_pairs_push}
 pub record AreMarks (limit : ℕ) (lanes : List ℕ) (marks : List Bool) : Type 0 where
   pub full : length marks ≡ limit
   pub each : (lane : ℕ) → get_or marks lane false ≡ list_any (λ out. out == lane) lanes
-
-pub no_marks : (limit : ℕ) → AreMarks limit [] (replicate limit false)
-no_marks limit = record {
-  full = length-replicate limit false;
-  each = λ lane. ⊎_elim
-      (λ low. get_or-replicate limit lane false false low)
-      (λ past. get_or_past (replicate limit false) lane false (omega (arith, past, length-replicate limit false)))
-      (cases_lt lane limit);
-}
 
 -- one lane more
 pub marks_more : (limit : ℕ) (lanes : List ℕ) (i lane : ℕ) (marks : List Bool) → i < length lanes → get_or lanes i 0 ≡ lane → lane < limit
@@ -45,9 +36,6 @@ marks_more limit lanes i lane marks within is low m = record {
 pub record AreMarkedOnce (limit : ℕ) (lanes : List ℕ) (bits : List Bool) : Type 0 where
   pub marks : AreMarks limit lanes bits
   pub distinct : AllPairs (λ a b. a ≢ b) lanes
-
-pub none_marked : (limit : ℕ) → AreMarkedOnce limit [] (replicate limit false)
-none_marked limit = record { marks = no_marks limit; distinct = λ i j d order within. absurd (omega arith) }
 
 -- a lane that had no mark
 pub marked_once : (limit : ℕ) (lanes : List ℕ) (i lane : ℕ) (marks : List Bool) → i < length lanes → get_or lanes i 0 ≡ lane → lane < limit

@@ -1,5 +1,5 @@
 -- The first bits of the nets, and what they say of all bits of the nets.
-use Rattle.std.proofs.Common.{◌≡◌, ◌≢◌, refl, sym, ◌∙◌, ap, ap₂, subst, ℕ, zero, suc, pos, ◌+◌, ◌*◌, ◌-◌, ◌/◌, ◌%◌, ◌^◌, ◌≤◌, ◌<◌, ◌⊎◌, inl, inr, Bool, false, Option, Some, None, List, [], ◌∷◌, ◌++◌, append_assoc, length, length-append, flat_map, take, get_or, All, arith}
+use Rattle.std.proofs.Common.{◌≡◌, refl, sym, ◌∙◌, ap, ap₂, subst, ℕ, zero, suc, pos, ◌+◌, ◌*◌, ◌-◌, ◌/◌, ◌%◌, ◌^◌, ◌≤◌, ◌<◌, ◌⊎◌, inl, inr, Bool, false, Option, Some, None, List, [], ◌∷◌, ◌++◌, append_assoc, length, length-append, flat_map, take, get_or, All, arith}
 use Rattle.std.specs.Prelude.{slice_get, Result, Ok, Err, IfOk}
 use Rattle.std.specs.List.{range_with_len}
 use Rattle.std.specs.List.Sorted.{IsNonDecreasingBy, IsPermutation}
@@ -10,7 +10,7 @@ use Rattle.std.proofs.lemmas.List.Elements.{All-cons, All-contains, All-nil}
 use Rattle.std.proofs.lemmas.List.Sorted.{All-permutation, Contains-permutation}
 use Rattle.std.proofs.lemmas.Nat.{div-mul-add, mod-mul-add}
 use Rattle.std.proofs.lemmas.Option.{none-some, same_Some, slice_get-get_or, slice_get_within}
-use Rattle.lists.proofs.Members.{In, contains_from, in_got}
+use Rattle.lists.proofs.Members.{contains_from, in_got}
 use Rattle.ww_rule.specs.Wireworld.{Plane, is_head}
 use Rattle.pattern_reading.specs.declared.ports.NetLine.{NetLine}
 use Rattle.pattern_reading.specs.declared.ports.Ports.{Ports}
@@ -167,10 +167,6 @@ push_nets due new nets context before pushed =
 pub no_nets : (nets : List NetLine) (first many : ℕ) → nets ≡ [] → flat_map (λ c. nets_in c nets) (range_with_len first many) ≡ []
 no_nets nets first zero e = refl
 no_nets nets first (suc many) e = ap₂ (λ (a b : List NetInContext). a ++ b) (ap (nets_in first) e) (no_nets nets (first + 1) many e)
-
--- no generation of a context is past those of the last
-pub room_in : (nets : List NetLine) (contexts context : ℕ) → context < contexts → All (λ net. net.offset + 32 * (contexts - 1) < 2 ^ 64) nets → All (λ net. net.offset + 32 * context < 2 ^ 64) nets
-room_in nets contexts context low room k d within = let r = room k d within in omega (arith, low, r)
 
 -- bits that do not come earlier than those before them
 pub in_order : (bits : List DueBit) (g : ℕ) → (g ≤ (get_or bits 0 (record { generation = g; place = 0; x = 0; y = 0 })).generation) → IsNonDecreasingBy (λ bit. bit.generation) bits → AreDueFrom g bits

@@ -14,10 +14,6 @@ pub both_err : {T E : Type 0} (r : Result T E) {P Q R : Type 0} → (P → Q →
 both_err (Ok x) f p q = tt
 both_err (Err e) f p q = f p q
 
--- a piece was written
-pub wrote_piece : {a b : Option (List ℕ)} {f g : ℕ} (piece rest : List ℕ) → Appends a b piece → f ≤ g → Wrote a b f g (piece ++ rest) rest
-wrote_piece piece rest taken later = record { text = piece; taken = taken; joined = refl; later = later }
-
 -- nothing was done
 pub wrote_none : (a : Option (List ℕ)) (f : ℕ) (rest : List ℕ) → Wrote a a f f rest rest
 wrote_none a f rest = record { text = []; taken = Appends-nil a; joined = refl; later = omega arith }

@@ -6,7 +6,7 @@ use Rattle.std.proofs.Math.Path.{fun_ext}
 use Rattle.ww_rule.specs.declared.pattern.State.{State}
 use Rattle.ww_rule.specs.declared.pattern.State.TheVariants.{Empty}
 use Rattle.ww_rule.specs.Wireworld.{Plane, next_plane, heads_around, count_head}
-use Rattle.ww_rule.specs.Grid.{framed, plane_of}
+use Rattle.ww_rule.specs.Grid.{plane_of}
 use Rattle.ww_rule.proofs.Cells.{next_plane_same}
 use Rattle.ww_rule.proofs.Boxes.{plane_of_beside, plane_of_below}
 
@@ -24,12 +24,6 @@ same_place x = +ℤ-neg_ℤ_cancel (pos x) (pos 1)
 
 pub one_on : (x : ℕ) → pos (x + 2) -ℤ pos 1 ≡ pos x +ℤ pos 1
 one_on x = let e : x + 2 ≡ x + 1 + 1 = omega arith in ap (λ n. pos n -ℤ pos 1) e ∙ +ℤ-neg_ℤ_cancel (pos (x + 1)) (pos 1)
-
-pub framed_before : (look : ℕ → ℕ → State) (x y : ℕ) → framed look (pos x -ℤ pos 1) (pos y -ℤ pos 1) ≡ look_before look x y
-framed_before look zero zero = refl
-framed_before look zero (suc y) = refl
-framed_before look (suc x) zero = ap (λ u. framed look u (negsuc 0)) (one_back x)
-framed_before look (suc x) (suc y) = ap₂ (framed look) (one_back x) (one_back y)
 
 count_moved : (p : Plane) (u u' v v' : ℤ) (a : ℕ) → u ≡ u' → v ≡ v' → a ≡ count_head (p u v) → a ≡ count_head (p u' v')
 count_moved p u u' v v' a e f h = h ∙ ap₂ (λ x y. count_head (p x y)) e f
