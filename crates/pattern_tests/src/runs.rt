@@ -235,205 +235,237 @@ pub fn expect_shown(
 // A ring on which an electron goes round for ever.
 const RING: &[u8] = b"x = 4, y = 3, rule = WireWorld\n.BA$C2.C$.2C!";
 
-// A table with two inputs on the wire.
-const TWO_INPUTS: &[u8] =
-    b"#C BLIFWW 1 P 4 L 2\n#C BLIFWW IN 0 0 a\n#C BLIFWW IN 1 0 b\n#C BLIFWW OUT 2 0 y\n";
+// Cases, with an empty line between any two: a pattern, cycles, words, and after `=>` what is said, with ` -- ` before a word on the
+// cases from there on; then the table's lines. They are one text, since a table costs its proof for each row.
+const RUNS: &str = "\
+wire 2 a=11 => 11, -- a wire of each period
+#C BLIFWW 1 P 4 L 2
+#C BLIFWW IN 0 0 a
+#C BLIFWW OUT 2 0 y
 
-// A table of two contexts.
-const TWO_CONTEXTS: &[u8] = b"#C BLIFWW 1 P 64 L 2 C 2\n#C BLIFWW IN 0 0 a\n";
+wire 2 a=11 => 11,
+#C BLIFWW 1 P 3 L 2
+#C BLIFWW IN 0 0 a
+#C BLIFWW OUT 2 0 y
 
-// Tables, patterns, words, cycles, and what is said.
-const RUNS: &[(&[u8], &[u8], &[&str], usize, &[u8])] = &[
-    // a wire of each period
-    (
-        b"#C BLIFWW 1 P 4 L 2\n#C BLIFWW IN 0 0 a\n#C BLIFWW OUT 2 0 y\n",
-        WIRE,
-        &["a=11"],
-        2,
-        b"11,",
-    ),
-    (
-        b"#C BLIFWW 1 P 3 L 2\n#C BLIFWW IN 0 0 a\n#C BLIFWW OUT 2 0 y\n",
-        WIRE,
-        &["a=11"],
-        2,
-        b"11,",
-    ),
-    (
-        b"#C BLIFWW 1 P 2 L 2\n#C BLIFWW IN 0 0 a\n#C BLIFWW OUT 2 0 y\n",
-        WIRE,
-        &["a=11"],
-        2,
-        b"10,",
-    ),
-    (
-        b"#C BLIFWW 1 P 1 L 2\n#C BLIFWW IN 0 0 a\n#C BLIFWW OUT 2 0 y\n",
-        WIRE,
-        &["a=11"],
-        2,
-        b"NotQuiet 1 0 0",
-    ),
-    (
-        b"#C BLIFWW 1 P 4 L 2\n#C BLIFWW IN 0 0 a\n#C BLIFWW OUT 0 2 y\n",
-        WIRE_DOWN,
-        &["a=11"],
-        2,
-        b"11,",
-    ),
-    (
-        b"#C BLIFWW 1 P 3 L 2\n#C BLIFWW IN 0 0 a\n#C BLIFWW OUT 0 2 y\n",
-        WIRE_DOWN,
-        &["a=11"],
-        2,
-        b"11,",
-    ),
-    (
-        b"#C BLIFWW 1 P 2 L 2\n#C BLIFWW IN 0 0 a\n#C BLIFWW OUT 0 2 y\n",
-        WIRE_DOWN,
-        &["a=11"],
-        2,
-        b"10,",
-    ),
-    (
-        b"#C BLIFWW 1 P 1 L 1\n#C BLIFWW IN 0 1 a\n#C BLIFWW OUT 0 2 y\n",
-        WIRE_DOWN,
-        &["a=11"],
-        2,
-        b"NotQuiet 1 0 1",
-    ),
-    // an empty cell, a cell that another input lights, and no output
-    (
-        b"#C BLIFWW 1 P 32 L 32\n#C BLIFWW IN 9 8 a\n#C BLIFWW OUT 32 8 y\n",
-        OR_GATE,
-        &["a=01"],
-        2,
-        b"NotQuiet 32 9 8",
-    ),
-    (TWO_INPUTS, WIRE, &["a=10", "b=10"], 2, b"00,"),
-    (
-        b"#C BLIFWW 1 P 1 L 0\n#C BLIFWW IN 0 0 a\n",
-        WIRE,
-        &["a=11"],
-        2,
-        b"NotQuiet 1 0 0",
-    ),
-    // two contexts on one wire, on a gate, and with an empty cell
-    (
-        b"#C BLIFWW 1 P 64 L 2 C 2\n#C BLIFWW IN 0 0 a\n#C BLIFWW OUT 2 0 y\n#C BLIFWW OUT 0 0 z\n",
-        WIRE,
-        &["1:a=01", "0:a=10"],
-        2,
-        b"10,00,01,00,",
-    ),
-    (
-        b"#C BLIFWW 1 P 64 L 32 C 2\n#C BLIFWW IN 0 8 a\n#C BLIFWW IN 0 24 b\n#C BLIFWW OUT 32 8 y\n",
-        OR_GATE,
-        &["0:a=100", "0:b=010", "1:a=001", "1:b=001"],
-        3,
-        b"110,001,",
-    ),
-    (
-        b"#C BLIFWW 1 P 64 L 32 C 2\n#C BLIFWW IN 0 8 a\n#C BLIFWW IN 9 8 b\n#C BLIFWW OUT 32 8 y\n",
-        OR_GATE,
-        &["0:a=11", "0:b=01", "1:a=11", "1:b=11"],
-        2,
-        b"NotQuiet 32 9 8",
-    ),
-    // the second bit is dark, or nothing is seen
-    (
-        b"#C BLIFWW 1 P 4294967294 L 2\n#C BLIFWW IN 0 0 a\n#C BLIFWW OUT 2 0 y\n",
-        WIRE,
-        &["a=10"],
-        2,
-        b"10,",
-    ),
-    (
-        b"#C BLIFWW 1 P 4294967294 L 2\n#C BLIFWW IN 0 0 a\n",
-        WIRE,
-        &["a=10"],
-        2,
-        b"",
-    ),
-    // a ring without outputs, whose last injection comes long before the last generation, and one that misses
-    (
-        b"#C BLIFWW 1 P 4294967294 L 2\n#C BLIFWW IN 1 2 a\n",
-        RING,
-        &["a=10"],
-        2,
-        b"",
-    ),
-    (
-        b"#C BLIFWW 1 P 64 L 2\n#C BLIFWW IN 1 2 a\n#C BLIFWW IN 1 1 b\n",
-        RING,
-        &["a=10", "b=01"],
-        2,
-        b"NotQuiet 64 1 1",
-    ),
-    // a gate, and one head and each generation up to 32
-    (
-        b"#C BLIFWW 1 P 32 L 32\n#C BLIFWW IN 0 8 a\n#C BLIFWW IN 0 24 b\n#C BLIFWW OUT 32 8 y\n",
-        OR_GATE,
-        &["b=0101", "a=0011"],
-        4,
-        b"0111,",
-    ),
-    (
-        b"#C BLIFWW 1 P 1 L 0\n#C BLIFWW IN 0 8 a\n#C BLIFWW IN 0 24 b\n#C BLIFWW OUT 32 8 y\n",
-        OR_GATE,
-        &[
-            "a=100000000000000000000000000000000",
-            "b=000000000000000000000000000000000",
-        ],
-        33,
-        b"000000000000000000000000000000001,",
-    ),
-    // past the greatest generation
-    (
-        b"#C BLIFWW 1 P 4294967296 L 2\n#C BLIFWW IN 0 0 a\n#C BLIFWW OUT 2 0 y\n",
-        WIRE,
-        &["a=11"],
-        2,
-        b"TooFar 4294967298",
-    ),
-    (
-        b"#C BLIFWW 1 P 4294967264 L 1 C 2\n#C BLIFWW IN 0 0 a\n#C BLIFWW OUT 2 0 y\n",
-        WIRE,
-        &["0:a=10", "1:a=00"],
-        2,
-        b"TooFar 4294967297",
-    ),
-    // a name with an equals sign
-    (
-        b"#C BLIFWW 1 P 4 L 2\n#C BLIFWW IN 0 0 a=b\n#C BLIFWW OUT 2 0 y\n",
-        WIRE,
-        &["a=b=10"],
-        2,
-        b"10,",
-    ),
-    // first faults
-    (TWO_INPUTS, WIRE, &["a=01", "b=0"], 2, b"BadLength b=0"),
-    (TWO_INPUTS, WIRE, &["a=01"], 2, b"MissingInput b"),
-    (
-        TWO_INPUTS,
-        WIRE,
-        &["a=01", "a=01", "b=01"],
-        2,
-        b"TwiceInput a=01",
-    ),
-    (TWO_INPUTS, WIRE, &["a01", "b=0"], 2, b"NoEquals a01"),
-    (TWO_INPUTS, WIRE, &["c=2", "b"], 2, b"UnknownInput c=2"),
-    (TWO_INPUTS, WIRE, &["a=012", "b=01"], 2, b"BadBit a=012"),
-    (TWO_INPUTS, WIRE, &["a=01", "a=2"], 2, b"TwiceInput a=2"),
-    (TWO_INPUTS, WIRE, &["a=0", "a=01"], 2, b"BadLength a=0"),
-    (TWO_INPUTS, WIRE, &[], 2, b"MissingInput a"),
-    (TWO_CONTEXTS, WIRE, &["a=01"], 2, b"BadContext a=01"),
-    (TWO_CONTEXTS, WIRE, &["0:a=01"], 2, b"MissingInput 1:a"),
-];
+wire 2 a=11 => 10,
+#C BLIFWW 1 P 2 L 2
+#C BLIFWW IN 0 0 a
+#C BLIFWW OUT 2 0 y
+
+wire 2 a=11 => NotQuiet 1 0 0
+#C BLIFWW 1 P 1 L 2
+#C BLIFWW IN 0 0 a
+#C BLIFWW OUT 2 0 y
+
+wire_down 2 a=11 => 11,
+#C BLIFWW 1 P 4 L 2
+#C BLIFWW IN 0 0 a
+#C BLIFWW OUT 0 2 y
+
+wire_down 2 a=11 => 11,
+#C BLIFWW 1 P 3 L 2
+#C BLIFWW IN 0 0 a
+#C BLIFWW OUT 0 2 y
+
+wire_down 2 a=11 => 10,
+#C BLIFWW 1 P 2 L 2
+#C BLIFWW IN 0 0 a
+#C BLIFWW OUT 0 2 y
+
+wire_down 2 a=11 => NotQuiet 1 0 1
+#C BLIFWW 1 P 1 L 1
+#C BLIFWW IN 0 1 a
+#C BLIFWW OUT 0 2 y
+
+or 2 a=01 => NotQuiet 32 9 8 -- an empty cell, a cell that another input lights, and no output
+#C BLIFWW 1 P 32 L 32
+#C BLIFWW IN 9 8 a
+#C BLIFWW OUT 32 8 y
+
+wire 2 a=10 b=10 => 00,
+#C BLIFWW 1 P 4 L 2
+#C BLIFWW IN 0 0 a
+#C BLIFWW IN 1 0 b
+#C BLIFWW OUT 2 0 y
+
+wire 2 a=11 => NotQuiet 1 0 0
+#C BLIFWW 1 P 1 L 0
+#C BLIFWW IN 0 0 a
+
+wire 2 1:a=01 0:a=10 => 10,00,01,00, -- two contexts on one wire, on a gate, and with an empty cell
+#C BLIFWW 1 P 64 L 2 C 2
+#C BLIFWW IN 0 0 a
+#C BLIFWW OUT 2 0 y
+#C BLIFWW OUT 0 0 z
+
+or 3 0:a=100 0:b=010 1:a=001 1:b=001 => 110,001,
+#C BLIFWW 1 P 64 L 32 C 2
+#C BLIFWW IN 0 8 a
+#C BLIFWW IN 0 24 b
+#C BLIFWW OUT 32 8 y
+
+or 2 0:a=11 0:b=01 1:a=11 1:b=11 => NotQuiet 32 9 8
+#C BLIFWW 1 P 64 L 32 C 2
+#C BLIFWW IN 0 8 a
+#C BLIFWW IN 9 8 b
+#C BLIFWW OUT 32 8 y
+
+wire 2 a=10 => 10, -- the second bit is dark, or nothing is seen
+#C BLIFWW 1 P 4294967294 L 2
+#C BLIFWW IN 0 0 a
+#C BLIFWW OUT 2 0 y
+
+wire 2 a=10 => 
+#C BLIFWW 1 P 4294967294 L 2
+#C BLIFWW IN 0 0 a
+
+ring 2 a=10 => -- a ring without outputs, whose last injection comes long before the last generation, and one that misses
+#C BLIFWW 1 P 4294967294 L 2
+#C BLIFWW IN 1 2 a
+
+ring 2 a=10 b=01 => NotQuiet 64 1 1
+#C BLIFWW 1 P 64 L 2
+#C BLIFWW IN 1 2 a
+#C BLIFWW IN 1 1 b
+
+or 4 b=0101 a=0011 => 0111, -- a gate, and one head and each generation up to 32
+#C BLIFWW 1 P 32 L 32
+#C BLIFWW IN 0 8 a
+#C BLIFWW IN 0 24 b
+#C BLIFWW OUT 32 8 y
+
+or 33 a=100000000000000000000000000000000 b=000000000000000000000000000000000 => 000000000000000000000000000000001,
+#C BLIFWW 1 P 1 L 0
+#C BLIFWW IN 0 8 a
+#C BLIFWW IN 0 24 b
+#C BLIFWW OUT 32 8 y
+
+wire 2 a=11 => TooFar 4294967298 -- past the greatest generation
+#C BLIFWW 1 P 4294967296 L 2
+#C BLIFWW IN 0 0 a
+#C BLIFWW OUT 2 0 y
+
+wire 2 0:a=10 1:a=00 => TooFar 4294967297
+#C BLIFWW 1 P 4294967264 L 1 C 2
+#C BLIFWW IN 0 0 a
+#C BLIFWW OUT 2 0 y
+
+wire 2 a=b=10 => 10, -- a name with an equals sign
+#C BLIFWW 1 P 4 L 2
+#C BLIFWW IN 0 0 a=b
+#C BLIFWW OUT 2 0 y
+
+wire 2 a=01 b=0 => BadLength b=0 -- first faults
+#C BLIFWW 1 P 4 L 2
+#C BLIFWW IN 0 0 a
+#C BLIFWW IN 1 0 b
+#C BLIFWW OUT 2 0 y
+
+wire 2 a=01 => MissingInput b
+#C BLIFWW 1 P 4 L 2
+#C BLIFWW IN 0 0 a
+#C BLIFWW IN 1 0 b
+#C BLIFWW OUT 2 0 y
+
+wire 2 a=01 a=01 b=01 => TwiceInput a=01
+#C BLIFWW 1 P 4 L 2
+#C BLIFWW IN 0 0 a
+#C BLIFWW IN 1 0 b
+#C BLIFWW OUT 2 0 y
+
+wire 2 a01 b=0 => NoEquals a01
+#C BLIFWW 1 P 4 L 2
+#C BLIFWW IN 0 0 a
+#C BLIFWW IN 1 0 b
+#C BLIFWW OUT 2 0 y
+
+wire 2 c=2 b => UnknownInput c=2
+#C BLIFWW 1 P 4 L 2
+#C BLIFWW IN 0 0 a
+#C BLIFWW IN 1 0 b
+#C BLIFWW OUT 2 0 y
+
+wire 2 a=012 b=01 => BadBit a=012
+#C BLIFWW 1 P 4 L 2
+#C BLIFWW IN 0 0 a
+#C BLIFWW IN 1 0 b
+#C BLIFWW OUT 2 0 y
+
+wire 2 a=01 a=2 => TwiceInput a=2
+#C BLIFWW 1 P 4 L 2
+#C BLIFWW IN 0 0 a
+#C BLIFWW IN 1 0 b
+#C BLIFWW OUT 2 0 y
+
+wire 2 a=0 a=01 => BadLength a=0
+#C BLIFWW 1 P 4 L 2
+#C BLIFWW IN 0 0 a
+#C BLIFWW IN 1 0 b
+#C BLIFWW OUT 2 0 y
+
+wire 2 => MissingInput a
+#C BLIFWW 1 P 4 L 2
+#C BLIFWW IN 0 0 a
+#C BLIFWW IN 1 0 b
+#C BLIFWW OUT 2 0 y
+
+wire 2 a=01 => BadContext a=01
+#C BLIFWW 1 P 64 L 2 C 2
+#C BLIFWW IN 0 0 a
+
+wire 2 0:a=01 => MissingInput 1:a
+#C BLIFWW 1 P 64 L 2 C 2
+#C BLIFWW IN 0 0 a";
+
+// The pattern of a name.
+fn pattern_named(name: &str) -> &'static [u8] {
+    match name {
+        "wire" => WIRE,
+        "wire_down" => WIRE_DOWN,
+        "ring" => RING,
+        _ => OR_GATE,
+    }
+}
+
+// What is asked and what is said, of a case's first line.
+fn cut(head: &str) -> Option<(&str, &str)> {
+    let (asked, said) = head.split_once(" =>")?;
+    match said.split_once(" -- ") {
+        Some((said, _)) => Some((asked, said)),
+        None => Some((asked, said)),
+    }
+}
+
+// Fails where what a case asks shows something else than is said.
+fn expect_case(alloc: Global, asked: &str, said: &str, table: &str) -> Result<(), Fail> {
+    let mut parts = asked.split_ascii_whitespace();
+    let pattern = pattern_named(parts.next().unwrap_or(""));
+    let cycles = parts.next().unwrap_or("").parse::<usize>().unwrap_or(0);
+    let mut words = Vec::new(alloc);
+    for word in parts {
+        words.push(word)?;
+    }
+    let table = joined(alloc, &[table.as_bytes(), b"\n"])?;
+    let want = said.trim_ascii_start().as_bytes();
+    expect_shown(alloc, &table, pattern, &words, cycles, want)
+}
+
+// Fails where a case is none, or does not hold.
+fn expect_run(alloc: Global, case: &str) -> Result<(), Fail> {
+    let Some((head, table)) = case.split_once('\n') else {
+        return Err(Fail::new(case));
+    };
+    match cut(head) {
+        Some((asked, said)) => expect_case(alloc, asked, said, table),
+        None => Err(Fail::new(head)),
+    }
+}
 
 #[test]
 fn patterns_are_driven(rt: HostRuntime) -> Result<(), Fail> {
-    for (table, pattern, words, cycles, want) in RUNS {
-        expect_shown(rt.alloc(), table, pattern, words, *cycles, want)?;
+    for case in RUNS.split("\n\n") {
+        expect_run(rt.alloc(), case)?;
     }
     Ok(())
 }

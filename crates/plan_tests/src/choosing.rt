@@ -50,35 +50,48 @@ const FOUR_CELLS: Written<'static> = Written {
 // The number of a list, and the lanes and the columns of its plan.
 type Choice = (usize, u32, usize);
 
-// Lists in an order, and the choice of the one that has the smallest plan.
-const CHOICES: &[(&[Written<'static>], Choice)] = &[
-    (&[ONE_CELL], (0, 2, 1)),
-    (&[THREE_CELLS], (0, 4, 6)),
-    (&[FOUR_CELLS], (0, 4, 7)),
-    (&[ONE_CELL, THREE_CELLS], (0, 2, 1)),
-    (&[THREE_CELLS, ONE_CELL], (1, 2, 1)),
-    (&[THREE_CELLS, FOUR_CELLS], (0, 4, 6)),
-    (&[FOUR_CELLS, THREE_CELLS], (1, 4, 6)),
-    (&[THREE_CELLS, ONE_CELL, FOUR_CELLS], (1, 2, 1)),
-    (&[FOUR_CELLS, THREE_CELLS, ONE_CELL], (2, 2, 1)),
-    (&[ONE_CELL, FOUR_CELLS, THREE_CELLS], (0, 2, 1)),
+// Lists in an order, by the numbers of their cells, and the choice of the one that has the
+// smallest plan.
+const CHOICES: &[(&[u8], Choice)] = &[
+    (b"1", (0, 2, 1)),
+    (b"3", (0, 4, 6)),
+    (b"4", (0, 4, 7)),
+    (b"13", (0, 2, 1)),
+    (b"31", (1, 2, 1)),
+    (b"34", (0, 4, 6)),
+    (b"43", (1, 4, 6)),
+    (b"314", (1, 2, 1)),
+    (b"431", (2, 2, 1)),
+    (b"143", (0, 2, 1)),
 ];
 
+// The list of one, three or four cells.
+fn list_by(alloc: Global, cells: u8) -> Result<CellList, Fail>
+    ensures { IfOk result IsPlannable }
+{
+    let written = match cells {
+        b'1' => &ONE_CELL,
+        b'3' => &THREE_CELLS,
+        _ => &FOUR_CELLS,
+    };
+    list_of(alloc, written)
+}
+
 // Puts a list at the end.
-fn push_list(alloc: Global, lists: &mut Vec<CellList>, written: &Written<'_>) -> Result<(), Fail>
+fn push_list(alloc: Global, lists: &mut Vec<CellList>, cells: u8) -> Result<(), Fail>
     requires { All IsPlannable lists.old.items }
     ensures { OnOk result (All IsPlannable lists.new.items) }
 {
-    let list = list_of(alloc, written)?;
+    let list = list_by(alloc, cells)?;
     Ok(lists.push(list)?)
 }
 
-fn lists_of(alloc: Global, written: &[Written<'_>]) -> Result<Vec<CellList>, Fail>
+fn lists_of(alloc: Global, numbers: &[u8]) -> Result<Vec<CellList>, Fail>
     ensures { IfOk result (λ lists. All IsPlannable lists.items) }
 {
     let mut lists = Vec::new(alloc);
-    for one in written {
-        push_list(alloc, &mut lists, one)?;
+    for cells in numbers {
+        push_list(alloc, &mut lists, *cells)?;
     }
     Ok(lists)
 }
@@ -92,22 +105,23 @@ fn choice_of(alloc: Global, lists: &[CellList]) -> Result<Choice, Fail>
     Ok((chosen.list, chosen.plan.lanes, chosen.plan.columns.len()))
 }
 
-fn choice(alloc: Global, written: &[Written<'_>]) -> Result<Choice, Fail> {
-    let lists = lists_of(alloc, written)?;
+fn choice(alloc: Global, numbers: &[u8]) -> Result<Choice, Fail> {
+    let lists = lists_of(alloc, numbers)?;
     choice_of(alloc, &lists)
 }
 
-fn expect_choice(made: Choice, wanted: Choice) -> Result<(), Fail> {
+fn expect_choice(alloc: Global, numbers: &[u8], wanted: Choice) -> Result<(), Fail> {
+    let made = choice(alloc, numbers)?;
     if made == wanted {
         return Ok(());
     }
-    Err(Fail::new(format_args!("{made:?}, and not {wanted:?}")))
+    Err(Fail::new(format_args!("{numbers:?}: {made:?}, and not {wanted:?}")))
 }
 
 #[test]
 fn the_list_with_the_smallest_plan_is_kept(rt: HostRuntime) -> Result<(), Fail> {
-    for (lists, wanted) in CHOICES {
-        expect_choice(choice(rt.alloc(), lists)?, *wanted)?;
+    for (numbers, wanted) in CHOICES {
+        expect_choice(rt.alloc(), numbers, *wanted)?;
     }
     Ok(())
 }

@@ -1,7 +1,7 @@
 // What lists of cells give, cycle by cycle.
 ghost use Rattle.std.specs.Prelude.{◌≡◌, All, IfOk, OnOk, length};
 
-use crate::written::{Written, list_of, must};
+use crate::written::must;
 use cell_core::CellList;
 use cell_runs::run;
 use lists::List;
@@ -14,7 +14,10 @@ use ww_base::expect;
 fn stream_of(alloc: Global, letters: &[u8], cycles: usize) -> Result<Vec<bool>, Fail>
     ensures { IfOk result (λ stream. length stream.items ≡ cycles) }
 {
-    let stream: Vec<bool> = letters.iter().map(|letter| *letter == b'1').collect(alloc)?;
+    let mut stream = Vec::new(alloc);
+    for letter in letters {
+        stream.push(*letter == b'1')?;
+    }
     must(stream.len() == cycles)?;
     Ok(stream)
 }
@@ -73,7 +76,9 @@ fn shown_said(alloc: Global, list: &CellList, streams: &Streams) -> Result<Vec<u
     Ok(lines_of(alloc, shown.as_slice())?)
 }
 
-fn list_said(
+/// What a list gives at its outputs under streams of letters: a line for each output, with a letter
+/// for each cycle.
+pub fn list_said(
     alloc: Global,
     list: &CellList,
     ins: &[&[u8]],
@@ -81,17 +86,6 @@ fn list_said(
 ) -> Result<Vec<u8>, Fail> {
     let streams = streams_of(alloc, ins, cycles)?;
     shown_said(alloc, list, &streams)
-}
-
-/// What a list gives at its outputs under streams of letters: a line for each output, with a letter for each cycle.
-pub fn outputs_said(
-    alloc: Global,
-    written: &Written<'_>,
-    ins: &[&[u8]],
-    cycles: usize,
-) -> Result<Vec<u8>, Fail> {
-    let list = list_of(alloc, written)?;
-    list_said(alloc, &list, ins, cycles)
 }
 
 // Puts a line at the end of a text.

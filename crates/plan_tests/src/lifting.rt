@@ -1,7 +1,10 @@
 // The cells that the columns of plans make.
+ghost use Rattle.lane_core.specs.Plans.{IsAdmissible};
+
 use crate::written::{Written, must, plan_of_written};
 use cell_core::{Cell, CellList, Src};
 use circuit_plans::{cells_of, first_bits, starts_of_bits};
+use lane_core::Plan;
 use std::alloc::Global;
 use std::test::Fail;
 use ww_base::expect;
@@ -16,36 +19,64 @@ const PULSE: Written<'static> = Written {
     nets: &[],
 };
 
-// The cells of the plan of a list that is written down.
-fn lifted(alloc: Global, written: &Written<'_>) -> Result<CellList, Fail> {
-    let plan = plan_of_written(alloc, written)?;
-    match cells_of(alloc, &plan) {
-        Ok(list) => Ok(list),
-        Err(_) => Err(Fail::new("no cells")),
-    }
-}
-
 // What of a list is first found other than it is written down; its nets are not looked at.
 fn difference(list: &CellList, written: &Written<'_>) -> &'static str {
+    let cells = list.cells.as_slice() == written.cells;
+    let outs = list.outs.as_slice() == written.outs;
+    let latches = list.latches.as_slice() == written.latches;
+    let starts = list.starts.as_slice() == written.starts;
     if list.inputs != written.inputs {
         "inputs"
-    } else if list.cells.as_slice() != written.cells {
+    } else if !cells {
         "cells"
-    } else if list.outs.as_slice() != written.outs {
+    } else if !outs {
         "outputs"
-    } else if list.latches.as_slice() != written.latches {
+    } else if !latches {
         "latches"
-    } else if list.starts.as_slice() != written.starts {
+    } else if !starts {
         "starts"
     } else {
         "nothing"
     }
 }
 
+// In what the cells of a list's plan differ from the list, and whether the plan's loops start with
+// the bits of its latches.
+#[derive(Clone, Copy)]
+struct Found {
+    difference: &'static str,
+    starts: bool,
+}
+
+fn difference_in(alloc: Global, plan: &Plan, written: &Written<'_>) -> Result<&'static str, Fail>
+    requires { IsAdmissible plan.now }
+{
+    match cells_of(alloc, plan) {
+        Ok(list) => Ok(difference(&list, written)),
+        Err(_) => Err(Fail::new("no cells")),
+    }
+}
+
+fn found_in(alloc: Global, plan: &Plan, written: &Written<'_>) -> Result<Found, Fail>
+    requires { IsAdmissible plan.now }
+{
+    let difference = difference_in(alloc, plan, written)?;
+    let bits = first_bits(alloc, plan)?;
+    Ok(Found {
+        difference,
+        starts: bits.as_slice() == written.starts,
+    })
+}
+
+fn find(alloc: Global, written: &Written<'_>) -> Result<Found, Fail> {
+    let plan = plan_of_written(alloc, written)?;
+    found_in(alloc, &plan, written)
+}
+
 #[test]
 fn a_plan_makes_the_cells_of_its_list(rt: HostRuntime) -> Result<(), Fail> {
-    let list = lifted(rt.alloc(), &PULSE)?;
-    expect(difference(&list, &PULSE).as_bytes(), b"nothing")
+    let found = find(rt.alloc(), &PULSE)?;
+    expect(found.difference.as_bytes(), b"nothing")
 }
 
 // Whether of two loops on four lanes the second alone starts with 1.
@@ -54,19 +85,10 @@ fn second_starts(alloc: Global) -> Result<bool, Fail> {
     Ok(!starts.has(64, 40) && starts.has(64, 56) && starts.list.len() == 1)
 }
 
-// The bits with which the loops of a list's plan start.
-fn bits_of(alloc: Global, written: &Written<'_>) -> Result<Vec<bool>, Fail> {
-    let plan = plan_of_written(alloc, written)?;
-    match first_bits(alloc, &plan) {
-        Ok(bits) => Ok(bits),
-        Err(_) => Err(Fail::new("no bits")),
-    }
-}
-
 #[test]
 fn loops_start_where_they_enter(rt: HostRuntime) -> Result<(), Fail> {
-    must(second_starts(rt.alloc())?)?;
-    let bits = bits_of(rt.alloc(), &PULSE)?;
-    must(bits.as_slice() == PULSE.starts)?;
+    let second = second_starts(rt.alloc())?;
+    let found = find(rt.alloc(), &PULSE)?;
+    must(second && found.starts)?;
     Ok(())
 }

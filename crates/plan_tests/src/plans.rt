@@ -40,17 +40,38 @@ fn has_one_column(columns: &[Column], instrs: &[Instr]) -> bool {
     columns.len() == 1 && columns[0].instrs.as_slice() == instrs
 }
 
+// The lanes and the columns of a plan, and whether it is the OR.
+#[derive(Clone, Copy)]
+struct Shape {
+    lanes: u32,
+    columns: usize,
+    is_or: bool,
+}
+
+fn shape_in(plan: &Plan) -> Shape {
+    Shape {
+        lanes: plan.lanes,
+        columns: plan.columns.len(),
+        is_or: is_or(plan),
+    }
+}
+
+fn shape_of(alloc: Global, written: &Written<'_>) -> Result<Shape, Fail> {
+    let plan = plan_of_written(alloc, written)?;
+    Ok(shape_in(&plan))
+}
+
 #[test]
 fn an_or_takes_two_lanes_and_a_column(rt: HostRuntime) -> Result<(), Fail> {
-    let plan = plan_of_written(rt.alloc(), &OR)?;
-    must(is_or(&plan))?;
+    let shape = shape_of(rt.alloc(), &OR)?;
+    must(shape.is_or)?;
     Ok(())
 }
 
 #[test]
 fn nothing_takes_no_lane(rt: HostRuntime) -> Result<(), Fail> {
-    let plan = plan_of_written(rt.alloc(), &NOTHING)?;
-    must(plan.lanes == 0 && plan.columns.len() == 0)?;
+    let shape = shape_of(rt.alloc(), &NOTHING)?;
+    must(shape.lanes == 0 && shape.columns == 0)?;
     Ok(())
 }
 

@@ -37,6 +37,14 @@ impl Cycle<'_> {
         }
     }
 
+    // The bit of the source at a place of a list of them.
+    fn read_at(self, sources: &[Src], i: usize) -> bool {
+        match sources.get(i) {
+            Some(src) => self.read(*src),
+            None => false,
+        }
+    }
+
     fn make(self, cell: Cell) -> bool {
         match cell {
             Cell::Or(a, b) => self.read(a) || self.read(b),
@@ -84,8 +92,9 @@ fn entry(
     ensures { IfOk result (λ bits. length bits.items ≡ plan.now.lanes) }
 {
     let mut bits = vec![in alloc; false; plan.lanes as usize]?;
-    for (lane, bit) in plan.ins.as_slice().iter().zip(inputs.iter()) {
-        put(&mut bits, *lane, *bit);
+    let lanes = plan.ins.as_slice();
+    for i in 0..lanes.len() {
+        put(&mut bits, lanes[i], bit_or_dark(inputs, i));
     }
     let mut lane = plan.lanes.saturating_sub(plan.latches);
     for bit in loops {
@@ -113,10 +122,10 @@ fn leave(
 }
 
 fn outs_agree(list: &CellList, plan: &Plan, cycle: Cycle<'_>, end: &[bool]) -> bool {
-    let ports = plan.outs.as_slice().iter().zip(list.outs.as_slice().iter());
-    let mut same = plan.outs.len() == list.outs.len();
-    for (lane, src) in ports {
-        same = same && bit_at(end, *lane) == cycle.read(*src);
+    let lanes = plan.outs.as_slice();
+    let mut same = lanes.len() == list.outs.len();
+    for i in 0..lanes.len() {
+        same &= bit_at(end, lanes[i]) == cycle.read_at(list.outs.as_slice(), i);
     }
     same
 }
@@ -144,11 +153,11 @@ fn nets_agree(
     requires admissible { IsAdmissible plan.now }
     requires wide { length entry.now ≡ plan.now.lanes }
 {
-    let nets = plan.nets.as_slice().iter().zip(list.nets.as_slice().iter());
-    let mut same = plan.nets.len() == list.nets.len();
-    for (place, src) in nets {
-        let bit = net_bit(alloc, plan, *place, entry)?;
-        same = same && bit == cycle.read(*src);
+    let places = plan.nets.as_slice();
+    let mut same = places.len() == list.nets.len();
+    for i in 0..places.len() {
+        let bit = net_bit(alloc, plan, places[i], entry)?;
+        same &= bit == cycle.read_at(list.nets.as_slice(), i);
     }
     Ok(same)
 }
@@ -384,6 +393,14 @@ fn is_one(stream: &[u8], cycle: usize) -> bool {
     }
 }
 
+// Whether the stream at a place has a 1 in the cycle.
+fn shows_one(streams: &[&[u8]], i: usize, cycle: usize) -> bool {
+    match streams.get(i) {
+        Some(stream) => is_one(stream, cycle),
+        None => false,
+    }
+}
+
 // The bits of streams in a cycle, one letter of each stream.
 fn letters(alloc: Global, streams: &[&[u8]], cycle: usize) -> Result<Vec<bool>, AllocError> {
     let mut bits = Vec::new(alloc);
@@ -396,8 +413,9 @@ fn letters(alloc: Global, streams: &[&[u8]], cycle: usize) -> Result<Vec<bool>, 
 // Whether the outputs show the letters of streams in a cycle.
 fn outs_show(plan: &Plan, end: &[bool], streams: &[&[u8]], cycle: usize) -> bool {
     let mut same = plan.outs.len() == streams.len();
-    for (lane, stream) in plan.outs.as_slice().iter().zip(streams.iter()) {
-        same = same && bit_at(end, *lane) == is_one(stream, cycle);
+    let lanes = plan.outs.as_slice();
+    for i in 0..lanes.len() {
+        same &= bit_at(end, lanes[i]) == shows_one(streams, i, cycle);
     }
     same
 }

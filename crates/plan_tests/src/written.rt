@@ -49,9 +49,12 @@ fn are_in_order(cells: &[Cell], inputs: usize, latches: usize) -> bool
 fn are_there(sources: &[Src], inputs: usize, latches: usize, cells: usize) -> bool
     ensures { result ≡ are_there inputs latches cells sources.now }
 {
-    sources
-        .iter()
-        .all(|src| src.is_there(inputs, latches, cells))
+    for (i, src) in sources.iter().enumerate() {
+        if !src.is_there(inputs, latches, cells) {
+            return false;
+        }
+    }
+    true
 }
 
 // Fails where no list is written down, or a large one.
@@ -70,12 +73,17 @@ fn check(written: &Written<'_>) -> Result<(), &'static str>
 {
     let inputs = written.inputs as usize;
     let (latches, cells) = (written.starts.len(), written.cells.len());
-    must(are_in_order(written.cells, inputs, latches))?;
-    must(are_there(written.outs, inputs, latches, cells))?;
-    must(are_there(written.latches, inputs, latches, cells))?;
-    must(are_there(written.nets, inputs, latches, cells))?;
-    must(latches == written.latches.len())?;
-    must(written.inputs < 1000 && latches < 1000 && written.outs.len() < 1000 && cells < 1000)
+    let order = are_in_order(written.cells, inputs, latches);
+    let outs_there = are_there(written.outs, inputs, latches, cells);
+    let latches_there = are_there(written.latches, inputs, latches, cells);
+    let nets_there = are_there(written.nets, inputs, latches, cells);
+    let fit = latches == written.latches.len();
+    let few = written.inputs < 1000 && latches < 1000 && written.outs.len() < 1000 && cells < 1000;
+    if order && outs_there && latches_there && nets_there && fit && few {
+        Ok(())
+    } else {
+        Err("it does not hold")
+    }
 }
 
 /// The list that is written down.

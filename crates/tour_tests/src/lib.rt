@@ -5,3 +5,5 @@
 mod page;
 #[cfg(test)]
 mod stages;
+#[cfg(test)]
+mod writing;

@@ -4,14 +4,16 @@ ghost use Rattle.netlist_text.specs.NetlistText.{IsNetlist};
 ghost use Rattle.netlist_text.specs.Parts.{AreParts};
 
 use crate::page::{CELLS, FLAT, LANES};
-use cell_core::{CellList, Src};
+use crate::writing::Page;
+use cell_core::CellList;
 use cover_mapper::map;
 use flat_designs::{flat_is_sound, flat_is_weighed};
 use lane_core::{Column, Instr, Plan};
-use netlist_core::{Flat, FlatLatch, FlatPort, NetId, Node};
+use netlist_core::{Flat, FlatLatch, FlatPort, Node};
 use netlist_plans::plan_netlist;
 use netlist_text::{Netlist, netlist_of};
-use std::alloc::{AllocError, Global};
+use std::alloc::Global;
+use std::fmt::Debug;
 use std::test::Fail;
 
 // The netlist of examples/toggle.blif.
@@ -19,118 +21,78 @@ const TOGGLE: &[u8] =
     b".model toggle\n.inputs en\n.outputs q\n.latch n q 0\n.names en q n\n10 1\n01 1\n.end\n";
 
 // Puts the name of the net at a position on the page, or nothing where there is none.
-fn push_name_at(page: &mut String, flat: &Flat, net: usize) -> Result<(), AllocError> {
+fn push_name(page: &mut Page, flat: &Flat, net: usize) {
     if let Some(known) = flat.nets.as_slice().get(net) {
-        for byte in known.name.as_slice() {
-            page.push(*byte as char)?;
-        }
+        page.push_bytes(known.name.as_slice());
     }
-    Ok(())
 }
 
-// Puts the name of a net on the page.
-fn push_name(page: &mut String, flat: &Flat, net: NetId) -> Result<(), AllocError> {
-    push_name_at(page, flat, net.0 as usize)
-}
-
-fn push_node(page: &mut String, flat: &Flat, number: usize, node: &Node) -> Result<(), AllocError> {
-    write!(page, "cover {number}: ")?;
-    push_name(page, flat, node.out)?;
-    page.push_str(" of")?;
+fn push_node(page: &mut Page, flat: &Flat, number: usize, node: &Node) {
+    page.push_start("cover", number);
+    push_name(page, flat, node.out.0 as usize);
+    page.push_str(" of");
     for net in node.ins.as_slice() {
-        page.push(' ')?;
-        push_name(page, flat, *net)?;
+        page.push_str(" ");
+        push_name(page, flat, net.0 as usize);
     }
-    writeln!(page, ", line {}", node.line)
+    writeln!(page, ", line {}", node.line);
 }
 
 // Puts a line for a net on the page, with what the net is and its number there.
-fn push_line(
-    page: &mut String,
-    flat: &Flat,
-    what: &str,
-    number: usize,
-    net: usize,
-) -> Result<(), AllocError> {
-    write!(page, "{what} {number}: ")?;
-    push_name_at(page, flat, net)?;
-    page.push('\n')
+fn push_line(page: &mut Page, flat: &Flat, what: &str, number: usize, net: usize) {
+    page.push_start(what, number);
+    push_name(page, flat, net);
+    page.push_str("\n");
 }
 
-fn push_nets(page: &mut String, flat: &Flat) -> Result<(), AllocError> {
-    for number in 0..flat.nets.len() {
-        push_line(page, flat, "net", number, number)?;
-    }
-    Ok(())
-}
-
-fn push_ports(
-    page: &mut String,
-    flat: &Flat,
-    what: &str,
-    ports: &[FlatPort],
-) -> Result<(), AllocError> {
+fn push_ports(page: &mut Page, flat: &Flat, what: &str, ports: &[FlatPort]) {
     for (number, port) in ports.iter().enumerate() {
-        push_line(page, flat, what, number, port.net.0 as usize)?;
+        push_line(page, flat, what, number, port.net.0 as usize);
     }
-    Ok(())
 }
 
-fn push_nodes(page: &mut String, flat: &Flat) -> Result<(), AllocError> {
-    for (number, node) in flat.nodes.as_slice().iter().enumerate() {
-        push_node(page, flat, number, node)?;
-    }
-    Ok(())
-}
-
-fn push_latch(
-    page: &mut String,
-    flat: &Flat,
-    number: usize,
-    latch: &FlatLatch,
-) -> Result<(), AllocError> {
-    write!(page, "latch {number}: ")?;
-    push_name(page, flat, latch.input)?;
-    page.push_str(" to ")?;
-    push_name(page, flat, latch.output)?;
-    writeln!(page, ", init {}", latch.init)
-}
-
-fn push_latches(page: &mut String, flat: &Flat) -> Result<(), AllocError> {
-    for (number, latch) in flat.latches.as_slice().iter().enumerate() {
-        push_latch(page, flat, number, latch)?;
-    }
-    Ok(())
+fn push_latch(page: &mut Page, flat: &Flat, number: usize, latch: &FlatLatch) {
+    page.push_start("latch", number);
+    push_name(page, flat, latch.input.0 as usize);
+    page.push_str(" to ");
+    push_name(page, flat, latch.output.0 as usize);
+    writeln!(page, ", init {}", latch.init);
 }
 
 // The nets of a flat netlist, its ports, covers and latches.
-fn push_flat(page: &mut String, flat: &Flat) -> Result<(), AllocError> {
-    writeln!(page, "weight {}", flat.weight)?;
-    push_nets(page, flat)?;
-    push_ports(page, flat, "input", flat.ins.as_slice())?;
-    push_ports(page, flat, "output", flat.outs.as_slice())?;
-    push_nodes(page, flat)?;
-    push_latches(page, flat)
+fn push_flat(page: &mut Page, flat: &Flat) {
+    writeln!(page, "weight {}", flat.weight);
+    for net in 0..flat.nets.len() {
+        push_line(page, flat, "net", net, net);
+    }
+    push_ports(page, flat, "input", flat.ins.as_slice());
+    push_ports(page, flat, "output", flat.outs.as_slice());
+    for (number, node) in flat.nodes.as_slice().iter().enumerate() {
+        push_node(page, flat, number, node);
+    }
+    for (number, latch) in flat.latches.as_slice().iter().enumerate() {
+        push_latch(page, flat, number, latch);
+    }
 }
 
-fn push_sources(page: &mut String, what: &str, sources: &[Src]) -> Result<(), AllocError> {
-    for (number, source) in sources.iter().enumerate() {
-        writeln!(page, "{what} {number}: {source:?}")?;
+// Puts a line for each item on the page.
+fn push_items<T: Debug>(page: &mut Page, what: &str, items: &[T]) {
+    for (number, item) in items.iter().enumerate() {
+        page.push_start(what, number);
+        writeln!(page, "{item:?}");
     }
-    Ok(())
 }
 
 // The cells, and the sources of the outputs, of the latches' data and of the nets.
-fn push_list(page: &mut String, list: &CellList) -> Result<(), AllocError> {
-    for (number, cell) in list.cells.as_slice().iter().enumerate() {
-        writeln!(page, "cell {number}: {cell:?}")?;
-    }
-    push_sources(page, "output", list.outs.as_slice())?;
-    push_sources(page, "latch", list.latches.as_slice())?;
-    push_sources(page, "net", list.nets.as_slice())
+fn push_list(page: &mut Page, list: &CellList) {
+    push_items(page, "cell", list.cells.as_slice());
+    push_items(page, "output", list.outs.as_slice());
+    push_items(page, "latch", list.latches.as_slice());
+    push_items(page, "net", list.nets.as_slice());
 }
 
-// What stands on a lane: nothing, the bit of the net at a position, or what a gate makes that no net names.
+// What stands on a lane: nothing, the bit of the net at a position, or what a gate makes that no
+// net names.
 #[derive(Clone, Copy)]
 enum Label {
     Nothing,
@@ -138,14 +100,14 @@ enum Label {
     Made(&'static str),
 }
 
-fn push_label(page: &mut String, flat: &Flat, label: Label) -> Result<(), AllocError> {
-    page.push(' ')?;
+fn push_label(page: &mut Page, flat: &Flat, label: Label) {
+    page.push_str(" ");
     match label {
         Label::Nothing => {}
-        Label::Net(net) => push_name_at(page, flat, net)?,
-        Label::Made(gate) => page.push_str(gate)?,
+        Label::Net(net) => push_name(page, flat, net),
+        Label::Made(gate) => page.push_str(gate),
     }
-    page.push_str(" |")
+    page.push_str(" |");
 }
 
 // What an instruction leaves on its two lanes, of what stood there.
@@ -197,96 +159,63 @@ fn name(labels: &mut [Label], plan: &Plan, after: Option<u64>) {
     }
 }
 
-fn push_row(page: &mut String, flat: &Flat, labels: &[Label]) -> Result<(), AllocError> {
+fn push_row(page: &mut Page, flat: &Flat, labels: &[Label]) {
     for label in labels {
-        push_label(page, flat, *label)?;
+        push_label(page, flat, *label);
     }
-    page.push('\n')
+    page.push_str("\n");
 }
 
-fn push_column(page: &mut String, number: usize, column: &Column) -> Result<(), AllocError> {
-    write!(page, "| {number} |")?;
+fn push_column(page: &mut Page, number: usize, column: &Column) {
+    write!(page, "| {number} |");
     for instr in column.instrs.as_slice() {
-        write!(page, " {instr:?}")?;
+        write!(page, " {instr:?}");
     }
-    page.push_str(" |")
+    page.push_str(" |");
 }
 
-fn push_numbers(page: &mut String, lanes: u32) -> Result<(), AllocError> {
+fn push_head(page: &mut Page, lanes: u32) {
+    page.push_str("| column | instructions |");
     for lane in 0..lanes {
-        write!(page, " lane {lane} |")?;
+        write!(page, " lane {lane} |");
     }
-    Ok(())
-}
-
-fn push_rules(page: &mut String, lanes: u32) -> Result<(), AllocError> {
+    page.push_str("\n|---|---|");
     for _lane in 0..lanes {
-        page.push_str("---|")?;
+        page.push_str("---|");
     }
-    Ok(())
+    page.push_str("\n| before | |");
 }
 
-fn push_head(page: &mut String, lanes: u32) -> Result<(), AllocError> {
-    page.push_str("| column | instructions |")?;
-    push_numbers(page, lanes)?;
-    page.push_str("\n|---|---|")?;
-    push_rules(page, lanes)?;
-    page.push_str("\n| before | |")
-}
-
-// The columns, with what stands on the lanes after each; before the first these labels stand there.
-fn push_columns(
-    page: &mut String,
-    flat: &Flat,
-    plan: &Plan,
-    labels: &mut [Label],
-) -> Result<(), AllocError> {
+// The columns of a plan as a table: their instructions, and what stands on each lane after them.
+// The labels are of its lanes.
+fn push_plan(page: &mut Page, flat: &Flat, plan: &Plan, labels: &mut [Label]) {
+    push_head(page, plan.lanes);
+    name(labels, plan, None);
+    push_row(page, flat, labels);
     for (number, column) in plan.columns.as_slice().iter().enumerate() {
-        push_column(page, number, column)?;
+        push_column(page, number, column);
         step_all(labels, column);
         name(labels, plan, Some(number as u64));
-        push_row(page, flat, labels)?;
+        push_row(page, flat, labels);
     }
-    Ok(())
-}
-
-// The columns of a plan as a table: their instructions, and what stands on each lane after them. The labels are of its lanes.
-fn push_plan(
-    page: &mut String,
-    flat: &Flat,
-    plan: &Plan,
-    labels: &mut [Label],
-) -> Result<(), AllocError> {
-    push_head(page, plan.lanes)?;
-    name(labels, plan, None);
-    push_row(page, flat, labels)?;
-    push_columns(page, flat, plan, labels)
-}
-
-// Fails where a page is not the stage.
-fn expect_stage(page: &str, stage: &str) -> Result<(), Fail> {
-    if page == stage {
-        return Ok(());
-    }
-    Err(Fail::new(format_args!("{page}")))
 }
 
 fn check_flat(alloc: Global, flat: &Flat) -> Result<(), Fail> {
-    let mut page = String::new(alloc);
-    push_flat(&mut page, flat)?;
-    expect_stage(page.as_str(), FLAT)
+    let mut page = Page::new(alloc);
+    push_flat(&mut page, flat);
+    page.expect(FLAT)
 }
 
 fn check_list(alloc: Global, list: &CellList) -> Result<(), Fail> {
-    let mut page = String::new(alloc);
-    push_list(&mut page, list)?;
-    expect_stage(page.as_str(), CELLS)
+    let mut page = Page::new(alloc);
+    push_list(&mut page, list);
+    page.expect(CELLS)
 }
 
 fn check_lanes(alloc: Global, flat: &Flat, plan: &Plan, labels: &mut [Label]) -> Result<(), Fail> {
-    let mut page = String::new(alloc);
-    push_plan(&mut page, flat, plan, labels)?;
-    expect_stage(page.as_str(), LANES)
+    let mut page = Page::new(alloc);
+    push_plan(&mut page, flat, plan, labels);
+    page.expect(LANES)
 }
 
 fn check_plan(alloc: Global, flat: &Flat, plan: &Plan) -> Result<(), Fail> {

@@ -1,5 +1,5 @@
 // Bands of random patterns, moved in random orders, beside the plain step on the whole plane.
-ghost use Rattle.std.specs.Prelude.{◌≡◌, ◌<◌, length, IfOk};
+ghost use Rattle.std.specs.Prelude.{◌≡◌, ◌<◌, true, length, IfOk};
 ghost use Rattle.ww_rule.specs.Due.{AreInOrderFrom};
 ghost use Rattle.ww_rule.specs.Grid.{AreInBox};
 ghost use Rattle.ww_rule.specs.Injections.{AreInside};
@@ -97,6 +97,16 @@ fn random_drive(alloc: Global, dice: &mut Dice, width: u64) -> Result<Vec<Inject
     Ok(Vec::from_array(alloc, [first, first, next, never])?)
 }
 
+// Whether an injection is of a generation, and its cell in the plane.
+fn is_due(injection: &Injection, generation: u64, plane: &Plane) -> bool
+    ensures { result ≡ true →
+        (injection.now.x < plane.now.width) × (injection.now.y < plane.now.height) }
+{
+    injection.generation == generation as u128
+        && injection.x < plane.width
+        && injection.y < plane.height
+}
+
 // The cells of injections of a generation.
 fn due(
     alloc: Global,
@@ -108,7 +118,7 @@ fn due(
 {
     let mut cells = Vec::new(alloc);
     for i in drive {
-        if i.generation == generation as u128 && i.x < plane.width && i.y < plane.height {
+        if is_due(i, generation, plane) {
             cells.push((i.x, i.y))?;
         }
     }

@@ -2,5 +2,5 @@ use Rattle.std.specs.Prelude.{All}
 use Rattle.cell_plans.specs.PlanOf.{IsPlannable}
 use Rattle.plan_tests.proofs.choosing.lists_of.Given as goal
 
-abbrev pub invariant-loop-one : goal.invariant-loop-one
-invariant-loop-one l = All IsPlannable l.lists.items
+abbrev pub invariant-loop-cells : goal.invariant-loop-cells
+invariant-loop-cells l = All IsPlannable l.lists.items

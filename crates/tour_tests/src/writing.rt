@@ -1,0 +1,59 @@
+// A page of text, written part by part.
+use std::alloc::{AllocError, Global};
+use std::fmt::Display;
+use std::test::Fail;
+
+// A text, and whether memory was refused to a part of it.
+#[derive(Drop)]
+pub struct Page {
+    text: String,
+    is_cut: bool,
+}
+
+impl Page {
+    pub fn new(alloc: Global) -> Page {
+        Page {
+            text: String::new(alloc),
+            is_cut: false,
+        }
+    }
+
+    pub fn push_str(&mut self, part: &str) {
+        if self.text.push_str(part).is_err() {
+            self.is_cut = true;
+        }
+    }
+
+    // Puts a character for each byte on the page.
+    pub fn push_bytes(&mut self, part: &[u8]) {
+        for byte in part {
+            if self.text.push(*byte as char).is_err() {
+                self.is_cut = true;
+            }
+        }
+    }
+
+    // What `write!` and `writeln!` call.
+    pub fn write_fmt<D: Display + Drop>(&mut self, part: D) {
+        if self.text.write_fmt(part).is_err() {
+            self.is_cut = true;
+        }
+    }
+
+    // Begins a line with what it is of, and the number of that.
+    pub fn push_start(&mut self, what: &str, number: usize) {
+        write!(self, "{what} {number}: ");
+    }
+
+    // Fails where a part of the page is missing, or the page is not the stage.
+    pub fn expect(&self, stage: &str) -> Result<(), Fail> {
+        let page = self.text.as_str();
+        if self.is_cut {
+            Err(Fail::from(AllocError))
+        } else if page == stage {
+            Ok(())
+        } else {
+            Err(Fail::new(page))
+        }
+    }
+}
