@@ -54,8 +54,8 @@ pub record MakesGate (old new : Lanes) (gate : NumberedCell) : Type 0 where
   pub exchanged : GateExchanged old.tags.items new.tags.items gate (next_value old)
   pub made : length new.made.items ≡ length old.made.items + 1
 
--- all that a job asks for is placed, by so many instructions at most: its gates, its ports, and of these the loops on the lowest lanes
-pub record ArePlaced (job : Job) (loops : ℕ) (lanes : Lanes) : Type 0 where
+-- lanes place all that a job asks for, by so many instructions at most: its gates, its ports, and of these the loops on the lowest lanes
+pub record PlacesJob (job : Job) (loops : ℕ) (lanes : Lanes) : Type 0 where
   pub job_is : lanes.job.now ≡ job
   pub long : length lanes.tags.items ≡ length job.start
   pub made : length lanes.made.items ≡ length job.gates

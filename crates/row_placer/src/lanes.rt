@@ -33,7 +33,7 @@ pub struct Lanes<'a> {
 }
 
 impl<'a> Lanes<'a> {
-    ghost use Rattle.row_placer.specs.Steps.{KeepsGates, AddsInstrs, AddsAtMost, MovesTags, CopiesTag, IsNextGate, EndsWithNextGate, MakesGate, ArePlaced, next_value};
+    ghost use Rattle.row_placer.specs.Steps.{KeepsGates, AddsInstrs, AddsAtMost, MovesTags, CopiesTag, IsNextGate, EndsWithNextGate, MakesGate, PlacesJob, next_value};
 
     /// The lanes as they are at the start.
     pub fn new(alloc: Global, job: &'a Job) -> Result<Lanes<'a>, PlaceError>
@@ -62,7 +62,7 @@ impl<'a> Lanes<'a> {
         left: &mut [u32],
     ) -> Result<Lanes<'a>, PlaceError>
         requires { IsRunnable job.now loops left.old }
-        ensures { IfOk result (ArePlaced job.now loops) }
+        ensures { IfOk result (PlacesJob job.now loops) }
     {
         let mut lanes = Lanes::new(alloc, job)?;
         lanes.place_gates(left)?;
