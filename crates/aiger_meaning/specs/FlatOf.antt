@@ -1,5 +1,6 @@
--- The flat netlist of a circuit: a net for constant 0 and for each input, latch and gate, and one more for what each latch reads next and
--- for each output. Each net is a class of its own, by its position. A gate is a cover of one row, which has a `0` for each literal that is odd.
+-- The flat netlist of a circuit: a net for constant 0 and for each input, latch and gate, and one
+-- more for what each latch reads next and for each output. Each net is a class of its own, by its
+-- position. A gate is a cover of one row, which has a `0` for each literal that is odd.
 use Rattle.std.specs.Prelude.{ℕ, suc, ◌≡◌, ◌==◌, ◌+◌, ◌%◌, true, false, cond, List, [], ◌∷◌, ◌++◌, length, map, replicate, None}
 use Rattle.std.specs.List.{position_or_len, range_with_len}
 use Rattle.netlist_core.specs.declared.flat.NetId.{NetId}
@@ -15,7 +16,8 @@ use Rattle.aiger_text.specs.EntryFaults.{even}
 use Rattle.aiger_text.specs.SoundAig.{definitions, sides_of, input_names, output_names}
 use Rattle.aiger_meaning.specs.Circuit.{aig_weight}
 
--- the literals that have a net of their own, in the order of the nets: constant 0, the inputs, the latches, the left sides
+-- the literals that have a net of their own, in the order of the nets: constant 0, the inputs, the
+-- latches, the left sides
 abbrev pub own_literals : Aig → List ℕ
 own_literals aig = 0 ∷ definitions aig
 
@@ -26,12 +28,15 @@ net_of_literal aig lit = position_or_len (λ own. own == even lit) (own_literals
 abbrev pub net_id : ℕ → NetId
 net_id n = record { 0 = n }
 
--- what the nodes read, each with its output on the next net: the gates, and then a buffer for what each latch reads next, and for each output
+-- what the nodes read, each with its output on the next net: the gates, and then a buffer for what
+-- each latch reads next, and for each output
 abbrev pub buffer : ℕ → List ℕ
 buffer lit = lit ∷ []
 
 abbrev pub node_reads : Aig → List (List ℕ)
-node_reads aig = map sides_of aig.ands ++ map buffer (map (λ (latch : AigLatch). latch.next) aig.latches ++ aig.outputs)
+node_reads aig =
+    map sides_of aig.ands ++ map buffer
+      (map (λ (latch : AigLatch). latch.next) aig.latches ++ aig.outputs)
 
 -- the character of a row under which a literal's net stands
 abbrev pub row_character : ℕ → ℕ
@@ -39,7 +44,9 @@ row_character lit = cond (lit % 2 == 0) 49 48
 
 -- a node that is 1 where all these literals are
 abbrev pub node_of : Aig → List ℕ → ℕ → Node
-node_of aig lits out = record { line = 0; ins = map (λ lit. net_id (net_of_literal aig lit)) lits; out = net_id out; rows = map row_character lits ∷ []; on = true }
+node_of aig lits out =
+    record { line = 0; ins = map (λ lit. net_id (net_of_literal aig lit)) lits; out = net_id out;
+      rows = map row_character lits ∷ []; on = true }
 
 abbrev pub nodes_from : Aig → ℕ → List (List ℕ) → List Node
 nodes_from aig n [] = []
@@ -71,7 +78,8 @@ latch_between input output latch = record {
 
 abbrev pub latches_from : ℕ → ℕ → List AigLatch → List FlatLatch
 latches_from input output [] = []
-latches_from input output (latch ∷ latches) = latch_between input output latch ∷ latches_from (suc input) (suc output) latches
+latches_from input output (latch ∷ latches) =
+    latch_between input output latch ∷ latches_from (suc input) (suc output) latches
 
 abbrev pub port_at : ℕ → FlatPort
 port_at net = record { line = 0; net = net_id net }
@@ -81,7 +89,9 @@ ports_from net count = map port_at (range_with_len net count)
 
 -- only the nets of ports have names
 abbrev pub net_names : Aig → List Name
-net_names aig = [] ∷ (input_names aig ++ (replicate (length aig.latches + length aig.ands + length aig.latches) [] ++ output_names aig))
+net_names aig =
+    [] ∷ (input_names aig ++ (replicate
+      (length aig.latches + length aig.ands + length aig.latches) [] ++ output_names aig))
 
 abbrev pub nets_from : ℕ → List Name → List FlatNet
 nets_from n [] = []

@@ -7,13 +7,15 @@ use Rattle.aiger_text.specs.declared.aig.Aig.{Aig}
 use Rattle.aiger_text.specs.SoundAig.{input_names, output_names}
 use Rattle.aiger_meaning.specs.Circuit.{IsAigValuation, aig_start_bits, aig_state_after, aig_output_bits, aig_weight}
 
--- under bits of the circuit and bits of the netlist's classes outputs are the same, and so is the next state
+-- under bits of the circuit and bits of the netlist's classes outputs are the same, and so is the
+-- next state
 pub record AreSameCycle (aig : Aig) (flat : Flat) (bits class_bits : ℕ → Bool) : Type 0 where
   pub outputs : flat_output_bits flat class_bits ≡ aig_output_bits aig bits
   pub next : flat_state_after flat class_bits ≡ aig_state_after aig bits
 
--- The flat netlist is sound, and within its weight, which is the circuit's; tables do not list its nets. Its ports have the circuit's names, it
--- starts as the circuit does, and each solution of the one's equations is one of the other's, with the same inputs, state, outputs and next state.
+-- The flat netlist is sound, and within its weight, which is the circuit's; tables do not list its
+-- nets. Its ports have the circuit's names, it starts as the circuit does, and each solution of the
+-- one's equations is one of the other's, with the same inputs, state, outputs and next state.
 pub record IsLowered (aig : Aig) (flat : Flat) : Type 0 where
   pub sound : IsSound flat
   pub weighed : IsWeighed flat
@@ -24,6 +26,9 @@ pub record IsLowered (aig : Aig) (flat : Flat) : Type 0 where
   pub out_names : names_of_ports flat flat.outs ≡ output_names aig
   pub starts : start_bits flat ≡ aig_start_bits aig
   pub is_flat : (inputs state : List Bool) (bits : ℕ → Bool) → IsAigValuation aig inputs state bits
-      → (class_bits : ℕ → Bool) × IsFlatValuation flat inputs state class_bits × AreSameCycle aig flat bits class_bits
-  pub of_flat : (inputs state : List Bool) (class_bits : ℕ → Bool) → IsFlatValuation flat inputs state class_bits
-      → (bits : ℕ → Bool) × IsAigValuation aig inputs state bits × AreSameCycle aig flat bits class_bits
+      → (class_bits : ℕ → Bool) × IsFlatValuation flat inputs state class_bits
+      × AreSameCycle aig flat bits class_bits
+  pub of_flat : (inputs state : List Bool) (class_bits : ℕ → Bool)
+    → IsFlatValuation flat inputs state class_bits
+      → (bits : ℕ → Bool) × IsAigValuation aig inputs state bits
+      × AreSameCycle aig flat bits class_bits

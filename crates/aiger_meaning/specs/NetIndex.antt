@@ -6,4 +6,5 @@ use Rattle.std.specs.Ordering.{nat_cmp}
 
 -- a map has the position of the first of each literal, where positions are counted from this one on
 abbrev pub HasNetsFrom : BTreeMap ℕ ℕ → ℕ → List ℕ → Type 0
-HasNetsFrom nets net literals = (lit : ℕ) → get nat_cmp nets lit ≡ position_from (λ own. own == lit) net literals
+HasNetsFrom nets net literals =
+    (lit : ℕ) → get nat_cmp nets lit ≡ position_from (λ own. own == lit) net literals

@@ -10,7 +10,8 @@ use std::alloc::{AllocError, AllocFailed};
 pub enum LowerError {
     /// The circuit weighs more than the limit.
     TooLarge { weight: u64 },
-    /// Left sides, each once, of which each is read by the gate of the next, and the last by that of the first.
+    /// Left sides, each once, of which each is read by the gate of the next, and the last by that
+    /// of the first.
     Loop(List<u64>),
     /// There is no memory for it.
     NoMemory,

@@ -12,8 +12,8 @@ use aiger_text::{Aig, AigAnd, AigLatch};
 use std::alloc::{AllocError, Global};
 use std::collections::BTreeMap;
 
-/// The literals of a circuit that have a net of their own, in the order of the nets, and the net of each. Contracts see the
-/// literals.
+/// The literals of a circuit that have a net of their own, in the order of the nets, and the net of
+/// each. Contracts see the literals.
 #[derive(Drop)]
 pub struct OwnLiterals {
     literals: Vec<u64>,

@@ -1,4 +1,5 @@
-// The nodes: constant 0, the gates, and a buffer for what each latch reads next and for each output.
+// The nodes: constant 0, the gates, and a buffer for what each latch reads next and for each
+// output.
 ghost use Rattle.std.specs.Prelude.{◌≡◌, ◌+◌, ◌<◌, ◌^◌, ◌∷◌, [], ◌++◌, length, map, IfOk, OnOk};
 ghost use Rattle.aiger_text.specs.SoundAig.{sides_of};
 ghost use Rattle.aiger_text.specs.declared.aig.AigLatch as latch_type;

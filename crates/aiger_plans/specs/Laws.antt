@@ -1,4 +1,5 @@
--- A text that carries the flat netlist of a circuit carries the circuit, and what it then shows, cycle by cycle.
+-- A text that carries the flat netlist of a circuit carries the circuit, and what it then shows,
+-- cycle by cycle.
 use Rattle.std.specs.Prelude.{pos, ℕ, ◌+◌, ◌*◌, ◌<◌, ◌≡◌, ◌≢◌, ◌↔◌, List, length, Bool, true, Some, slice_get}
 use Rattle.ww_rule.specs.declared.pattern.State.TheVariants.{Head}
 use Rattle.ww_rule.specs.Wireworld.{driven}
@@ -13,26 +14,36 @@ use Rattle.carries.specs.FlatNets.{CarriesFlat}
 use Rattle.aiger_plans.specs.CarriesAig.{CarriesAig}
 
 abbrev pub AigsAreCarried : Type 0
-AigsAreCarried = (text : List ℕ) (aig : Aig) (flat : Flat) → CarriesFlat text flat → IsLowered aig flat → CarriesAig text aig
+AigsAreCarried =
+    (text : List ℕ) (aig : Aig) (flat : Flat) → CarriesFlat text flat → IsLowered aig flat
+    → CarriesAig text aig
 
 -- driven by rows of input bits, in a run on them
-pub record ShowsAigCycles {text : List ℕ} {aig : Aig} (c : CarriesAig text aig) (rows : List (List Bool)) (run : ℕ → ℕ → Bool) : Type 0 where
-  -- the cell of an output is a head at generation L + t P, for each cycle t, exactly when the output's bit is 1 in the cycle
-  pub bits : (output : ℕ) (cell : PortLine) → slice_get c.ports.outs output ≡ Some cell → (t : ℕ) → t < length rows
-      → (driven (drive c.ports rows) (plane_of c.grid.rows) (c.ports.l + t * c.ports.p) (pos cell.x) (pos cell.y) ≡ Head) ↔ (aig_output_bit aig (run t) output ≡ true)
+pub record ShowsAigCycles {text : List ℕ} {aig : Aig} (c : CarriesAig text aig)
+    (rows : List (List Bool)) (run : ℕ → ℕ → Bool) : Type 0 where
+  -- the cell of an output is a head at generation L + t P, for each cycle t, exactly when the
+  -- output's bit is 1 in the cycle
+  pub bits : (output : ℕ) (cell : PortLine) → slice_get c.ports.outs output ≡ Some cell → (t : ℕ)
+    → t < length rows
+      → (driven (drive c.ports rows) (plane_of c.grid.rows) (c.ports.l + t * c.ports.p) (pos cell.x)
+        (pos cell.y) ≡ Head) ↔ (aig_output_bit aig (run t) output ≡ true)
   -- and it is no head below generation L
-  pub dark : (output : ℕ) (cell : PortLine) → slice_get c.ports.outs output ≡ Some cell → (g : ℕ) → g < c.ports.l
+  pub dark : (output : ℕ) (cell : PortLine) → slice_get c.ports.outs output ≡ Some cell → (g : ℕ)
+    → g < c.ports.l
       → driven (drive c.ports rows) (plane_of c.grid.rows) g (pos cell.x) (pos cell.y) ≢ Head
 
 -- a text that carries a circuit shows each cycle of each run
 abbrev pub CarriesAigCycles : Type 0
 CarriesAigCycles =
-    (text : List ℕ) (aig : Aig) (c : CarriesAig text aig) (rows : List (List Bool)) → AreAigRows aig rows
+    (text : List ℕ) (aig : Aig) (c : CarriesAig text aig) (rows : List (List Bool))
+    → AreAigRows aig rows
     → (run : ℕ → ℕ → Bool) → IsAigRun aig rows run → ShowsAigCycles c rows run
 
 -- in two runs of such a circuit on the same rows each output has the same bits
 abbrev pub OneAigRunIsShown : Type 0
 OneAigRunIsShown =
-    (text : List ℕ) (aig : Aig) (c : CarriesAig text aig) (rows : List (List Bool)) → AreAigRows aig rows
+    (text : List ℕ) (aig : Aig) (c : CarriesAig text aig) (rows : List (List Bool))
+    → AreAigRows aig rows
     → (run other : ℕ → ℕ → Bool) → IsAigRun aig rows run → IsAigRun aig rows other
-    → (output : ℕ) (cell : PortLine) → slice_get c.ports.outs output ≡ Some cell → (t : ℕ) → t < length rows → aig_output_bit aig (run t) output ≡ aig_output_bit aig (other t) output
+    → (output : ℕ) (cell : PortLine) → slice_get c.ports.outs output ≡ Some cell → (t : ℕ)
+    → t < length rows → aig_output_bit aig (run t) output ≡ aig_output_bit aig (other t) output

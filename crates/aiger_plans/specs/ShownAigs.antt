@@ -14,11 +14,17 @@ use Rattle.aiger_plans.specs.CarriesAig.{CarriesAig}
 abbrev pub aig_bits_in_run : (ℕ → ℕ → Bool) → ℕ → ℕ → List Bool
 aig_bits_in_run run cycles lit = map (λ cycle. run cycle lit) (range_with_len 0 cycles)
 
--- under streams for the table's inputs the circuit has a run, and in each of its runs the pattern shows the bits of the outputs, in order
-pub record ShowsEachAigRun {text : List ℕ} {aig : Aig} (c : CarriesAig text aig) (streams : Streams) : Type 0 where
+-- under streams for the table's inputs the circuit has a run, and in each of its runs the pattern
+-- shows the bits of the outputs, in order
+pub record ShowsEachAigRun {text : List ℕ} {aig : Aig} (c : CarriesAig text aig)
+    (streams : Streams) : Type 0 where
   pub run : ℕ → ℕ → Bool
   pub is_run : IsAigRun aig (rows_of streams) run
-  pub shown : (other : ℕ → ℕ → Bool) → IsAigRun aig (rows_of streams) other → shown_bits c.ports streams (plane_of c.grid.rows) ≡ map (aig_bits_in_run other streams.cycles) aig.outputs
+  pub shown : (other : ℕ → ℕ → Bool) → IsAigRun aig (rows_of streams) other
+    → shown_bits c.ports streams (plane_of c.grid.rows)
+      ≡ map (aig_bits_in_run other streams.cycles) aig.outputs
 
 abbrev pub CarriersShowAigRuns : Type 0
-CarriersShowAigRuns = (text : List ℕ) (aig : Aig) → IsSoundAig aig → (c : CarriesAig text aig) (streams : Streams) → AreFor c.ports streams → ShowsEachAigRun c streams
+CarriersShowAigRuns =
+    (text : List ℕ) (aig : Aig) → IsSoundAig aig → (c : CarriesAig text aig) (streams : Streams)
+    → AreFor c.ports streams → ShowsEachAigRun c streams

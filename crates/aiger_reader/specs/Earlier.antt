@@ -14,6 +14,9 @@ abbrev pub is_earlier : List (List ℕ) → (i : ℕ) → List ℕ → Option �
 is_earlier names i name None = false
 is_earlier names i name (Some k) = nat_lt k i && bytes_eq (get_or names k []) name
 
--- A set has the first names, but for those that have the number of their own place: such a name stands at its number.
+-- A set has the first names, but for those that have the number of their own place: such a name
+-- stands at its number.
 abbrev pub KnowsEarlier : List (List ℕ) → ℕ → BTreeSet (Bor (List ℕ)) → Type 0
-KnowsEarlier names i seen = (name : List ℕ) → is_among name (take i names) ≡ (holds_name seen name || is_earlier names i name (number_of_name name))
+KnowsEarlier names i seen =
+    (name : List ℕ) → is_among name (take i names)
+      ≡ (holds_name seen name || is_earlier names i name (number_of_name name))

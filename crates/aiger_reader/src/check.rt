@@ -76,8 +76,8 @@ fn define(defined: &mut BTreeSet<u64>, entry: Entry) -> Result<bool, AllocError>
     }
 }
 
-/// What is at fault in a line with this entry, by the literals that earlier lines define. If nothing is, what it defines is among
-/// them.
+/// What is at fault in a line with this entry, by the literals that earlier lines define. If
+/// nothing is, what it defines is among them.
 pub fn entry_fault(
     defined: &mut BTreeSet<u64>,
     counts: Counts,

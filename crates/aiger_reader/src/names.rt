@@ -91,7 +91,8 @@ fn is_earlier(names: &[Bytes], i: usize, name: &[u8], number: Option<u64>) -> bo
     k < i as u64 && names[k as usize].as_slice() == name
 }
 
-// Whether a name is none of those before it, and then notes it. Plain names are found at their numbers, so a text of many of them takes no set.
+// Whether a name is none of those before it, and then notes it. Plain names are found at their
+// numbers, so a text of many of them takes no set.
 fn note<'a>(seen: &mut BTreeSet<&'a [u8]>, names: &'a [Bytes], i: usize) -> Result<bool, AllocError>
     requires { i < length names.now }
     ensures fresh { IfOk result (λ fresh.
@@ -115,7 +116,8 @@ fn note<'a>(seen: &mut BTreeSet<&'a [u8]>, names: &'a [Bytes], i: usize) -> Resu
     Ok(seen.insert(name)?)
 }
 
-/// The line of the first name that stands among those before it, where the first name is that of this line.
+/// The line of the first name that stands among those before it, where the first name is that of
+/// this line.
 pub fn first_repeat(alloc: Global, names: &[Bytes], line: u64) -> Result<Option<u64>, AllocError>
     requires { line + length names.now < 2 ^ 64 }
     ensures { IfOk result (λ found.

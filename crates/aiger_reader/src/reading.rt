@@ -192,11 +192,12 @@ fn read_later(alloc: Global, counts: Counts, text: &[u8]) -> Result<Aig, AigRead
     aig_in(alloc, counts, &sections, &tables)
 }
 
-/// Reads an AIGER text in ASCII, whose lines end with byte 10, or with bytes 13 and 10: a header `aag M I L O A`; a line
-/// `lit` for each input, `lit next` or `lit next reset` for each latch, `lit` for each output and `lhs rhs0 rhs1` for each
-/// AND gate; and lines `i<n> name`, `l<n> name` and `o<n> name`, up to a line that begins with `c`. Numbers are decimal and
-/// parted by single spaces, and a name is all that follows the first space. Inputs and outputs without a name are called
-/// `i<n>` and `o<n>`.
+/// Reads an AIGER text in ASCII, whose lines end with byte 10, or with bytes 13 and 10: a header
+/// `aag M I L O A`; a line `lit` for each input, `lit next` or `lit next reset` for each latch,
+/// `lit` for each output and `lhs rhs0 rhs1` for each AND gate; and lines `i<n> name`, `l<n> name`
+/// and `o<n> name`, up to a line that begins with `c`. Numbers are decimal and parted by single
+/// spaces, and a name is all that follows the first space. Inputs and outputs without a name are
+/// called `i<n>` and `o<n>`.
 ///
 /// `Fault` has the first fault of the text.
 pub fn read(alloc: Global, text: &[u8]) -> Result<Aig, AigReadError>

@@ -31,8 +31,9 @@ fn push_gates(
     Ok(())
 }
 
-/// A chain of gates of which each reads the one before and the first input, and an output that is the last one, negated.
-/// The first gate reads the last input, or the last gate where the chain is closed.
+/// A chain of gates of which each reads the one before and the first input, and an output that is
+/// the last one, negated. The first gate reads the last input, or the last gate where the chain is
+/// closed.
 pub fn chain(alloc: Global, inputs: u64, gates: u64, closed: bool) -> Result<Vec<u8>, AllocError>
     requires inputs { inputs < 65536 }
     requires gates { gates < 65536 }

@@ -127,8 +127,8 @@ fn aig_said(alloc: Global, aig: &Aig, rows: &[&[u8]]) -> Result<Vec<u8>, AllocEr
     }
 }
 
-/// What is said of the circuit of a text: the weight of its flat netlist and the bits of the outputs for each row of input
-/// bits, or why there is no flat netlist.
+/// What is said of the circuit of a text: the weight of its flat netlist and the bits of the
+/// outputs for each row of input bits, or why there is no flat netlist.
 pub fn lowered_said(alloc: Global, text: &[u8], rows: &[&[u8]]) -> Result<Vec<u8>, AllocError> {
     read_aigs_are_sound();
     match read(alloc, text) {

@@ -52,7 +52,8 @@ fn push_circuit(alloc: Global, line: &mut Vec<u8>, aig: &Aig) -> Result<(), Allo
     push_names(line, aig.names.as_slice())
 }
 
-/// A circuit as one line: its greatest variable, its inputs, latches, outputs and gates, and then the names.
+/// A circuit as one line: its greatest variable, its inputs, latches, outputs and gates, and then
+/// the names.
 pub fn circuit_shown(alloc: Global, aig: &Aig) -> Result<Vec<u8>, AllocError> {
     let mut line = format!(in alloc; "m {}", aig.m)?.into_bytes();
     push_circuit(alloc, &mut line, aig)?;

@@ -6,7 +6,8 @@ use Rattle.aiger_text.specs.declared.section.Counts.{Counts}
 use Rattle.aiger_text.specs.declared.fault.AigFaultKind.{AigFaultKind}
 use Rattle.aiger_text.specs.declared.fault.AigFaultKind.TheVariants.{BadHeader, Unsupported}
 
--- Fields are parted by single spaces: they are what stands before the first, between two, and after the last.
+-- Fields are parted by single spaces: they are what stands before the first, between two, and after
+-- the last.
 abbrev pub is_separator : ℕ → Bool
 is_separator b = b == 32
 
@@ -36,13 +37,16 @@ counts_of_fields _ = None
 
 -- the numbers of a header, if the bytes are one
 abbrev pub counts_in : List ℕ → Option Counts
-counts_in bytes = if bytes_eq (leading_field bytes) (codes "aag") then counts_of_fields (later_fields bytes) else None
+counts_in bytes =
+    if bytes_eq (leading_field bytes) (codes "aag") then counts_of_fields (later_fields bytes)
+    else None
 
 -- the header of a text in binary, or of one with sections that are not read here
 abbrev pub is_unsupported : List ℕ → Bool
 is_unsupported bytes =
     bytes_eq (leading_field bytes) (codes "aig")
-    || (bytes_eq (leading_field bytes) (codes "aag") && nat_lt 5 (length (later_fields bytes)) && list_all is_number (later_fields bytes))
+    || (bytes_eq (leading_field bytes) (codes "aag") && nat_lt 5 (length (later_fields bytes))
+        && list_all is_number (later_fields bytes))
 
 -- what is wrong in bytes that are no header
 abbrev pub header_fault : List ℕ → AigFaultKind

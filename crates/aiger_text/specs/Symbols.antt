@@ -28,7 +28,8 @@ symbol_kind letter =
     else if letter == byte "o" then Some Output
     else None
 
--- `i<n> name`, `l<n> name` or `o<n> name`: the name is all that follows the first space, and is not empty
+-- `i<n> name`, `l<n> name` or `o<n> name`: the name is all that follows the first space, and is not
+-- empty
 abbrev pub symbol_in : List ℕ → Option Symbol
 symbol_in [] = None
 symbol_in (letter ∷ bytes) = do
@@ -73,7 +74,9 @@ symbols_of lines = filter_map (λ line. line.symbol) lines
 
 -- a symbol for what is not there, or has a name in an earlier line
 abbrev pub is_bad_symbol : Counts → List Symbol → Symbol → Bool
-is_bad_symbol c before symbol = not (nat_lt symbol.place (count_of_kind c symbol.kind)) || list_any (is_for symbol.kind symbol.place) before
+is_bad_symbol c before symbol =
+    not (nat_lt symbol.place (count_of_kind c symbol.kind))
+    || list_any (is_for symbol.kind symbol.place) before
 
 abbrev pub symbol_fault : Counts → List Symbol → Option Symbol → Option AigFaultKind
 symbol_fault c before None = Some BadSymbol
@@ -83,4 +86,5 @@ symbol_fault c before (Some symbol) = if is_bad_symbol c before symbol then Some
 abbrev pub symbol_faults_after : Counts → List Symbol → List SymbolLine → List AigFault
 symbol_faults_after c before [] = []
 symbol_faults_after c before (line ∷ lines) =
-    cons_option (option_map (aig_fault_on line.number) (symbol_fault c before line.symbol)) (symbol_faults_after c (before ++ option_to_list line.symbol) lines)
+    cons_option (option_map (aig_fault_on line.number) (symbol_fault c before line.symbol))
+        (symbol_faults_after c (before ++ option_to_list line.symbol) lines)

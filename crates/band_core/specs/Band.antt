@@ -25,7 +25,8 @@ injected_cells injections = map (λ i. (i.x, i.y)) injections
 
 -- injections at cells of `many` rows from row y on, within so many words
 abbrev pub AreInRows : (words y many : ℕ) → List Injection → Type 0
-AreInRows words y many injections = All (λ i. (y ≤ i.y) × (i.y < y + many) × (i.x / 64 < words)) injections
+AreInRows words y many injections =
+    All (λ i. (y ≤ i.y) × (i.y < y + many) × (i.x / 64 < words)) injections
 
 -- a band of `many` rows of so many words from row y on
 pub record IsBand (words y many : ℕ) (band : Band) : Type 0 where
@@ -42,20 +43,27 @@ pub record IsBand (words y many : ℕ) (band : Band) : Type 0 where
 
 -- in rows from row y on, injections are due as a test says
 abbrev pub AreDueIn : List Injection → Due → (y many : ℕ) → Type 0
-AreDueIn injections due y many = (g x k : ℕ) → k < many → due_of_list injections g (pos x) (pos y +ℤ pos k) ≡ due g (pos x) (pos y +ℤ pos k)
+AreDueIn injections due y many =
+    (g x k : ℕ) → k < many → due_of_list injections g (pos x) (pos y +ℤ pos k) ≡ due g (pos x)
+      (pos y +ℤ pos k)
 
--- It shows an evolution from row y on: its rows the cells at its generation, and the kept rows the heads of the top and the bottom row
--- one generation ago; the injections that are left are those of later generations.
+-- It shows an evolution from row y on: its rows the cells at its generation, and the kept rows the
+-- heads of the top and the bottom row one generation ago; the injections that are left are those of
+-- later generations.
 pub record ShowsBand (e : ℕ → Plane) (due : Due) (y many : ℕ) (band : Band) : Type 0 where
   pub rows : ShowRows band.rows.items (e band.generation) (pos y)
   pub top : (g : ℕ) → band.generation ≡ g + 1 → ShowsHeads band.top.heads.items (e g) (pos y)
-  pub bottom : (g : ℕ) → band.generation ≡ g + 1 → ShowsHeads band.bottom.heads.items (e g) (pos y +ℤ pos (many - 1))
+  pub bottom : (g : ℕ) → band.generation ≡ g + 1
+    → ShowsHeads band.bottom.heads.items (e g) (pos y +ℤ pos (many - 1))
   pub own : AreDueIn band.injections.items due y many
-  pub left : AreLeftAt (band.generation + 1) band.injections.items (drop band.done band.injections.items)
+  pub left : AreLeftAt (band.generation + 1) band.injections.items
+      (drop band.done band.injections.items)
 
 -- the heads of the bottom row, and of the top row, at the band's generation or one before
 abbrev pub bottom_at : ℕ → Band → List ℕ
-bottom_at g band = if band.generation == g then row_heads band.rows.items (length band.rows.items - 1) else band.bottom.heads.items
+bottom_at g band =
+    if band.generation == g then row_heads band.rows.items (length band.rows.items - 1)
+    else band.bottom.heads.items
 
 abbrev pub top_at : ℕ → Band → List ℕ
 top_at g band = if band.generation == g then row_heads band.rows.items 0 else band.top.heads.items
@@ -63,17 +71,20 @@ top_at g band = if band.generation == g then row_heads band.rows.items 0 else ba
 -- all bands of a height over so many rows
 pub record AreBands (words height rows : ℕ) (bands : List Band) : Type 0 where
   pub many : length bands ≡ bands_in rows height
-  pub each : (b : ℕ) (d : Band) → b < length bands → IsBand words (b * height) (min height (rows - b * height)) (get_or bands b d)
+  pub each : (b : ℕ) (d : Band) → b < length bands
+    → IsBand words (b * height) (min height (rows - b * height)) (get_or bands b d)
 
 -- which show an evolution, each at its own generation
 abbrev pub AllShow : (e : ℕ → Plane) (due : Due) (height rows : ℕ) → List Band → Type 0
 AllShow e due height rows bands =
-    (b : ℕ) (d : Band) → b < length bands → ShowsBand e due (b * height) (min height (rows - b * height)) (get_or bands b d)
+    (b : ℕ) (d : Band) → b < length bands
+    → ShowsBand e due (b * height) (min height (rows - b * height)) (get_or bands b d)
 
 abbrev pub generations_of : List Band → List ℕ
 generations_of bands = map (λ band. band.generation) bands
 
--- the generation of band b, and the number of its rows, where the bands are of a height over so many rows
+-- the generation of band b, and the number of its rows, where the bands are of a height over so
+-- many rows
 abbrev pub generation_at : List Band → ℕ → ℕ
 generation_at bands b = get_or (generations_of bands) b 0
 
@@ -82,8 +93,10 @@ rows_in_band height rows b = min height (rows - b * height)
 
 -- a head or a tail of rows from row y on
 pub data IsLitIn (rows : List Row) (y x z : ℕ) : Type 0 where
-  head : (k : ℕ) → k < length rows → z ≡ y + k → is_set (row_heads rows k) x ≡ true → IsLitIn rows y x z
-  tail : (k : ℕ) → k < length rows → z ≡ y + k → is_set (row_tails rows k) x ≡ true → IsLitIn rows y x z
+  head : (k : ℕ) → k < length rows → z ≡ y + k → is_set (row_heads rows k) x ≡ true
+    → IsLitIn rows y x z
+  tail : (k : ℕ) → k < length rows → z ≡ y + k → is_set (row_tails rows k) x ≡ true
+    → IsLitIn rows y x z
 
 -- no bit is set in any of them; above the first row of all there is none to be asked for
 pub record AreUnlit (rows : List Row) (y : ℕ) (up down : List ℕ) : Type 0 where
@@ -103,18 +116,22 @@ pub record IsNextDue (band : Band) (x y : ℕ) : Type 0 where
 
 -- rows of words show rows of cells
 abbrev pub AreShown : List (List State) → List Row → Type 0
-AreShown cells rows = (k x : ℕ) → k < length rows → row_state (row_heads rows k) (row_tails rows k) (row_wires rows k) x ≡ get_or (get_or cells k []) x Empty
+AreShown cells rows =
+    (k x : ℕ) → k < length rows → row_state (row_heads rows k) (row_tails rows k)
+      (row_wires rows k) x ≡ get_or (get_or cells k []) x Empty
 
--- In rows from row y on nothing can change: they have no head and follow the rule as they are, no head lies beside them, and no
--- injection is due in them next.
+-- In rows from row y on nothing can change: they have no head and follow the rule as they are, no
+-- head lies beside them, and no injection is due in them next.
 pub record IsQuiet (e : ℕ → Plane) (due : Due) (g y many : ℕ) : Type 0 where
-  pub still : (x k : ℕ) → k < many → next_plane (e g) (pos x) (pos y +ℤ pos k) ≡ e g (pos x) (pos y +ℤ pos k)
+  pub still : (x k : ℕ) → k < many → next_plane (e g) (pos x) (pos y +ℤ pos k) ≡ e g (pos x)
+      (pos y +ℤ pos k)
   pub dark : (x k : ℕ) → k < many → count_head (e g (pos x) (pos y +ℤ pos k)) ≡ 0
   pub above : (x : ℕ) → count_head (e g (pos x) (pos y -ℤ pos 1)) ≡ 0
   pub below : (x : ℕ) → count_head (e g (pos x) (pos y +ℤ pos many)) ≡ 0
   pub none : (x k : ℕ) → k < many → due (g + 1) (pos x) (pos y +ℤ pos k) ≡ false
 
--- a cell that is lit in rows from row y on, or a head beside them, or an injection that is due in them next
+-- a cell that is lit in rows from row y on, or a head beside them, or an injection that is due in
+-- them next
 pub data IsWaking (e : ℕ → Plane) (due : Due) (g y many x z : ℕ) : Type 0 where
   head : y ≤ z → z < y + many → e g (pos x) (pos z) ≡ Head → IsWaking e due g y many x z
   tail : y ≤ z → z < y + many → e g (pos x) (pos z) ≡ Tail → IsWaking e due g y many x z

@@ -13,8 +13,8 @@ use Rattle.band_core.specs.declared.error.NotReady.{NotReady}
 use Rattle.band_core.specs.declared.error.NotSkipped.{NotSkipped}
 use Rattle.band_core.specs.declared.error.NotSkipped.TheVariants as not_skipped
 
--- what `Bands` are to their callers: the pattern and the injections that they were given, the height of a band, and how far
--- each band has come, from the top down
+-- what `Bands` are to their callers: the pattern and the injections that they were given, the
+-- height of a band, and how far each band has come, from the top down
 pub record BandedPattern : Type 0 where
   pub grid : Grid
   pub injections : List Injection
@@ -36,7 +36,8 @@ pub record IsBandedPattern (pattern : BandedPattern) : Type 0 where
 -- all bands at generation 0
 abbrev pub begun : Grid → List Injection → ℕ → BandedPattern
 begun grid injections height =
-    record { grid = grid; injections = injections; height = height; generations = replicate (bands_in (length grid.rows) height) 0 }
+    record { grid = grid; injections = injections; height = height;
+        generations = replicate (bands_in (length grid.rows) height) 0 }
 
 -- how many generations a band has come
 abbrev pub generation_of : BandedPattern → ℕ → ℕ
@@ -44,11 +45,14 @@ generation_of pattern b = get_or pattern.generations b 0
 
 -- the state of a cell in the one driven evolution of the pattern, at a band's generation
 abbrev pub band_at : BandedPattern → ℕ → ℕ → ℕ → State
-band_at pattern b x y = driven (due_of_list pattern.injections) (plane_of pattern.grid.rows) (generation_of pattern b) (pos x) (pos y)
+band_at pattern b x y =
+    driven (due_of_list pattern.injections) (plane_of pattern.grid.rows) (generation_of pattern b)
+      (pos x) (pos y)
 
 -- one band has moved on by one generation
 abbrev pub moved_on : ℕ → BandedPattern → BandedPattern
-moved_on b pattern = record pattern { generations = slice_set pattern.generations b (generation_of pattern b + 1) }
+moved_on b pattern =
+    record pattern { generations = slice_set pattern.generations b (generation_of pattern b + 1) }
 
 -- the same pattern under the same injections, in the same bands
 pub record IsSamePattern (old new : BandedPattern) : Type 0 where
@@ -70,33 +74,41 @@ pub record IsFacing (pattern : BandedPattern) (b x y : ℕ) : Type 0 where
   pub beside : (y + 1 ≡ b * pattern.height) ⊎ (y ≡ b * pattern.height + pattern.height)
   pub within : y < length pattern.grid.rows
 
--- of bands at these generations a neighbour of band b, where its generation is neither the band's nor one more
+-- of bands at these generations a neighbour of band b, where its generation is neither the band's
+-- nor one more
 abbrev pub not_ready : List ℕ → ℕ → ℕ → Option NotReady
 not_ready generations b neighbour =
     let own = get_or generations b 0 in
     let other = get_or generations neighbour 0 in
-    if other == own || other == own + 1 then None else Some (record { neighbour = neighbour; generation = other })
+    if other == own || other == own + 1 then None
+      else Some (record { neighbour = neighbour; generation = other })
 
 abbrev pub upper_not_ready : List ℕ → ℕ → Option NotReady
 upper_not_ready generations zero = None
 upper_not_ready generations (suc b) = not_ready generations (suc b) b
 
 abbrev pub lower_not_ready : List ℕ → ℕ → Option NotReady
-lower_not_ready generations b = if nat_lt (b + 1) (length generations) then not_ready generations b (b + 1) else None
+lower_not_ready generations b =
+    if nat_lt (b + 1) (length generations) then not_ready generations b (b + 1) else None
 
 -- the neighbour beside which band b can't move on: the upper one is looked at first
 abbrev pub unready_neighbour : List ℕ → ℕ → Option NotReady
-unready_neighbour generations b = option_or (upper_not_ready generations b) (lower_not_ready generations b)
+unready_neighbour generations b =
+    option_or (upper_not_ready generations b) (lower_not_ready generations b)
 
--- A cell keeps a band awake, at the band's generation: it is a head or a tail of the band; or a head of a row that faces the band; or
--- a cell of the band where an injection is due at the next generation.
+-- A cell keeps a band awake, at the band's generation: it is a head or a tail of the band; or a
+-- head of a row that faces the band; or a cell of the band where an injection is due at the next
+-- generation.
 pub data IsAwake (pattern : BandedPattern) (b x y : ℕ) : Type 0 where
   head : IsCellOf pattern b x y → band_at pattern b x y ≡ Head → IsAwake pattern b x y
   tail : IsCellOf pattern b x y → band_at pattern b x y ≡ Tail → IsAwake pattern b x y
   faced : IsFacing pattern b x y → band_at pattern b x y ≡ Head → IsAwake pattern b x y
-  due : IsCellOf pattern b x y → due_of_list pattern.injections (generation_of pattern b + 1) (pos x) (pos y) ≡ true → IsAwake pattern b x y
+  due : IsCellOf pattern b x y → due_of_list pattern.injections (generation_of pattern b + 1)
+      (pos x) (pos y) ≡ true → IsAwake pattern b x y
 
 -- why a band was not skipped
 abbrev pub HasReasonToStay : BandedPattern → ℕ → NotSkipped → Type 0
-HasReasonToStay pattern b (not_skipped.NotReady refusal) = unready_neighbour pattern.generations b ≡ Some refusal
-HasReasonToStay pattern b (not_skipped.Awake x y) = (unready_neighbour pattern.generations b ≡ None) × IsAwake pattern b x y
+HasReasonToStay pattern b (not_skipped.NotReady refusal) =
+    unready_neighbour pattern.generations b ≡ Some refusal
+HasReasonToStay pattern b (not_skipped.Awake x y) =
+    (unready_neighbour pattern.generations b ≡ None) × IsAwake pattern b x y

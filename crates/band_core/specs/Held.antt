@@ -11,7 +11,9 @@ use Rattle.band_core.specs.Bands.{BandedPattern}
 use Rattle.band_core.specs.Band.{AreBands, AllShow, generations_of}
 
 abbrev pub held_pattern : Inside → BandedPattern
-held_pattern held = record { grid = grid_of held.pattern; injections = held.injections.items; height = held.height; generations = generations_of held.bands.items }
+held_pattern held =
+    record { grid = grid_of held.pattern; injections = held.injections.items; height = held.height;
+      generations = generations_of held.bands.items }
 
 pub record IsHeld (held : Inside) : Type 0 where
   pub inside : AreInside held.pattern.width held.pattern.height held.injections.items
@@ -19,5 +21,7 @@ pub record IsHeld (held : Inside) : Type 0 where
   pub height : 0 < held.height
   pub few : length held.dark.items ≤ 2 ^ 58
   pub dark : AreZero held.dark.items
-  pub bands : AreBands (length held.dark.items) held.height (length held.pattern.rows) held.bands.items
-  pub shows : AllShow (driven (due_of_list held.injections.items) (plane_of held.pattern.rows)) (due_of_list held.injections.items) held.height (length held.pattern.rows) held.bands.items
+  pub bands : AreBands (length held.dark.items) held.height
+      (length held.pattern.rows) held.bands.items
+  pub shows : AllShow (driven (due_of_list held.injections.items) (plane_of held.pattern.rows))
+      (due_of_list held.injections.items) held.height (length held.pattern.rows) held.bands.items

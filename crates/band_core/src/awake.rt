@@ -24,8 +24,8 @@ fn lit_column(row: &Row) -> Option<usize>
     }
 }
 
-/// The column and row of a head or a tail of rows from row y on, of which those that may be lit are marked; `is_dark`: none
-/// is.
+/// The column and row of a head or a tail of rows from row y on, of which those that may be lit are
+/// marked; `is_dark`: none is.
 pub fn lit_cell(rows: &[Row], lit: &[u64], is_dark: bool, y: usize) -> Option<(usize, usize)>
     requires long { (k : ℕ) → k < length rows.now → length (row_heads rows.now k) ≤ 2 ^ 58 }
     requires room { y + length rows.now < 2 ^ 64 }

@@ -13,9 +13,10 @@ use std::alloc::Global;
 use std::marker::Model;
 use ww_rule::{CellRows, Injection, Pattern, State};
 
-/// A pattern that injections drive, in bands of rows from the top down, of one height but for the last one, which may be
-/// shorter. Each band shows its rows of the one driven evolution, at a generation of its own. A pattern without cells has
-/// no band. All memory is taken when the bands are made.
+/// A pattern that injections drive, in bands of rows from the top down, of one height but for the
+/// last one, which may be shorter. Each band shows its rows of the one driven evolution, at a
+/// generation of its own. A pattern without cells has no band. All memory is taken when the bands
+/// are made.
 #[derive(Drop)]
 pub struct Bands {
     pattern: Pattern,
@@ -56,8 +57,9 @@ fn words_for(rows: &CellRows) -> usize
 }
 
 impl Bands {
-    /// The bands of a pattern at generation 0: bands of `height` rows, from 1 up, for injections at cells of the pattern's
-    /// box, in the order of their generations, of which those of generation 0 are made. `NoMemory` is the one error.
+    /// The bands of a pattern at generation 0: bands of `height` rows, from 1 up, for injections at
+    /// cells of the pattern's box, in the order of their generations, of which those of generation
+    /// 0 are made. `NoMemory` is the one error.
     pub fn new(
         alloc: Global,
         pattern: Pattern,
@@ -98,8 +100,8 @@ impl Bands {
         self.bands[b].generation
     }
 
-    /// The state of a cell of the pattern's box, by its column and row in the pattern, at the generation of the band in
-    /// which it lies.
+    /// The state of a cell of the pattern's box, by its column and row in the pattern, at the
+    /// generation of the band in which it lies.
     pub fn cell(&self, b: usize, x: u64, y: u64) -> State
         requires { IsCellOf self.now b x y }
         ensures { result ≡ band_at self.now b x y }
@@ -116,8 +118,8 @@ impl Bands {
         &self.injections
     }
 
-    /// Moves a band on by one generation. It is refused where a neighbour is neither at the band's generation nor one
-    /// further; the upper one is looked at first.
+    /// Moves a band on by one generation. It is refused where a neighbour is neither at the band's
+    /// generation nor one further; the upper one is looked at first.
     pub fn advance(&mut self, b: usize) -> Result<(), NotReady>
         requires band { b < length self.old.generations }
         requires room { generation_of self.old b + 1 < 2 ^ 64 }
@@ -140,8 +142,8 @@ impl Bands {
         Ok(())
     }
 
-    /// Moves a band on by one generation where no cell can change in it. It is refused as `advance` is, which is looked at
-    /// first, and else where a cell keeps the band awake.
+    /// Moves a band on by one generation where no cell can change in it. It is refused as `advance`
+    /// is, which is looked at first, and else where a cell keeps the band awake.
     pub fn skip(&mut self, b: usize) -> Result<(), NotSkipped>
         requires band { b < length self.old.generations }
         requires room { generation_of self.old b + 1 < 2 ^ 64 }

@@ -46,8 +46,8 @@ pub fn unready_neighbour(bands: &[Band], b: usize) -> Option<NotReady>
     None
 }
 
-// The heads of the last row of bands at a generation, or of a dark row where there is no band, and a span beyond which it
-// has none.
+// The heads of the last row of bands at a generation, or of a dark row where there is no band, and
+// a span beyond which it has none.
 fn row_above<'a>(before: &'a [Band], generation: u64, dark: &'a [u64]) -> (&'a [u64], Span)
     requires some { (d : Band)
         → 0 < length before.now

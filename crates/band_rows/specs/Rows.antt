@@ -26,7 +26,8 @@ abbrev pub Shows : List ℕ → List ℕ → List ℕ → Plane → ℤ → Type
 Shows heads tails wires p y = (x : ℕ) → row_state heads tails wires x ≡ p (pos x) y
 
 abbrev pub ShowsHeads : List ℕ → Plane → ℤ → Type 0
-ShowsHeads heads p y = (x : ℕ) → count_head (state_of (is_set heads x) false false) ≡ count_head (p (pos x) y)
+ShowsHeads heads p y =
+    (x : ℕ) → count_head (state_of (is_set heads x) false false) ≡ count_head (p (pos x) y)
 
 -- west of its first column a plane is empty
 abbrev pub IsEmptyWest : Plane → Type 0
@@ -34,7 +35,9 @@ IsEmptyWest p = (x : ℕ) (y : ℤ) → p (negsuc x) y ≡ Empty
 
 -- the rows of a band show a plane from row y on
 abbrev pub ShowRows : List Row → Plane → ℤ → Type 0
-ShowRows rows p y = (k : ℕ) → k < length rows → Shows (row_heads rows k) (row_tails rows k) (row_wires rows k) p (y +ℤ pos k)
+ShowRows rows p y =
+    (k : ℕ) → k < length rows → Shows (row_heads rows k) (row_tails rows k) (row_wires rows k) p
+      (y +ℤ pos k)
 
 -- all rows are of a length
 abbrev pub AreLong : ℕ → List Row → Type 0
@@ -55,8 +58,8 @@ pub record AreMarked (marks : List ℕ) (rows : List Row) : Type 0 where
 abbrev pub IsBeside : (m k : ℕ) → Type 0
 IsBeside m k = (m ≡ k) ⊎ (m + 1 ≡ k) ⊎ (m ≡ k + 1)
 
--- Of so many rows, row k and those next to it are not marked; where the row before the rows, or the one after them, is next to it,
--- that one is not lit.
+-- Of so many rows, row k and those next to it are not marked; where the row before the rows, or the
+-- one after them, is next to it, that one is not lit.
 pub record IsFar (marks : List ℕ) (up_is_lit down_is_lit : Bool) (rows k : ℕ) : Type 0 where
   pub beside : (m : ℕ) → IsBeside m k → is_set marks m ≡ false
   pub up : k ≡ 0 → up_is_lit ≡ false

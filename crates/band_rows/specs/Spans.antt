@@ -14,7 +14,8 @@ pub record IsRow (span : Span) (heads tails wires : List ℕ) : Type 0 where
   pub apart : AreDisjoint heads tails wires
 
 -- the heads above and below rows of so many words, and spans beyond which these have none
-pub record AreFacing (words : ℕ) (up : List ℕ) (up_span : Span) (down : List ℕ) (down_span : Span) : Type 0 where
+pub record AreFacing (words : ℕ) (up : List ℕ) (up_span : Span) (down : List ℕ)
+    (down_span : Span) : Type 0 where
   pub long_up : length up ≡ words
   pub long_down : length down ≡ words
   pub up_within : up_span.end ≤ words

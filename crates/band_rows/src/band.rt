@@ -9,9 +9,9 @@ use crate::row::Row;
 use crate::row_marks::{mark_near, mark_row, next_marked};
 use crate::span::Span;
 
-/// The next generation of rows, where the heads of the rows before and after them are known, and spans beyond which these
-/// have none. `lit` marks the rows that may be lit: these and the rows next to them are stepped, and no other is looked at.
-/// `near` holds anything.
+/// The next generation of rows, where the heads of the rows before and after them are known, and
+/// spans beyond which these have none. `lit` marks the rows that may be lit: these and the rows
+/// next to them are stepped, and no other is looked at. `near` holds anything.
 // It stands apart, so that its loop has the registers for itself.
 #[inline(never)]
 pub fn step_band(
@@ -62,7 +62,8 @@ pub fn step_band(
     }
 }
 
-// The heads of the last of rows that have stepped, or of the row before a band, and a span beyond which it has none.
+// The heads of the last of rows that have stepped, or of the row before a band, and a span beyond
+// which it has none.
 fn above_of<'a>(before: &'a [Row], up: &'a [u64], up_span: Span) -> (&'a [u64], Span)
     requires long { 0 < length before.now
         → length (row_heads before.now (length before.now - 1)) ≡ length up.now }
@@ -82,7 +83,8 @@ fn above_of<'a>(before: &'a [Row], up: &'a [u64], up_span: Span) -> (&'a [u64], 
     (row.tails.as_slice(), row.span)
 }
 
-// The heads of the first of rows that have not stepped, or of the row after a band, and a span beyond which it has none.
+// The heads of the first of rows that have not stepped, or of the row after a band, and a span
+// beyond which it has none.
 fn below_of<'a>(after: &'a [Row], down: &'a [u64], down_span: Span) -> (&'a [u64], Span)
     requires long { 0 < length after.now → length (row_heads after.now 0) ≡ length down.now }
     requires within { down_span.end ≤ length down.now }

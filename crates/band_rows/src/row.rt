@@ -36,8 +36,8 @@ fn all_fit(words: &[u64])
     let _long = words.len();
 }
 
-// The next generation of a row in place, and where its light is then, where the row's light and the heads beside it lie in
-// word j and nothing comes over its borders.
+// The next generation of a row in place, and where its light is then, where the row's light and the
+// heads beside it lie in word j and nothing comes over its borders.
 fn step_in_word(
     above: &[u64],
     heads: &mut [u64],
@@ -82,8 +82,9 @@ fn is_in_word(above: &[u64], heads: &[u64], below: &[u64], near: Span) -> bool
     near.end - j == 1 && stays_within(above, heads, below, j, j + 1)
 }
 
-// The next generation of a row, and where its light is then, where the row's light and the heads beside it lie in a span of
-// words: the new heads stand in the tails' place, and the heads are the new tails.
+// The next generation of a row, and where its light is then, where the row's light and the heads
+// beside it lie in a span of words: the new heads stand in the tails' place, and the heads are the
+// new tails.
 fn step_in_span(
     above: &[u64],
     heads: &[u64],
@@ -157,8 +158,8 @@ impl Row {
         }
     }
 
-    // Goes on by one generation, where the row's light and the heads beside it lie in word j and nothing comes over its
-    // borders.
+    // Goes on by one generation, where the row's light and the heads beside it lie in word j and
+    // nothing comes over its borders.
     fn go_on_in_word(&mut self, above: &[u64], below: &[u64], j: usize)
         requires lit { IsLitWithin j (j + 1)
             above.now self.old.heads.items below.now
@@ -207,8 +208,8 @@ impl Row {
         mem::swap(&mut self.heads, &mut self.tails);
     }
 
-    /// Goes on by one generation, between two other rows, of which the heads are asked for and spans beyond which they have
-    /// none.
+    /// Goes on by one generation, between two other rows, of which the heads are asked for and
+    /// spans beyond which they have none.
     pub fn step(&mut self, above: &[u64], above_span: Span, below: &[u64], below_span: Span)
         requires facing { AreFacing (length self.old.heads.items)
             above.now above_span below.now below_span }

@@ -79,8 +79,9 @@ fn spread_marks(marks: &[u64], near: &mut [u64])
     }
 }
 
-/// Marks the rows that may change, of so many that stand together: those that are marked as lit, those next to them, and the
-/// first and the last row where the rows beside these are lit. A row that is left out is far from all light.
+/// Marks the rows that may change, of so many that stand together: those that are marked as lit,
+/// those next to them, and the first and the last row where the rows beside these are lit. A row
+/// that is left out is far from all light.
 pub fn mark_near(lit: &[u64], up_is_lit: bool, down_is_lit: bool, rows: usize, near: &mut [u64])
     requires near { length near.old ≡ length lit.now }
     requires enough { rows ≤ 64 * length lit.now }

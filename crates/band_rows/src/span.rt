@@ -43,7 +43,8 @@ pub fn hull(a: Span, b: Span) -> Span
     }
 }
 
-// The first place of a span, given by its two ends, at which one of two rows has a word that is not 0, or the span's end.
+// The first place of a span, given by its two ends, at which one of two rows has a word that is not
+// 0, or the span's end.
 fn first_lit(heads: &[u64], tails: &[u64], first: usize, end: usize) -> usize
     requires order { first ≤ end }
     requires within { end ≤ length heads.now }
@@ -61,7 +62,8 @@ fn first_lit(heads: &[u64], tails: &[u64], first: usize, end: usize) -> usize
     a
 }
 
-// The place after the last one of such a span at which one of the rows has a word that is not 0, or the span's first place.
+// The place after the last one of such a span at which one of the rows has a word that is not 0, or
+// the span's first place.
 fn end_lit(heads: &[u64], tails: &[u64], first: usize, end: usize) -> usize
     requires order { first ≤ end }
     requires within { end ≤ length heads.now }

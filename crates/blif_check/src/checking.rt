@@ -13,8 +13,8 @@ use std::alloc::Global;
 
 /// The design that models are, where they break no rule; the first is the main one.
 ///
-/// `Fault` has the rule of the lowest number that the models break, and of the words at which they break it the earliest. Rules
-/// on lines are not looked at.
+/// `Fault` has the rule of the lowest number that the models break, and of the words at which they
+/// break it the earliest. Rules on lines are not looked at.
 pub fn check(alloc: Global, models: List<Model>) -> Result<Design, CheckError>
     ensures design { IfOk result (λ design. design.models ≡ models) }
     ensures faultless { OnOk result (models ≢ [] × AreFaultless models) }

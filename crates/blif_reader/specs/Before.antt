@@ -21,7 +21,8 @@ is_model_of name l = begins_model l && bytes_eq (first_operand l) name
 
 -- A set has the names of the models that lines begin.
 abbrev pub KnowsNames : BTreeSet (Bor (List ℕ)) → List Logical → Type 0
-KnowsNames names before = (name : List ℕ) → holds_name names name ≡ list_any (is_model_of name) before
+KnowsNames names before =
+    (name : List ℕ) → holds_name names name ≡ list_any (is_model_of name) before
 
 -- how each line changes the rest
 abbrev pub ended_after : Logical → Bool → Bool
@@ -40,7 +41,8 @@ first_row_after l row = cond (is_directive l) None (first_or l row)
 -- What is kept is that of these lines.
 pub record HasRead (state : Before) (before : List Logical) : Type 0 where
   pub model : state.has_model ≡ list_any begins_model before
-  pub ended : state.has_ended ≡ option_map_or (has_directive (codes ".end")) (find is_end_or_model before) false
+  pub ended : state.has_ended ≡ option_map_or (has_directive (codes ".end"))
+      (find is_end_or_model before) false
   pub directive : option_copied state.directive ≡ last_directive before
   pub row : option_copied state.row ≡ first_row before
   pub names : KnowsNames state.names before
@@ -59,16 +61,20 @@ abbrev pub inputs_of_cover : Option Logical → ℕ
 inputs_of_cover directive = option_map_or number_of_inputs directive 0
 
 abbrev pub bad_row_word : Option Logical → Logical → Option (List ℕ)
-bad_row_word directive l = then_some (is_row l && is_cover directive && not (is_row_of (inputs_of_cover directive) l.words)) (first_word l)
+bad_row_word directive l =
+    then_some (is_row l && is_cover directive
+      && not (is_row_of (inputs_of_cover directive) l.words)) (first_word l)
 
 abbrev pub differs_from_first : Option Logical → Logical → Bool
 differs_from_first row l = option_map_or (differs_from l) row false
 
 abbrev pub mixed_word : Option Logical → Option Logical → Logical → Option (List ℕ)
-mixed_word directive row l = then_some (is_row l && is_cover directive && differs_from_first row l) (first_word l)
+mixed_word directive row l =
+    then_some (is_row l && is_cover directive && differs_from_first row l) (first_word l)
 
 abbrev pub latch_word : Logical → Option (List ℕ)
-latch_word l = then_some (has_directive (codes ".latch") l && not (is_latch (operands l))) (first_word l)
+latch_word l =
+    then_some (has_directive (codes ".latch") l && not (is_latch (operands l))) (first_word l)
 
 abbrev pub pin_word : Logical → Option (List ℕ)
 pin_word l = cond (has_directive (codes ".subckt") l) (find is_bad_pin (pin_words l)) None

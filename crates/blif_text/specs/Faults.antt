@@ -1,4 +1,5 @@
--- What a text is: a design, or one fault by a rule on lines or models. The rules on clocks, 20 and 21, speak of a design with all its places, and stand elsewhere.
+-- What a text is: a design, or one fault by a rule on lines or models. The rules on clocks, 20 and
+-- 21, speak of a design with all its places, and stand elsewhere.
 use Rattle.std.specs.Prelude.{◌≡◌, ℕ, List, [], ◌∷◌, codes, Option, Some, None}
 use Rattle.netlist_core.specs.declared.model.Model.{Model}
 use Rattle.netlist_core.specs.declared.model.Design.{Design}
@@ -21,13 +22,18 @@ pub record HasModels (lines : List Logical) (models : List Model) : Type 0 where
   pub no_fault : line_fault lines ≡ None
   pub are_models : models ≡ models_of lines
 
--- The fault of a list of logical lines by a rule on lines or models: there is none of them, or it is that of the earliest line that breaks a rule, or that of their models.
+-- The fault of a list of logical lines by a rule on lines or models: there is none of them, or it
+-- is that of the earliest line that breaks a rule, or that of their models.
 pub data HasFault : List Logical → Fault → Type 0 where
-  of_no_line : {lines : List Logical} {fault : Fault} → fault_if_empty lines ≡ Some fault → HasFault lines fault
-  of_line : {lines : List Logical} {fault : Fault} → line_fault lines ≡ Some fault → HasFault lines fault
-  of_models : {lines : List Logical} {models : List Model} {fault : Fault} → HasModels lines models → HasModelFault models fault → HasFault lines fault
+  of_no_line : {lines : List Logical} {fault : Fault} → fault_if_empty lines ≡ Some fault
+    → HasFault lines fault
+  of_line : {lines : List Logical} {fault : Fault} → line_fault lines ≡ Some fault
+    → HasFault lines fault
+  of_models : {lines : List Logical} {models : List Model} {fault : Fault} → HasModels lines models
+    → HasModelFault models fault → HasFault lines fault
 
--- The design of a text: its lines break no rule on lines, their models none on models, and the models are the design's. Whether it breaks a rule on clocks is another question.
+-- The design of a text: its lines break no rule on lines, their models none on models, and the
+-- models are the design's. Whether it breaks a rule on clocks is another question.
 pub record IsDesignOf (text : List ℕ) (design : Design) : Type 0 where
   pub models : HasModels (logical_lines text) design.models
   pub faultless : AreFaultless design.models

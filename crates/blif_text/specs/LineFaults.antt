@@ -1,4 +1,5 @@
--- The rules on lines, 1 to 11. Whether a line breaks one is said over the lines before it, the nearest first.
+-- The rules on lines, 1 to 11. Whether a line breaks one is said over the lines before it, the
+-- nearest first.
 use Rattle.netlist_rules.specs.FaultNames.{fault_on}
 use Rattle.lists.specs.Names.{is_among}
 use Rattle.std.specs.Prelude.{ℕ, Bool, true, false, not, cond, ◌-◌, ◌==◌, ◌&&◌, ◌||◌, List, [], ◌∷◌, length, codes, bytes_eq, Option, None, option_map, find, take_while, nat_eq}
@@ -13,18 +14,26 @@ use Rattle.blif_text.specs.Models.{first_word, operands, first_operand, is_direc
 
 -- the directives that say what a netlist is
 abbrev pub netlist_directives : List (List ℕ)
-netlist_directives = codes ".model" ∷ codes ".inputs" ∷ codes ".outputs" ∷ codes ".clock" ∷ codes ".names" ∷ codes ".latch" ∷ codes ".subckt" ∷ codes ".end" ∷ []
+netlist_directives =
+    codes ".model" ∷ codes ".inputs" ∷ codes ".outputs" ∷ codes ".clock" ∷ codes ".names"
+    ∷ codes ".latch" ∷ codes ".subckt" ∷ codes ".end" ∷ []
 
 -- the directives that annotate it, and are skipped, as is each that begins with `.default_`
 abbrev pub annotations : List (List ℕ)
-annotations = codes ".area" ∷ codes ".delay" ∷ codes ".wire_load_slope" ∷ codes ".wire" ∷ codes ".input_arrival" ∷ codes ".output_required" ∷ codes ".input_drive" ∷ codes ".output_load" ∷ codes ".max_input_load" ∷ codes ".cname" ∷ codes ".attr" ∷ codes ".param" ∷ []
+annotations =
+    codes ".area" ∷ codes ".delay" ∷ codes ".wire_load_slope" ∷ codes ".wire"
+    ∷ codes ".input_arrival" ∷ codes ".output_required" ∷ codes ".input_drive"
+    ∷ codes ".output_load" ∷ codes ".max_input_load" ∷ codes ".cname" ∷ codes ".attr"
+    ∷ codes ".param" ∷ []
 
 abbrev pub is_annotation : List ℕ → Bool
 is_annotation word = is_among word annotations || starts_with nat_eq word (codes ".default_")
 
 -- the directives and types of latch that change what nets mean, or need another file
 abbrev pub left_out : List (List ℕ)
-left_out = codes ".gate" ∷ codes ".mlatch" ∷ codes ".exdc" ∷ codes ".search" ∷ codes ".start_kiss" ∷ codes ".end_kiss" ∷ codes ".conn" ∷ []
+left_out =
+    codes ".gate" ∷ codes ".mlatch" ∷ codes ".exdc" ∷ codes ".search" ∷ codes ".start_kiss"
+    ∷ codes ".end_kiss" ∷ codes ".conn" ∷ []
 
 abbrev pub left_out_types : List (List ℕ)
 left_out_types = codes "ah" ∷ codes "al" ∷ codes "as" ∷ []
@@ -56,11 +65,17 @@ left_out_type (input ∷ output ∷ type ∷ control ∷ init ∷ []) = type_if_
 left_out_type _ = None
 
 abbrev pub unsupported : Logical → Option (List ℕ)
-unsupported l = option_or (then_some (is_among (first_word l) left_out) (first_word l)) (cond (has_directive (codes ".latch") l) (left_out_type (operands l)) None)
+unsupported l =
+    option_or (then_some (is_among (first_word l) left_out) (first_word l))
+      (cond (has_directive (codes ".latch") l) (left_out_type (operands l)) None)
 
 -- 4: `.model` has not one operand, `.end` has any, `.names` or `.subckt` has none
 abbrev pub has_bad_count : Logical → Bool
-has_bad_count l = (begins_model l && not (length (operands l) == 1)) || (has_directive (codes ".end") l && not (length (operands l) == 0)) || ((has_directive (codes ".names") l || has_directive (codes ".subckt") l) && length (operands l) == 0)
+has_bad_count l =
+    (begins_model l && not (length (operands l) == 1))
+    || (has_directive (codes ".end") l && not (length (operands l) == 0))
+    || ((has_directive (codes ".names") l || has_directive (codes ".subckt") l)
+      && length (operands l) == 0)
 
 -- 5: a row where the last directive is not `.names`
 abbrev pub last_directive : List Logical → Option Logical
@@ -69,7 +84,8 @@ last_directive before = find is_directive before
 abbrev pub is_in_cover : List Logical → Bool
 is_in_cover before = option_map_or (has_directive (codes ".names")) (last_directive before) false
 
--- 6: a row of a cover with n inputs is not n characters `0`, `1`, `-` and then `0` or `1`, or for n = 0 one `0` or `1`
+-- 6: a row of a cover with n inputs is not n characters `0`, `1`, `-` and then `0` or `1`, or for n
+-- = 0 one `0` or `1`
 abbrev pub is_literal : ℕ → Bool
 is_literal b = b == 48 || b == 49 || b == 45
 
@@ -78,7 +94,8 @@ is_row_output word = bytes_eq word (codes "0") || bytes_eq word (codes "1")
 
 abbrev pub is_row_of : ℕ → List (List ℕ) → Bool
 is_row_of n (output ∷ []) = n == 0 && is_row_output output
-is_row_of n (inputs ∷ output ∷ []) = not (n == 0) && length inputs == n && list_all is_literal inputs && is_row_output output
+is_row_of n (inputs ∷ output ∷ []) =
+    not (n == 0) && length inputs == n && list_all is_literal inputs && is_row_output output
 is_row_of n _ = false
 
 abbrev pub number_of_inputs : Logical → ℕ
@@ -102,7 +119,8 @@ abbrev pub is_latch : List (List ℕ) → Bool
 is_latch (input ∷ output ∷ []) = true
 is_latch (input ∷ output ∷ init ∷ []) = is_among init latch_inits
 is_latch (input ∷ output ∷ type ∷ control ∷ []) = is_among type latch_types
-is_latch (input ∷ output ∷ type ∷ control ∷ init ∷ []) = is_among type latch_types && is_among init latch_inits
+is_latch (input ∷ output ∷ type ∷ control ∷ init ∷ []) =
+    is_among type latch_types && is_among init latch_inits
 is_latch _ = false
 
 -- 9: a pin has no `=`, or nothing before or after its first `=`
@@ -118,13 +136,17 @@ abbrev pub is_end_or_model : Logical → Bool
 is_end_or_model l = has_directive (codes ".end") l || begins_model l
 
 abbrev pub follows_end : List Logical → Logical → Bool
-follows_end before l = not (begins_model l) && option_map_or (has_directive (codes ".end")) (find is_end_or_model before) false
+follows_end before l =
+    not (begins_model l) && option_map_or (has_directive (codes ".end"))
+      (find is_end_or_model before) false
 
 -- 11: an earlier model has the name
 abbrev pub names_same_model : Logical → Logical → Bool
-names_same_model l earlier = begins_model earlier && bytes_eq (first_operand earlier) (first_operand l)
+names_same_model l earlier =
+    begins_model earlier && bytes_eq (first_operand earlier) (first_operand l)
 
--- Before the first `.model` only rule 1 is looked at; after `.end`, up to the next `.model`, only rule 10.
+-- Before the first `.model` only rule 1 is looked at; after `.end`, up to the next `.model`, only
+-- rule 10.
 abbrev pub inside : List Logical → Logical → Option (List ℕ) → Option (List ℕ)
 inside before l word = cond (is_before_models before l || follows_end before l) None word
 
@@ -134,28 +156,43 @@ word_at_fault NoModelYet before l = then_some (is_before_models before l) (first
 word_at_fault UnknownDirective before l = inside before l (unknown_directive l)
 word_at_fault Unsupported before l = inside before l (unsupported l)
 word_at_fault BadCount before l = inside before l (then_some (has_bad_count l) (first_word l))
-word_at_fault RowOutside before l = inside before l (then_some (is_row l && not (is_in_cover before)) (first_word l))
-word_at_fault BadRow before l = inside before l (then_some (is_row l && is_in_cover before && not (is_row_of (cover_inputs before) l.words)) (first_word l))
-word_at_fault MixedCover before l = inside before l (then_some (is_row l && is_in_cover before && is_mixed before l) (first_word l))
-word_at_fault BadLatch before l = inside before l (then_some (has_directive (codes ".latch") l && not (is_latch (operands l))) (first_word l))
-word_at_fault BadPin before l = inside before l (cond (has_directive (codes ".subckt") l) (find is_bad_pin (pin_words l)) None)
+word_at_fault RowOutside before l =
+    inside before l (then_some (is_row l && not (is_in_cover before)) (first_word l))
+word_at_fault BadRow before l =
+    inside before l (then_some (is_row l && is_in_cover before
+      && not (is_row_of (cover_inputs before) l.words)) (first_word l))
+word_at_fault MixedCover before l =
+    inside before l (then_some (is_row l && is_in_cover before && is_mixed before l) (first_word l))
+word_at_fault BadLatch before l =
+    inside before l (then_some (has_directive (codes ".latch") l && not (is_latch (operands l)))
+      (first_word l))
+word_at_fault BadPin before l =
+    inside before l (cond (has_directive (codes ".subckt") l) (find is_bad_pin (pin_words l)) None)
 word_at_fault AfterEnd before l = then_some (follows_end before l) (first_word l)
-word_at_fault DuplicateModel before l = inside before l (then_some (begins_model l && list_any (names_same_model l) before) (first_operand l))
+word_at_fault DuplicateModel before l =
+    inside before l (then_some (begins_model l && list_any (names_same_model l) before)
+      (first_operand l))
 word_at_fault _ before l = None
 
 -- the rules on lines, in the order of their numbers
 abbrev pub line_rules : List FaultKind
-line_rules = NoModelYet ∷ UnknownDirective ∷ Unsupported ∷ BadCount ∷ RowOutside ∷ BadRow ∷ MixedCover ∷ BadLatch ∷ BadPin ∷ AfterEnd ∷ DuplicateModel ∷ []
+line_rules =
+    NoModelYet ∷ UnknownDirective ∷ Unsupported ∷ BadCount ∷ RowOutside ∷ BadRow ∷ MixedCover
+    ∷ BadLatch ∷ BadPin ∷ AfterEnd ∷ DuplicateModel ∷ []
 
 -- the first of these rules that the line breaks
 abbrev pub first_broken : List FaultKind → List Logical → Logical → Option Fault
 first_broken [] before l = None
-first_broken (kind ∷ kinds) before l = option_or (option_map (fault_on kind l.line) (word_at_fault kind before l)) (first_broken kinds before l)
+first_broken (kind ∷ kinds) before l =
+    option_or (option_map (fault_on kind l.line) (word_at_fault kind before l))
+      (first_broken kinds before l)
 
--- The fault of the earliest line that breaks a rule over the lines before it, by the rule of the lowest number.
+-- The fault of the earliest line that breaks a rule over the lines before it, by the rule of the
+-- lowest number.
 abbrev pub fault_after : List Logical → List Logical → Option Fault
 fault_after before [] = None
-fault_after before (l ∷ later) = option_or (first_broken line_rules before l) (fault_after (l ∷ before) later)
+fault_after before (l ∷ later) =
+    option_or (first_broken line_rules before l) (fault_after (l ∷ before) later)
 
 abbrev pub line_fault : List Logical → Option Fault
 line_fault lines = fault_after [] lines

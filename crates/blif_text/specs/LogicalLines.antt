@@ -14,7 +14,8 @@ abbrev pub parts_between : (ℕ → Bool) → List ℕ → List (List ℕ)
 parts_between p [] = [] ∷ []
 parts_between p (b ∷ bs) = cut_or_kept (p b) b (parts_between p bs)
 
--- The physical lines: they end with byte 10, or with the text, and a byte 13 just before a byte 10 belongs to the line end.
+-- The physical lines: they end with byte 10, or with the text, and a byte 13 just before a byte 10
+-- belongs to the line end.
 abbrev pub is_newline : ℕ → Bool
 is_newline b = b == 10
 
@@ -49,7 +50,8 @@ pub record JoinedLine : Type 0 where
 abbrev pub joined_line : ℕ → List ℕ → JoinedLine
 joined_line n bytes = record { line = n; bytes = bytes }
 
--- Where a `\` ends the physical line of this number, the next line is joined on, with nothing between; at the end of the text there is nothing to join.
+-- Where a `\` ends the physical line of this number, the next line is joined on, with nothing
+-- between; at the end of the text there is nothing to join.
 abbrev pub joined_to : ℕ → List ℕ → List JoinedLine → List JoinedLine
 joined_to n front [] = joined_line n front ∷ []
 joined_to n front (next ∷ later) = joined_line n (front ++ next.bytes) ∷ later
@@ -61,7 +63,9 @@ continued_by n bytes (Some front) later = joined_to n front later
 -- the lines from number n on, without their comments, each joined to the next where it is continued
 abbrev pub joined_lines : ℕ → List (List ℕ) → List JoinedLine
 joined_lines n [] = []
-joined_lines n (line ∷ lines) = continued_by n (without_comment line) (before_backslash (without_comment line)) (joined_lines (n + 1) lines)
+joined_lines n (line ∷ lines) =
+    continued_by n (without_comment line) (before_backslash (without_comment line))
+      (joined_lines (n + 1) lines)
 
 -- Words are the longest runs of bytes that are no blanks.
 abbrev pub words_of : List ℕ → List (List ℕ)

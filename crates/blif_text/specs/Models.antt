@@ -1,4 +1,5 @@
--- The models that a list of logical lines describes, by the BLIF report of Berkeley. Where no line breaks a rule on lines, these are what the lines say.
+-- The models that a list of logical lines describes, by the BLIF report of Berkeley. Where no line
+-- breaks a rule on lines, these are what the lines say.
 use Rattle.std.specs.Prelude.{ℕ, Bool, true, false, not, ◌-◌, ◌==◌, List, [], ◌∷◌, ◌++◌, map, length, take, drop, get_or, codes, bytes_eq, Option, None, filter_map, flat_map, take_while, cond}
 use Rattle.std.specs.Bool.{then_some}
 use Rattle.std.specs.List.{list_all, before_first, after_first}
@@ -44,7 +45,8 @@ begins_model l = has_directive (codes ".model") l
 abbrev pub stays_in_model : Logical → Bool
 stays_in_model l = not (begins_model l)
 
--- `.inputs`, `.outputs` and `.clock` take lists, over any number of lines, which are joined in order.
+-- `.inputs`, `.outputs` and `.clock` take lists, over any number of lines, which are joined in
+-- order.
 abbrev pub ports_on : Logical → List Port
 ports_on l = map (λ (name : List ℕ). let port : Port = record { line = l.line; name = name } in port) (operands l)
 
@@ -55,7 +57,8 @@ ports_listed name lines = flat_map ports_on (lines_with name lines)
 abbrev pub last_word : List (List ℕ) → List ℕ
 last_word words = get_or words (length words - 1) []
 
--- A row ends with the output's character; the word before that has the inputs' characters. A row of a cover without inputs has the output's alone.
+-- A row ends with the output's character; the word before that has the inputs' characters. A row of
+-- a cover without inputs has the output's alone.
 abbrev pub output_part : List (List ℕ) → List ℕ
 output_part words = last_word words
 
@@ -99,14 +102,22 @@ abbrev pub digit : List ℕ → ℕ
 digit word = get_or word 0 48 - 48
 
 abbrev pub latch_row : ℕ → List ℕ → List ℕ → Option Trigger → Option (List ℕ) → ℕ → LatchRow
-latch_row line input output kind control init = record { line = line; input = input; output = output; kind = kind; control = control; init = init }
+latch_row line input output kind control init =
+    record { line = line; input = input; output = output; kind = kind; control = control;
+      init = init }
 
--- `.latch input output [type control] [init]`: an init that is left out is 3, and without a control the type is ignored
+-- `.latch input output [type control] [init]`: an init that is left out is 3, and without a control
+-- the type is ignored
 abbrev pub latch_with : ℕ → List (List ℕ) → List LatchRow
 latch_with line (input ∷ output ∷ []) = latch_row line input output None None 3 ∷ []
-latch_with line (input ∷ output ∷ init ∷ []) = latch_row line input output None None (digit init) ∷ []
-latch_with line (input ∷ output ∷ type ∷ control ∷ []) = latch_row line input output (then_some (is_control control) (trigger_of type)) (then_some (is_control control) control) 3 ∷ []
-latch_with line (input ∷ output ∷ type ∷ control ∷ init ∷ []) = latch_row line input output (then_some (is_control control) (trigger_of type)) (then_some (is_control control) control) (digit init) ∷ []
+latch_with line (input ∷ output ∷ init ∷ []) =
+    latch_row line input output None None (digit init) ∷ []
+latch_with line (input ∷ output ∷ type ∷ control ∷ []) =
+    latch_row line input output (then_some (is_control control) (trigger_of type))
+      (then_some (is_control control) control) 3 ∷ []
+latch_with line (input ∷ output ∷ type ∷ control ∷ init ∷ []) =
+    latch_row line input output (then_some (is_control control) (trigger_of type))
+      (then_some (is_control control) control) (digit init) ∷ []
 latch_with line _ = []
 
 abbrev pub latch_on : Logical → List LatchRow
@@ -127,7 +138,8 @@ pin_words l = drop 2 l.words
 abbrev pub subckt_of : Logical → Subckt
 subckt_of l = record { line = l.line; model = first_operand l; pins = map pin_of (pin_words l) }
 
--- the model of a `.model` line and the lines after it, up to the next `.model`; annotations and `.end` give nothing
+-- the model of a `.model` line and the lines after it, up to the next `.model`; annotations and
+-- `.end` give nothing
 abbrev pub model_of : Logical → List Logical → Model
 model_of l lines = record {
   line = l.line;
@@ -144,7 +156,8 @@ abbrev pub model_if : Bool → Logical → List Logical → List Model
 model_if true l later = model_of l (take_while stays_in_model later) ∷ []
 model_if false l later = []
 
--- The models of a list of logical lines, which is cut before each `.model`. The first is the main one.
+-- The models of a list of logical lines, which is cut before each `.model`. The first is the main
+-- one.
 abbrev pub models_of : List Logical → List Model
 models_of [] = []
 models_of (l ∷ later) = model_if (begins_model l) l later ++ models_of later

@@ -13,7 +13,8 @@ use Rattle.blif_write.specs.Text.{lifted_text}
 -- where the ports have names of their own that are words
 abbrev pub LiftedTextsRead : Type 0
 LiftedTextsRead =
-    (list : CellList) (ins outs : List Name) → length ins ≡ list.inputs → length outs ≡ length list.outs → names_one list ≡ false
+    (list : CellList) (ins outs : List Name) → length ins ≡ list.inputs
+    → length outs ≡ length list.outs → names_one list ≡ false
     → ArePortNames ins outs → list_all is_word ins ≡ true → list_all is_word outs ≡ true
     → length list.cells < 2 ^ 64 → length list.latches < 2 ^ 64
     → IsDesignOf (lifted_text ins outs list) (lifted_design ins outs list)

@@ -6,7 +6,8 @@ use Rattle.cell_core.specs.declared.list.CellList.{CellList}
 use Rattle.lifted_designs.specs.Lines.{lifted_lines}
 use Rattle.lifted_designs.specs.Words.{text_of}
 
--- the text that has the words of these lines: a space stands between two words, and byte 10 after each line
+-- the text that has the words of these lines: a space stands between two words, and byte 10 after
+-- each line
 abbrev pub worded_text : List Logical → List ℕ
 worded_text lines = text_of (map (λ line. line.words) lines)
 

@@ -29,7 +29,9 @@ words_after_spaces word items = flat_map (λ item. 32 ∷ word item) items
 
 -- the lines of an output, before others
 abbrev pub output_then : Lift → ℕ → Src → Name → List Logical → List Logical
-output_then lift n source name more = worded_line n (codes ".names" ∷ source_in lift source ∷ name ∷ []) ∷ row n (codes "1") (codes "1") ∷ more
+output_then lift n source name more =
+    worded_line n (codes ".names" ∷ source_in lift source ∷ name ∷ [])
+    ∷ row n (codes "1") (codes "1") ∷ more
 
 -- the lines of the model, its inputs and outputs, and constant 0, before others
 abbrev pub head_then : Lift → List Logical → List Logical

@@ -5,8 +5,8 @@ ghost use Rattle.lifted_designs.specs.Names.{most_leading};
 use cell_core::CellList;
 use lists::{Bytes, List};
 
-/// The cells of a circuit, the names of its inputs and outputs, and the most `_` with which one of these names begins. It
-/// holds nothing else of the text.
+/// The cells of a circuit, the names of its inputs and outputs, and the most `_` with which one of
+/// these names begins. It holds nothing else of the text.
 #[derive(Drop)]
 pub struct Lift {
     pub list: CellList,

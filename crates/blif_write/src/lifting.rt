@@ -50,8 +50,9 @@ fn most_leading(names: &[Bytes], least: usize) -> usize
     most
 }
 
-/// The circuit of a plan, whose inputs and outputs bear the names of these ports, in order, which are copied. The plan's nets
-/// are not looked at. A call asks for a port for each output; an input without a port has an empty name.
+/// The circuit of a plan, whose inputs and outputs bear the names of these ports, in order, which
+/// are copied. The plan's nets are not looked at. A call asks for a port for each output; an input
+/// without a port has an empty name.
 pub fn of(alloc: Global, plan: &Plan, ports: &Ports) -> Result<Lift, LiftError>
     requires admissible { IsAdmissible plan.now }
     requires outs { length ports.now.outs ≡ length plan.now.outs }

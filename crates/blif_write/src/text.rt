@@ -32,8 +32,9 @@ fn write_head<O: Sink>(sink: &mut O, page: &mut Page, lift: &Lift) -> Result<(),
     write_line(sink, page, lift, b".names", &[LineWord::Net(Src::Zero)])
 }
 
-/// Writes the BLIF text of a lifted circuit. Where a write fails, a front of the text stands written. It takes no
-/// memory. Each name is written as often as it is used, so a long name makes a long text.
+/// Writes the BLIF text of a lifted circuit. Where a write fails, a front of the text stands
+/// written. It takes no memory. Each name is written as often as it is used, so a long name makes a
+/// long text.
 pub fn write<O: Sink>(lift: &Lift, sink: &mut O) -> Result<(), Failed>
     ensures ok { OnOk result (Appends (O.written sink.old) (O.written sink.new)
         (text_of_lift lift.now)) }

@@ -1,8 +1,8 @@
 // What a line has.
 use cell_core::Src;
 
-/// A word of a line: bytes as they are, the name of the net of a source, or that of a loop's latch or of a gate, by its
-/// number.
+/// A word of a line: bytes as they are, the name of the net of a source, or that of a loop's latch
+/// or of a gate, by its number.
 #[derive(Clone, Copy)]
 pub enum LineWord<'a> {
     Bytes(&'a [u8]),

@@ -15,13 +15,15 @@ use Rattle.aiger_plans.specs.Planned.{IsPlanOfAig}
 use Rattle.refusals.specs.declared.causes.Cause.{Cause}
 use Rattle.refusals.specs.declared.causes.Cause.TheVariants.{WeightTooLarge, AigAtFault, AigLoop}
 
--- The text reads as this circuit, whose weight is within the limit, and no gates of which read each other in a circle.
+-- The text reads as this circuit, whose weight is within the limit, and no gates of which read each
+-- other in a circle.
 pub record IsAig (text : List ℕ) (aig : Aig) : Type 0 where
   pub reads : ReadsAsAig text aig
   pub light : aig_weight aig ≤ weight_limit
   pub no_loop : (literals : List ℕ) → ¬ IsAigLoop aig literals
 
--- The text is a circuit. The output is the written text of a plan of the circuit and of the plan's table.
+-- The text is a circuit. The output is the written text of a plan of the circuit and of the plan's
+-- table.
 pub record CompilesAig (text output : List ℕ) : Type 0 where
   pub aig : Aig
   pub is : IsAig text aig
@@ -30,10 +32,12 @@ pub record CompilesAig (text output : List ℕ) : Type 0 where
   pub is_plan : IsPlanOfAig aig plan ports
   pub written : output ≡ pattern_text (start_grid plan) ports
 
--- why the text is no circuit: it is at fault; or it reads as one that is too heavy, or within the limit has gates that read each other
--- in a circle
+-- why the text is no circuit: it is at fault; or it reads as one that is too heavy, or within the
+-- limit has gates that read each other in a circle
 abbrev pub HasNoAig : List ℕ → Cause → Type 0
 HasNoAig text (AigAtFault fault) = HasAigFault text fault
-HasNoAig text (WeightTooLarge told) = (aig : Aig) × ReadsAsAig text aig × HasLowerCause aig (planning.TooLarge told)
-HasNoAig text (AigLoop literals) = (aig : Aig) × ReadsAsAig text aig × HasLowerCause aig (planning.Loop literals)
+HasNoAig text (WeightTooLarge told) =
+    (aig : Aig) × ReadsAsAig text aig × HasLowerCause aig (planning.TooLarge told)
+HasNoAig text (AigLoop literals) =
+    (aig : Aig) × ReadsAsAig text aig × HasLowerCause aig (planning.Loop literals)
 HasNoAig text _ = ⊥

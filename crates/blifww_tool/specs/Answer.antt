@@ -34,14 +34,17 @@ HasStopped words src out WriteFault = (k : ℕ) × WriteFailed out × Does words
 HasStopped words src out refusal = GainedNothing out × HasReason words src refusal
 
 -- out gained this part of what the command prints of the text
-pub record PrintsPart (command : CommandValues) (text : List ℕ) (out : Writing) (part : List ℕ → List ℕ) : Type 0 where
+pub record PrintsPart (command : CommandValues) (text : List ℕ) (out : Writing)
+    (part : List ℕ → List ℕ) : Type 0 where
   pub output : List ℕ
   pub prints : Prints command text output
   pub wrote : Gained out (part output)
 
--- out was cut off, or gained nothing where the command refuses the text or there is not enough memory
+-- out was cut off, or gained nothing where the command refuses the text or there is not enough
+-- memory
 abbrev pub HasStoppedOn : CommandValues → List ℕ → Writing → Refusal → Type 0
-HasStoppedOn command text out WriteFault = (k : ℕ) × WriteFailed out × PrintsPart command text out (take k)
+HasStoppedOn command text out WriteFault =
+    (k : ℕ) × WriteFailed out × PrintsPart command text out (take k)
 HasStoppedOn command text out NoMemory = GainedNothing out
 HasStoppedOn command text out (Text cause) = GainedNothing out × Refuses command text cause
 HasStoppedOn command text out refusal = ⊥

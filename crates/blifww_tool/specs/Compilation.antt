@@ -28,11 +28,12 @@ use Rattle.start_words.specs.Starts.{latches_of, starts_of_words}
 use Rattle.refusals.specs.declared.causes.Cause.{Cause}
 use Rattle.refusals.specs.declared.causes.Cause.TheVariants.{NetlistFault, WeightTooLarge, Loop, StartWord, TooManyContexts}
 
--- The written text of the plan and its table carries the design and its nets. The plan can be drawn, with its starts.
--- The plan computes the cells of the design's flat netlist: so it has a loop for each latch, and exactly where constant
--- 1 is named one more. The design's weight bounds its lanes, its columns and its instructions, and it has no lane and no
--- column exactly where there is no net but clock nets. Each net has a place, by what drives it. Where there is no latch
--- and no cover needs constant 1 the period is 32. The text spells the drawing of a circuit.
+-- The written text of the plan and its table carries the design and its nets. The plan can be
+-- drawn, with its starts. The plan computes the cells of the design's flat netlist: so it has a
+-- loop for each latch, and exactly where constant 1 is named one more. The design's weight bounds
+-- its lanes, its columns and its instructions, and it has no lane and no column exactly where there
+-- is no net but clock nets. Each net has a place, by what drives it. Where there is no latch and no
+-- cover needs constant 1 the period is 32. The text spells the drawing of a circuit.
 pub record IsCarriedBy (design : Design) (plan : Plan) (ports : Ports) : Type 0 where
   pub admissible : IsAdmissible plan
   pub edges : HasStartEdges plan
@@ -45,19 +46,22 @@ pub record IsCarriedBy (design : Design) (plan : Plan) (ports : Ports) : Type 0 
   pub cells : (flat : Flat) → IsFlatOf design flat → ComputesCells flat plan
   pub size : (flat : Flat) → IsFlatOf design flat → HasLanes flat plan
   pub places : (flat : Flat) → IsFlatOf design flat → HasNetPlaces flat plan
-  pub period : (flat : Flat) → IsFlatOf design flat → length flat.latches ≡ 0 → any_needs_one flat ≡ false → ports.p ≡ 32
+  pub period : (flat : Flat) → IsFlatOf design flat → length flat.latches ≡ 0
+    → any_needs_one flat ≡ false → ports.p ≡ 32
   pub drawing : IsWrittenDrawing plan ports
 
 -- the text is the netlist of this design, in which the words say starts for so many contexts
-pub record HasStarts (contexts : ℕ) (starts : List (List ℕ)) (text : List ℕ) (design : Design) : Type 0 where
+pub record HasStarts (contexts : ℕ) (starts : List (List ℕ)) (text : List ℕ)
+    (design : Design) : Type 0 where
   pub netlist : IsNetlist text design
   pub no_fault : first_fault (latches_of design) contexts starts ≡ None
 
--- The text is a netlist, in which the words say starts. A plan of one context carries the design, and its period has 32
--- generations for each of the contexts. The output is the written text of a plan and its table that carries the design
--- and its nets in these contexts, each from its start. The written plan is that of one context, but for its starts and
--- for the further columns that the contexts need; in one context, and without words, it is that plan. In one context what
--- is written spells the drawing of a circuit.
+-- The text is a netlist, in which the words say starts. A plan of one context carries the design,
+-- and its period has 32 generations for each of the contexts. The output is the written text of a
+-- plan and its table that carries the design and its nets in these contexts, each from its start.
+-- The written plan is that of one context, but for its starts and for the further columns that the
+-- contexts need; in one context, and without words, it is that plan. In one context what is written
+-- spells the drawing of a circuit.
 pub record Compiles (contexts : ℕ) (starts : List (List ℕ)) (text output : List ℕ) : Type 0 where
   pub design : Design
   pub has : HasStarts contexts starts text design
@@ -78,7 +82,8 @@ pub record Compiles (contexts : ℕ) (starts : List (List ℕ)) (text output : L
   pub carries : CarriesContexts output design (starts_of_words design starts contexts)
   pub nets : CarriesNetsInContexts output design (starts_of_words design starts contexts)
 
--- why the text is no netlist: it is at fault, or too heavy, or its covers read each other in a circle
+-- why the text is no netlist: it is at fault, or too heavy, or its covers read each other in a
+-- circle
 abbrev pub HasNoNetlist : List ℕ → Cause → Type 0
 HasNoNetlist text (NetlistFault fault) = IsAtFault text fault
 HasNoNetlist text (WeightTooLarge weight) = IsTooHeavy text weight
@@ -86,7 +91,8 @@ HasNoNetlist text (Loop names) = HasLoop text names
 HasNoNetlist text _ = ⊥
 
 -- the text is a netlist, in which this is the first fault of the words
-pub record HasStartFault (contexts : ℕ) (starts : List (List ℕ)) (text : List ℕ) (fault : StartFault) : Type 0 where
+pub record HasStartFault (contexts : ℕ) (starts : List (List ℕ)) (text : List ℕ)
+    (fault : StartFault) : Type 0 where
   pub design : Design
   pub netlist : IsNetlist text design
   pub at_fault : first_fault (latches_of design) contexts starts ≡ Some fault
@@ -99,9 +105,10 @@ latch_count design = length (at_places design (λ model. model.latches) (λ plac
 abbrev pub least_room : Design → ℕ
 least_room design = max 1 (6 * latch_count design)
 
--- The text is a netlist, in which the words say starts. A plan of one context carries the design, and its period has
--- room for `limit` contexts, 32 generations each; more are asked for.
-pub record HasNoRoom (contexts : ℕ) (starts : List (List ℕ)) (text : List ℕ) (limit : ℕ) : Type 0 where
+-- The text is a netlist, in which the words say starts. A plan of one context carries the design,
+-- and its period has room for `limit` contexts, 32 generations each; more are asked for.
+pub record HasNoRoom (contexts : ℕ) (starts : List (List ℕ)) (text : List ℕ)
+    (limit : ℕ) : Type 0 where
   pub design : Design
   pub has : HasStarts contexts starts text design
   pub plan : Plan
@@ -111,8 +118,10 @@ pub record HasNoRoom (contexts : ℕ) (starts : List (List ℕ)) (text : List �
   pub least : least_room design ≤ limit
   pub over : limit < contexts
 
--- why the text is not compiled: it is no netlist, or the words are at fault in it, or the contexts have no room
+-- why the text is not compiled: it is no netlist, or the words are at fault in it, or the contexts
+-- have no room
 abbrev pub HasNoCompilation : (contexts : ℕ) → (starts : List (List ℕ)) → List ℕ → Cause → Type 0
 HasNoCompilation contexts starts text (StartWord fault) = HasStartFault contexts starts text fault
-HasNoCompilation contexts starts text (TooManyContexts told limit) = (told ≡ contexts) × HasNoRoom contexts starts text limit
+HasNoCompilation contexts starts text (TooManyContexts told limit) =
+    (told ≡ contexts) × HasNoRoom contexts starts text limit
 HasNoCompilation contexts starts text cause = HasNoNetlist text cause

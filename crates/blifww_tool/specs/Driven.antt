@@ -11,4 +11,5 @@ simulation_of d = record { grid = grid_of d.pattern; ports = d.ports; streams = 
 
 -- the names of ports as they stand before their bits in one of so many contexts
 abbrev pub names_in_context : (contexts : ℕ) → List PortLine → (context : ℕ) → List (List ℕ)
-names_in_context contexts ports context = map (λ port. with_context contexts context port.name) ports
+names_in_context contexts ports context =
+    map (λ port. with_context contexts context port.name) ports

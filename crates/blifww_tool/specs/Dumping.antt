@@ -15,8 +15,8 @@ last_dumped s = last_of_all_nets s.ports s.streams
 abbrev pub waves_of : Simulation → Waves
 waves_of s = net_waves s.ports s.streams (plane_of s.grid.rows)
 
--- The text and the words are a simulation, which is run up to the last bit of a net. The output is the text of its nets' bits,
--- and reads as these alone.
+-- The text and the words are a simulation, which is run up to the last bit of a net. The output is
+-- the text of its nets' bits, and reads as these alone.
 pub record Dumps (cycles : ℕ) (words : List (List ℕ)) (text output : List ℕ) : Type 0 where
   pub simulation : Simulation
   pub runs : RunsInTime last_dumped cycles words text simulation

@@ -14,10 +14,12 @@ use Rattle.blifww_tool.specs.Evaluation.{FeedsInputs}
 use Rattle.blifww_tool.specs.Commands.{Prints}
 use Rattle.blifww_tool.specs.PrintsAlike.{AreRunsOn}
 
--- The words say streams for the IN names of the design in each context, and it has runs on them, one from each start on. The output
--- reads as a form. Line i of n NET lines is that of a net of the design, and in context c the form gives its variable, by the id of
--- number c n + i, at each cycle the net's bit in all such runs.
-pub record DumpsNets (cycles : ℕ) (words : List (List ℕ)) (design : Design) (starts : List LatchState) (output : List ℕ) : Type 0 where
+-- The words say streams for the IN names of the design in each context, and it has runs on them,
+-- one from each start on. The output reads as a form. Line i of n NET lines is that of a net of the
+-- design, and in context c the form gives its variable, by the id of number c n + i, at each cycle
+-- the net's bit in all such runs.
+pub record DumpsNets (cycles : ℕ) (words : List (List ℕ)) (design : Design)
+    (starts : List LatchState) (output : List ℕ) : Type 0 where
   pub fed : Streams
   pub feeds : FeedsInputs (length starts) cycles words design fed
   pub runs : ℕ → ℕ → Valuation
@@ -27,11 +29,15 @@ pub record DumpsNets (cycles : ℕ) (words : List (List ℕ)) (design : Design) 
   pub lines : List NetLine
   pub nets : (number : ℕ) (line : NetLine) → slice_get lines number ≡ Some line
       → (net : Net) × IsLineOf design line net
-      × ((context : ℕ) → context < length starts → (others : ℕ → ℕ → Valuation) → AreRunsOn design starts fed others → (cycle : ℕ) → cycle < cycles
-      → value_at form (vcd_id (context * length lines + number)) cycle ≡ Some (others context cycle net.place net.name))
+      × ((context : ℕ) → context < length starts → (others : ℕ → ℕ → Valuation)
+        → AreRunsOn design starts fed others → (cycle : ℕ) → cycle < cycles
+      → value_at form (vcd_id (context * length lines + number)) cycle
+        ≡ Some (others context cycle net.place net.name))
 
 -- whoever made the text
 abbrev pub CarriersDumpNets : Type 0
 CarriersDumpNets =
-    (text : List ℕ) (design : Design) (starts : List LatchState) → CarriesNetsInContexts text design starts
-    → (cycles : ℕ) (words : List (List ℕ)) (output : List ℕ) → Prints (vcd cycles words) text output → DumpsNets cycles words design starts output
+    (text : List ℕ) (design : Design) (starts : List LatchState)
+    → CarriesNetsInContexts text design starts
+    → (cycles : ℕ) (words : List (List ℕ)) (output : List ℕ) → Prints (vcd cycles words) text output
+    → DumpsNets cycles words design starts output

@@ -24,7 +24,8 @@ pub record Evaluation : Type 0 where
   pub streams : Streams
 
 -- The text is this netlist with these IN names, and the words say these streams for them.
-pub record IsEvaluation (cycles : ℕ) (words : List (List ℕ)) (text : List ℕ) (e : Evaluation) : Type 0 where
+pub record IsEvaluation (cycles : ℕ) (words : List (List ℕ)) (text : List ℕ)
+    (e : Evaluation) : Type 0 where
   pub netlist : IsNetlist text e.design
   pub names : IsInNames e.design e.in_names
   pub many : e.streams.cycles ≡ cycles
@@ -32,7 +33,8 @@ pub record IsEvaluation (cycles : ℕ) (words : List (List ℕ)) (text : List �
   pub streams : HasStreams 1 words e.in_names cycles e.streams.bits
 
 -- the words say these streams for the IN names of a design, in so many contexts,
-pub record FeedsInputs (count cycles : ℕ) (words : List (List ℕ)) (design : Design) (fed : Streams) : Type 0 where
+pub record FeedsInputs (count cycles : ℕ) (words : List (List ℕ)) (design : Design)
+    (fed : Streams) : Type 0 where
   pub in_names : List Name
   pub names : IsInNames design in_names
   pub many : fed.cycles ≡ cycles
@@ -41,18 +43,22 @@ pub record FeedsInputs (count cycles : ℕ) (words : List (List ℕ)) (design : 
 
 -- or none for them in one context
 abbrev pub HasInputsCause : ℕ → List (List ℕ) → Design → StreamError → Type 0
-HasInputsCause cycles words design (streams_of.Fault fault) = (names : List Name) × IsInNames design names × HasStreamFault 1 words names cycles fault
+HasInputsCause cycles words design (streams_of.Fault fault) =
+    (names : List Name) × IsInNames design names × HasStreamFault 1 words names cycles fault
 HasInputsCause cycles words design streams_of.NoMemory = ⊤
 
 -- the lines are those of a run of a design on streams
 pub record PrintsRun (design : Design) (fed : Streams) (output : List ℕ) : Type 0 where
   pub run : ℕ → Valuation
   pub is_run : IsRun design (rows_of fed) run
-  pub lines : output ≡ flat_map (λ name. bits_line name (bits_in_run run fed.cycles name)) (main_outputs design)
+  pub lines : output ≡ flat_map (λ name. bits_line name (bits_in_run run fed.cycles name))
+      (main_outputs design)
 
 -- the lines of the main outputs, in order
 abbrev pub evaluation_text : Evaluation → (ℕ → Valuation) → List ℕ
-evaluation_text e run = flat_map (λ name. bits_line name (bits_in_run run e.streams.cycles name)) (main_outputs e.design)
+evaluation_text e run =
+    flat_map (λ name. bits_line name (bits_in_run run e.streams.cycles name))
+      (main_outputs e.design)
 
 -- the lines are those of a run of the netlist on the streams
 pub record Evaluates (cycles : ℕ) (words : List (List ℕ)) (text output : List ℕ) : Type 0 where
@@ -65,5 +71,6 @@ pub record Evaluates (cycles : ℕ) (words : List (List ℕ)) (text output : Lis
 -- why the text and the words are none: the text is no netlist, or the streams are at fault
 abbrev pub HasNoEvaluation : ℕ → List (List ℕ) → List ℕ → Cause → Type 0
 HasNoEvaluation cycles words text (OfStreams fault) =
-    (design : Design) × (names : List Name) × IsNetlist text design × IsInNames design names × HasStreamFault 1 words names cycles fault
+    (design : Design) × (names : List Name) × IsNetlist text design × IsInNames design names
+    × HasStreamFault 1 words names cycles fault
 HasNoEvaluation cycles words text cause = HasNoNetlist text cause

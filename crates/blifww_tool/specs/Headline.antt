@@ -1,4 +1,5 @@
--- The headline, what it is a case of (one context, without words), those of tapes and of circuits, what a dump is, and what is lifted.
+-- The headline, what it is a case of (one context, without words), those of tapes and of circuits,
+-- what a dump is, and what is lifted.
 use Rattle.std.specs.Prelude.{◌≡◌, ℕ, List, ◌++◌, Some}
 use Rattle.netlist_core.specs.declared.model.Design.{Design}
 use Rattle.blif_text.specs.Faults.{IsDesignOf}
@@ -19,46 +20,54 @@ use Rattle.blifww_tool.specs.Dumping.{waves_of}
 use Rattle.blifww_tool.specs.Lifting.{IsNetlistOf}
 use Rattle.blifww_tool.specs.Run.{Reading, Writing}
 
--- Where the source tells the bytes that it had left, and the output the bytes that it held: the bytes that the output
--- gained carry the design of the bytes that the source had left, and its nets.
+-- Where the source tells the bytes that it had left, and the output the bytes that it held: the
+-- bytes that the output gained carry the design of the bytes that the source had left, and its
+-- nets.
 abbrev pub WritesWhatItRead : Reading → Writing → Type 0
 WritesWhatItRead src out =
     (text before : List ℕ) → src.left ≡ Some text → out.written ≡ Some before
     → (pattern : List ℕ) × (out.written_after ≡ Some (before ++ pattern))
-    × (design : Design) × IsDesignOf text design × Carries pattern design × CarriesNets pattern design
+    × (design : Design) × IsDesignOf text design × Carries pattern design
+    × CarriesNets pattern design
 
--- the bytes that the output gained carry the design of the bytes that the source had left in these contexts, each from
--- the start that the words give it, and its nets
+-- the bytes that the output gained carry the design of the bytes that the source had left in these
+-- contexts, each from the start that the words give it, and its nets
 abbrev pub WritesInContexts : (contexts : ℕ) → (starts : List (List ℕ)) → Reading → Writing → Type 0
 WritesInContexts contexts starts src out =
     (text before : List ℕ) → src.left ≡ Some text → out.written ≡ Some before
     → (pattern : List ℕ) × (out.written_after ≡ Some (before ++ pattern))
     × (design : Design) × IsDesignOf text design
-    × CarriesContexts pattern design (starts_of_words design starts contexts) × CarriesNetsInContexts pattern design (starts_of_words design starts contexts)
+    × CarriesContexts pattern design (starts_of_words design starts contexts)
+    × CarriesNetsInContexts pattern design (starts_of_words design starts contexts)
 
--- the bytes that the output gained run by themselves as the netlist of the bytes that the source had left, on the streams of the words
+-- the bytes that the output gained run by themselves as the netlist of the bytes that the source
+-- had left, on the streams of the words
 abbrev pub WritesTape : (cycles : ℕ) → (words : List (List ℕ)) → Reading → Writing → Type 0
 WritesTape cycles words src out =
     (text before : List ℕ) → src.left ≡ Some text → out.written ≡ Some before
     → (pattern : List ℕ) × (out.written_after ≡ Some (before ++ pattern))
-    × (e : Evaluation) × IsEvaluation cycles words text e × RunsByItself pattern e.design (rows_of e.streams)
+    × (e : Evaluation) × IsEvaluation cycles words text e
+    × RunsByItself pattern e.design (rows_of e.streams)
 
--- the bytes that the output gained carry the circuit that the bytes read as that the source had left
+-- the bytes that the output gained carry the circuit that the bytes read as that the source had
+-- left
 abbrev pub WritesItsAig : Reading → Writing → Type 0
 WritesItsAig src out =
     (text before : List ℕ) → src.left ≡ Some text → out.written ≡ Some before
     → (pattern : List ℕ) × (out.written_after ≡ Some (before ++ pattern))
     × (aig : Aig) × ReadsAsAig text aig × CarriesAig pattern aig
 
--- the bytes that the output gained are the text of what the nets show in the simulation that the source and the words gave, and read
--- as that alone
+-- the bytes that the output gained are the text of what the nets show in the simulation that the
+-- source and the words gave, and read as that alone
 abbrev pub WritesDump : (cycles : ℕ) → (words : List (List ℕ)) → Reading → Writing → Type 0
 WritesDump cycles words src out =
     (text before : List ℕ) → src.left ≡ Some text → out.written ≡ Some before
     → (dump : List ℕ) × (out.written_after ≡ Some (before ++ dump))
-    × (s : Simulation) × IsSimulation cycles words text s × (dump ≡ vcd_text (waves_of s)) × SaysWaves (waves_of s)
+    × (s : Simulation) × IsSimulation cycles words text s × (dump ≡ vcd_text (waves_of s))
+    × SaysWaves (waves_of s)
 
--- the bytes that the output gained are the text of a netlist without a fault or a loop, which the bytes carry that the source had left
+-- the bytes that the output gained are the text of a netlist without a fault or a loop, which the
+-- bytes carry that the source had left
 abbrev pub WritesItsNetlist : Reading → Writing → Type 0
 WritesItsNetlist src out =
     (text before : List ℕ) → src.left ≡ Some text → out.written ≡ Some before

@@ -22,22 +22,24 @@ use Rattle.blif_write.specs.Text.{lifted_text}
 use Rattle.refusals.specs.declared.causes.Cause.{Cause}
 use Rattle.refusals.specs.declared.causes.Cause.TheVariants.{Pattern, GridTooLarge, PortTable, NotCircuit}
 
--- The text reads as this pattern with these ports, which are the drawing of this plan, and no name of a port is bad.
+-- The text reads as this pattern with these ports, which are the drawing of this plan, and no name
+-- of a port is bad.
 pub record IsCircuitText (text : List ℕ) (grid : Grid) (ports : Ports) (plan : Plan) : Type 0 where
   pub pattern : ReadsWithinLimit text grid
   pub table : ReadsAsPorts text grid.width grid.height ports
   pub drawing : IsPlanDrawing grid ports plan
   pub named : has_bad_name ports ≡ false
 
--- The netlist's text is this design, which breaks no rule and has no loop, and the text of the pattern carries it.
+-- The netlist's text is this design, which breaks no rule and has no loop, and the text of the
+-- pattern carries it.
 pub record IsNetlistOf (text netlist : List ℕ) (design : Design) : Type 0 where
   pub design_of : IsDesignOf netlist design
   pub clocks : HasNoClockFault design
   pub no_loop : (nets : List Net) → IsCombinationalLoop design nets → ⊥
   pub carries : Carries text design
 
--- The text is that of a circuit. The output is the text of the cells that its plan's columns make, with the names of its ports: a
--- netlist that the text carries.
+-- The text is that of a circuit. The output is the text of the cells that its plan's columns make,
+-- with the names of its ports: a netlist that the text carries.
 pub record Lifts (text output : List ℕ) : Type 0 where
   pub grid : Grid
   pub ports : Ports
@@ -46,15 +48,18 @@ pub record Lifts (text output : List ℕ) : Type 0 where
   pub list : CellList
   pub of_plan : IsListOf plan list
   pub written : output ≡ lifted_text (names_of ports.ins) (names_of ports.outs) list
-  pub netlist : IsNetlistOf text output (lifted_design (names_of ports.ins) (names_of ports.outs) list)
+  pub netlist : IsNetlistOf text output
+      (lifted_design (names_of ports.ins) (names_of ports.outs) list)
 
--- why the text is no circuit's: it is no pattern's, or its box is too large; its port table is at fault; or the pattern with this table
--- is the drawing of no circuit, or has a bad name
+-- why the text is no circuit's: it is no pattern's, or its box is too large; its port table is at
+-- fault; or the pattern with this table is the drawing of no circuit, or has a bad name
 abbrev pub HasNoCircuit : List ℕ → Cause → Type 0
 HasNoCircuit text (Pattern fault) = HasReaderFault text fault.kind fault.line
 HasNoCircuit text (GridTooLarge width height) = HasLargeBox text width height
 HasNoCircuit text (PortTable fault) =
-    (grid : Grid) × ReadsWithinLimit text grid × HasPortFault text grid.width grid.height fault.kind fault.line
+    (grid : Grid) × ReadsWithinLimit text grid
+    × HasPortFault text grid.width grid.height fault.kind fault.line
 HasNoCircuit text (NotCircuit fault) =
-    (grid : Grid) × (ports : Ports) × ReadsWithinLimit text grid × ReadsAsPorts text grid.width grid.height ports × HasCircuitFault grid ports fault
+    (grid : Grid) × (ports : Ports) × ReadsWithinLimit text grid
+    × ReadsAsPorts text grid.width grid.height ports × HasCircuitFault grid ports fault
 HasNoCircuit text _ = ⊥

@@ -1,4 +1,5 @@
--- What `compile` writes for one context `lift` takes back; and `eval` prints of what `lift` writes what `simulate` prints of the pattern.
+-- What `compile` writes for one context `lift` takes back; and `eval` prints of what `lift` writes
+-- what `simulate` prints of the pattern.
 use Rattle.std.specs.Prelude.{ℕ, ◌≡◌, false, List}
 use Rattle.ww_rule.specs.Grid.{Grid}
 use Rattle.pattern_reading.specs.declared.ports.Ports.{Ports}
@@ -8,20 +9,23 @@ use Rattle.tile_match.specs.Names.{has_bad_name}
 use Rattle.command_words.specs.Shapes.{compile, eval, lift, simulate}
 use Rattle.blifww_tool.specs.Commands.{Accepts, Prints}
 
--- `lift` accepts each text that `compile` writes for one context, whatever the start words are, where its box is within the limit of
--- what is read and no name of a port is bad
+-- `lift` accepts each text that `compile` writes for one context, whatever the start words are,
+-- where its box is within the limit of what is read and no name of a port is bad
 abbrev pub CompiledAreLifted : Type 0
 CompiledAreLifted =
     (starts : List (List ℕ)) (netlist text : List ℕ) → Prints (compile 1 starts) netlist text
-    → (grid : Grid) (ports : Ports) → ReadsWithinLimit text grid → ReadsAsPorts text grid.width grid.height ports → has_bad_name ports ≡ false
+    → (grid : Grid) (ports : Ports) → ReadsWithinLimit text grid
+    → ReadsAsPorts text grid.width grid.height ports → has_bad_name ports ≡ false
     → Accepts lift text
 
--- what `simulate` prints of a circuit's text is what `eval` prints of the netlist that `lift` writes of it, under the same words
+-- what `simulate` prints of a circuit's text is what `eval` prints of the netlist that `lift`
+-- writes of it, under the same words
 abbrev pub LiftedPrintAlike : Type 0
 LiftedPrintAlike =
     (text netlist : List ℕ) → Prints lift text netlist
     → (cycles : ℕ) (words : List (List ℕ)) (shown evaluated : List ℕ)
-    → Prints (simulate cycles words) text shown → Prints (eval cycles words) netlist evaluated → shown ≡ evaluated
+    → Prints (simulate cycles words) text shown → Prints (eval cycles words) netlist evaluated
+    → shown ≡ evaluated
 
 -- a text is lifted in one way
 abbrev pub LiftedInOneWay : Type 0

@@ -1,5 +1,6 @@
--- What a run does, by its words, and by what its source, its output and its errors hold before and after. It is said once for all
--- commands: what each of them prints, and why it refuses, stands in `Commands`.
+-- What a run does, by its words, and by what its source, its output and its errors hold before and
+-- after. It is said once for all commands: what each of them prints, and why it refuses, stands in
+-- `Commands`.
 use Rattle.std.specs.Prelude.{◌≡◌, ◌≢◌, ◌≤◌, ◌<◌, ◌⊎◌, ℕ, Bool, true, false, List, [], length, take, ⊤, Some}
 use Rattle.std.specs.declared.option.Option.{Option}
 use Rattle.std.specs.Io.KnownBytes.{Consumes, Appends, Keeps, IsAtEnd}
@@ -32,7 +33,8 @@ pub record IsAsked (words : List (List ℕ)) (command : CommandValues) : Type 0 
 abbrev pub text_limit : ℕ
 text_limit = 16777216
 
--- what a run did to a source: the bytes that were left, where it tells them, and its count of faults, before and after
+-- what a run did to a source: the bytes that were left, where it tells them, and its count of
+-- faults, before and after
 pub record Reading : Type 0 where
   pub left : Option (List ℕ)
   pub left_after : Option (List ℕ)
@@ -40,9 +42,12 @@ pub record Reading : Type 0 where
   pub faults_after : ℕ
 
 abbrev pub reading : {A : Type 0} → (A → Option (List ℕ)) → (A → ℕ) → A → A → Reading
-reading left faults old new = record { left = left old; left_after = left new; faults = faults old; faults_after = faults new }
+reading left faults old new =
+    record { left = left old; left_after = left new; faults = faults old;
+      faults_after = faults new }
 
--- what a run did to a sink: the bytes that it took, where it tells them, and its count of faults, before and after
+-- what a run did to a sink: the bytes that it took, where it tells them, and its count of faults,
+-- before and after
 pub record Writing : Type 0 where
   pub written : Option (List ℕ)
   pub written_after : Option (List ℕ)
@@ -50,7 +55,9 @@ pub record Writing : Type 0 where
   pub faults_after : ℕ
 
 abbrev pub writing : {A : Type 0} → (A → Option (List ℕ)) → (A → ℕ) → A → A → Writing
-writing written faults old new = record { written = written old; written_after = written new; faults = faults old; faults_after = faults new }
+writing written faults old new =
+    record { written = written old; written_after = written new; faults = faults old;
+      faults_after = faults new }
 
 -- a run: its words, and what it did to its source, its output and its errors
 pub record Call : Type 0 where
@@ -102,8 +109,10 @@ ReadFailed src = Rose src.faults src.faults_after
 abbrev pub WriteFailed : Writing → Type 0
 WriteFailed sink = Rose sink.faults sink.faults_after
 
--- the words ask for a command, it has a text from the source, and out gained this part of what the command prints of it
-pub record Does (words : List (List ℕ)) (src : Reading) (out : Writing) (part : List ℕ → List ℕ) : Type 0 where
+-- the words ask for a command, it has a text from the source, and out gained this part of what the
+-- command prints of it
+pub record Does (words : List (List ℕ)) (src : Reading) (out : Writing)
+    (part : List ℕ → List ℕ) : Type 0 where
   pub command : CommandValues
   pub asked : IsAsked words command
   pub text : List ℕ
@@ -171,12 +180,14 @@ pub record CutsLine (c : Call) : Type 0 where
   pub front : Gained c.err (take size (refusal_line refusal))
   pub failed : WriteFailed c.err
 
--- the output was cut off, and err has the line that tells it, or where err failed too a front of that line
+-- the output was cut off, and err has the line that tells it, or where err failed too a front of
+-- that line
 pub record CutsOutput (c : Call) : Type 0 where
   pub size : ℕ
   pub front : Does c.words c.src c.out (take size)
   pub failed : WriteFailed c.out
-  pub line : Gained c.err (refusal_line WriteFault) ⊎ (WriteFailed c.err × ((k : ℕ) × Gained c.err (take k (refusal_line WriteFault))))
+  pub line : Gained c.err (refusal_line WriteFault)
+    ⊎ (WriteFailed c.err × ((k : ℕ) × Gained c.err (take k (refusal_line WriteFault))))
 
 -- where the source is read, it has this text and no read failed; else the text is the empty one
 abbrev pub HoldsIfRead : Bool → Reading → List ℕ → Type 0
@@ -192,13 +203,15 @@ pub record IsCalm (c : Call) (command : CommandValues) (text : List ℕ) : Type 
   pub tells : WriteFailed c.err → ⊥
 
 -- a cause is told, and the command refuses the text for it
-pub record TellsCause (c : Call) (status : ℕ) (command : CommandValues) (text : List ℕ) : Type 0 where
+pub record TellsCause (c : Call) (status : ℕ) (command : CommandValues)
+    (text : List ℕ) : Type 0 where
   pub told : Cause
   pub refused : Refuses command text told
   pub tells : TellsRefusal c.err status (Text told)
 
 -- a cause like this one is told, and it is one why the command refuses the text
-pub record TellsLike (c : Call) (status : ℕ) (command : CommandValues) (text : List ℕ) (cause : Cause) : Type 0 where
+pub record TellsLike (c : Call) (status : ℕ) (command : CommandValues) (text : List ℕ)
+    (cause : Cause) : Type 0 where
   pub told : Cause
   pub refused : Refuses command text told
   pub alike : AreLikeCauses told cause
@@ -214,15 +227,22 @@ pub record Ends (c : Call) (status : ℕ) : Type 0 where
   pub refused : status ≢ 0 → status ≢ 6 → IsRefused c status
   pub cut : status ≡ 6 → CutsLine c ⊎ CutsOutput c
   pub front : (given : List ℕ) × Gave c.src given
-  -- and but for failed reads and writes and want of memory: of a text the output is printed or a cause is told; one that the command
-  -- accepts is printed, one that it must refuse is refused for its cause or one like it,
-  pub answered : (command : CommandValues) (text : List ℕ) → IsCalm c command text → length text ≤ text_limit
+  -- and but for failed reads and writes and want of memory: of a text the output is printed or a
+  -- cause is told; one that the command accepts is printed, one that it must refuse is refused for
+  -- its cause or one like it,
+  pub answered : (command : CommandValues) (text : List ℕ) → IsCalm c command text
+    → length text ≤ text_limit
       → (status ≡ 0) ⊎ (TellsCause c status command text ⊎ (status ≡ 7))
-  pub accepted : (command : CommandValues) (text : List ℕ) → IsCalm c command text → length text ≤ text_limit → Accepts command text
+  pub accepted : (command : CommandValues) (text : List ℕ) → IsCalm c command text
+    → length text ≤ text_limit → Accepts command text
       → (status ≡ 0) ⊎ (status ≡ 7)
-  pub caused : (command : CommandValues) (text : List ℕ) → IsCalm c command text → length text ≤ text_limit
-      → (cause : Cause) → MustRefuse command text cause → TellsLike c status command text cause ⊎ (status ≡ 7)
+  pub caused : (command : CommandValues) (text : List ℕ) → IsCalm c command text
+    → length text ≤ text_limit
+      → (cause : Cause) → MustRefuse command text cause
+      → TellsLike c status command text cause ⊎ (status ≡ 7)
   -- one that is too long is told so, and words that ask for nothing are
-  pub too_long : (command : CommandValues) (text : List ℕ) → IsCalm c command text → text_limit < length text
+  pub too_long : (command : CommandValues) (text : List ℕ) → IsCalm c command text
+    → text_limit < length text
       → TellsOr7 c status TooLong
-  pub nothing_asked : AsksNothing c.words → TellsOr7 c status Usage ⊎ ((status ≡ 6) × WriteFailed c.err × GainedNothing c.out)
+  pub nothing_asked : AsksNothing c.words
+    → TellsOr7 c status Usage ⊎ ((status ≡ 6) × WriteFailed c.err × GainedNothing c.out)

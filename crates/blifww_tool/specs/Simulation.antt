@@ -26,15 +26,19 @@ pub record Simulation : Type 0 where
 
 -- the line of an output in a context
 abbrev pub shown_line : Simulation → (context : ℕ) → PortLine → List ℕ
-shown_line s context out = context_line s.ports.c context out.name (shown_at s.ports s.streams (plane_of s.grid.rows) context out)
+shown_line s context out =
+    context_line s.ports.c context out.name
+      (shown_at s.ports s.streams (plane_of s.grid.rows) context out)
 
 -- the lines of the outputs in each context, in the table's order: all outputs of context 0 first
 abbrev pub simulation_text : Simulation → List ℕ
-simulation_text s = flat_map (λ context. flat_map (shown_line s context) s.ports.outs) (range_with_len 0 s.ports.c)
+simulation_text s =
+    flat_map (λ context. flat_map (shown_line s context) s.ports.outs) (range_with_len 0 s.ports.c)
 
--- The text reads as this pattern with these ports, and the words say these streams for its inputs in each of the
--- table's contexts.
-pub record IsSimulation (cycles : ℕ) (words : List (List ℕ)) (text : List ℕ) (s : Simulation) : Type 0 where
+-- The text reads as this pattern with these ports, and the words say these streams for its inputs
+-- in each of the table's contexts.
+pub record IsSimulation (cycles : ℕ) (words : List (List ℕ)) (text : List ℕ)
+    (s : Simulation) : Type 0 where
   pub pattern : ReadsWithinLimit text s.grid
   pub table : ReadsAsPorts text s.grid.width s.grid.height s.ports
   pub many : s.streams.cycles ≡ cycles
@@ -51,11 +55,13 @@ miss_up_to s g = first_miss s.ports s.streams (plane_of s.grid.rows) g
 
 -- up to a generation, this is the first
 abbrev pub MissesAt : Simulation → (g generation x y : ℕ) → Type 0
-MissesAt s g generation x y = miss_up_to s g ≡ Some (record { generation = generation; x = x; y = y })
+MissesAt s g generation x y =
+    miss_up_to s g ≡ Some (record { generation = generation; x = x; y = y })
 
--- the text and the words are a simulation, which is run up to the last generation that is wanted of it: this is in time, and
--- each injection up to there meets a conductor
-pub record RunsInTime (last : Simulation → ℕ) (cycles : ℕ) (words : List (List ℕ)) (text : List ℕ) (s : Simulation) : Type 0 where
+-- the text and the words are a simulation, which is run up to the last generation that is wanted of
+-- it: this is in time, and each injection up to there meets a conductor
+pub record RunsInTime (last : Simulation → ℕ) (cycles : ℕ) (words : List (List ℕ)) (text : List ℕ)
+    (s : Simulation) : Type 0 where
   pub is : IsSimulation cycles words text s
   pub near : last s ≤ greatest_generation
   pub quiet : miss_up_to s (last s) ≡ None
@@ -64,25 +70,29 @@ pub record RunsInTime (last : Simulation → ℕ) (cycles : ℕ) (words : List (
 abbrev pub Simulates : ℕ → List (List ℕ) → List ℕ → Simulation → Type 0
 Simulates cycles words text s = RunsInTime last_shown cycles words text s
 
--- why the text and the words are no simulation: the text is no pattern's, or its box is too large; its port table is at
--- fault; or the streams are
+-- why the text and the words are no simulation: the text is no pattern's, or its box is too large;
+-- its port table is at fault; or the streams are
 abbrev pub HasNoStreams : ℕ → List (List ℕ) → List ℕ → Cause → Type 0
 HasNoStreams cycles words text (Pattern fault) = HasReaderFault text fault.kind fault.line
 HasNoStreams cycles words text (GridTooLarge width height) = HasLargeBox text width height
 HasNoStreams cycles words text (PortTable fault) =
-    (grid : Grid) × ReadsWithinLimit text grid × HasPortFault text grid.width grid.height fault.kind fault.line
+    (grid : Grid) × ReadsWithinLimit text grid
+    × HasPortFault text grid.width grid.height fault.kind fault.line
 HasNoStreams cycles words text (OfStreams fault) =
-    (grid : Grid) × (ports : Ports) × ReadsWithinLimit text grid × ReadsAsPorts text grid.width grid.height ports
+    (grid : Grid) × (ports : Ports) × ReadsWithinLimit text grid
+    × ReadsAsPorts text grid.width grid.height ports
     × HasStreamFault ports.c words (names_of ports.ins) cycles fault
 HasNoStreams cycles words text _ = ⊥
 
--- why it is not so run: they are no simulation, or the last generation that is wanted comes too late, or in time, but an
--- injection up to there meets no conductor
+-- why it is not so run: they are no simulation, or the last generation that is wanted comes too
+-- late, or in time, but an injection up to there meets no conductor
 abbrev pub HasNoRun : (Simulation → ℕ) → ℕ → List (List ℕ) → List ℕ → Cause → Type 0
 HasNoRun last cycles words text (TooFar generations) =
-    (s : Simulation) × IsSimulation cycles words text s × (generations ≡ last s) × (greatest_generation < generations)
+    (s : Simulation) × IsSimulation cycles words text s × (generations ≡ last s)
+    × (greatest_generation < generations)
 HasNoRun last cycles words text (NotQuiet generation x y) =
-    (s : Simulation) × IsSimulation cycles words text s × (last s ≤ greatest_generation) × MissesAt s (last s) generation x y
+    (s : Simulation) × IsSimulation cycles words text s × (last s ≤ greatest_generation)
+    × MissesAt s (last s) generation x y
 HasNoRun last cycles words text cause = HasNoStreams cycles words text cause
 
 abbrev pub HasNoSimulation : ℕ → List (List ℕ) → List ℕ → Cause → Type 0

@@ -16,8 +16,8 @@ use Rattle.blifww_tool.specs.Aigs.{HasNoAig}
 use Rattle.blifww_tool.specs.Run.{Call, Asks, IsAsked, GaveTooMany, GaveAll, ReadFailed, WriteFailed, RefusesText, Ends}
 use Rattle.refusals.specs.declared.causes.Cause.TheVariants.{WeightTooLarge, AigLoop, Pattern, GridTooLarge, PortTable, Streams, StartWord, NoSuchNet, TooFar, TooManyContexts, NotQuiet, NotCircuit}
 
--- the source gave too many bytes, or the command refuses the text that it has: for the netlist's weight, the size of
--- the pattern's box, the number of generations, or that of contexts
+-- the source gave too many bytes, or the command refuses the text that it has: for the netlist's
+-- weight, the size of the pattern's box, the number of generations, or that of contexts
 abbrev pub IsOverALimit : Call → Type 0
 IsOverALimit c =
     GaveTooMany c.words c.src
@@ -26,24 +26,28 @@ IsOverALimit c =
     ⊎ (((generations : ℕ) × RefusesText c.words c.src (TooFar generations))
     ⊎ ((contexts limit : ℕ) × RefusesText c.words c.src (TooManyContexts contexts limit)))))
 
--- of `compile`: the source gave too many bytes, or a netlist that weighs too much, or one in which several contexts have no room
+-- of `compile`: the source gave too many bytes, or a netlist that weighs too much, or one in which
+-- several contexts have no room
 abbrev pub IsTooLarge : Call → (contexts : ℕ) → (starts : List (List ℕ)) → Type 0
 IsTooLarge c contexts starts =
     GaveTooMany c.words c.src
     ⊎ (((text : List ℕ) × (weight : ℕ) × GaveAll c.src text × IsTooHeavy text weight)
-    ⊎ ((text : List ℕ) × (limit : ℕ) × GaveAll c.src text × (1 < contexts) × HasNoRoom contexts starts text limit))
+    ⊎ ((text : List ℕ) × (limit : ℕ) × GaveAll c.src text × (1 < contexts)
+      × HasNoRoom contexts starts text limit))
 
 -- the command refuses the text as no pattern's, or for its port table
 abbrev pub HasNoPattern : Call → Type 0
 HasNoPattern c =
-    ((fault : RleFault) × RefusesText c.words c.src (Pattern fault)) ⊎ ((fault : PortFault) × RefusesText c.words c.src (PortTable fault))
+    ((fault : RleFault) × RefusesText c.words c.src (Pattern fault))
+    ⊎ ((fault : PortFault) × RefusesText c.words c.src (PortTable fault))
 
--- the words do not fit what the command reads: they are no streams for its inputs, or no starts for its latches, or ask
--- for a net that it does not have
+-- the words do not fit what the command reads: they are no streams for its inputs, or no starts for
+-- its latches, or ask for a net that it does not have
 abbrev pub WordsDoNotFit : Call → Type 0
 WordsDoNotFit c =
     ((fault : StreamFault) × RefusesText c.words c.src (Streams fault))
-    ⊎ (((fault : StartFault) × RefusesText c.words c.src (StartWord fault)) ⊎ ((name : Name) × RefusesText c.words c.src (NoSuchNet name)))
+    ⊎ (((fault : StartFault) × RefusesText c.words c.src (StartWord fault))
+      ⊎ ((name : Name) × RefusesText c.words c.src (NoSuchNet name)))
 
 -- the command refuses the text, for an injection that meets no conductor
 abbrev pub IsFirstMiss : Call → Type 0
@@ -55,13 +59,19 @@ IsNotCircuit c = (fault : CircuitFault) × RefusesText c.words c.src (NotCircuit
 
 -- Each status but 7 comes only where its cause is; of 0 a command was asked.
 pub record HaveCauses (c : Call) (status : ℕ) : Type 0 where
-  pub at_fault : status ≡ 1 → ¬ Asks c.words aiger → (text : List ℕ) × (fault : Fault) × GaveAll c.src text × IsAtFault text fault
-  pub aig_at_fault : status ≡ 1 → Asks c.words aiger → (text : List ℕ) × (fault : AigFault) × GaveAll c.src text × HasAigFault text fault
+  pub at_fault : status ≡ 1 → ¬ Asks c.words aiger
+    → (text : List ℕ) × (fault : Fault) × GaveAll c.src text × IsAtFault text fault
+  pub aig_at_fault : status ≡ 1 → Asks c.words aiger
+    → (text : List ℕ) × (fault : AigFault) × GaveAll c.src text × HasAigFault text fault
   pub usage : status ≡ 2 → IsCommand c.words → ⊥
-  pub asked : status ≢ 2 → status ≢ 6 → status ≢ 7 → (command : CommandValues) × IsAsked c.words command
-  pub a_loop : status ≡ 3 → ¬ Asks c.words aiger → (text : List ℕ) × (names : List Name) × GaveAll c.src text × HasLoop text names
-  pub aig_loop : status ≡ 3 → Asks c.words aiger → (text : List ℕ) × (literals : List ℕ) × GaveAll c.src text × HasNoAig text (AigLoop literals)
-  pub too_large : status ≡ 4 → (contexts : ℕ) (starts : List (List ℕ)) → Asks c.words (compile contexts starts) → IsTooLarge c contexts starts
+  pub asked : status ≢ 2 → status ≢ 6 → status ≢ 7
+    → (command : CommandValues) × IsAsked c.words command
+  pub a_loop : status ≡ 3 → ¬ Asks c.words aiger
+    → (text : List ℕ) × (names : List Name) × GaveAll c.src text × HasLoop text names
+  pub aig_loop : status ≡ 3 → Asks c.words aiger
+    → (text : List ℕ) × (literals : List ℕ) × GaveAll c.src text × HasNoAig text (AigLoop literals)
+  pub too_large : status ≡ 4 → (contexts : ℕ) (starts : List (List ℕ))
+    → Asks c.words (compile contexts starts) → IsTooLarge c contexts starts
   pub over_a_limit : status ≡ 4 → IsOverALimit c
   pub read_fault : status ≡ 5 → ReadFailed c.src
   pub write_fault : status ≡ 6 → WriteFailed c.out ⊎ WriteFailed c.err

@@ -11,22 +11,30 @@ use Rattle.blifww_tool.specs.Lines.{bits_line}
 use Rattle.blifww_tool.specs.Evaluation.{Evaluation, IsEvaluation}
 use Rattle.blifww_tool.specs.Commands.{Prints}
 
--- There is a run of the design on the rows, which goes on with rows of 0. The lines are those of the main outputs in every run on the
--- rows and on as many rows of 0 after them as so many cycles want.
-pub record PrintsOnward (design : Design) (rows : List (List Bool)) (cycles : ℕ) (shown : List ℕ) : Type 0 where
+-- There is a run of the design on the rows, which goes on with rows of 0. The lines are those of
+-- the main outputs in every run on the rows and on as many rows of 0 after them as so many cycles
+-- want.
+pub record PrintsOnward (design : Design) (rows : List (List Bool)) (cycles : ℕ)
+    (shown : List ℕ) : Type 0 where
   pub run : (run : ℕ → Valuation) × IsRunOnward design rows run
-  pub lines : (all : List (List Bool)) → ThenZeros rows all → AreInputRows design all → cycles ≤ length all → (run : ℕ → Valuation) → IsRun design all run
-      → shown ≡ flat_map (λ name. bits_line name (bits_in_run run cycles name)) (main_outputs design)
+  pub lines : (all : List (List Bool)) → ThenZeros rows all → AreInputRows design all
+    → cycles ≤ length all → (run : ℕ → Valuation) → IsRun design all run
+      → shown ≡ flat_map (λ name. bits_line name (bits_in_run run cycles name))
+        (main_outputs design)
 
 -- for any number of cycles, also for more than the tape has
 abbrev pub TapesPrintRuns : Type 0
 TapesPrintRuns =
-    (cycles : ℕ) (words : List (List ℕ)) (netlist text : List ℕ) → Prints (tape cycles words) netlist text
+    (cycles : ℕ) (words : List (List ℕ)) (netlist text : List ℕ)
+    → Prints (tape cycles words) netlist text
     → (e : Evaluation) × IsEvaluation cycles words netlist e
-    × ((many : ℕ) (given : List (List ℕ)) (shown : List ℕ) → Prints (simulate many given) text shown → PrintsOnward e.design (rows_of e.streams) many shown)
+    × ((many : ℕ) (given : List (List ℕ)) (shown : List ℕ) → Prints (simulate many given) text shown
+      → PrintsOnward e.design (rows_of e.streams) many shown)
 
 -- and so for as many as it has what `eval` prints of the netlist under the words of the tape
 abbrev pub TapesPrintAlike : Type 0
 TapesPrintAlike =
-    (cycles : ℕ) (words given : List (List ℕ)) (netlist text shown evaluated : List ℕ) → Prints (tape cycles words) netlist text
-    → Prints (simulate cycles given) text shown → Prints (eval cycles words) netlist evaluated → shown ≡ evaluated
+    (cycles : ℕ) (words given : List (List ℕ)) (netlist text shown evaluated : List ℕ)
+    → Prints (tape cycles words) netlist text
+    → Prints (simulate cycles given) text shown → Prints (eval cycles words) netlist evaluated
+    → shown ≡ evaluated

@@ -17,8 +17,9 @@ use Rattle.plan_tapes.specs.Loaded.{with_tape}
 use Rattle.blifww_tool.specs.Compilation.{IsCarriedBy}
 use Rattle.blifww_tool.specs.Evaluation.{Evaluation, IsEvaluation}
 
--- A machine without a tape carries the design. The plan is the machine with the streams on its tape. The output is the written text
--- of the plan and its table, and runs by itself as the design does on the streams, and on zeros after them.
+-- A machine without a tape carries the design. The plan is the machine with the streams on its
+-- tape. The output is the written text of the plan and its table, and runs by itself as the design
+-- does on the streams, and on zeros after them.
 pub record IsTapeOf (design : Design) (fed : Streams) (output : List ℕ) : Type 0 where
   pub machine : Plan
   pub machine_ports : Ports

@@ -9,13 +9,16 @@ use Rattle.blifww_tool.specs.Simulation.{Simulation, IsSimulation, HasNoStreams,
 use Rattle.refusals.specs.declared.causes.Cause.{Cause}
 use Rattle.refusals.specs.declared.causes.Cause.TheVariants.{NotQuiet}
 
--- the number of cycles that stream words say by themselves: that of the first one's bits, and none without words
+-- the number of cycles that stream words say by themselves: that of the first one's bits, and none
+-- without words
 abbrev pub cycles_in : List (List ℕ) → ℕ
 cycles_in [] = 0
 cycles_in (word ∷ words) = length (bits_in word)
 
--- the text and the words are a simulation, in which each injection up to the view's generation meets a conductor
-pub record HasView (view : View) (words : List (List ℕ)) (text : List ℕ) (s : Simulation) : Type 0 where
+-- the text and the words are a simulation, in which each injection up to the view's generation
+-- meets a conductor
+pub record HasView (view : View) (words : List (List ℕ)) (text : List ℕ)
+    (s : Simulation) : Type 0 where
   pub is : IsSimulation (cycles_in words) words text s
   pub quiet : miss_up_to s view.generation ≡ None
 
@@ -23,11 +26,13 @@ pub record HasView (view : View) (words : List (List ℕ)) (text : List ℕ) (s 
 pub record ShowsPart (view : View) (words : List (List ℕ)) (text output : List ℕ) : Type 0 where
   pub simulation : Simulation
   pub has : HasView view words text simulation
-  pub lines : output ≡ window_text (driven_by simulation.ports simulation.streams (plane_of simulation.grid.rows) view.generation)
+  pub lines : output ≡ window_text (driven_by simulation.ports simulation.streams
+      (plane_of simulation.grid.rows) view.generation)
       view.x view.y view.width view.height
 
 -- why they are not: they are no simulation, or an injection up to there meets no conductor
 abbrev pub HasNoView : View → List (List ℕ) → List ℕ → Cause → Type 0
 HasNoView view words text (NotQuiet generation x y) =
-    (s : Simulation) × IsSimulation (cycles_in words) words text s × MissesAt s view.generation generation x y
+    (s : Simulation) × IsSimulation (cycles_in words) words text s
+    × MissesAt s view.generation generation x y
 HasNoView view words text cause = HasNoStreams (cycles_in words) words text cause

@@ -92,7 +92,8 @@ fn started(
     Ok(Output::Drawing(started))
 }
 
-// The pattern of a netlist in so many contexts, where the words say with which bits its latches start.
+// The pattern of a netlist in so many contexts, where the words say with which bits its latches
+// start.
 fn compiled(
     alloc: Global,
     netlist: &Netlist,
@@ -114,8 +115,8 @@ fn compiled(
     started(alloc, netlist, planned, contexts, words, &starts)
 }
 
-/// The pattern of the netlist whose text this is, in so many contexts, with the lines that say where its ports and nets
-/// are. The words say with which bits its latches start.
+/// The pattern of the netlist whose text this is, in so many contexts, with the lines that say
+/// where its ports and nets are. The words say with which bits its latches start.
 pub fn compile(
     alloc: Global,
     contexts: u64,

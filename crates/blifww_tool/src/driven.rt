@@ -54,7 +54,8 @@ fn push_names(
     Ok(())
 }
 
-/// The names of ports as they stand before their bits in each of so many contexts: all those of context 0 first.
+/// The names of ports as they stand before their bits in each of so many contexts: all those of
+/// context 0 first.
 pub fn names_in_contexts(
     alloc: Global,
     ports: &[PortLine],
@@ -70,7 +71,8 @@ pub fn names_in_contexts(
     Ok(names)
 }
 
-/// The text's pattern and ports, where the words are the streams of the inputs in each of the table's contexts.
+/// The text's pattern and ports, where the words are the streams of the inputs in each of the
+/// table's contexts.
 pub fn driven_by(
     alloc: Global,
     cycles: usize,

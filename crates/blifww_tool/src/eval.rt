@@ -51,7 +51,8 @@ fn run_lines(alloc: Global, netlist: Netlist, streams: &Streams) -> Result<Outpu
     Ok(Output::Lines(output_lines(alloc, outs.as_slice(), bits.as_slice())?))
 }
 
-/// A line for each output of the text's netlist, with its bits, where the words are the streams of the inputs.
+/// A line for each output of the text's netlist, with its bits, where the words are the streams of
+/// the inputs.
 pub fn eval(
     alloc: Global,
     cycles: usize,

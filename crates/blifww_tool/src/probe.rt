@@ -56,8 +56,8 @@ fn net_lines(
     output_lines(alloc, &names, bits)
 }
 
-/// A line for each context with the bits that the cell of a net of the text's pattern shows, where the words are the
-/// streams of the inputs.
+/// A line for each context with the bits that the cell of a net of the text's pattern shows, where
+/// the words are the streams of the inputs.
 pub fn probe(
     alloc: Global,
     cycles: usize,

@@ -52,9 +52,10 @@ fn summary_lines(alloc: Global, summary: &Summary) -> Result<Bytes, AllocError>
     Ok(Bytes::of(lines))
 }
 
-/// What is told of the netlist of a seed and a number of gates under so many cycles of bits that are drawn after it: its weight, the lanes
-/// and columns of its plan, the period and latency of its pattern, and of each output the bits that the pattern shows and those that the
-/// netlist gives. It reads nothing.
+/// What is told of the netlist of a seed and a number of gates under so many cycles of bits that
+/// are drawn after it: its weight, the lanes and columns of its plan, the period and latency of its
+/// pattern, and of each output the bits that the pattern shows and those that the netlist gives. It
+/// reads nothing.
 pub fn summary(alloc: Global, seed: u32, size: u32, cycles: usize) -> Result<Output, TextError>
     requires numbers { HasNumbersInRange (self_ seed size cycles) }
     ensures printed { IfOk result (λ output. TellsSummary seed size cycles (output_text output)) }

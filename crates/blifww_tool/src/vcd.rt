@@ -10,8 +10,8 @@ use refusals::TextError;
 use std::alloc::Global;
 use vcd_write::texts_say_waves;
 
-/// The dump of the bits that the nets of the text's pattern show in each of its contexts, where the words are the streams
-/// of the inputs. All nets of context 0 come first.
+/// The dump of the bits that the nets of the text's pattern show in each of its contexts, where the
+/// words are the streams of the inputs. All nets of context 0 come first.
 pub fn vcd(alloc: Global, cycles: usize, words: &[String], text: &[u8]) -> Result<Output, TextError>
     requires some_cycle { 0 < cycles }
     ensures printed { IfOk result (λ output.

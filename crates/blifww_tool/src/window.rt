@@ -36,8 +36,8 @@ fn cycles_in(words: &[String]) -> usize
     }
 }
 
-/// The lines of a part of the plane that the text's pattern has come to, where the words are the streams of the inputs.
-/// There are as many cycles as the first word has bits.
+/// The lines of a part of the plane that the text's pattern has come to, where the words are the
+/// streams of the inputs. There are as many cycles as the first word has bits.
 pub fn window(alloc: Global, view: View, words: &[String], text: &[u8]) -> Result<Output, TextError>
     ensures printed { IfOk result (λ output.
         Prints (window view (map string_bytes words.now)) text.now (output_text output)) }

@@ -1,5 +1,5 @@
--- What it means that a text runs by itself: the pattern that it spells, which nothing drives, shows a run of a design, or of a flat
--- netlist, whose input bits are these rows, and 0 from then on.
+-- What it means that a text runs by itself: the pattern that it spells, which nothing drives, shows
+-- a run of a design, or of a flat netlist, whose input bits are these rows, and 0 from then on.
 use Rattle.std.specs.Prelude.{ℕ, ◌+◌, ◌*◌, ◌<◌, ◌≡◌, List, [], ◌++◌, length, map, All, Bool, false, Some, slice_get}
 use Rattle.ww_rule.specs.Wireworld.{Plane, evolve}
 use Rattle.ww_rule.specs.Grid.{Grid, plane_of}
@@ -20,37 +20,50 @@ use Rattle.carries.specs.Nets.{AreSeenNets, NamesNets}
 
 -- these rows, and after them any number of rows whose bits are 0
 abbrev pub ThenZeros : (rows all : List (List Bool)) → Type 0
-ThenZeros rows all = (zeros : List (List Bool)) × All (λ row. All (λ bit. bit ≡ false) row) zeros × (all ≡ rows ++ zeros)
+ThenZeros rows all =
+    (zeros : List (List Bool)) × All (λ row. All (λ bit. bit ≡ false) row) zeros
+    × (all ≡ rows ++ zeros)
 
--- For N cycles, the cell of each output shows its bits in the plane that nothing drives, at every generation below L + N P
-abbrev pub ShowsOutputsByItself : Plane → Ports → (cycles : ℕ) → (bit : (cycle output : ℕ) → Bool) → Type 0
+-- For N cycles, the cell of each output shows its bits in the plane that nothing drives, at every
+-- generation below L + N P
+abbrev pub ShowsOutputsByItself : Plane → Ports → (cycles : ℕ) → (bit : (cycle output : ℕ) → Bool)
+    → Type 0
 ShowsOutputsByItself plane ports cycles bit =
     (output : ℕ) (cell : PortLine) → slice_get ports.outs output ≡ Some cell
     → (g : ℕ) → g < ports.l + cycles * ports.p
     → ShowsOutput ports cycles (λ t. bit t output) g (evolve g plane) cell
 
--- and the cell of each net, which has the line of its number, shows the net's bits, at every generation below offset + N P
-abbrev pub ShowsNetLinesByItself : {X : Type 0} → Plane → Ports → (cycles : ℕ) → (nets : List X) → (bit : (cycle : ℕ) → X → Bool) → Type 0
+-- and the cell of each net, which has the line of its number, shows the net's bits, at every
+-- generation below offset + N P
+abbrev pub ShowsNetLinesByItself : {X : Type 0} → Plane → Ports → (cycles : ℕ) → (nets : List X)
+    → (bit : (cycle : ℕ) → X → Bool) → Type 0
 ShowsNetLinesByItself {X} plane ports cycles nets bit =
-    (number : ℕ) (net : X) (line : NetLine) → slice_get nets number ≡ Some net → slice_get ports.nets number ≡ Some line
+    (number : ℕ) (net : X) (line : NetLine) → slice_get nets number ≡ Some net
+    → slice_get ports.nets number ≡ Some line
     → (g : ℕ) → g < line.offset + cycles * ports.p
     → ShowsBitsFrom line.offset ports.p cycles (λ t. bit t net) g (evolve g plane) line.x line.y
 
 -- A run of the design on the rows, and on as many rows of 0 after them as one likes
 abbrev pub IsRunOnward : Design → List (List Bool) → (ℕ → Valuation) → Type 0
-IsRunOnward design rows run = (all : List (List Bool)) → ThenZeros rows all → AreInputRows design all → IsRun design all run
+IsRunOnward design rows run =
+    (all : List (List Bool)) → ThenZeros rows all → AreInputRows design all → IsRun design all run
 
--- There is such a run; and in every run on the rows and on any number of rows of 0 after them, each output cell shows the output's bits,
--- and the cell of each net's line the net's, in the plane that nothing drives. So there is no last generation.
-pub record ShowsRunsByItself (plane : Plane) (ports : Ports) (design : Design) (seen : List Net) (rows : List (List Bool)) : Type 0 where
+-- There is such a run; and in every run on the rows and on any number of rows of 0 after them, each
+-- output cell shows the output's bits, and the cell of each net's line the net's, in the plane that
+-- nothing drives. So there is no last generation.
+pub record ShowsRunsByItself (plane : Plane) (ports : Ports) (design : Design) (seen : List Net)
+    (rows : List (List Bool)) : Type 0 where
   pub run : (run : ℕ → Valuation) × IsRunOnward design rows run
-  pub heads : (all : List (List Bool)) → ThenZeros rows all → AreInputRows design all → (run : ℕ → Valuation) → IsRun design all run
+  pub heads : (all : List (List Bool)) → ThenZeros rows all → AreInputRows design all
+    → (run : ℕ → Valuation) → IsRun design all run
       → ShowsOutputsByItself plane ports (length all) (λ t. output_bit design (run t))
-  pub nets : (all : List (List Bool)) → ThenZeros rows all → AreInputRows design all → (run : ℕ → Valuation) → IsRun design all run
+  pub nets : (all : List (List Bool)) → ThenZeros rows all → AreInputRows design all
+    → (run : ℕ → Valuation) → IsRun design all run
       → ShowsNetLinesByItself plane ports (length all) seen (λ t net. run t net.place net.name)
 
--- A text runs by itself as a design does on rows of input bits: it spells a pattern, and a port table of one context which names no
--- inputs, the design's outputs, and each net but the clock nets; and the pattern shows the run by itself.
+-- A text runs by itself as a design does on rows of input bits: it spells a pattern, and a port
+-- table of one context which names no inputs, the design's outputs, and each net but the clock
+-- nets; and the pattern shows the run by itself.
 pub record RunsByItself (text : List ℕ) (design : Design) (rows : List (List Bool)) : Type 0 where
   pub grid : Grid
   pub ports : Ports
@@ -66,13 +79,18 @@ pub record RunsByItself (text : List ℕ) (design : Design) (rows : List (List B
 
 -- The same of a flat netlist, in its own runs from its start on
 abbrev pub IsFlatRunOnward : Flat → List (List Bool) → (ℕ → ℕ → Bool) → Type 0
-IsFlatRunOnward flat rows run = (all : List (List Bool)) → ThenZeros rows all → AreFlatRows flat all → IsFlatRun flat (start_bits flat) all run
+IsFlatRunOnward flat rows run =
+    (all : List (List Bool)) → ThenZeros rows all → AreFlatRows flat all
+    → IsFlatRun flat (start_bits flat) all run
 
-pub record ShowsFlatRunsByItself (plane : Plane) (ports : Ports) (flat : Flat) (rows : List (List Bool)) : Type 0 where
+pub record ShowsFlatRunsByItself (plane : Plane) (ports : Ports) (flat : Flat)
+    (rows : List (List Bool)) : Type 0 where
   pub run : (run : ℕ → ℕ → Bool) × IsFlatRunOnward flat rows run
-  pub heads : (all : List (List Bool)) → ThenZeros rows all → AreFlatRows flat all → (run : ℕ → ℕ → Bool) → IsFlatRun flat (start_bits flat) all run
+  pub heads : (all : List (List Bool)) → ThenZeros rows all → AreFlatRows flat all
+    → (run : ℕ → ℕ → Bool) → IsFlatRun flat (start_bits flat) all run
       → ShowsOutputsByItself plane ports (length all) (λ t. flat_output_bit flat (run t))
-  pub nets : (all : List (List Bool)) → ThenZeros rows all → AreFlatRows flat all → (run : ℕ → ℕ → Bool) → IsFlatRun flat (start_bits flat) all run
+  pub nets : (all : List (List Bool)) → ThenZeros rows all → AreFlatRows flat all
+    → (run : ℕ → ℕ → Bool) → IsFlatRun flat (start_bits flat) all run
       → ShowsNetLinesByItself plane ports (length all) (listed_nets flat) (λ t net. run t net.class)
 
 pub record RunsByItselfFlat (text : List ℕ) (flat : Flat) (rows : List (List Bool)) : Type 0 where
@@ -82,6 +100,7 @@ pub record RunsByItselfFlat (text : List ℕ) (flat : Flat) (rows : List (List B
   pub contexts : ports.c ≡ 1
   pub no_inputs : ports.ins ≡ []
   pub outs : names_of ports.outs ≡ names_of_ports flat flat.outs
-  pub nets : names_and_paths ports.nets ≡ map (λ net. name_and_path net.place net.name) (listed_nets flat)
+  pub nets : names_and_paths ports.nets
+      ≡ map (λ net. name_and_path net.place net.name) (listed_nets flat)
   pub rows_fit : AreFlatRows flat rows
   pub shows : ShowsFlatRunsByItself (plane_of grid.rows) ports flat rows

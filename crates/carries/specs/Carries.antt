@@ -1,5 +1,5 @@
--- What it means that a text carries a design: the pattern that it spells, driven at its input cells, shows the runs of the
--- design at its output cells, at every generation.
+-- What it means that a text carries a design: the pattern that it spells, driven at its input
+-- cells, shows the runs of the design at its output cells, at every generation.
 use Rattle.std.specs.Prelude.{ℕ, ◌≡◌, List, Bool}
 use Rattle.ww_rule.specs.Wireworld.{Plane}
 use Rattle.ww_rule.specs.Grid.{Grid, plane_of}
@@ -17,16 +17,19 @@ pub record NamesPorts (ports : Ports) (design : Design) : Type 0 where
   pub ins : IsInNames design (names_of ports.ins)
   pub outs : names_of ports.outs ≡ main_outputs design
 
--- Driven by any rows of input bits, for any number of cycles: there is a run of the design on them, and in every such run each
--- output cell shows the output's bits
+-- Driven by any rows of input bits, for any number of cycles: there is a run of the design on them,
+-- and in every such run each output cell shows the output's bits
 pub record ShowsRuns (plane : Plane) (ports : Ports) (design : Design) : Type 0 where
-  pub conductors : (rows : List (List Bool)) → AreInputRows design rows → MeetsConductors (drive ports rows) plane
-  pub runs : (rows : List (List Bool)) → AreInputRows design rows → (run : ℕ → Valuation) × IsRun design rows run
-  pub heads : (rows : List (List Bool)) → AreInputRows design rows → (run : ℕ → Valuation) → IsRun design rows run
+  pub conductors : (rows : List (List Bool)) → AreInputRows design rows
+    → MeetsConductors (drive ports rows) plane
+  pub runs : (rows : List (List Bool)) → AreInputRows design rows
+    → (run : ℕ → Valuation) × IsRun design rows run
+  pub heads : (rows : List (List Bool)) → AreInputRows design rows → (run : ℕ → Valuation)
+    → IsRun design rows run
       → ShowsOutputs plane ports rows (λ t. output_bit design (run t))
 
--- A text carries a design: it spells a pattern and a port table of one context, the table's names are the design's, and the
--- pattern shows the design's runs
+-- A text carries a design: it spells a pattern and a port table of one context, the table's names
+-- are the design's, and the pattern shows the design's runs
 pub record Carries (text : List ℕ) (design : Design) : Type 0 where
   pub grid : Grid
   pub ports : Ports

@@ -1,4 +1,5 @@
--- What it means that a text carries the nets of a design: each can be seen in the pattern at a cell that the port table names.
+-- What it means that a text carries the nets of a design: each can be seen in the pattern at a cell
+-- that the port table names.
 use Rattle.std.specs.Prelude.{ℕ, ◌≡◌, List, [], ◌∷◌, map, Bool}
 use Rattle.ww_rule.specs.Wireworld.{Plane}
 use Rattle.ww_rule.specs.Grid.{plane_of}
@@ -14,26 +15,32 @@ use Rattle.carries.specs.Carries.{Carries}
 -- the nets of a list that are no clock nets, in order
 pub data WithoutClocks (design : Design) : List Net → List Net → Type 0 where
   none : WithoutClocks design [] []
-  kept : {net : Net} {nets rest : List Net} → ¬ IsClockNet design net → WithoutClocks design nets rest → WithoutClocks design (net ∷ nets) (net ∷ rest)
-  left_out : {net : Net} {nets rest : List Net} → IsClockNet design net → WithoutClocks design nets rest → WithoutClocks design (net ∷ nets) rest
+  kept : {net : Net} {nets rest : List Net} → ¬ IsClockNet design net
+    → WithoutClocks design nets rest → WithoutClocks design (net ∷ nets) (net ∷ rest)
+  left_out : {net : Net} {nets rest : List Net} → IsClockNet design net
+    → WithoutClocks design nets rest → WithoutClocks design (net ∷ nets) rest
 
--- the nets of a design but the clock nets: by place, and at a place by where the name first stands in the model's text
+-- the nets of a design but the clock nets: by place, and at a place by where the name first stands
+-- in the model's text
 abbrev pub AreSeenNets : Design → List Net → Type 0
 AreSeenNets design nets = WithoutClocks design (nets_in_order design) nets
 
--- the lines of the table name these nets, each by its name and by the path of its place, one line a net, in order
+-- the lines of the table name these nets, each by its name and by the path of its place, one line a
+-- net, in order
 abbrev pub NamesNets : Ports → List Net → Type 0
-NamesNets ports nets = names_and_paths ports.nets ≡ map (λ net. name_and_path net.place net.name) nets
+NamesNets ports nets =
+    names_and_paths ports.nets ≡ map (λ net. name_and_path net.place net.name) nets
 
--- Driven by any rows of input bits, for any number of cycles: in every run of the design on them, the cell of each net's line
--- shows the net's bits
+-- Driven by any rows of input bits, for any number of cycles: in every run of the design on them,
+-- the cell of each net's line shows the net's bits
 abbrev pub ShowsNets : Plane → Ports → Design → List Net → Type 0
 ShowsNets plane ports design nets =
-    (rows : List (List Bool)) → AreInputRows design rows → (run : ℕ → Valuation) → IsRun design rows run
+    (rows : List (List Bool)) → AreInputRows design rows → (run : ℕ → Valuation)
+    → IsRun design rows run
     → ShowsNetLines plane ports rows nets (λ t net. run t net.place net.name)
 
--- A text carries the nets of a design: it carries the design, and in the same table each net but the clock nets has its line, and in
--- the same pattern its cell
+-- A text carries the nets of a design: it carries the design, and in the same table each net but
+-- the clock nets has its line, and in the same pattern its cell
 pub record CarriesNets (text : List ℕ) (design : Design) : Type 0 where
   pub carried : Carries text design
   pub nets : List Net

@@ -18,5 +18,6 @@ pub record Adds (old new : CellList) (more : List Cell) : Type 0 where
 -- appending changes no earlier source
 abbrev pub AppendingKeepsBits : Type 0
 AppendingKeepsBits =
-    (cells more : List Cell) (inputs state : List Bool) (latches count : ℕ) (src : Src) → IsTrue (is_there count latches (length cells) src)
+    (cells more : List Cell) (inputs state : List Bool) (latches count : ℕ) (src : Src)
+    → IsTrue (is_there count latches (length cells) src)
     → bit_in (cells ++ more) inputs state src ≡ bit_in cells inputs state src

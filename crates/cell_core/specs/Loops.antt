@@ -1,5 +1,5 @@
--- The loops of a circuit: one for each latch, and, where the list names constant 1, a last one that begins with 1 and
--- brings it again and again.
+-- The loops of a circuit: one for each latch, and, where the list names constant 1, a last one that
+-- begins with 1 and brings it again and again.
 use Rattle.std.specs.Prelude.{ℕ, ◌+◌, Bool, true, ◌||◌, cond, List, [], ◌∷◌, ◌++◌, length}
 use Rattle.std.specs.List.{list_any}
 use Rattle.cell_core.specs.declared.cells.Src.{Src}
@@ -9,7 +9,9 @@ use Rattle.cell_core.specs.Sources.{is_one, read_one}
 
 -- a cell, an output, a latch or a net reads constant 1
 abbrev pub names_one : CellList → Bool
-names_one list = ((read_one list.cells || list_any is_one list.outs) || list_any is_one list.latches) || list_any is_one list.nets
+names_one list =
+    ((read_one list.cells || list_any is_one list.outs) || list_any is_one list.latches)
+    || list_any is_one list.nets
 
 -- how many loops there are
 abbrev pub loop_count : CellList → ℕ

@@ -16,14 +16,18 @@ source_bit inputs state made (Made i) = get_or made i false
 
 -- the bit that a cell makes of them
 abbrev pub cell_bit : List Bool → List Bool → List Bool → Cell → Bool
-cell_bit inputs state made (Or a b) = source_bit inputs state made a || source_bit inputs state made b
+cell_bit inputs state made (Or a b) =
+    source_bit inputs state made a || source_bit inputs state made b
 cell_bit inputs state made (Xor a b) =
-    (source_bit inputs state made a || source_bit inputs state made b) && not (source_bit inputs state made a && source_bit inputs state made b)
-cell_bit inputs state made (AndNot a b) = source_bit inputs state made a && not (source_bit inputs state made b)
+    (source_bit inputs state made a || source_bit inputs state made b)
+      && not (source_bit inputs state made a && source_bit inputs state made b)
+cell_bit inputs state made (AndNot a b) =
+    source_bit inputs state made a && not (source_bit inputs state made b)
 
 -- these bits, and after them those of the cells
 abbrev pub bits_from : List Bool → List Bool → List Bool → List Cell → List Bool
-bits_from inputs state made cells = fold (λ made cell. made ++ cell_bit inputs state made cell ∷ []) made cells
+bits_from inputs state made cells =
+    fold (λ made cell. made ++ cell_bit inputs state made cell ∷ []) made cells
 
 -- the bits of cells, the first of them first
 abbrev pub cell_bits : List Bool → List Bool → List Cell → List Bool

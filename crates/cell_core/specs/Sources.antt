@@ -16,14 +16,18 @@ is_there inputs latches made (Made i) = nat_lt i made
 
 -- both sources of the cell are there
 abbrev pub reads_there : ℕ → ℕ → ℕ → Cell → Bool
-reads_there inputs latches made (Or a b) = is_there inputs latches made a && is_there inputs latches made b
-reads_there inputs latches made (Xor a b) = is_there inputs latches made a && is_there inputs latches made b
-reads_there inputs latches made (AndNot a b) = is_there inputs latches made a && is_there inputs latches made b
+reads_there inputs latches made (Or a b) =
+    is_there inputs latches made a && is_there inputs latches made b
+reads_there inputs latches made (Xor a b) =
+    is_there inputs latches made a && is_there inputs latches made b
+reads_there inputs latches made (AndNot a b) =
+    is_there inputs latches made a && is_there inputs latches made b
 
 -- each of the cells, the first of which has so many before it, reads only what is there before it
 abbrev pub are_in_order : ℕ → ℕ → ℕ → List Cell → Bool
 are_in_order inputs latches made [] = true
-are_in_order inputs latches made (cell ∷ cells) = reads_there inputs latches made cell && are_in_order inputs latches (suc made) cells
+are_in_order inputs latches made (cell ∷ cells) =
+    reads_there inputs latches made cell && are_in_order inputs latches (suc made) cells
 
 -- each of the sources is there
 abbrev pub are_there : ℕ → ℕ → ℕ → List Src → Bool

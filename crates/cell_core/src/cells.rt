@@ -2,7 +2,8 @@
 ghost use Rattle.std.specs.Prelude.{◌≡◌};
 ghost use Rattle.cell_core.specs.Sources.{is_there, reads_there, is_one, reads_one};
 
-/// What a cell or a port reads: an input, a latch or an earlier cell by its number from 0, or a constant.
+/// What a cell or a port reads: an input, a latch or an earlier cell by its number from 0, or a
+/// constant.
 #[derive(Clone, Copy, Debug, PartialEq, Eq, PartialOrd, Ord)]
 pub enum Src {
     Input(u32),

@@ -8,9 +8,9 @@ use lists::List;
 use std::alloc::Global;
 use std::mem;
 
-/// Cells, each of which reads only what stands before it. `outs` are the sources of the outputs, `latches` those of the
-/// latches' next bits and `nets` those of the nets; `starts` are the bits with which the latches begin. Each input, latch
-/// and cell that is named is there.
+/// Cells, each of which reads only what stands before it. `outs` are the sources of the outputs,
+/// `latches` those of the latches' next bits and `nets` those of the nets; `starts` are the bits
+/// with which the latches begin. Each input, latch and cell that is named is there.
 #[derive(Drop)]
 pub struct CellList {
     pub inputs: u32,
@@ -32,7 +32,8 @@ impl CellList {
     ghost use Rattle.cell_core.specs.Loops.{names_one};
     ghost use Rattle.cell_core.specs.Adding.{Adds};
 
-    /// Adds a cell at the end, whose sources are there. Where there is no memory the list is as before.
+    /// Adds a cell at the end, whose sources are there. Where there is no memory the list is as
+    /// before.
     pub fn push(&mut self, alloc: Global, cell: Cell) -> Result<(), CellError>
         requires { IsTrue (reads_there self.old.inputs (length self.old.starts)
             (length self.old.cells) cell) }

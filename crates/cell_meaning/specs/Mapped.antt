@@ -25,15 +25,21 @@ IsOwn (FlatDriver.node n) src = ⊤
 
 -- the constant that the cover of a node is by its text
 abbrev pub constant_of : Flat → ℕ → Option Src
-constant_of flat n = constant_source (length (node_at flat n).ins) (node_at flat n).rows (node_at flat n).on
+constant_of flat n =
+    constant_source (length (node_at flat n).ins) (node_at flat n).rows (node_at flat n).on
 
--- under the bits of a valuation the sources of outputs, of latches' data and of the listed nets have theirs
-pub record HasBits (flat : Flat) (list : CellList) (inputs state : List Bool) (bits : ℕ → Bool) : Type 0 where
+-- under the bits of a valuation the sources of outputs, of latches' data and of the listed nets
+-- have theirs
+pub record HasBits (flat : Flat) (list : CellList) (inputs state : List Bool)
+    (bits : ℕ → Bool) : Type 0 where
   pub outs : map (bit_of list inputs state) list.outs ≡ map bits (port_classes flat flat.outs)
-  pub latches : map (bit_of list inputs state) list.latches ≡ map (λ latch. bits (class_of flat latch.input)) flat.latches
+  pub latches : map (bit_of list inputs state) list.latches
+      ≡ map (λ latch. bits (class_of flat latch.input)) flat.latches
   pub nets : map (bit_of list inputs state) list.nets ≡ map bits (listed_classes flat)
 
--- Each class of nets that is driven has one source; that of an input or a latch is its own. Where the nets are listed, it has the class's bit in each valuation, and that of a cover of one cell is this cell.
+-- Each class of nets that is driven has one source; that of an input or a latch is its own. Where
+-- the nets are listed, it has the class's bit in each valuation, and that of a cover of one cell is
+-- this cell.
 pub record IsMapped (flat : Flat) (list : CellList) : Type 0 where
   pub sources : ℕ → Src
   pub inputs : list.inputs ≡ length flat.ins
@@ -42,20 +48,28 @@ pub record IsMapped (flat : Flat) (list : CellList) : Type 0 where
   pub latches : list.latches ≡ map (λ latch. sources (class_of flat latch.input)) flat.latches
   pub nets : list.nets ≡ map sources (listed_classes flat)
   pub own : (class : ℕ) (d : FlatDriver) → FlatDrives flat d class → IsOwn d (sources class)
-  pub bits : flat.listed ≡ true → (inputs state : List Bool) (bits : ℕ → Bool) → IsFlatValuation flat inputs state bits
-      → (class : ℕ) (d : FlatDriver) → FlatDrives flat d class → bit_of list inputs state (sources class) ≡ bits class
-  pub single : flat.listed ≡ true → (n : ℕ) (cell : Cell) → n < length flat.nodes → single_cell (map sources (in_classes flat n)) (node_at flat n).rows (node_at flat n).on ≡ Some cell → IsCell list (sources (out_class flat n)) cell
-  pub constant : (n : ℕ) (src : Src) → n < length flat.nodes → constant_of flat n ≡ Some src → sources (out_class flat n) ≡ src
+  pub bits : flat.listed ≡ true → (inputs state : List Bool) (bits : ℕ → Bool)
+    → IsFlatValuation flat inputs state bits
+      → (class : ℕ) (d : FlatDriver) → FlatDrives flat d class
+      → bit_of list inputs state (sources class) ≡ bits class
+  pub single : flat.listed ≡ true → (n : ℕ) (cell : Cell) → n < length flat.nodes
+    → single_cell (map sources (in_classes flat n)) (node_at flat n).rows (node_at flat n).on
+      ≡ Some cell → IsCell list (sources (out_class flat n)) cell
+  pub constant : (n : ℕ) (src : Src) → n < length flat.nodes → constant_of flat n ≡ Some src
+    → sources (out_class flat n) ≡ src
   pub few : length list.cells ≤ 2 * covers_weight flat
   pub one : names_one list ≡ true → any_needs_one flat ≡ true
 
 -- where the nets are listed, the source of each cover that is one cell is among these
 abbrev pub AreSinglesAmong : Flat → (ℕ → Src) → List Src → Type 0
 AreSinglesAmong flat sources singles =
-    flat.listed ≡ true → (n : ℕ) (cell : Cell) → n < length flat.nodes → single_cell (map sources (in_classes flat n)) (node_at flat n).rows (node_at flat n).on ≡ Some cell
+    flat.listed ≡ true → (n : ℕ) (cell : Cell) → n < length flat.nodes
+      → single_cell (map sources (in_classes flat n)) (node_at flat n).rows (node_at flat n).on
+        ≡ Some cell
     → Contains singles (sources (out_class flat n))
 
--- the list is mapped from the netlist, and where the nets are listed, the source of each cover that is one cell is among these
+-- the list is mapped from the netlist, and where the nets are listed, the source of each cover that
+-- is one cell is among these
 pub record IsMappedWith (flat : Flat) (list : CellList) (singles : List Src) : Type 0 where
   pub mapped : IsMapped flat list
   pub among : AreSinglesAmong flat mapped.sources singles

@@ -11,7 +11,9 @@ has_no_positive count row = not (list_any (λ character. character == 49) (take 
 
 -- a cover needs constant 1: a row has no `1`, or there are rows and they end in `0`
 abbrev pub needs_one : Node → Bool
-needs_one node = list_any (has_no_positive (length node.ins)) node.rows || (not node.on && not (length node.rows == 0))
+needs_one node =
+    list_any (has_no_positive (length node.ins)) node.rows
+    || (not node.on && not (length node.rows == 0))
 
 -- some of the covers does
 abbrev pub any_needs_one : Flat → Bool

@@ -7,20 +7,25 @@ use Rattle.lane_core.specs.declared.plan.Plan.{Plan}
 use Rattle.cell_meaning.specs.Computes.{ComputesByPlan}
 use Rattle.cell_meaning.specs.Origins.{entry_source, maker_on}
 
--- They have the same inputs and starts, as many cells, and both name constant 1 or neither does; and under all inputs and states
--- outputs, latches' data and nets have the same bits. The nets that no cell makes have the same sources, and the others are made by cells of the same
--- kinds.
+-- They have the same inputs and starts, as many cells, and both name constant 1 or neither does;
+-- and under all inputs and states outputs, latches' data and nets have the same bits. The nets that
+-- no cell makes have the same sources, and the others are made by cells of the same kinds.
 pub record ComputeAlike (a b : CellList) : Type 0 where
   pub inputs : b.inputs ≡ a.inputs
   pub starts : b.starts ≡ a.starts
   pub cells : length b.cells ≡ length a.cells
   pub one : names_one b ≡ names_one a
-  pub outs : (inputs state : List Bool) → map (bit_of b inputs state) b.outs ≡ map (bit_of a inputs state) a.outs
-  pub latches : (inputs state : List Bool) → map (bit_of b inputs state) b.latches ≡ map (bit_of a inputs state) a.latches
-  pub nets : (inputs state : List Bool) → map (bit_of b inputs state) b.nets ≡ map (bit_of a inputs state) a.nets
+  pub outs : (inputs state : List Bool)
+    → map (bit_of b inputs state) b.outs ≡ map (bit_of a inputs state) a.outs
+  pub latches : (inputs state : List Bool)
+    → map (bit_of b inputs state) b.latches ≡ map (bit_of a inputs state) a.latches
+  pub nets : (inputs state : List Bool)
+    → map (bit_of b inputs state) b.nets ≡ map (bit_of a inputs state) a.nets
   pub entries : map entry_source b.nets ≡ map entry_source a.nets
   pub makers : (lane : ℕ) → map (maker_on b.cells lane) b.nets ≡ map (maker_on a.cells lane) a.nets
 
 -- a plan that computes the one computes the other
 abbrev pub AlikeIsPlanned : Type 0
-AlikeIsPlanned = (a b : CellList) (plan : Plan) → ComputeAlike a b → ComputesByPlan b plan → ComputesByPlan a plan
+AlikeIsPlanned =
+    (a b : CellList) (plan : Plan) → ComputeAlike a b → ComputesByPlan b plan
+    → ComputesByPlan a plan

@@ -23,13 +23,19 @@ renamed numbers (Made i) = option_map Made (get_or numbers i None)
 
 -- a cell under them
 abbrev pub renamed_cell : Numbers → Cell → Option Cell
-renamed_cell numbers (Or a b) = option_and_then (λ x. option_map (Or x) (renamed numbers b)) (renamed numbers a)
-renamed_cell numbers (Xor a b) = option_and_then (λ x. option_map (Xor x) (renamed numbers b)) (renamed numbers a)
-renamed_cell numbers (AndNot a b) = option_and_then (λ x. option_map (AndNot x) (renamed numbers b)) (renamed numbers a)
+renamed_cell numbers (Or a b) =
+    option_and_then (λ x. option_map (Or x) (renamed numbers b)) (renamed numbers a)
+renamed_cell numbers (Xor a b) =
+    option_and_then (λ x. option_map (Xor x) (renamed numbers b)) (renamed numbers a)
+renamed_cell numbers (AndNot a b) =
+    option_and_then (λ x. option_map (AndNot x) (renamed numbers b)) (renamed numbers a)
 
--- Cells are in order, and each that a new number names has the bit of the one whose number it was, and is of its kind.
+-- Cells are in order, and each that a new number names has the bit of the one whose number it was,
+-- and is of its kind.
 pub record AreRenamed (list : CellList) (cells : List Cell) (numbers : Numbers) : Type 0 where
   pub in_order : are_in_order list.inputs (length list.starts) 0 cells ≡ true
   pub there : (i m : ℕ) → get_or numbers i None ≡ Some m → m < length cells
-  pub bits : (i m : ℕ) → get_or numbers i None ≡ Some m → (inputs state : List Bool) → bit_in cells inputs state (Made m) ≡ bit_in list.cells inputs state (Made i)
-  pub makers : (i m : ℕ) → get_or numbers i None ≡ Some m → (lane : ℕ) → maker_on cells lane (Made m) ≡ maker_on list.cells lane (Made i)
+  pub bits : (i m : ℕ) → get_or numbers i None ≡ Some m → (inputs state : List Bool)
+    → bit_in cells inputs state (Made m) ≡ bit_in list.cells inputs state (Made i)
+  pub makers : (i m : ℕ) → get_or numbers i None ≡ Some m → (lane : ℕ)
+    → maker_on cells lane (Made m) ≡ maker_on list.cells lane (Made i)

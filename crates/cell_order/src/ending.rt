@@ -1,4 +1,5 @@
-// An order of cells in which the next is the one that is worth most. Of what is found only the range is told: who takes it checks it.
+// An order of cells in which the next is the one that is worth most. Of what is found only the
+// range is told: who takes it checks it.
 ghost use Rattle.std.specs.Prelude.{◌≤◌, ◌<◌, length, All, IfOk};
 
 use crate::ReorderError;
@@ -17,7 +18,8 @@ fn operands(cell: Cell) -> (Src, Option<Src>) {
     }
 }
 
-// A value: the cells that read it, and how many of these, and of the ports that do, are still to come.
+// A value: the cells that read it, and how many of these, and of the ports that do, are still to
+// come.
 #[derive(Drop)]
 struct Value {
     readers: Vec<u32>,
@@ -39,8 +41,8 @@ const WAITS_FOR_NOTHING: Pending = Pending {
     is_taken: false,
 };
 
-// What a value with so many uses left adds to the worth of a cell that reads it: the fewer uses the more, if they are fewer than `reach`, and
-// much more where it is the last.
+// What a value with so many uses left adds to the worth of a cell that reads it: the fewer uses the
+// more, if they are fewer than `reach`, and much more where it is the last.
 fn worth(reach: u32, uses: u32) -> u32 {
     let near = reach.saturating_sub(uses);
     if uses <= 1 {
@@ -50,8 +52,8 @@ fn worth(reach: u32, uses: u32) -> u32 {
     }
 }
 
-// The values by number, inputs first, then latches and cells; the cells; and those that wait for nothing, by what they are worth, and of
-// these the first.
+// The values by number, inputs first, then latches and cells; the cells; and those that wait for
+// nothing, by what they are worth, and of these the first.
 #[derive(Drop)]
 struct Search {
     reach: u32,
@@ -321,8 +323,9 @@ impl Search {
     }
 }
 
-/// The numbers of cells of the list in another order: the next is one that waits for no other, and of these one that is worth most, as the
-/// last reader of values or a reader of values with fewer than `reach` uses left, and of these the first of the list.
+/// The numbers of cells of the list in another order: the next is one that waits for no other, and
+/// of these one that is worth most, as the last reader of values or a reader of values with fewer
+/// than `reach` uses left, and of these the first of the list.
 pub fn ending_order(alloc: Global, list: &CellList, reach: u32) -> Result<Vec<u32>, ReorderError>
     ensures few { IfOk result (λ order. length order.items ≤ length list.now.cells) }
     ensures below { IfOk result (λ order. All (λ cell. cell < length list.now.cells) order.items) }

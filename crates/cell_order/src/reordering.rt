@@ -40,8 +40,8 @@ fn with_moved(
     Ok(Some(new))
 }
 
-/// The list with its cells in an order, given by their numbers. There is none where the order leaves out a cell, or one comes before a cell
-/// that it reads.
+/// The list with its cells in an order, given by their numbers. There is none where the order
+/// leaves out a cell, or one comes before a cell that it reads.
 pub fn in_order(
     alloc: Global,
     list: &CellList,

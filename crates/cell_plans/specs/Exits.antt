@@ -12,8 +12,10 @@ use Rattle.lane_core.specs.declared.plan.NetPlace.{NetPlace}
 abbrev pub IsExitOf : List Column → Instr → Option ℕ → Type 0
 IsExitOf columns instr after = (c : ℕ) × (after ≡ Some c) × Contains (instrs_in columns c) instr
 
--- each net that a cell makes is found at the exit of the column of the cell's instruction, on the upper one of its lanes
+-- each net that a cell makes is found at the exit of the column of the cell's instruction, on the
+-- upper one of its lanes
 abbrev pub AreAtExits : CellList → List Column → List NetPlace → Type 0
 AreAtExits list columns nets =
-    (k : ℕ) (src : Src) (place : NetPlace) (instr : Instr) → k < length list.nets → maker_on list.cells (get_or nets k place).lane (get_or list.nets k src) ≡ Some instr
+    (k : ℕ) (src : Src) (place : NetPlace) (instr : Instr) → k < length list.nets
+    → maker_on list.cells (get_or nets k place).lane (get_or list.nets k src) ≡ Some instr
     → IsExitOf columns instr (get_or nets k place).after

@@ -12,18 +12,22 @@ use Rattle.row_placer.specs.Empty.{IsEmpty}
 use Rattle.row_placer.specs.Entries.{AreAtEntries}
 use Rattle.cell_plans.specs.Exits.{AreAtExits}
 
--- It is admissible, has no tape and computes the list; its starts are edges of its drawing, and start one context as the list starts. It is small by the list's own
--- counts, and has nets at the entries of their sources or the exits of their cells.
+-- It is admissible, has no tape and computes the list; its starts are edges of its drawing, and
+-- start one context as the list starts. It is small by the list's own counts, and has nets at the
+-- entries of their sources or the exits of their cells.
 pub record IsPlanOf (list : CellList) (plan : Plan) : Type 0 where
   pub admissible : IsAdmissible plan
   pub bare : plan.tape ≡ []
   pub edges : HasStartEdges plan
   pub starts : StartsContexts plan (loop_state list list.starts ∷ []) (start_edges plan)
   pub computes : ComputesByPlan list plan
-  pub lanes : plan.lanes ≤ list.inputs + 2 * loop_count list + length list.outs + length list.cells + 2 + max list.inputs (length list.outs)
+  pub lanes : plan.lanes
+      ≤ list.inputs + 2 * loop_count list + length list.outs + length list.cells + 2 + max list.inputs (length list.outs)
   pub empty : IsEmpty list → plan.lanes ≡ 0
-  pub instrs : instr_count plan.columns ≤ (3 * length list.cells + length list.outs + 2 * loop_count list) * plan.lanes
-  pub columns : length plan.columns ≤ (3 * length list.cells + length list.outs + 2 * loop_count list + 1) * (plan.lanes + 1)
+  pub instrs : instr_count plan.columns
+      ≤ (3 * length list.cells + length list.outs + 2 * loop_count list) * plan.lanes
+  pub columns : length plan.columns ≤
+      (3 * length list.cells + length list.outs + 2 * loop_count list + 1) * (plan.lanes + 1)
   pub entries : AreAtEntries list plan.lanes plan.ins plan.nets
   pub exits : AreAtExits list plan.columns plan.nets
 
@@ -33,4 +37,5 @@ IsPlannable list = list.inputs + loop_count list + length list.outs + length lis
 
 -- it is a plan of the list of this number
 abbrev pub IsPlanOfOne : List CellList → ℕ → Plan → Type 0
-IsPlanOfOne lists number plan = (number < length lists) × ((d : CellList) → IsPlanOf (get_or lists number d) plan)
+IsPlanOfOne lists number plan =
+    (number < length lists) × ((d : CellList) → IsPlanOf (get_or lists number d) plan)

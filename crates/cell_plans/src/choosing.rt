@@ -137,8 +137,9 @@ fn better(
     }
 }
 
-/// A plan of one of the lists, the one with the fewest tiles of those that were tried: of each list in a few orders of its cells, and of one
-/// list in an order, on lanes of its inputs and on a number of lanes that were climbed to from these.
+/// A plan of one of the lists, the one with the fewest tiles of those that were tried: of each list
+/// in a few orders of its cells, and of one list in an order, on lanes of its inputs and on a
+/// number of lanes that were climbed to from these.
 pub fn best_plan(alloc: Global, lists: &[CellList]) -> Result<Chosen, PlanError>
     requires some { 0 < length lists.now }
     requires short { All IsPlannable lists.now }
@@ -161,7 +162,8 @@ fn one_plan(alloc: Global, list: &CellList) -> Result<Plan, PlanError>
     Ok(chosen.plan)
 }
 
-/// The plan of one list, as `best_plan` has it: in each cycle its outputs, its loops and its nets have the bits of their sources.
+/// The plan of one list, as `best_plan` has it: in each cycle its outputs, its loops and its nets
+/// have the bits of their sources.
 pub fn plan_of(alloc: Global, list: &CellList) -> Result<Plan, PlanError>
     requires small { list.now.inputs
         + loop_count list.now

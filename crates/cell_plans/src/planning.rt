@@ -44,7 +44,8 @@ fn planned(alloc: Global, list: &CellList) -> Result<Plan, PlanError>
     closed(alloc, list, &program)
 }
 
-// Such a plan with so many spare lanes and, if they will do, with its inputs and the dark lane on these lanes.
+// Such a plan with so many spare lanes and, if they will do, with its inputs and the dark lane on
+// these lanes.
 fn planned_at(alloc: Global, list: &CellList, spare: u32, lanes: &[u32]) -> Result<Plan, PlanError>
     requires short { IsPlannable list.now }
     ensures { IfOk result (IsPlanOf list.now) }
@@ -80,7 +81,8 @@ fn planned_by_at(
     planned_at(alloc, other, found.spare, &found.lanes)
 }
 
-// The plan of a list at a layout that was climbed to, if its order has all cells, each after those that it reads.
+// The plan of a list at a layout that was climbed to, if its order has all cells, each after those
+// that it reads.
 pub fn climbed_plan(
     alloc: Global,
     list: &CellList,
@@ -139,7 +141,8 @@ fn better(alloc: Global, list: &CellList, plan: Plan, reach: u32) -> Result<Plan
     }
 }
 
-/// By which reaches orders are tried: 2, 3 and 4; for a list of more cells, whose placing takes long, 3 alone, which serves best.
+/// By which reaches orders are tried: 2, 3 and 4; for a list of more cells, whose placing takes
+/// long, 3 alone, which serves best.
 pub fn reaches(list: &CellList) -> Range<u32> {
     if list.cells.len() > LONG_LIST {
         3..4

@@ -11,13 +11,20 @@ use Rattle.cell_rewriting.specs.Same.{Rewrites}
 
 -- where the nets are listed, each class that is driven is that of a listed net
 abbrev pub AreDrivenListed : Flat → Type 0
-AreDrivenListed flat = flat.listed ≡ true → (class : ℕ) (d : FlatDriver) → FlatDrives flat d class → Contains (listed_classes flat) class
+AreDrivenListed flat =
+    flat.listed ≡ true → (class : ℕ) (d : FlatDriver) → FlatDrives flat d class
+    → Contains (listed_classes flat) class
 
--- a list that computes the same as a mapped one, and keeps the covers of one cell, is mapped from the same netlist
+-- a list that computes the same as a mapped one, and keeps the covers of one cell, is mapped from
+-- the same netlist
 abbrev pub MappedStays : Type 0
-MappedStays = (flat : Flat) (old new : CellList) (singles : List Src) → IsSound flat → IsMappedWith flat old singles → Rewrites old singles new → IsMapped flat new
+MappedStays =
+    (flat : Flat) (old new : CellList) (singles : List Src) → IsSound flat
+    → IsMappedWith flat old singles → Rewrites old singles new → IsMapped flat new
 
 -- its ports and nets have the bits of each valuation that the old list has
 abbrev pub BitsStay : Type 0
 BitsStay =
-    (flat : Flat) (old new : CellList) (kept : List Src) (inputs state : List Bool) (bits : ℕ → Bool) → Rewrites old kept new → HasBits flat old inputs state bits → HasBits flat new inputs state bits
+    (flat : Flat) (old new : CellList) (kept : List Src) (inputs state : List Bool)
+    (bits : ℕ → Bool) → Rewrites old kept new → HasBits flat old inputs state bits
+    → HasBits flat new inputs state bits

@@ -24,9 +24,12 @@ new_source news (Made i) = get_or news i None
 
 -- a cell that reads the new sources of its own, if each has one
 abbrev pub new_cell : NewSources → Cell → Option Cell
-new_cell news (Or a b) = option_and_then (λ x. option_map (Or x) (new_source news b)) (new_source news a)
-new_cell news (Xor a b) = option_and_then (λ x. option_map (Xor x) (new_source news b)) (new_source news a)
-new_cell news (AndNot a b) = option_and_then (λ x. option_map (AndNot x) (new_source news b)) (new_source news a)
+new_cell news (Or a b) =
+    option_and_then (λ x. option_map (Or x) (new_source news b)) (new_source news a)
+new_cell news (Xor a b) =
+    option_and_then (λ x. option_map (Xor x) (new_source news b)) (new_source news a)
+new_cell news (AndNot a b) =
+    option_and_then (λ x. option_map (AndNot x) (new_source news b)) (new_source news a)
 
 -- where a source goes
 abbrev pub goes_to : NewSources → Src → Src
@@ -35,8 +38,10 @@ goes_to news src = unwrap_or (new_source news src) src
 -- The new cells are in order, and the new source of each cell is there and has the cell's bit.
 pub record AreMoved (list : CellList) (cells : List Cell) (news : NewSources) : Type 0 where
   pub in_order : are_in_order list.inputs (length list.starts) 0 cells ≡ true
-  pub there : (i : ℕ) (src : Src) → get_or news i None ≡ Some src → is_there list.inputs (length list.starts) (length cells) src ≡ true
-  pub bits : (i : ℕ) (src : Src) → get_or news i None ≡ Some src → (inputs state : List Bool) → bit_in cells inputs state src ≡ bit_of list inputs state (Made i)
+  pub there : (i : ℕ) (src : Src) → get_or news i None ≡ Some src
+    → is_there list.inputs (length list.starts) (length cells) src ≡ true
+  pub bits : (i : ℕ) (src : Src) → get_or news i None ≡ Some src → (inputs state : List Bool)
+    → bit_in cells inputs state src ≡ bit_of list inputs state (Made i)
 
 -- the new list is that of the cells that have moved
 pub record IsRebuilt (list : CellList) (news : NewSources) (new : CellList) : Type 0 where

@@ -23,16 +23,21 @@ cell_over to (Or a b) = Or (to a) (to b)
 cell_over to (Xor a b) = Xor (to a) (to b)
 cell_over to (AndNot a b) = AndNot (to a) (to b)
 
--- where the source is a cell of the old list, it goes to that cell of the new one: the operator stays, and the operands go where they go
+-- where the source is a cell of the old list, it goes to that cell of the new one: the operator
+-- stays, and the operands go where they go
 abbrev pub StaysCell : CellList → CellList → (Src → Src) → Src → Type 0
-StaysCell old new to src = (cell : Cell) → IsCell old src cell → IsCell new (to src) (cell_over to cell)
+StaysCell old new to src =
+    (cell : Cell) → IsCell old src cell → IsCell new (to src) (cell_over to cell)
 
 -- where it is one, it has the bit that it had
 abbrev pub StaysBit : CellList → CellList → (Src → Src) → Src → Type 0
-StaysBit old new to src = (cell : Cell) → IsCell old src cell → (inputs state : List Bool) → bit_of new inputs state (to src) ≡ bit_of old inputs state src
+StaysBit old new to src =
+    (cell : Cell) → IsCell old src cell → (inputs state : List Bool)
+    → bit_of new inputs state (to src) ≡ bit_of old inputs state src
 
--- Each source goes to one other, and one that is no cell stays. Inputs and starts are the same. Outputs, latches' data and nets go where their sources go,
--- and under all inputs and states they have the bits that they had.
+-- Each source goes to one other, and one that is no cell stays. Inputs and starts are the same.
+-- Outputs, latches' data and nets go where their sources go, and under all inputs and states they
+-- have the bits that they had.
 pub record MovesBy (old : CellList) (to : Src → Src) (new : CellList) : Type 0 where
   pub stays : (src : Src) → is_cell src ≡ false → to src ≡ src
   pub inputs : new.inputs ≡ old.inputs
@@ -40,11 +45,16 @@ pub record MovesBy (old : CellList) (to : Src → Src) (new : CellList) : Type 0
   pub outs_go : new.outs ≡ map to old.outs
   pub latches_go : new.latches ≡ map to old.latches
   pub nets_go : new.nets ≡ map to old.nets
-  pub outs : (inputs state : List Bool) → map (bit_of new inputs state) new.outs ≡ map (bit_of old inputs state) old.outs
-  pub latches : (inputs state : List Bool) → map (bit_of new inputs state) new.latches ≡ map (bit_of old inputs state) old.latches
-  pub nets : (inputs state : List Bool) → map (bit_of new inputs state) new.nets ≡ map (bit_of old inputs state) old.nets
+  pub outs : (inputs state : List Bool)
+    → map (bit_of new inputs state) new.outs ≡ map (bit_of old inputs state) old.outs
+  pub latches : (inputs state : List Bool)
+    → map (bit_of new inputs state) new.latches ≡ map (bit_of old inputs state) old.latches
+  pub nets : (inputs state : List Bool)
+    → map (bit_of new inputs state) new.nets ≡ map (bit_of old inputs state) old.nets
 
--- The new list computes the same: sources move, those that are kept stay the cells that they are and have the bits that they had, there are not more cells, and constant 1 is named only if it was.
+-- The new list computes the same: sources move, those that are kept stay the cells that they are
+-- and have the bits that they had, there are not more cells, and constant 1 is named only if it
+-- was.
 pub record Rewrites (old : CellList) (kept : List Src) (new : CellList) : Type 0 where
   pub to : Src → Src
   pub moves : MovesBy old to new
@@ -53,8 +63,10 @@ pub record Rewrites (old : CellList) (kept : List Src) (new : CellList) : Type 0
   pub few : length new.cells ≤ length old.cells
   pub one : names_one new ≡ true → names_one old ≡ true
 
--- Sources move, and those that are kept stay the cells that they are; where they go is kept in the new list.
-pub record Keeps (old : CellList) (kept : List Src) (new : CellList) (still : List Src) : Type 0 where
+-- Sources move, and those that are kept stay the cells that they are; where they go is kept in the
+-- new list.
+pub record Keeps (old : CellList) (kept : List Src) (new : CellList)
+    (still : List Src) : Type 0 where
   pub to : Src → Src
   pub moves : MovesBy old to new
   pub cells : (src : Src) → Contains kept src → StaysCell old new to src
@@ -67,7 +79,8 @@ pub record IsNoLarger (old new : CellList) : Type 0 where
   pub one : names_one new ≡ true → names_one old ≡ true
 
 -- both
-pub record IsRewritten (old : CellList) (kept : List Src) (new : CellList) (still : List Src) : Type 0 where
+pub record IsRewritten (old : CellList) (kept : List Src) (new : CellList)
+    (still : List Src) : Type 0 where
   pub keeps : Keeps old kept new still
   pub no_larger : IsNoLarger old new
 

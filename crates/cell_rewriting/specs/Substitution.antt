@@ -10,12 +10,14 @@ use Rattle.cell_core.specs.Sources.{is_there}
 
 -- the two sources have the same bit, under all inputs and states
 abbrev pub AreEquivalent : CellList → Src → Src → Type 0
-AreEquivalent list a b = (inputs state : List Bool) → bit_of list inputs state a ≡ bit_of list inputs state b
+AreEquivalent list a b =
+    (inputs state : List Bool) → bit_of list inputs state a ≡ bit_of list inputs state b
 
 -- What is read in place of a cell is there, and has the cell's bit.
 pub record AreEqual (list : CellList) (instead : List (Option Src)) : Type 0 where
   pub within : (i : ℕ) (src : Src) → get_or instead i None ≡ Some src → i < length list.cells
-  pub there : (i : ℕ) (src : Src) → get_or instead i None ≡ Some src → is_there list.inputs (length list.starts) (length list.cells) src ≡ true
+  pub there : (i : ℕ) (src : Src) → get_or instead i None ≡ Some src
+    → is_there list.inputs (length list.starts) (length list.cells) src ≡ true
   pub bit : (i : ℕ) (src : Src) → get_or instead i None ≡ Some src → AreEquivalent list (Made i) src
 
 -- the source may be read in place of the cell

@@ -162,7 +162,8 @@ impl Moved {
         Ok(())
     }
 
-    /// A cell moves, if what it reads has moved. One that is replaced goes where the source goes that is read in its place.
+    /// A cell moves, if what it reads has moved. One that is replaced goes where the source goes
+    /// that is read in its place.
     pub fn add(&mut self, subst: &Substitution, number: u32) -> Result<(), RewriteError>
         requires are { AreMoved subst.now.list self.old.cells.items self.old.news.items }
         requires equal { AreEqual subst.now.list subst.now.instead.items }

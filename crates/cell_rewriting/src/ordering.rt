@@ -1,4 +1,5 @@
-// In which order cells move: those that ports need, each after those that it reads. Nothing is said of it: a cell that would move too early does not move.
+// In which order cells move: those that ports need, each after those that it reads. Nothing is said
+// of it: a cell that would move too early does not move.
 use crate::RewriteError;
 use crate::substitution::Substitution;
 use cell_core::{Cell, CellList, Src};
@@ -75,7 +76,8 @@ impl Walk {
         }
     }
 
-    // Walks down from a source. Each cell is entered once, so there are at most three visits a cell.
+    // Walks down from a source. Each cell is entered once, so there are at most three visits a
+    // cell.
     fn from(&mut self, subst: &Substitution, src: Src) -> Result<(), RewriteError> {
         self.push(src)?;
         for _ in 0..=self.seen.len().saturating_mul(3) {

@@ -86,7 +86,8 @@ fn moved_by(alloc: Global, subst: &Substitution) -> Result<Moved, RewriteError>
     Ok(moved)
 }
 
-/// The list after all replacements, if it can be put in order and the kept sources stay the cells that they are.
+/// The list after all replacements, if it can be put in order and the kept sources stay the cells
+/// that they are.
 pub fn rebuilt(
     alloc: Global,
     subst: &Substitution,

@@ -39,7 +39,8 @@ fn substituted(
     Ok(subst)
 }
 
-// The list after replacements, if it can be put in order and the kept sources stay the cells that they are.
+// The list after replacements, if it can be put in order and the kept sources stay the cells that
+// they are.
 fn replaced(
     alloc: Global,
     now: &KeptList,

@@ -88,7 +88,8 @@ impl Substitution {
         now
     }
 
-    // Whether a source is seen to be there and to have the bit of the cell in whose place it is to be read.
+    // Whether a source is seen to be there and to have the bit of the cell in whose place it is to
+    // be read.
     fn allows(&self, alloc: Global, new: &Replacement) -> Result<bool, RewriteError>
         requires { AreEqual self.now.list self.now.instead.items }
         ensures { IfOk result (λ yes. yes ≡ true →
@@ -136,7 +137,8 @@ impl Substitution {
         Ok(())
     }
 
-    /// Replaces a cell, if the replacement is seen to be sound. Its new cells are added in any case.
+    /// Replaces a cell, if the replacement is seen to be sound. Its new cells are added in any
+    /// case.
     pub fn replace(&mut self, alloc: Global, new: &Replacement) -> Result<(), RewriteError>
         requires { AreEqual self.old.list self.old.instead.items }
         ensures equal { OnOk result (AreEqual self.new.list self.new.instead.items) }

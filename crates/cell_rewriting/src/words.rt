@@ -1,4 +1,5 @@
-// Words of sources over at most six leaves: the table of what a source is, as a function of the leaves.
+// Words of sources over at most six leaves: the table of what a source is, as a function of the
+// leaves.
 ghost use Rattle.std.specs.Prelude.{◌≡◌, ◌≤◌, length, true, IfOk, IfSome, OnOk, slice_get, Some};
 ghost use Rattle.cell_core.specs.declared.cells.Src.TheVariants.{Cell as Made};
 ghost use Rattle.cell_rewriting.specs.Substitution.{AreEqual, AreEquivalent};

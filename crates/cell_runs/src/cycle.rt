@@ -9,8 +9,8 @@ use lists::List;
 use std::alloc::{AllocError, Global};
 use std::mem;
 
-/// The bits of the latches, and those that the inputs, the cells and the outputs had in the cycle before; `next` is room
-/// for the latches' next bits.
+/// The bits of the latches, and those that the inputs, the cells and the outputs had in the cycle
+/// before; `next` is room for the latches' next bits.
 #[derive(Drop)]
 pub struct CycleBits {
     row: Vec<bool>,

@@ -45,8 +45,8 @@ fn put_column(lists: &mut [List<bool>], place: usize, column: &[bool])
     }
 }
 
-/// The bits of each output, cycle after cycle: the latches begin with their starts, and each input has the bits of its
-/// stream. A call asks for streams of as many bits as there are cycles.
+/// The bits of each output, cycle after cycle: the latches begin with their starts, and each input
+/// has the bits of its stream. A call asks for streams of as many bits as there are cycles.
 pub fn run(
     alloc: Global,
     list: &CellList,

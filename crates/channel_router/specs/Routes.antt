@@ -1,10 +1,12 @@
--- Where the bits of lanes come from, when one lane's bit is brought to another lane and the others keep their order.
+-- Where the bits of lanes come from, when one lane's bit is brought to another lane and the others
+-- keep their order.
 use Rattle.std.specs.Prelude.{ℕ, ◌+◌, ◌-◌, ◌==◌, nat_lt, nat_le, ◌&&◌, if◌then◌else◌, ◌≡◌, List, Bool, length, All}
 use Rattle.lane_core.specs.declared.instr.Instr.{Instr}
 use Rattle.lane_core.specs.declared.instr.Instr.TheVariants.{Swap}
 use Rattle.lane_core.specs.Instrs.{bit_on, after_instrs, lane_of, IsOnLanes}
 
--- the lane that a lane's bit comes from: `to` has that of `from`, and the lanes between move on by one
+-- the lane that a lane's bit comes from: `to` has that of `from`, and the lanes between move on by
+-- one
 abbrev pub brought : ℕ → ℕ → ℕ → ℕ
 brought from to lane =
     if lane == to then from
@@ -29,4 +31,5 @@ pub record Brings (lanes from to : ℕ) (instrs : List Instr) : Type 0 where
   pub swaps : All IsSwap instrs
   pub on_lanes : All (IsOnLanes lanes) instrs
   pub long : (bits : List Bool) → length (after_instrs instrs bits) ≡ length bits
-  pub bits : (bits : List Bool) → length bits ≡ lanes → (lane : ℕ) → bit_on (after_instrs instrs bits) lane ≡ bit_on bits (brought from to lane)
+  pub bits : (bits : List Bool) → length bits ≡ lanes → (lane : ℕ)
+    → bit_on (after_instrs instrs bits) lane ≡ bit_on bits (brought from to lane)

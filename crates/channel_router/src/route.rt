@@ -6,8 +6,8 @@ use crate::RouteError;
 use lane_core::Instr;
 use std::alloc::Global;
 
-/// The swaps that bring the bit of lane `from` to lane `to` of so many lanes, one for each lane between them; the bits of
-/// the other lanes keep their order.
+/// The swaps that bring the bit of lane `from` to lane `to` of so many lanes, one for each lane
+/// between them; the bits of the other lanes keep their order.
 pub fn bring(alloc: Global, lanes: u32, from: u32, to: u32) -> Result<Vec<Instr>, RouteError>
     requires from { from < lanes }
     requires to { to < lanes }

@@ -1,4 +1,5 @@
--- The plans of circuits: nothing runs in by itself, and at generation 0 electrons stand only where loops enter the columns.
+-- The plans of circuits: nothing runs in by itself, and at generation 0 electrons stand only where
+-- loops enter the columns.
 use Rattle.std.specs.Prelude.{ℕ, zero, suc, ◌+◌, ◌*◌, ◌<◌, ◌≡◌, Bool, cond, List, [], ◌∷◌, ◌++◌, map, All}
 use Rattle.std.specs.List.{range_with_len}
 use Rattle.lane_core.specs.declared.starts.Start.{Start}
@@ -9,7 +10,8 @@ use Rattle.lane_core.specs.Entering.{first_loop_lane}
 
 -- the name of the edge at which a loop enters the first column, of so many lanes and loops
 abbrev pub loop_start : (lanes loops loop : ℕ) → Start
-loop_start lanes loops loop = record { y = row_of (first_loop_lane lanes loops + loop); x = 32 * loops }
+loop_start lanes loops loop =
+    record { y = row_of (first_loop_lane lanes loops + loop); x = 32 * loops }
 
 -- the start is where one of the loops enters
 abbrev pub IsLoopStart : (lanes loops : ℕ) → Start → Type 0
@@ -36,17 +38,20 @@ without_nets plan = record {
 
 -- whether a loop starts with 1: where it enters is a start
 abbrev pub starts_with_one : List Start → (lanes loops loop : ℕ) → Bool
-starts_with_one starts lanes loops loop = is_start_at starts (loop_start lanes loops loop).x (loop_start lanes loops loop).y
+starts_with_one starts lanes loops loop =
+    is_start_at starts (loop_start lanes loops loop).x (loop_start lanes loops loop).y
 
 -- the bits with which a plan's loops start
 abbrev pub first_bits : Plan → List Bool
-first_bits plan = map (starts_with_one plan.starts.list plan.lanes plan.latches) (range_with_len 0 plan.latches)
+first_bits plan =
+    map (starts_with_one plan.starts.list plan.lanes plan.latches) (range_with_len 0 plan.latches)
 
 -- the starts of so many loops, from one on, of those for which a test holds
 abbrev pub starts_from : (lanes loops : ℕ) → (ℕ → Bool) → (left loop : ℕ) → List Start
 starts_from lanes loops holds zero loop = []
 starts_from lanes loops holds (suc left) loop =
-    cond (holds loop) (loop_start lanes loops loop ∷ []) [] ++ starts_from lanes loops holds left (loop + 1)
+    cond (holds loop) (loop_start lanes loops loop ∷ []) []
+      ++ starts_from lanes loops holds left (loop + 1)
 
 -- the starts of all loops for which a test holds
 abbrev pub starts_where : (lanes loops : ℕ) → (ℕ → Bool) → List Start

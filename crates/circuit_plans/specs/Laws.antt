@@ -7,5 +7,6 @@ use Rattle.circuit_plans.specs.Circuits.{IsCircuit, starts_with_one, starts_wher
 abbrev pub StartsAreOfLoops : Type 0
 StartsAreOfLoops =
     (plan : Plan) → IsCircuit plan → (holds : ℕ → Bool)
-    → ((loop : ℕ) → loop < plan.latches → holds loop ≡ starts_with_one plan.starts.list plan.lanes plan.latches loop)
+    → ((loop : ℕ) → loop < plan.latches
+      → holds loop ≡ starts_with_one plan.starts.list plan.lanes plan.latches loop)
     → starts_where plan.lanes plan.latches holds ≡ plan.starts.list

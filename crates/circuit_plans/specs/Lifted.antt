@@ -52,7 +52,10 @@ lift_instr lanes instr =
     let b = source_on lanes.sources (lane_of instr + 1) in
     record {
       cells = lanes.cells ++ cells_made instr a b;
-      sources = slice_set (slice_set lanes.sources (lane_of instr) (upper_source instr (length lanes.cells) a b)) (lane_of instr + 1) (lower_source instr a b);
+      sources =
+          slice_set (slice_set lanes.sources (lane_of instr)
+            (upper_source instr (length lanes.cells) a b)) (lane_of instr + 1)
+            (lower_source instr a b);
     }
 
 abbrev pub lift_instrs : Lanes → List Instr → Lanes
@@ -67,12 +70,15 @@ lift_columns lanes columns = fold lift_column lanes columns
 -- inputs put on lanes, from the one of this number on
 abbrev pub sources_with_inputs : ℕ → List ℕ → List Src → List Src
 sources_with_inputs i [] sources = sources
-sources_with_inputs i (lane ∷ lanes) sources = sources_with_inputs (i + 1) lanes (slice_set sources lane (Input i))
+sources_with_inputs i (lane ∷ lanes) sources =
+    sources_with_inputs (i + 1) lanes (slice_set sources lane (Input i))
 
--- what enters the columns: the inputs, constant 0 on the other lanes that no loop enters, and the loops
+-- what enters the columns: the inputs, constant 0 on the other lanes that no loop enters, and the
+-- loops
 abbrev pub entry_sources : Plan → List Src
 entry_sources plan =
-    sources_with_inputs 0 plan.ins (replicate (first_loop_lane plan.lanes plan.latches) Zero) ++ map Latch (range_with_len 0 plan.latches)
+    sources_with_inputs 0 plan.ins (replicate (first_loop_lane plan.lanes plan.latches) Zero)
+      ++ map Latch (range_with_len 0 plan.latches)
 
 abbrev pub entry_lanes : Plan → Lanes
 entry_lanes plan = record { cells = []; sources = entry_sources plan }
@@ -82,4 +88,5 @@ abbrev pub sources_on : List Src → List ℕ → List Src
 sources_on sources lanes = map (source_on sources) lanes
 
 abbrev pub sources_leaving : List Src → ℕ → ℕ → List Src
-sources_leaving sources lanes loops = map (λ number. source_on sources (lanes - 1 - number)) (range_with_len 0 loops)
+sources_leaving sources lanes loops =
+    map (λ number. source_on sources (lanes - 1 - number)) (range_with_len 0 loops)

@@ -10,6 +10,7 @@ pub record IsListOf (plan : Plan) (list : CellList) : Type 0 where
   pub inputs : list.inputs ≡ length plan.ins
   pub cells : list.cells ≡ (lift_columns (entry_lanes plan) plan.columns).cells
   pub outs : list.outs ≡ sources_on (lift_columns (entry_lanes plan) plan.columns).sources plan.outs
-  pub latches : list.latches ≡ sources_leaving (lift_columns (entry_lanes plan) plan.columns).sources plan.lanes plan.latches
+  pub latches : list.latches ≡ sources_leaving
+      (lift_columns (entry_lanes plan) plan.columns).sources plan.lanes plan.latches
   pub starts : list.starts ≡ first_bits plan
   pub nets : list.nets ≡ []

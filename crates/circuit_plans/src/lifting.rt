@@ -131,9 +131,10 @@ fn list_of(
     })
 }
 
-/// The cells that the columns of a plan make, column by column and in each by lane, with its loops as latches. Its nets are
-/// not looked at, and the list has none. It names no constant 1: where a plan was made with a loop of constant 1, that is a
-/// latch here, which starts with 1 and feeds itself.
+/// The cells that the columns of a plan make, column by column and in each by lane, with its loops
+/// as latches. Its nets are not looked at, and the list has none. It names no constant 1: where a
+/// plan was made with a loop of constant 1, that is a latch here, which starts with 1 and feeds
+/// itself.
 pub fn cells_of(alloc: Global, plan: &Plan) -> Result<CellList, LiftError>
     requires admissible { IsAdmissible plan.now }
     ensures list { IfOk result (IsListOf plan.now) }

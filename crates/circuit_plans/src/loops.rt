@@ -7,7 +7,8 @@ use lane_core::{Plan, Start, Starts};
 use lists::List;
 use std::alloc::{AllocError, Global};
 
-/// The name of the edge at which a loop enters the first column, of so many lanes and loops: by the cell there.
+/// The name of the edge at which a loop enters the first column, of so many lanes and loops: by the
+/// cell there.
 pub fn loop_start(lanes: u32, loops: u32, number: u32) -> Start
     requires { loops ≤ lanes }
     ensures { result ≡ loop_start lanes loops number }
@@ -27,7 +28,8 @@ fn starts_with_one(plan: &Plan, number: u32) -> bool
     plan.starts.has(start.x, start.y)
 }
 
-/// The bits with which the loops of a plan start, where electrons stand only where loops enter the columns.
+/// The bits with which the loops of a plan start, where electrons stand only where loops enter the
+/// columns.
 pub fn first_bits(alloc: Global, plan: &Plan) -> Result<Vec<bool>, AllocError>
     requires { plan.now.latches ≤ plan.now.lanes }
     ensures { IfOk result (λ bits. bits.items ≡ first_bits plan.now) }

@@ -11,7 +11,8 @@ use Rattle.clock_check.specs.declared.uses.NetUse.{NetUse}
 -- the uses of some words of a line, of which the first has that position
 abbrev pub uses_on : ℕ → ℕ → List NetId → List NetUse
 uses_on line position [] = []
-uses_on line position (net ∷ nets) = record { line = line; position = position; net = net } ∷ uses_on line (suc position) nets
+uses_on line position (net ∷ nets) =
+    record { line = line; position = position; net = net } ∷ uses_on line (suc position) nets
 
 abbrev pub uses_of_node : Node → List NetUse
 uses_of_node node = uses_on node.line 0 (node.ins ++ node.out ∷ [])
@@ -22,10 +23,14 @@ uses_of_latch latch = uses_on latch.line 0 (latch.input ∷ latch.output ∷ [])
 -- those of outputs, of which the first has that position
 abbrev pub uses_of_outs : ℕ → List FlatPort → List NetUse
 uses_of_outs position [] = []
-uses_of_outs position (port ∷ ports) = record { line = port.line; position = position; net = port.net } ∷ uses_of_outs (suc position) ports
+uses_of_outs position (port ∷ ports) =
+    record { line = port.line; position = position; net = port.net }
+    ∷ uses_of_outs (suc position) ports
 
 abbrev pub flat_uses : Flat → List NetUse
-flat_uses flat = flat_map uses_of_node flat.nodes ++ flat_map uses_of_latch flat.latches ++ uses_of_outs 0 flat.outs
+flat_uses flat =
+    flat_map uses_of_node flat.nodes ++ flat_map uses_of_latch flat.latches
+    ++ uses_of_outs 0 flat.outs
 
 -- whether a use stands before another
 abbrev pub stands_before : NetUse → NetUse → Bool
@@ -38,7 +43,8 @@ earlier (Some found) next = cond (stands_before next found) next found
 
 -- the earliest use of a clock, with one more use
 abbrev pub earliest_with : Flat → Option NetUse → NetUse → Option NetUse
-earliest_with flat found next = cond (is_clock_class flat (class_of flat next.net)) (Some (earlier found next)) found
+earliest_with flat found next =
+    cond (is_clock_class flat (class_of flat next.net)) (Some (earlier found next)) found
 
 -- with more uses
 abbrev pub earliest_among : Flat → Option NetUse → List NetUse → Option NetUse

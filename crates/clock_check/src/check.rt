@@ -50,8 +50,9 @@ fn check_uses(alloc: Global, flat: &Flat) -> Result<(), ClockError>
     }
 }
 
-/// The check of a flat netlist's clocks. `Fault` has the first latch that differs from the first one in type or control;
-/// where there is none, the earliest use of a clock net by a node, as a latch's data or as an output.
+/// The check of a flat netlist's clocks. `Fault` has the first latch that differs from the first
+/// one in type or control; where there is none, the earliest use of a clock net by a node, as a
+/// latch's data or as an output.
 pub fn check_clock(alloc: Global, flat: &Flat) -> Result<(), ClockError>
     requires in_range { IsInRange flat.now }
     ensures fault { (fault : rules.Fault)

@@ -1,4 +1,5 @@
--- The command line as clap sees it: one required subcommand, each with its options of one value, and its last words.
+-- The command line as clap sees it: one required subcommand, each with its options of one value,
+-- and its last words.
 use Rattle.std.specs.Prelude.{List, [], ◌∷◌, Some, codes, true}
 use Rattle.clap.specs.Walk.{Rule, Text}
 use Rattle.clap.specs.Simple.{App, new_app, new_rule, with_rule, with_subcommand}
@@ -11,11 +12,15 @@ free_option name = record (new_rule name) { long = Some name; action = Some Set 
 
 -- `--name VALUE`, which is required
 abbrev pub required_option : Text → Rule
-required_option name = record (new_rule name) { long = Some name; required = true; action = Some Set }
+required_option name =
+    record (new_rule name) { long = Some name; required = true; action = Some Set }
 
 -- zero or more words, last
 abbrev pub stream_words : Rule
-stream_words = record (new_rule (codes "streams")) { range = Some record { start_inclusive = 0; end_inclusive = usize_max }; action = Some Append }
+stream_words =
+    record (new_rule (codes "streams"))
+      { range = Some record { start_inclusive = 0; end_inclusive = usize_max };
+      action = Some Append }
 
 -- the command with these options too, which are required
 abbrev pub with_required : App → List Text → App
@@ -23,7 +28,8 @@ with_required a [] = a
 with_required a (name ∷ names) = with_required (with_rule a (required_option name)) names
 
 abbrev pub compile_app : App
-compile_app = with_rule (with_rule (new_app (codes "compile")) (free_option (codes "contexts"))) stream_words
+compile_app =
+    with_rule (with_rule (new_app (codes "compile")) (free_option (codes "contexts"))) stream_words
 
 -- `simulate`, `eval`, `vcd` or `tape`, by its name
 abbrev pub driven_app : Text → App
@@ -31,19 +37,22 @@ driven_app name = with_rule (with_required (new_app name) (codes "cycles" ∷ []
 
 abbrev pub probe_app : App
 probe_app =
-    with_rule (with_rule (with_required (new_app (codes "probe")) (codes "cycles" ∷ codes "net" ∷ []))
+    with_rule (with_rule (with_required (new_app (codes "probe"))
+        (codes "cycles" ∷ codes "net" ∷ []))
     (free_option (codes "path"))) stream_words
 
 abbrev pub window_app : App
 window_app =
-    with_rule (with_required (new_app (codes "window")) (codes "gen" ∷ codes "x" ∷ codes "y" ∷ codes "width" ∷ codes "height" ∷ []))
+    with_rule (with_required (new_app (codes "window"))
+        (codes "gen" ∷ codes "x" ∷ codes "y" ∷ codes "width" ∷ codes "height" ∷ []))
     stream_words
 
 abbrev pub make_app : App
 make_app = with_required (new_app (codes "make")) (codes "seed" ∷ codes "size" ∷ [])
 
 abbrev pub self_app : App
-self_app = with_required (new_app (codes "self")) (codes "seed" ∷ codes "size" ∷ codes "cycles" ∷ [])
+self_app =
+    with_required (new_app (codes "self")) (codes "seed" ∷ codes "size" ∷ codes "cycles" ∷ [])
 
 abbrev pub aiger_app : App
 aiger_app = new_app (codes "aiger")
@@ -70,5 +79,6 @@ with_subcommands a (sub ∷ subs) = with_subcommands (with_subcommand a sub.top)
 abbrev pub blifww_app : App
 blifww_app =
     with_subcommands bare_app
-    (compile_app ∷ driven_app (codes "simulate") ∷ driven_app (codes "eval") ∷ probe_app ∷ window_app ∷ make_app ∷ self_app ∷ driven_app (codes "tape")
+    (compile_app ∷ driven_app (codes "simulate") ∷ driven_app (codes "eval") ∷ probe_app
+        ∷ window_app ∷ make_app ∷ self_app ∷ driven_app (codes "tape")
     ∷ aiger_app ∷ driven_app (codes "vcd") ∷ lift_app ∷ [])

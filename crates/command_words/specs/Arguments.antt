@@ -10,7 +10,8 @@ use Rattle.command_words.specs.declared.app.Argument.TheVariants.{Required, Free
 
 -- `--name VALUE`
 abbrev pub option_by : Text → Bool → Rule
-option_by name required = record (new_rule name) { long = Some name; required = required; action = Some Set }
+option_by name required =
+    record (new_rule name) { long = Some name; required = required; action = Some Set }
 
 abbrev pub rule_for : Argument → Rule
 rule_for (Required name) = option_by name.now true

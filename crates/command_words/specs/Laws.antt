@@ -4,10 +4,14 @@ use Rattle.clap.specs.Lexer.{usize_max}
 use Rattle.clap.specs.Walk.{Text}
 use Rattle.command_words.specs.Shapes.{CommandValues, command_values, IsCommand, IsWritten}
 
--- a list of words in the plainest form of a command is a command with these values, where the machine can count the words
+-- a list of words in the plainest form of a command is a command with these values, where the
+-- machine can count the words
 abbrev pub WrittenIsCommand : Type 0
-WrittenIsCommand = (v : CommandValues) (words : List Text) → length words ≤ usize_max → IsWritten v words → IsCommand words × (command_values words ≡ Some v)
+WrittenIsCommand =
+    (v : CommandValues) (words : List Text) → length words ≤ usize_max → IsWritten v words
+    → IsCommand words × (command_values words ≡ Some v)
 
 -- a command has values
 abbrev pub CommandsHaveValues : Type 0
-CommandsHaveValues = (words : List Text) → IsCommand words → (v : CommandValues) × (command_values words ≡ Some v)
+CommandsHaveValues =
+    (words : List Text) → IsCommand words → (v : CommandValues) × (command_values words ≡ Some v)

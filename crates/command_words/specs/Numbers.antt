@@ -13,7 +13,8 @@ are_digits (b ∷ bs) = list_all is_ascii_digit (b ∷ bs)
 -- the number that the digits write, where it lies between two bounds; leading zeros are free
 abbrev pub number_between : ℕ → ℕ → List ℕ → Option ℕ
 number_between least most text =
-    if are_digits text && (nat_le least (digits_value 10 text) && nat_le (digits_value 10 text) most)
+    if are_digits text && (nat_le least (digits_value 10 text)
+        && nat_le (digits_value 10 text) most)
     then Some (digits_value 10 text)
     else None
 
@@ -61,11 +62,13 @@ contexts_range = record { name = codes "contexts"; least = 1; most = 4294967295 
 -- the options of the commands but `tape` that take numbers
 abbrev pub number_ranges : List NumberRange
 number_ranges =
-    cycles_range ∷ generation_range ∷ x_range ∷ y_range ∷ width_range ∷ height_range ∷ seed_range ∷ size_range ∷ contexts_range ∷ []
+    cycles_range ∷ generation_range ∷ x_range ∷ y_range ∷ width_range ∷ height_range ∷ seed_range
+      ∷ size_range ∷ contexts_range ∷ []
 
 -- the options of a command of this name that take numbers
 abbrev pub ranges_of : List ℕ → List NumberRange
-ranges_of command = if bytes_eq command (codes "tape") then tape_cycles_range ∷ [] else number_ranges
+ranges_of command =
+    if bytes_eq command (codes "tape") then tape_cycles_range ∷ [] else number_ranges
 
 -- the option takes this number
 abbrev pub TakesNumber : NumberRange → ℕ → Type 0

@@ -12,7 +12,8 @@ use Rattle.command_words.specs.declared.command.View.{View}
 use Rattle.command_words.specs.declared.command.Command.{Command}
 use Rattle.command_words.specs.declared.command.Command.TheVariants.{Compile, Simulate, Eval, Probe, Window, Make, Self_, Tape, Aiger, Vcd, Lift}
 
--- a command with its values, of which the words that give the streams, or the start states of contexts, stand last
+-- a command with its values, of which the words that give the streams, or the start states of
+-- contexts, stand last
 pub data CommandValues : Type 0 where
   compile : (contexts : ℕ) → (starts : List Text) → CommandValues
   simulate : (cycles : ℕ) → (streams : List Text) → CommandValues
@@ -30,7 +31,8 @@ abbrev pub values_of : Command → CommandValues
 values_of (Compile contexts starts) = compile contexts (map string_bytes starts)
 values_of (Simulate cycles streams) = simulate cycles (map string_bytes streams)
 values_of (Eval cycles streams) = eval cycles (map string_bytes streams)
-values_of (Probe cycles net path streams) = probe cycles (string_bytes net) (string_bytes path) (map string_bytes streams)
+values_of (Probe cycles net path streams) =
+    probe cycles (string_bytes net) (string_bytes path) (map string_bytes streams)
 values_of (Window view streams) = window view (map string_bytes streams)
 values_of (Make seed size) = make seed size
 values_of (Self_ seed size cycles) = self_ seed size cycles
@@ -42,7 +44,8 @@ values_of Lift = lift
 -- each number of the view is one that its option takes
 abbrev pub HasViewInRange : View → Type 0
 HasViewInRange view =
-    TakesNumber generation_range view.generation × TakesNumber x_range view.x × TakesNumber y_range view.y
+    TakesNumber generation_range view.generation × TakesNumber x_range view.x
+      × TakesNumber y_range view.y
     × TakesNumber width_range view.width × TakesNumber height_range view.height
 
 -- each number of the command is one that its option takes
@@ -53,7 +56,8 @@ HasNumbersInRange (eval cycles streams) = TakesNumber cycles_range cycles
 HasNumbersInRange (probe cycles net path streams) = TakesNumber cycles_range cycles
 HasNumbersInRange (window view streams) = HasViewInRange view
 HasNumbersInRange (make seed size) = TakesNumber seed_range seed × TakesNumber size_range size
-HasNumbersInRange (self_ seed size cycles) = TakesNumber seed_range seed × TakesNumber size_range size × TakesNumber cycles_range cycles
+HasNumbersInRange (self_ seed size cycles) =
+    TakesNumber seed_range seed × TakesNumber size_range size × TakesNumber cycles_range cycles
 HasNumbersInRange (tape cycles streams) = TakesNumber tape_cycles_range cycles
 HasNumbersInRange aiger = ⊤
 HasNumbersInRange (vcd cycles streams) = TakesNumber cycles_range cycles
@@ -67,8 +71,8 @@ number_met range rows = option_and_then (number_taken range) (first_of range.nam
 abbrev pub streams_met : List Row → List Text
 streams_met rows = unwrap_or (all_of (codes "streams") rows) []
 
--- how many contexts there are, by the text that gives them and the words: without a text there is one, and there are no
--- words
+-- how many contexts there are, by the text that gives them and the words: without a text there is
+-- one, and there are no words
 abbrev pub contexts_by : Option Text → List Text → Option ℕ
 contexts_by (Some text) words = number_taken contexts_range text
 contexts_by None [] = Some 1
@@ -81,25 +85,33 @@ contexts_met rows = contexts_by (first_of contexts_range.name rows) (streams_met
 abbrev pub compile_by : List Row → Option CommandValues
 compile_by rows = option_map (λ contexts. compile contexts (streams_met rows)) (contexts_met rows)
 
-abbrev pub driven_command_by : NumberRange → (ℕ → List Text → CommandValues) → List Row → Option CommandValues
-driven_command_by range command rows = option_map (λ cycles. command cycles (streams_met rows)) (number_met range rows)
+abbrev pub driven_command_by : NumberRange → (ℕ → List Text → CommandValues) → List Row
+    → Option CommandValues
+driven_command_by range command rows =
+    option_map (λ cycles. command cycles (streams_met rows)) (number_met range rows)
 
 abbrev pub probe_by : List Row → Option CommandValues
 probe_by rows =
-    option_and_then (λ cycles. option_map (λ net. probe cycles net (unwrap_or (first_of (codes "path") rows) (codes "-")) (streams_met rows))
+    option_and_then (λ cycles. option_map
+        (λ net. probe cycles net (unwrap_or (first_of (codes "path") rows) (codes "-"))
+        (streams_met rows))
     (first_of (codes "net") rows)) (number_met cycles_range rows)
 
 abbrev pub view_met : List Row → Option View
 view_met rows =
-    option_and_then (λ generation. option_and_then (λ x. option_and_then (λ y. option_and_then (λ width. option_map (λ height.
+    option_and_then (λ generation. option_and_then
+        (λ x. option_and_then (λ y. option_and_then (λ width. option_map (λ height.
     record { generation = generation; x = x; y = y; width = width; height = height })
-    (number_met height_range rows)) (number_met width_range rows)) (number_met y_range rows)) (number_met x_range rows)) (number_met generation_range rows)
+    (number_met height_range rows)) (number_met width_range rows)) (number_met y_range rows))
+        (number_met x_range rows)) (number_met generation_range rows)
 
 abbrev pub window_by : List Row → Option CommandValues
 window_by rows = option_map (λ view. window view (streams_met rows)) (view_met rows)
 
 abbrev pub make_by : List Row → Option CommandValues
-make_by rows = option_and_then (λ seed. option_map (λ size. make seed size) (number_met size_range rows)) (number_met seed_range rows)
+make_by rows =
+    option_and_then (λ seed. option_map (λ size. make seed size) (number_met size_range rows))
+      (number_met seed_range rows)
 
 abbrev pub self_by : List Row → Option CommandValues
 self_by rows =
@@ -125,13 +137,16 @@ values_by_name name rows =
 abbrev pub values_met : Option (Text × List Row) → Option CommandValues
 values_met = option_and_then (λ met. values_by_name met.0 met.1)
 
--- the command that clap's matches for the words name, with its values, where its numbers lie in their ranges
+-- the command that clap's matches for the words name, with its values, where its numbers lie in
+-- their ranges
 abbrev pub command_values : List Text → Option CommandValues
 command_values words = values_met (subcommand_of blifww_app words)
 
 -- each number that the rows give an option of these is in its range
 abbrev pub AreInRanges : List NumberRange → List Row → Type 0
-AreInRanges ranges rows = AllByRecursion (λ range. IfSome (first_of range.name rows) (λ text. is_some (number_taken range text) ≡ true)) ranges
+AreInRanges ranges rows =
+    AllByRecursion (λ range. IfSome (first_of range.name rows)
+      (λ text. is_some (number_taken range text) ≡ true)) ranges
 
 -- each number that the matches give the command is in its range
 abbrev pub MeetsRanges : Option (Text × List Row) → Type 0
@@ -139,10 +154,12 @@ MeetsRanges met = IfSome met (λ met. AreInRanges (ranges_of met.0) met.1)
 
 -- words of `compile` stand beside a number of contexts alone
 abbrev pub MeetsContexts : Option (Text × List Row) → Type 0
-MeetsContexts met = IfSome met (λ met. bytes_eq met.0 (codes "compile") ≡ true → is_some (first_of (codes "contexts") met.1) ≡ false → streams_met met.1 ≡ [])
+MeetsContexts met =
+    IfSome met (λ met. bytes_eq met.0 (codes "compile") ≡ true
+      → is_some (first_of (codes "contexts") met.1) ≡ false → streams_met met.1 ≡ [])
 
--- The words are a command: a parse of them by clap can fail for want of memory alone, each number lies in its range,
--- and `compile` has words with `--contexts` alone.
+-- The words are a command: a parse of them by clap can fail for want of memory alone, each number
+-- lies in its range, and `compile` has words with `--contexts` alone.
 pub record IsCommand (words : List Text) : Type 0 where
   pub taken : takes blifww_app words ≡ true
   pub in_range : MeetsRanges (subcommand_of blifww_app words)
@@ -162,9 +179,10 @@ abbrev pub option_words : List (Text × Text) → List Text
 option_words [] = []
 option_words (given ∷ options) = (45 ∷ 45 ∷ given.0) ∷ given.1 ∷ option_words options
 
--- the words are the program's name, a command's, these options, and then these words, none of which is empty or begins
--- with a hyphen
-pub record IsPlain (command : Text) (options : List (Text × Text)) (streams words : List Text) : Type 0 where
+-- the words are the program's name, a command's, these options, and then these words, none of which
+-- is empty or begins with a hyphen
+pub record IsPlain (command : Text) (options : List (Text × Text))
+    (streams words : List Text) : Type 0 where
   pub program : Text
   pub words_are : words ≡ program ∷ command ∷ option_words options ++ streams
   pub plain : list_all is_plain_word streams ≡ true
@@ -179,38 +197,50 @@ GivesPath [] path = path ≡ codes "-"
 GivesPath (given ∷ []) path = (given ≡ (codes "path", path)) × (is_plain_word path ≡ true)
 GivesPath _ path = ⊥
 
--- these options give words this number of contexts: there is none, it is 1, and there are no words, or there is one
+-- these options give words this number of contexts: there is none, it is 1, and there are no words,
+-- or there is one
 abbrev pub GivesContexts : List (Text × Text) → ℕ → List Text → Type 0
 GivesContexts [] contexts starts = (contexts ≡ 1) × (starts ≡ [])
-GivesContexts (given ∷ []) contexts starts = (given.0 ≡ codes "contexts") × Writes contexts_range given.1 contexts
+GivesContexts (given ∷ []) contexts starts =
+    (given.0 ≡ codes "contexts") × Writes contexts_range given.1 contexts
 GivesContexts _ contexts starts = ⊥
 
 -- `simulate`, `eval`, `vcd` or `tape`, with the range of its cycles
 abbrev pub IsDrivenCommand : Text → NumberRange → ℕ → List Text → List Text → Type 0
-IsDrivenCommand command range cycles streams words = (n : Text) × IsPlain command ((codes "cycles", n) ∷ []) streams words × Writes range n cycles
+IsDrivenCommand command range cycles streams words =
+    (n : Text) × IsPlain command ((codes "cycles", n) ∷ []) streams words × Writes range n cycles
 
--- The plainest form of a command with these values: the program's name, the command's, its options in the order of the
--- table, each as two words with numbers in digits and in their ranges, and then its words. Of `probe` the path may be
--- missing, and of `compile` the contexts.
+-- The plainest form of a command with these values: the program's name, the command's, its options
+-- in the order of the table, each as two words with numbers in digits and in their ranges, and then
+-- its words. Of `probe` the path may be missing, and of `compile` the contexts.
 abbrev pub IsWritten : CommandValues → List Text → Type 0
 IsWritten (compile contexts starts) words =
-    (options : List (Text × Text)) × IsPlain (codes "compile") options starts words × GivesContexts options contexts starts
-IsWritten (simulate cycles streams) words = IsDrivenCommand (codes "simulate") cycles_range cycles streams words
-IsWritten (eval cycles streams) words = IsDrivenCommand (codes "eval") cycles_range cycles streams words
+    (options : List (Text × Text)) × IsPlain (codes "compile") options starts words
+    × GivesContexts options contexts starts
+IsWritten (simulate cycles streams) words =
+    IsDrivenCommand (codes "simulate") cycles_range cycles streams words
+IsWritten (eval cycles streams) words =
+    IsDrivenCommand (codes "eval") cycles_range cycles streams words
 IsWritten (probe cycles net path streams) words =
-    (n : Text) × (options : List (Text × Text)) × IsPlain (codes "probe") ((codes "cycles", n) ∷ (codes "net", net) ∷ options) streams words
+    (n : Text) × (options : List (Text × Text))
+    × IsPlain (codes "probe") ((codes "cycles", n) ∷ (codes "net", net) ∷ options) streams words
     × Writes cycles_range n cycles × (is_plain_word net ≡ true) × GivesPath options path
 IsWritten (window view streams) words =
     (g x y w h : Text)
-    × IsPlain (codes "window") ((codes "gen", g) ∷ (codes "x", x) ∷ (codes "y", y) ∷ (codes "width", w) ∷ (codes "height", h) ∷ []) streams words
+    × IsPlain (codes "window") ((codes "gen", g) ∷ (codes "x", x) ∷ (codes "y", y)
+      ∷ (codes "width", w) ∷ (codes "height", h) ∷ []) streams words
     × Writes generation_range g view.generation × Writes x_range x view.x × Writes y_range y view.y
     × Writes width_range w view.width × Writes height_range h view.height
 IsWritten (make seed size) words =
-    (s k : Text) × IsPlain (codes "make") ((codes "seed", s) ∷ (codes "size", k) ∷ []) [] words × Writes seed_range s seed × Writes size_range k size
+    (s k : Text) × IsPlain (codes "make") ((codes "seed", s) ∷ (codes "size", k) ∷ []) [] words
+    × Writes seed_range s seed × Writes size_range k size
 IsWritten (self_ seed size cycles) words =
-    (s k n : Text) × IsPlain (codes "self") ((codes "seed", s) ∷ (codes "size", k) ∷ (codes "cycles", n) ∷ []) [] words
+    (s k n : Text) × IsPlain (codes "self")
+      ((codes "seed", s) ∷ (codes "size", k) ∷ (codes "cycles", n) ∷ []) [] words
     × Writes seed_range s seed × Writes size_range k size × Writes cycles_range n cycles
-IsWritten (tape cycles streams) words = IsDrivenCommand (codes "tape") tape_cycles_range cycles streams words
+IsWritten (tape cycles streams) words =
+    IsDrivenCommand (codes "tape") tape_cycles_range cycles streams words
 IsWritten aiger words = IsPlain (codes "aiger") [] [] words
-IsWritten (vcd cycles streams) words = IsDrivenCommand (codes "vcd") cycles_range cycles streams words
+IsWritten (vcd cycles streams) words =
+    IsDrivenCommand (codes "vcd") cycles_range cycles streams words
 IsWritten lift words = IsPlain (codes "lift") [] [] words

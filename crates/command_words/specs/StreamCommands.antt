@@ -26,7 +26,8 @@ range_of _ = cycles_range
 -- the values of a command of this kind, by the matches of its options and words
 abbrev pub values_of_kind : CommandKind → List Row → Option CommandValues
 values_of_kind kind.Compile rows = compile_by rows
-values_of_kind (kind.StreamCommand driven) rows = driven_command_by (range_of driven) (values_by driven) rows
+values_of_kind (kind.StreamCommand driven) rows =
+    driven_command_by (range_of driven) (values_by driven) rows
 values_of_kind kind.Probe rows = probe_by rows
 values_of_kind kind.Window rows = window_by rows
 values_of_kind kind.Make rows = make_by rows
@@ -34,8 +35,10 @@ values_of_kind kind.Self_ rows = self_by rows
 values_of_kind kind.Aiger rows = Some aiger
 values_of_kind kind.Lift rows = Some lift
 
--- a command has the values that were met, with numbers in their ranges, and where words are refused as none there are no values
+-- a command has the values that were met, with numbers in their ranges, and where words are refused
+-- as none there are no values
 abbrev pub Reads : Option CommandValues → Result Command WordsError → Type 0
-Reads values (Ok command) = (values ≡ Some (values_of command)) × HasNumbersInRange (values_of command)
+Reads values (Ok command) =
+    (values ≡ Some (values_of command)) × HasNumbersInRange (values_of command)
 Reads values (Err Usage) = values ≡ None
 Reads values (Err NoMemory) = ⊤

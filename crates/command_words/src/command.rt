@@ -15,8 +15,8 @@ use clap::ArgMatches;
 use lists::List;
 use std::alloc::{AllocError, Global};
 
-/// A part of the plane at a generation: `width` cells of each of `height` rows, the first of which is the cell `x`,
-/// `y`.
+/// A part of the plane at a generation: `width` cells of each of `height` rows, the first of which
+/// is the cell `x`, `y`.
 #[derive(Clone, Copy, PartialEq, Eq)]
 pub struct View {
     pub generation: u64,
@@ -26,11 +26,12 @@ pub struct View {
     pub height: u64,
 }
 
-/// A command with its values. `cycles` says how many, and `streams` are the words that give the streams.
+/// A command with its values. `cycles` says how many, and `streams` are the words that give the
+/// streams.
 #[derive(Drop)]
 pub enum Command {
-    /// `contexts` is 1, and there are no `starts`, where the words give no number of contexts. `starts` are the words
-    /// that give the start states.
+    /// `contexts` is 1, and there are no `starts`, where the words give no number of contexts.
+    /// `starts` are the words that give the start states.
     Compile {
         contexts: u64,
         starts: List<String>,
@@ -199,7 +200,8 @@ fn has_words(found: &ArgMatches<'_>) -> bool
     !found.get_strs("streams").unwrap_or(&[]).is_empty()
 }
 
-// How many contexts there are: one where the words do not say it, and none where there are last words then.
+// How many contexts there are: one where the words do not say it, and none where there are last
+// words then.
 fn contexts_in(found: &ArgMatches<'_>) -> Option<u64>
     ensures value { result ≡ contexts_met (rows_of (found_of found.now)) }
     ensures bounds { IfSome result (TakesNumber contexts_range) }
@@ -349,14 +351,15 @@ fn length_fits(words: &[String])
     words.len();
 }
 
-/// The command that the words of a command line ask for. The first word is the program's name, and after it stands one
-/// of `compile [--contexts C word..]`, `simulate --cycles N word..`, `eval --cycles N word..`, `probe --cycles N --net
-/// NAME [--path PATH] word..`, `window --gen G --x X --y Y --width W --height H word..`, `make --seed S --size K`,
-/// `self --seed S --size K --cycles N`, `tape --cycles N word..`, `aiger`, `vcd --cycles N word..`, `lift`. Numbers are
-/// in decimal digits, with or without leading zeros: C from 1 to 4,294,967,295, N from 1 to 1,048,576, but of `tape` to
-/// 4,096, G to 4,294,967,296, X and Y to 4,294,967,295, W and H from 1 to 4,096, S to 2,147,483,647, K from 1 to 128.
-/// `Usage` comes only where the words are no command, and each other answer but `NoMemory` only where they have its
-/// values.
+/// The command that the words of a command line ask for. The first word is the program's name, and
+/// after it stands one of `compile [--contexts C word..]`, `simulate --cycles N word..`,
+/// `eval --cycles N word..`, `probe --cycles N --net NAME [--path PATH] word..`,
+/// `window --gen G --x X --y Y --width W --height H word..`, `make --seed S --size K`,
+/// `self --seed S --size K --cycles N`, `tape --cycles N word..`, `aiger`, `vcd --cycles N word..`,
+/// `lift`. Numbers are in decimal digits, with or without leading zeros: C from 1 to 4,294,967,295,
+/// N from 1 to 1,048,576, but of `tape` to 4,096, G to 4,294,967,296, X and Y to 4,294,967,295, W
+/// and H from 1 to 4,096, S to 2,147,483,647, K from 1 to 128. `Usage` comes only where the words
+/// are no command, and each other answer but `NoMemory` only where they have its values.
 pub fn command_of(alloc: Global, words: &[String]) -> Result<Command, WordsError>
     ensures ok { IfOk result (λ c. command_values (map string_bytes words.now) ≡
         Some (values_of c)) }

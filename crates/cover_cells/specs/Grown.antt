@@ -11,7 +11,8 @@ abbrev pub HasSource : CellList → Src → Type 0
 HasSource list src = IsTrue (is_there list.inputs (length list.starts) (length list.cells) src)
 
 abbrev pub HasSources : CellList → List Src → Type 0
-HasSources list sources = IsTrue (are_there list.inputs (length list.starts) (length list.cells) sources)
+HasSources list sources =
+    IsTrue (are_there list.inputs (length list.starts) (length list.cells) sources)
 
 abbrev pub bits_of : CellList → List Src → List Bool → List Bool → List Bool
 bits_of list sources inputs state = map (bit_in list.cells inputs state) sources
@@ -24,7 +25,8 @@ pub record Grows (old new : CellList) (count : ℕ) (reason : Type 0) : Type 0 w
   pub ones : read_one more ≡ true → reason
 
 -- besides, the source has the bit that is wanted, under all inputs and states
-pub record Answers (old new : CellList) (count : ℕ) (reason : Type 0) (src : Src) (wanted : List Bool → List Bool → Bool) : Type 0 where
+pub record Answers (old new : CellList) (count : ℕ) (reason : Type 0) (src : Src)
+    (wanted : List Bool → List Bool → Bool) : Type 0 where
   pub grows : Grows old new count reason
   pub there : HasSource new src
   pub one : is_one src ≡ true → reason

@@ -21,16 +21,20 @@ relocated sources made (Made i) = get_or made i Zero
 abbrev pub relocated_cell : List Src → List Src → Cell → Cell
 relocated_cell sources made (Or a b) = Or (relocated sources made a) (relocated sources made b)
 relocated_cell sources made (Xor a b) = Xor (relocated sources made a) (relocated sources made b)
-relocated_cell sources made (AndNot a b) = AndNot (relocated sources made a) (relocated sources made b)
+relocated_cell sources made (AndNot a b) =
+    AndNot (relocated sources made a) (relocated sources made b)
 
 -- constant 1 is read because one of the sources is it, or because one of the cells reads it
 abbrev pub ReadsOne : List Src → List Cell → Type 0
 ReadsOne sources cells = (list_any is_one sources ≡ true) ⊎ (read_one cells ≡ true)
 
 -- the first so many cells are in the list, each with its bit
-pub record ArePlaced (old new : CellList) (sources : List Src) (cells : List Cell) (count : ℕ) (made : List Src) : Type 0 where
+pub record ArePlaced (old new : CellList) (sources : List Src) (cells : List Cell) (count : ℕ)
+    (made : List Src) : Type 0 where
   pub long : length made ≡ count
   pub grows : Grows old new count (ReadsOne sources cells)
   pub there : HasSources new made
   pub one : list_any is_one made ≡ true → ReadsOne sources cells
-  pub bits : (inputs state : List Bool) → bits_of new made inputs state ≡ cell_bits (bits_of old sources inputs state) [] (take count cells)
+  pub bits : (inputs state : List Bool)
+    → bits_of new made inputs state ≡ cell_bits (bits_of old sources inputs state) []
+      (take count cells)

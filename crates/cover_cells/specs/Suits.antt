@@ -18,8 +18,10 @@ abbrev pub ReadsOneRoot : Found → Type 0
 ReadsOneRoot found = (read_one found.cells ≡ true) ⊎ (is_one found.root ≡ true)
 
 -- they have the cover's value, are few, and use constant 1 only where the cover needs it
-pub record Suits (sources : List Src) (rows : List (List ℕ)) (on : Bool) (found : Found) : Type 0 where
+pub record Suits (sources : List Src) (rows : List (List ℕ)) (on : Bool)
+    (found : Found) : Type 0 where
   pub alone : StandsAlone (length sources) found
   pub few : length found.cells ≤ 2 * rows_weight rows
   pub one : ReadsOneRoot found → CoverNeedsOne sources rows on
-  pub bits : (bits : List Bool) → length bits ≡ length sources → bit_in found.cells bits [] found.root ≡ cover_value rows on bits
+  pub bits : (bits : List Bool) → length bits ≡ length sources
+    → bit_in found.cells bits [] found.root ≡ cover_value rows on bits

@@ -1,4 +1,5 @@
--- Words of 64 bits as tables: the bit at a number is the value where the nets' bits make that number.
+-- Words of 64 bits as tables: the bit at a number is the value where the nets' bits make that
+-- number.
 use Rattle.std.specs.Prelude.{ℕ, ◌+◌, ◌*◌, ◌≡◌, Bool, true, cond, List, [], ◌∷◌, map, length}
 use Rattle.cell_core.specs.declared.cells.Src.{Src}
 use Rattle.cell_core.specs.declared.cells.Cell.{Cell}
@@ -23,4 +24,5 @@ ShowTables bits words made = map (table_bit bits) words ≡ made
 pub record HasTable (cells : List Cell) (root : Src) (nets table : ℕ) : Type 0 where
   pub in_order : are_in_order nets 0 0 cells ≡ true
   pub there : is_there nets 0 (length cells) root ≡ true
-  pub bits : (bits : List Bool) → length bits ≡ nets → bit_in cells bits [] root ≡ table_bit bits table
+  pub bits : (bits : List Bool) → length bits ≡ nets
+    → bit_in cells bits [] root ≡ table_bit bits table

@@ -1,4 +1,5 @@
-// Cells that need not be made: one of their operands or constant 0 has their bit, or a cell that is there.
+// Cells that need not be made: one of their operands or constant 0 has their bit, or a cell that is
+// there.
 ghost use Rattle.std.specs.Prelude.{◌≡◌, true, length, IsTrue, IfOk, IfSome};
 ghost use Rattle.cell_core.specs.declared.cells.Src.TheVariants.{Zero};
 ghost use Rattle.cell_core.specs.declared.cells.Cell.TheVariants.{Or, Xor, AndNot};

@@ -84,7 +84,8 @@ fn split_at(table: u64) -> usize
     best
 }
 
-// The cell of a net and of the table where it is 0, where its table at 1 is none, all, or the other one's complement.
+// The cell of a net and of the table where it is 0, where its table at 1 is none, all, or the other
+// one's complement.
 fn joined(net: Src, zero: Src, one: u64) -> Cell {
     match one {
         0 => Cell::AndNot(zero, net),

@@ -11,7 +11,8 @@ use cell_core::{Cell, CellError, CellList, Src};
 use std::alloc::Global;
 use std::collections::BTreeMap;
 
-/// Where cells were put. It is a place to look first: what stands there is compared before it is used.
+/// Where cells were put. It is a place to look first: what stands there is compared before it is
+/// used.
 #[derive(Drop)]
 pub struct Places {
     by_cell: BTreeMap<Cell, u32>,

@@ -54,7 +54,8 @@ fn cell_of_rows(a: Src, b: Src, rows: &[Bytes]) -> Option<Cell>
     None
 }
 
-/// The one cell of a cover of two nets with the rows of an OR, an XOR or an AND-NOT, where it reads these sources.
+/// The one cell of a cover of two nets with the rows of an OR, an XOR or an AND-NOT, where it reads
+/// these sources.
 pub fn single_cell(sources: &[Src], rows: &[Bytes], on: bool) -> Option<Cell>
     ensures { result ≡ single_cell sources.now rows.now on }
 {

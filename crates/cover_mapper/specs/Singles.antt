@@ -10,8 +10,10 @@ use Rattle.cover_mapper.specs.Sourced.{ClassSources, source_at}
 
 -- the cover of a node is one cell, whichever two sources it reads
 abbrev pub is_single : Node → Bool
-is_single node = (length node.ins == 2) && is_some (single_cell (Zero ∷ Zero ∷ []) node.rows node.on)
+is_single node =
+    (length node.ins == 2) && is_some (single_cell (Zero ∷ Zero ∷ []) node.rows node.on)
 
 -- its source, if it is
 abbrev pub single_source : Flat → ClassSources → Node → Option Src
-single_source flat sources node = cond (is_single node) (Some (source_at sources (class_of flat node.out))) None
+single_source flat sources node =
+    cond (is_single node) (Some (source_at sources (class_of flat node.out))) None

@@ -37,29 +37,40 @@ IsAmongFirst inputs latches nodes (FlatDriver.latch i) = i < latches
 IsAmongFirst inputs latches nodes (FlatDriver.node n) = Contains nodes n
 
 -- the classes with such a driver, and no others, have a source, which is there and has their bit
-pub record AreSourced (flat : Flat) (made : FlatDriver → Type 0) (list : CellList) (sources : ClassSources) : Type 0 where
+pub record AreSourced (flat : Flat) (made : FlatDriver → Type 0) (list : CellList)
+    (sources : ClassSources) : Type 0 where
   pub long : length sources ≡ length flat.nets
-  pub all : (class : ℕ) (d : FlatDriver) → FlatDrives flat d class → made d → (src : Src) × (get_or sources class None ≡ Some src)
-  pub only : (class : ℕ) (src : Src) → get_or sources class None ≡ Some src → (d : FlatDriver) × FlatDrives flat d class × made d
-  pub own : (class : ℕ) (d : FlatDriver) (src : Src) → FlatDrives flat d class → made d → get_or sources class None ≡ Some src → IsOwn d src
+  pub all : (class : ℕ) (d : FlatDriver) → FlatDrives flat d class → made d
+    → (src : Src) × (get_or sources class None ≡ Some src)
+  pub only : (class : ℕ) (src : Src) → get_or sources class None ≡ Some src
+    → (d : FlatDriver) × FlatDrives flat d class × made d
+  pub own : (class : ℕ) (d : FlatDriver) (src : Src) → FlatDrives flat d class → made d
+    → get_or sources class None ≡ Some src → IsOwn d src
   pub there : (class : ℕ) (src : Src) → get_or sources class None ≡ Some src → HasSource list src
-  pub one : (class : ℕ) (src : Src) → get_or sources class None ≡ Some src → is_one src ≡ true → any_needs_one flat ≡ true
+  pub one : (class : ℕ) (src : Src) → get_or sources class None ≡ Some src → is_one src ≡ true
+    → any_needs_one flat ≡ true
   pub bits : (inputs state : List Bool) (bits : ℕ → Bool) → IsFlatValuation flat inputs state bits
-      → (class : ℕ) (src : Src) → get_or sources class None ≡ Some src → bit_in list.cells inputs state src ≡ bits class
+      → (class : ℕ) (src : Src) → get_or sources class None ≡ Some src
+      → bit_in list.cells inputs state src ≡ bits class
 
 -- the cover of a node that is a single cell has it as its source
 abbrev pub HasSingle : Flat → CellList → ClassSources → ℕ → Type 0
 HasSingle flat list sources n =
-    (cell : Cell) → single_cell (map (source_at sources) (in_classes flat n)) (node_at flat n).rows (node_at flat n).on ≡ Some cell → IsCell list (source_at sources (out_class flat n)) cell
+    (cell : Cell) → single_cell (map (source_at sources) (in_classes flat n)) (node_at flat n).rows
+      (node_at flat n).on ≡ Some cell → IsCell list (source_at sources (out_class flat n)) cell
 
 -- the cover of a node that is a constant by its text has it as its source
 abbrev pub HasConstant : Flat → ClassSources → ℕ → Type 0
-HasConstant flat sources n = (src : Src) → constant_of flat n ≡ Some src → source_at sources (out_class flat n) ≡ src
+HasConstant flat sources n =
+    (src : Src) → constant_of flat n ≡ Some src → source_at sources (out_class flat n) ≡ src
 
 -- these nodes are mapped
-pub record AreMapped (flat : Flat) (old new : CellList) (sources : ClassSources) (nodes : List ℕ) : Type 0 where
-  pub sourced : AreSourced flat (IsAmongFirst (length flat.ins) (length flat.latches) nodes) new sources
-  pub grows : Grows old new (2 * sum_by (λ n. rows_weight (node_at flat n).rows) nodes) (any_needs_one flat ≡ true)
+pub record AreMapped (flat : Flat) (old new : CellList) (sources : ClassSources)
+    (nodes : List ℕ) : Type 0 where
+  pub sourced : AreSourced flat (IsAmongFirst (length flat.ins)
+      (length flat.latches) nodes) new sources
+  pub grows : Grows old new (2 * sum_by (λ n. rows_weight (node_at flat n).rows) nodes)
+      (any_needs_one flat ≡ true)
   pub single : (j : ℕ) → j < length nodes → HasSingle flat new sources (get_or nodes j 0)
   pub constant : (j : ℕ) → j < length nodes → HasConstant flat sources (get_or nodes j 0)
 

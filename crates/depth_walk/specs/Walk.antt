@@ -18,8 +18,8 @@ is_unseen Unseen = true
 is_unseen (Open i) = false
 is_unseen (Done i) = false
 
--- the stack is a path on which each number leads to the next, by the step up to which what it leads to is done.
--- Marks say where on the stack, or where in the order, a number stands
+-- the stack is a path on which each number leads to the next, by the step up to which what it leads
+-- to is done. Marks say where on the stack, or where in the order, a number stands
 pub record IsWalk (links : Links) (marks : List Mark) (next stack order : List ℕ) : Type 0 where
   pub marks_fit : length marks ≡ length links
   pub next_fit : length next ≡ length links
@@ -28,9 +28,12 @@ pub record IsWalk (links : Links) (marks : List Mark) (next stack order : List �
   pub at_open : (n i : ℕ) → mark_of marks n ≡ Open i → (i < length stack) × (get_or stack i 0 ≡ n)
   pub done_at : (i : ℕ) → i < length order → mark_of marks (get_or order i 0) ≡ Done i
   pub at_done : (n i : ℕ) → mark_of marks n ≡ Done i → (i < length order) × (get_or order i 0 ≡ n)
-  pub passed : (n k b : ℕ) → k < get_or next n 0 → LeadsTo links n k b → IsMarkedDone (mark_of marks b)
-  pub before : (n i k b : ℕ) → mark_of marks n ≡ Done i → LeadsTo links n k b → (j : ℕ) × (j < i) × (mark_of marks b ≡ Done j)
-  pub path : (i : ℕ) → i + 1 < length stack → LeadsTo links (get_or stack i 0) (get_or next (get_or stack i 0) 0) (get_or stack (i + 1) 0)
+  pub passed : (n k b : ℕ) → k < get_or next n 0 → LeadsTo links n k b
+    → IsMarkedDone (mark_of marks b)
+  pub before : (n i k b : ℕ) → mark_of marks n ≡ Done i → LeadsTo links n k b
+    → (j : ℕ) × (j < i) × (mark_of marks b ≡ Done j)
+  pub path : (i : ℕ) → i + 1 < length stack
+    → LeadsTo links (get_or stack i 0) (get_or next (get_or stack i 0) 0) (get_or stack (i + 1) 0)
 
 -- what falls with each step of the walk: a number is opened once and closed once
 abbrev pub work : List Mark → List ℕ → ℕ
@@ -38,16 +41,22 @@ work marks stack = 2 * count_by is_unseen marks + length stack
 
 -- what the steps from a number lead to, from one on and below another, is done
 abbrev pub AreDoneWithin : Links → List Mark → ℕ → ℕ → ℕ → Type 0
-AreDoneWithin links marks n from to = (k b : ℕ) → from ≤ k → k < to → LeadsTo links n k b → IsMarkedDone (mark_of marks b)
+AreDoneWithin links marks n from to =
+    (k b : ℕ) → from ≤ k → k < to → LeadsTo links n k b → IsMarkedDone (mark_of marks b)
 
 -- the first step from a number, from one on, that leads to one which is not done
 abbrev pub IsMet : Links → List Mark → ℕ → ℕ → Met → Type 0
-IsMet links marks n from Nothing = (k b : ℕ) → from ≤ k → LeadsTo links n k b → IsMarkedDone (mark_of marks b)
-IsMet links marks n from (Fresh k b) = (from ≤ k) × AreDoneWithin links marks n from k × LeadsTo links n k b × (b < length links) × (mark_of marks b ≡ Unseen)
-IsMet links marks n from (Again k place) = (b : ℕ) × LeadsTo links n k b × (mark_of marks b ≡ Open place)
+IsMet links marks n from Nothing =
+    (k b : ℕ) → from ≤ k → LeadsTo links n k b → IsMarkedDone (mark_of marks b)
+IsMet links marks n from (Fresh k b) =
+    (from ≤ k) × AreDoneWithin links marks n from k × LeadsTo links n k b × (b < length links)
+    × (mark_of marks b ≡ Unseen)
+IsMet links marks n from (Again k place) =
+    (b : ℕ) × LeadsTo links n k b × (mark_of marks b ≡ Open place)
 
 abbrev pub IsWalkOf : Links → Walk → Type 0
-IsWalkOf links walk = IsWalk links walk.marks.items walk.next.items walk.stack.items walk.order.items
+IsWalkOf links walk =
+    IsWalk links walk.marks.items walk.next.items walk.stack.items walk.order.items
 
 -- what was seen still is
 abbrev pub AreStillSeen : List Mark → List Mark → Type 0

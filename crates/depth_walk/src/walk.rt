@@ -53,8 +53,8 @@ fn path_from(alloc: Global, path: &[usize], place: usize) -> Result<List<usize>,
     Ok(List::of(path[place..].to_vec(alloc)?))
 }
 
-/// The walk: a mark for each number, the step up to which what it leads to is done, the path of open numbers, and the
-/// order so far.
+/// The walk: a mark for each number, the step up to which what it leads to is done, the path of
+/// open numbers, and the order so far.
 #[derive(Drop)]
 pub struct Walk {
     pub marks: Vec<Mark>,
@@ -117,7 +117,8 @@ impl Walk {
         Ok(())
     }
 
-    // One step, at the number on top of the path: another is opened, or it is closed, or it is on a circle.
+    // One step, at the number on top of the path: another is opened, or it is closed, or it is on a
+    // circle.
     fn step(
         &mut self,
         alloc: Global,

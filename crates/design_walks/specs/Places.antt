@@ -7,7 +7,8 @@ use Rattle.design_walks.specs.declared.placed.Parent.{Parent}
 use Rattle.design_walks.specs.declared.placed.PlacedModel.{PlacedModel}
 
 -- the parent is an earlier place of the list, and the place is that of one of its lines
-pub record HasParent (places : List PlacedModel) (number : ℕ) (place : Place) (parent : Parent) : Type 0 where
+pub record HasParent (places : List PlacedModel) (number : ℕ) (place : Place)
+    (parent : Parent) : Type 0 where
   pub outer : PlacedModel
   pub is_there : slice_get places parent.number ≡ Some outer
   pub is_earlier : parent.number < number
@@ -21,5 +22,7 @@ pub record IsModelAt (design : Design) (placed : PlacedModel) : Type 0 where
 -- the places in order, each with its model and its parent, which only the main model's has not
 pub record ArePlaces (design : Design) (places : List PlacedModel) : Type 0 where
   pub in_order : map (λ placed. placed.place) places ≡ places_in_order design
-  pub models : (k : ℕ) (placed : PlacedModel) → slice_get places k ≡ Some placed → IsModelAt design placed
-  pub parents : (k : ℕ) (placed : PlacedModel) → slice_get places k ≡ Some placed → MatchOption placed.parent (placed.place ≡ []) (HasParent places k placed.place)
+  pub models : (k : ℕ) (placed : PlacedModel) → slice_get places k ≡ Some placed
+    → IsModelAt design placed
+  pub parents : (k : ℕ) (placed : PlacedModel) → slice_get places k ≡ Some placed
+    → MatchOption placed.parent (placed.place ≡ []) (HasParent places k placed.place)

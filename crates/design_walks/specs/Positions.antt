@@ -17,4 +17,5 @@ position_in positions name = get_by (λ k. slice_cmp nat_cmp name k.now) positio
 
 -- A map has the first position of each name of a list, and of no others.
 abbrev pub HasPositions : BTreeMap (Bor (List ℕ)) ℕ → List Name → Type 0
-HasPositions positions names = (name : Name) → position_in positions name ≡ position_from (bytes_eq name) 0 names
+HasPositions positions names =
+    (name : Name) → position_in positions name ≡ position_from (bytes_eq name) 0 names

@@ -15,31 +15,46 @@ main_placed = record { place = []; model = 0; parent = None }
 
 -- the model of that number, at the place of a line inside the place of that number
 abbrev pub inner_at : PlacedModel → ℕ → ℕ → ℕ → PlacedModel
-inner_at outer number line model = record { place = outer.place ++ line ∷ []; model = model; parent = Some (record { number = number; line = line }) }
+inner_at outer number line model =
+    record { place = outer.place ++ line ∷ []; model = model;
+      parent = Some (record { number = number; line = line }) }
 
 -- the place of a line, if the model that it names is there
 abbrev pub placed_by : List Model → PlacedModel → ℕ → ℕ → Subckt → List PlacedModel
-placed_by models outer number line subckt = option_to_list (option_map (inner_at outer number line) (position (is_model_named subckt.model) models))
+placed_by models outer number line subckt =
+    option_to_list (option_map (inner_at outer number line)
+      (position (is_model_named subckt.model) models))
 
 -- those of some lines, of which the first has that number, the last line's first
 abbrev pub placed_by_lines : List Model → PlacedModel → ℕ → ℕ → List Subckt → List PlacedModel
 placed_by_lines models outer number first [] = []
-placed_by_lines models outer number first (line ∷ lines) = placed_by_lines models outer number (suc first) lines ++ placed_by models outer number first line
+placed_by_lines models outer number first (line ∷ lines) =
+    placed_by_lines models outer number (suc first) lines
+    ++ placed_by models outer number first line
 
--- the places inside a place, as seen from the main model: those inside some lines of its model, of which the first has that number
+-- the places inside a place, as seen from the main model: those inside some lines of its model, of
+-- which the first has that number
 abbrev pub places_of_lines : Design → Place → ℕ → List Subckt → List Place
-places_of_lines design place first lines = map (λ inner. place ++ inner) (places_in_lines (λ line. of_some (places_below design (length design.models - suc (length place))) (model_named design.models line.model)) first lines)
+places_of_lines design place first lines =
+    map (λ inner. place ++ inner) (places_in_lines (λ line. of_some
+      (places_below design (length design.models - suc (length place)))
+      (model_named design.models line.model)) first lines)
 
 -- the places inside a place
 abbrev pub places_inside : Design → PlacedModel → List Place
-places_inside design placed = of_some (λ (model : Model). places_of_lines design placed.place 0 model.subckts) (slice_get design.models placed.model)
+places_inside design placed =
+    of_some (λ (model : Model). places_of_lines design placed.place 0 model.subckts)
+      (slice_get design.models placed.model)
 
 -- those on a stack, from its top, each with those inside it
 abbrev pub places_to_come : Design → List PlacedModel → List Place
 places_to_come design [] = []
-places_to_come design (placed ∷ stack) = places_to_come design stack ++ placed.place ∷ places_inside design placed
+places_to_come design (placed ∷ stack) =
+    places_to_come design stack ++ placed.place ∷ places_inside design placed
 
 -- a place to come has a model, and its parent is listed
-pub record IsToCome (design : Design) (listed : List PlacedModel) (placed : PlacedModel) : Type 0 where
+pub record IsToCome (design : Design) (listed : List PlacedModel)
+    (placed : PlacedModel) : Type 0 where
   pub model : IsModelAt design placed
-  pub parent : MatchOption placed.parent (placed.place ≡ []) (HasParent listed (length listed) placed.place)
+  pub parent : MatchOption placed.parent (placed.place ≡ [])
+      (HasParent listed (length listed) placed.place)

@@ -9,13 +9,18 @@ use Rattle.netlist_meaning.specs.Weight.{weight_below}
 
 -- the weight of the model that a line places, and 0 where it names none
 abbrev pub line_weight : List Model → List ℕ → Subckt → ℕ
-line_weight models weights line = option_map_or (λ inner. get_or weights inner 0) (position (is_model_named line.model) models) 0
+line_weight models weights line =
+    option_map_or (λ inner. get_or weights inner 0) (position (is_model_named line.model) models) 0
 
 -- A number is the weight of a model at any depth beyond this one, at most the greatest u64.
 abbrev pub WeighsBeyond : Design → ℕ → Model → ℕ → Type 0
-WeighsBeyond design place model weight = (depth : ℕ) → place < depth → weight ≡ min (weight_below design depth model) (2 ^ 64 - 1)
+WeighsBeyond design place model weight =
+    (depth : ℕ) → place < depth → weight ≡ min (weight_below design depth model) (2 ^ 64 - 1)
 
 -- the weights of the first so many models of an order
-pub record AreWeights (design : Design) (order : List ℕ) (count : ℕ) (weights : List ℕ) : Type 0 where
+pub record AreWeights (design : Design) (order : List ℕ) (count : ℕ)
+    (weights : List ℕ) : Type 0 where
   pub fit : length weights ≡ length design.models
-  pub weighs : (i : ℕ) (model : Model) → i < count → slice_get design.models (get_or order i 0) ≡ Some model → WeighsBeyond design i model (get_or weights (get_or order i 0) 0)
+  pub weighs : (i : ℕ) (model : Model) → i < count
+    → slice_get design.models (get_or order i 0) ≡ Some model
+    → WeighsBeyond design i model (get_or weights (get_or order i 0) 0)

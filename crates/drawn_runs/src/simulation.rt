@@ -24,7 +24,8 @@ use ww_rule::Pattern;
 // So many cells of a pattern are looked at in the time of one generation.
 const CELLS_A_GENERATION: u128 = 128;
 
-// Whether there is one context, and its run takes longer than a look at each cell of the pattern, and goes not too far.
+// Whether there is one context, and its run takes longer than a look at each cell of the pattern,
+// and goes not too far.
 fn pays(pattern: &Pattern, ports: &Ports, streams: &Streams) -> bool
     requires cycles { 0 < streams.now.cycles }
     requires streams { AreFor ports.now streams.now }
@@ -52,7 +53,8 @@ fn list_of(alloc: Global, plan: &Plan) -> Result<CellList, AllocError>
     }
 }
 
-// The cells of the plan that a pattern with its table draws, and none where that is no plan, or a name is bad.
+// The cells of the plan that a pattern with its table draws, and none where that is no plan, or a
+// name is bad.
 fn list_drawn(
     alloc: Global,
     pattern: &Pattern,
@@ -88,10 +90,10 @@ fn list_to_run(
     list_drawn(alloc, pattern, ports)
 }
 
-/// The bits that each output of a pattern shows in each context, as `drive::simulate` answers them. A call asks also for a
-/// table that is sound, and whose cells lie in the pattern's box. Where the pattern is the drawing of a circuit's plan, and
-/// its run takes longer than finding that out, no generation is run: the plan's cells are evaluated cycle after cycle, and
-/// the bits are the same.
+/// The bits that each output of a pattern shows in each context, as `drive::simulate` answers them.
+/// A call asks also for a table that is sound, and whose cells lie in the pattern's box. Where the
+/// pattern is the drawing of a circuit's plan, and its run takes longer than finding that out, no
+/// generation is run: the plan's cells are evaluated cycle after cycle, and the bits are the same.
 pub fn simulate(
     alloc: Global,
     pattern: Pattern,

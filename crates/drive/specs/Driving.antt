@@ -16,8 +16,8 @@ use Rattle.drive.specs.declared.error.SimulateError.TheVariants.{NoMemory, TooFa
 use Rattle.drive.specs.Misses.{first_of_misses}
 use Rattle.drive.specs.Shown.{column_of_cell, columns_of_cells}
 
--- for each context and each input of the table one stream, with a bit for each cycle; there is a context, and where there are more, each
--- has 32 generations of the period
+-- for each context and each input of the table one stream, with a bit for each cycle; there is a
+-- context, and where there are more, each has 32 generations of the period
 pub record AreFor (ports : Ports) (streams : Streams) : Type 0 where
   pub same : streams.c ≡ ports.c
   pub contexts : ports.c ≢ 0
@@ -29,11 +29,13 @@ pub record AreFor (ports : Ports) (streams : Streams) : Type 0 where
 abbrev pub cycle_rows : Streams → ℕ → List (List Bool)
 cycle_rows streams cycle = map (λ rows. get_or rows cycle []) (contexts_of streams)
 
--- one injection at generation 32 k + t P, at the cell of input i, for each context k, cycle t and input i whose bit is 1: cycle after
--- cycle, in a cycle context after context, and in a context in the order of the inputs
+-- one injection at generation 32 k + t P, at the cell of input i, for each context k, cycle t and
+-- input i whose bit is 1: cycle after cycle, in a cycle context after context, and in a context in
+-- the order of the inputs
 abbrev pub injections_of : Ports → Streams → List Injection
 injections_of ports streams =
-    flat_map (λ cycle. injections_from (cycle * ports.p) 32 (cells_of ports.ins) (cycle_rows streams cycle)) (range_with_len 0 streams.cycles)
+    flat_map (λ cycle. injections_from (cycle * ports.p) 32 (cells_of ports.ins)
+        (cycle_rows streams cycle)) (range_with_len 0 streams.cycles)
 
 -- the cells that are so made heads
 abbrev pub due_by : Ports → Streams → Due
@@ -45,23 +47,30 @@ driven_by ports streams plane = driven (due_by ports streams) plane
 
 -- the first injection up to a generation at a cell that is no conductor before it
 abbrev pub first_miss : Ports → Streams → Plane → ℕ → Option Injection
-first_miss ports streams plane g = first_of_misses (injections_of ports streams) (due_by ports streams) plane g
+first_miss ports streams plane g =
+    first_of_misses (injections_of ports streams) (due_by ports streams) plane g
 
--- the bits that a cell shows in a context, cycle after cycle: 1 where it is a head at generation first + 32 k + t P, k being the context
+-- the bits that a cell shows in a context, cycle after cycle: 1 where it is a head at generation
+-- first + 32 k + t P, k being the context
 abbrev pub bits_of_cell : Ports → Streams → Plane → (first context : ℕ) → ℕ × ℕ → List Bool
-bits_of_cell ports streams plane first context cell = column_of_cell (driven_by ports streams plane) ports.p streams.cycles first context cell
+bits_of_cell ports streams plane first context cell =
+    column_of_cell (driven_by ports streams plane) ports.p streams.cycles first context cell
 
 -- those of each of these cells in each context: all cells of context 0 first
 abbrev pub bits_of_cells : Ports → Streams → Plane → (first : ℕ) → List (ℕ × ℕ) → List (List Bool)
-bits_of_cells ports streams plane first cells = columns_of_cells (driven_by ports streams plane) ports.c ports.p streams.cycles first cells
+bits_of_cells ports streams plane first cells =
+    columns_of_cells (driven_by ports streams plane) ports.c ports.p streams.cycles first cells
 
 -- the bits of an output in a context: its cell's from generation L on
 abbrev pub shown_at : Ports → Streams → Plane → (context : ℕ) → PortLine → List Bool
-shown_at ports streams plane context out = bits_of_cell ports streams plane ports.l context (out.x, out.y)
+shown_at ports streams plane context out =
+    bits_of_cell ports streams plane ports.l context (out.x, out.y)
 
 -- those of each output in each context: all outputs of context 0 first
 abbrev pub shown_bits : Ports → Streams → Plane → List (List Bool)
-shown_bits ports streams plane = flat_map (λ context. map (shown_at ports streams plane context) ports.outs) (range_with_len 0 ports.c)
+shown_bits ports streams plane =
+    flat_map (λ context. map (shown_at ports streams plane context) ports.outs)
+      (range_with_len 0 ports.c)
 
 -- the most generations that a run may need
 abbrev pub greatest_generation : ℕ
@@ -79,11 +88,14 @@ last_generation ports streams = last_from ports.l ports streams
 abbrev pub HasRunCause : Option Injection → SimulateError → Type 0
 HasRunCause miss NoMemory = ⊤
 HasRunCause miss (TooFar generations) = ⊥
-HasRunCause miss (NotQuiet generation x y) = miss ≡ Some (record { generation = generation; x = x; y = y })
+HasRunCause miss (NotQuiet generation x y) =
+    miss ≡ Some (record { generation = generation; x = x; y = y })
 
 -- why a run that needs so many generations gives no bits
 abbrev pub HasSimulateCause : Ports → Streams → Plane → (needed : ℕ) → SimulateError → Type 0
 HasSimulateCause ports streams plane needed NoMemory = ⊤
-HasSimulateCause ports streams plane needed (TooFar generations) = (generations ≡ needed) × (greatest_generation < needed)
+HasSimulateCause ports streams plane needed (TooFar generations) =
+    (generations ≡ needed) × (greatest_generation < needed)
 HasSimulateCause ports streams plane needed (NotQuiet generation x y) =
-    (needed ≤ greatest_generation) × HasRunCause (first_miss ports streams plane needed) (NotQuiet generation x y)
+    (needed ≤ greatest_generation) × HasRunCause (first_miss ports streams plane needed)
+      (NotQuiet generation x y)

@@ -14,8 +14,10 @@ is_conductor _ = false
 
 -- whether an injection's cell is no conductor before the injections of its generation
 abbrev pub misses : Due → Plane → Injection → Bool
-misses due plane i = not (is_conductor (before_injections due plane i.generation (pos i.x) (pos i.y)))
+misses due plane i =
+    not (is_conductor (before_injections due plane i.generation (pos i.x) (pos i.y)))
 
 -- the first such of a list of injections, among those up to a generation
 abbrev pub first_of_misses : List Injection → Due → Plane → ℕ → Option Injection
-first_of_misses injections due plane g = find (misses due plane) (filter (λ i. nat_le i.generation g) injections)
+first_of_misses injections due plane g =
+    find (misses due plane) (filter (λ i. nat_le i.generation g) injections)

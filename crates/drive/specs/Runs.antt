@@ -22,12 +22,15 @@ AreAt g pattern = (b : ℕ) → b < length pattern.generations → generation_of
 abbrev pub evolution : BandedPattern → ℕ → Plane
 evolution pattern = driven (due_of_list pattern.injections) (plane_of pattern.grid.rows)
 
--- whether the cell of one of the injections is no conductor before it, and the first such up to a generation
+-- whether the cell of one of the injections is no conductor before it, and the first such up to a
+-- generation
 abbrev pub injection_misses : BandedPattern → Injection → Bool
 injection_misses pattern = misses (due_of_list pattern.injections) (plane_of pattern.grid.rows)
 
 abbrev pub first_miss_in : BandedPattern → ℕ → Option Injection
-first_miss_in pattern g = first_of_misses pattern.injections (due_of_list pattern.injections) (plane_of pattern.grid.rows) g
+first_miss_in pattern g =
+    first_of_misses pattern.injections (due_of_list pattern.injections)
+      (plane_of pattern.grid.rows) g
 
 -- the planes of a pattern that lies in its bands in an orientation, and an injection of it
 abbrev pub laid : Orientation → (ℕ → Plane) → ℕ → Plane
@@ -46,8 +49,9 @@ planes_of run = laid run.orientation (evolution run.bands)
 abbrev pub first_miss_of : Run → ℕ → Option Injection
 first_miss_of run = λ g. option_map (injection_laid run.orientation) (first_miss_in run.bands g)
 
--- What holds of each run; its width, its rows and the rows of a band are those of its bands. The injections from its next one on are
--- those of later generations. One that is still shows at each later generation what it shows now, with no other miss.
+-- What holds of each run; its width, its rows and the rows of a band are those of its bands. The
+-- injections from its next one on are those of later generations. One that is still shows at each
+-- later generation what it shows now, with no other miss.
 pub record IsBandRun (run : Run) : Type 0 where
   pub whole : IsBandedPattern run.bands
   pub at : AreAt run.generation run.bands
@@ -55,10 +59,13 @@ pub record IsBandRun (run : Run) : Type 0 where
   pub width : run.width ≡ run.bands.grid.width
   pub rows : run.rows ≡ length run.bands.grid.rows
   pub next : run.next_injection ≤ length run.bands.injections
-  pub left : AreLeftAt (run.generation + 1) run.bands.injections (drop run.next_injection run.bands.injections)
+  pub left : AreLeftAt (run.generation + 1) run.bands.injections
+      (drop run.next_injection run.bands.injections)
   pub missed : run.missed ≡ first_miss_in run.bands run.generation
-  pub still : run.is_still ≡ true → (g : ℕ) → run.generation ≤ g → evolution run.bands g ≡ evolution run.bands run.generation
-  pub no_more : run.is_still ≡ true → (g : ℕ) → run.generation ≤ g → first_miss_in run.bands g ≡ first_miss_in run.bands run.generation
+  pub still : run.is_still ≡ true → (g : ℕ) → run.generation ≤ g
+    → evolution run.bands g ≡ evolution run.bands run.generation
+  pub no_more : run.is_still ≡ true → (g : ℕ) → run.generation ≤ g
+    → first_miss_in run.bands g ≡ first_miss_in run.bands run.generation
 
 -- A run has gone on, to a generation at most.
 pub record HasGoneOn (last : ℕ) (old new : Run) : Type 0 where

@@ -31,7 +31,8 @@ fn push_bits(row: &mut Vec<bool>, run: &Run, cells: &[(u64, u64)]) -> Result<(),
     Ok(())
 }
 
-// The bits that cells show in a cycle, one context after the other, the first of them at a generation.
+// The bits that cells show in a cycle, one context after the other, the first of them at a
+// generation.
 fn row_of_cycle(
     alloc: Global,
     run: &mut Run,
@@ -122,11 +123,12 @@ pub fn last_from(first: u64, ports: &Ports, streams: &Streams) -> u128
     first as u128 + before_last
 }
 
-/// The bits that cells show in each context, cycle after cycle, while streams drive a pattern: all cells of context 0
-/// come first, and bit t of a cell in context k is 1 exactly where the cell is a head at generation `first + 32 k + t
-/// p`. A call asks for at least one cycle, for one stream of as many bits for each context and input, and for inputs
-/// inside the pattern's box; the cells may lie anywhere. `TooFar` comes where the last of these generations is over
-/// 4,294,967,296, and nothing is then run; `NotQuiet` names the first injection up to that generation whose cell is no
+/// The bits that cells show in each context, cycle after cycle, while streams drive a pattern: all
+/// cells of context 0 come first, and bit t of a cell in context k is 1 exactly where the cell is a
+/// head at generation `first + 32 k + t p`. A call asks for at least one cycle, for one stream of
+/// as many bits for each context and input, and for inputs inside the pattern's box; the cells may
+/// lie anywhere. `TooFar` comes where the last of these generations is over 4,294,967,296, and
+/// nothing is then run; `NotQuiet` names the first injection up to that generation whose cell is no
 /// conductor before the injections of its own.
 pub fn bits_of_cells(
     alloc: Global,

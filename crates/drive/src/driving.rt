@@ -15,7 +15,8 @@ use ww_rule::Injection;
 /// How many generations a context comes after the one before it.
 pub const CONTEXT_GENERATIONS: u64 = 32;
 
-// Puts the injections of a row at the end: at a generation, the cells of the inputs whose bits are 1.
+// Puts the injections of a row at the end: at a generation, the cells of the inputs whose bits are
+// 1.
 fn push_row(
     due: &mut Vec<Injection>,
     generation: u128,
@@ -39,8 +40,8 @@ fn push_row(
     Ok(())
 }
 
-// Puts the injections of a cycle at the end, which begins at a generation: those of one context after the other, each
-// with a row of the bits.
+// Puts the injections of a cycle at the end, which begins at a generation: those of one context
+// after the other, each with a row of the bits.
 fn push_cycle(
     due: &mut Vec<Injection>,
     generation: u128,
@@ -69,10 +70,11 @@ fn push_cycle(
     Ok(())
 }
 
-/// The cells that streams make heads, each with its generation: the cell of an input at generation `32 k + t p` for
-/// each context k and each cycle t in which its bit is 1, where p is the table's period. They are sorted by generation;
-/// those of one generation are of one context, in the order of the inputs. A call asks for one stream of as many bits as
-/// there are cycles for each context and input.
+/// The cells that streams make heads, each with its generation: the cell of an input at generation
+/// `32 k + t p` for each context k and each cycle t in which its bit is 1, where p is the table's
+/// period. They are sorted by generation; those of one generation are of one context, in the order
+/// of the inputs. A call asks for one stream of as many bits as there are cycles for each context
+/// and input.
 pub fn injections(
     alloc: Global,
     ports: &Ports,

@@ -12,8 +12,8 @@ pub enum SimulateError {
     NoMemory,
     /// The run needs so many generations, which is over the limit of 4,294,967,296.
     TooFar { generations: u128 },
-    /// An injection is due at this generation and this cell, by its column and row, which is no conductor before the
-    /// injections of that generation.
+    /// An injection is due at this generation and this cell, by its column and row, which is no
+    /// conductor before the injections of that generation.
     NotQuiet { generation: u64, x: u64, y: u64 },
 }
 

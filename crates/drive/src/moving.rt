@@ -22,7 +22,8 @@ fn move_on(bands: &mut Bands, b: usize) -> bool
     }
 }
 
-/// Moves all bands on from a generation to the next one, and tells whether nothing could change in any of them.
+/// Moves all bands on from a generation to the next one, and tells whether nothing could change in
+/// any of them.
 pub fn move_all(bands: &mut Bands, generation: u64) -> bool
     requires at { AreAt generation bands.old }
     requires room { generation + 1 < 2 ^ 64 }

@@ -30,7 +30,8 @@ const ROWS_OF_A_WORD: usize = 64;
 /// How many rows a band has at most.
 const MOST_BAND_ROWS: usize = 1 << 20;
 
-/// How many bands there are at most, where they have more than the least number of rows and fewer than the most.
+/// How many bands there are at most, where they have more than the least number of rows and fewer
+/// than the most.
 const MOST_BANDS: usize = 32;
 
 /// How many cells of a row stand in one word of a band.
@@ -43,9 +44,10 @@ pub enum Orientation {
     Turned,
 }
 
-/// A driven pattern in bands, in an orientation, how many columns and rows lie there, and the generation of its bands.
-/// The injections from the next one on are of later generations; `missed` is the first of the others at a cell that was
-/// no conductor before it. Where the run is still, no cell changes any more.
+/// A driven pattern in bands, in an orientation, how many columns and rows lie there, and the
+/// generation of its bands. The injections from the next one on are of later generations; `missed`
+/// is the first of the others at a cell that was no conductor before it. Where the run is still, no
+/// cell changes any more.
 #[derive(Drop)]
 pub struct Run {
     bands: Bands,
@@ -59,7 +61,8 @@ pub struct Run {
     is_still: bool,
 }
 
-// How many rows a band has, where there are so many rows: a generation looks at each band, also where it sleeps.
+// How many rows a band has, where there are so many rows: a generation looks at each band, also
+// where it sleeps.
 fn band_rows(rows: usize) -> u32
     ensures { 0 < result }
 {
@@ -92,7 +95,8 @@ fn turned_all(injections: Vec<Injection>) -> Vec<Injection>
 }
 
 impl Run {
-    // The run of a pattern under injections, at generation 0, which lie in the bands in this orientation.
+    // The run of a pattern under injections, at generation 0, which lie in the bands in this
+    // orientation.
     fn begin(
         alloc: Global,
         pattern: Pattern,
@@ -126,8 +130,9 @@ impl Run {
         })
     }
 
-    /// The run of a pattern that streams drive, at generation 0. A call asks for one stream for each context and input,
-    /// of any number of cycles, and for inputs inside the pattern's box. `NoMemory` is the one error.
+    /// The run of a pattern that streams drive, at generation 0. A call asks for one stream for
+    /// each context and input, of any number of cycles, and for inputs inside the pattern's box.
+    /// `NoMemory` is the one error.
     pub fn of_streams(
         alloc: Global,
         pattern: Pattern,
@@ -151,8 +156,8 @@ impl Run {
         Run::begin(alloc, turned, turned_all(due), Orientation::Turned)
     }
 
-    // 1 where the cell at column `x - 1` and row `y - 1` in the bands is a head; 0 stands for a place left of the bands or
-    // above them.
+    // 1 where the cell at column `x - 1` and row `y - 1` in the bands is a head; 0 stands for a
+    // place left of the bands or above them.
     fn head_before(&self, x: u128, y: u128) -> usize
         requires { IsBandRun self.now }
         ensures counted { result ≡ count_head (
@@ -210,7 +215,8 @@ impl Run {
         None
     }
 
-    // The place of the first injection that will be left at the next generation, and the first miss up to it.
+    // The place of the first injection that will be left at the next generation, and the first miss
+    // up to it.
     fn look_ahead(&self) -> (usize, Option<Injection>)
         requires { IsBandRun self.now }
         ensures next { result.0 ≤ length self.now.bands.injections }
@@ -245,7 +251,8 @@ impl Run {
         self.generation += 1;
     }
 
-    /// Goes on to this generation, which is not before the run's own, or stops before it where no cell changes any more.
+    /// Goes on to this generation, which is not before the run's own, or stops before it where no
+    /// cell changes any more.
     pub fn go_on(&mut self, generation: u64)
         requires run { IsBandRun self.old }
         requires order { self.old.generation ≤ generation }
@@ -271,8 +278,8 @@ impl Run {
         self.next_injection >= self.bands.injections().len()
     }
 
-    /// Goes on to this generation, which is not before the run's own, or stops before it where no injection is left: then
-    /// nothing more can miss, whatever the pattern shows.
+    /// Goes on to this generation, which is not before the run's own, or stops before it where no
+    /// injection is left: then nothing more can miss, whatever the pattern shows.
     pub fn pass_injections(&mut self, generation: u64)
         requires run { IsBandRun self.old }
         requires order { self.old.generation ≤ generation }
@@ -288,7 +295,8 @@ impl Run {
         }
     }
 
-    /// The state of a cell, by its column and row in the pattern. All cells beyond the pattern's box are empty.
+    /// The state of a cell, by its column and row in the pattern. All cells beyond the pattern's
+    /// box are empty.
     pub fn state(&self, x: u128, y: u128) -> State
         requires { IsBandRun self.now }
         ensures { result ≡ planes_of self.now self.now.generation (pos x) (pos y) }
@@ -319,8 +327,8 @@ impl Run {
         matches!(self.state(x as u128, y as u128), State::Head)
     }
 
-    /// The first injection up to the run's generation at a cell that was no conductor before the injections of its own
-    /// generation.
+    /// The first injection up to the run's generation at a cell that was no conductor before the
+    /// injections of its own generation.
     pub fn missed(&self) -> Option<Injection>
         requires { IsBandRun self.now }
         ensures first { result ≡ first_miss_of self.now self.now.generation }

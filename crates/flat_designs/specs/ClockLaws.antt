@@ -13,17 +13,26 @@ use Rattle.netlist_meaning.specs.FlatOf.{id_of, IsFlatOf}
 
 -- where all latches have one clock, the clock classes are those of clock nets
 abbrev pub ClockClassesAreClockNets : Type 0
-ClockClassesAreClockNets = (design : Design) (flat : Flat) → AreFaultless design.models → HasOneClock design → IsFlatOf design flat → (net : Net) → IsNet design net
+ClockClassesAreClockNets =
+    (design : Design) (flat : Flat) → AreFaultless design.models → HasOneClock design
+    → IsFlatOf design flat → (net : Net) → IsNet design net
     → IsClockClass flat (class_of flat (id_of design net.place net.name)) ↔ IsClockNet design net
 
 -- Two clocks are found in the flat netlist, at the same line and word.
 abbrev pub TwoClocksAreFlat : Type 0
-TwoClocksAreFlat = (design : Design) (flat : Flat) → AreFaultless design.models → IsFlatOf design flat → (line : ℕ) (word : Name) → IsTwoClocks design line word ↔ IsFlatTwoClocks flat line word
+TwoClocksAreFlat =
+    (design : Design) (flat : Flat) → AreFaultless design.models → IsFlatOf design flat
+    → (line : ℕ) (word : Name) → IsTwoClocks design line word ↔ IsFlatTwoClocks flat line word
 
 -- So is a clock net that is read.
 abbrev pub ClockReadIsFlat : Type 0
-ClockReadIsFlat = (design : Design) (flat : Flat) → AreFaultless design.models → HasOneClock design → IsFlatOf design flat → (line : ℕ) (word : Name) → IsClockRead design line word ↔ IsFlatClockRead flat line word
+ClockReadIsFlat =
+    (design : Design) (flat : Flat) → AreFaultless design.models → HasOneClock design
+    → IsFlatOf design flat → (line : ℕ) (word : Name) → IsClockRead design line word
+    ↔ IsFlatClockRead flat line word
 
 -- so the clock faults are those of the flat netlist
 abbrev pub ClockFaultsAreFlat : Type 0
-ClockFaultsAreFlat = (design : Design) (flat : Flat) → AreFaultless design.models → IsFlatOf design flat → (fault : Fault) → IsClockFault design fault ↔ IsFlatClockFault flat fault
+ClockFaultsAreFlat =
+    (design : Design) (flat : Flat) → AreFaultless design.models → IsFlatOf design flat
+    → (fault : Fault) → IsClockFault design fault ↔ IsFlatClockFault flat fault

@@ -25,8 +25,11 @@ pub record HasApartPorts (model : Model) : Type 0 where
 
 -- No name stands twice in a list of ports of a model.
 abbrev pub FaultlessHaveDistinctPorts : Type 0
-FaultlessHaveDistinctPorts = (models : List Model) → AreFaultless models → (model : Model) → Contains models model → HasApartPorts model
+FaultlessHaveDistinctPorts =
+    (models : List Model) → AreFaultless models → (model : Model) → Contains models model
+    → HasApartPorts model
 
 -- and without a fault of clocks it is wired
 abbrev pub FaultlessAreWired : Type 0
-FaultlessAreWired = (design : Design) → AreFaultless design.models → HasNoClockFault design → IsWired design
+FaultlessAreWired =
+    (design : Design) → AreFaultless design.models → HasNoClockFault design → IsWired design

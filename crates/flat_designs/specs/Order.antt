@@ -23,20 +23,33 @@ pub record IsCoverAt (design : Design) (at : CoverAt) (cover : Cover) : Type 0 w
 
 pub record IsCoverOrder (design : Design) (order : List CoverAt) : Type 0 where
   pub all : (at : CoverAt) (cover : Cover) → IsCoverAt design at cover → Contains order at
-  pub once : (front back : List CoverAt) (at : CoverAt) → order ≡ front ++ at ∷ back → ¬ Contains front at
-  pub after : (front back : List CoverAt) (at other : CoverAt) (cover read : Cover) (input : Name) → order ≡ front ++ at ∷ back → IsCoverAt design at cover → Contains cover.ins input
-      → IsCoverAt design other read → Joined design (net_at other.place read.out) (net_at at.place input) → Contains front other
+  pub once : (front back : List CoverAt) (at : CoverAt) → order ≡ front ++ at ∷ back
+    → ¬ Contains front at
+  pub after : (front back : List CoverAt) (at other : CoverAt) (cover read : Cover) (input : Name)
+    → order ≡ front ++ at ∷ back → IsCoverAt design at cover → Contains cover.ins input
+      → IsCoverAt design other read → Joined design (net_at other.place read.out)
+        (net_at at.place input) → Contains front other
 
 -- where there is such an order there is at most one valuation
 abbrev pub OrderedHaveAtMostOneValuation : Type 0
-OrderedHaveAtMostOneValuation = (design : Design) → AreFaultless design.models → HasNoClockFault design → (order : List CoverAt) → IsCoverOrder design order
-    → (inputs : List Bool) (state : LatchState) (bits others : Valuation) → IsValuation design inputs state bits → IsValuation design inputs state others → AgreeOnNets design bits others
+OrderedHaveAtMostOneValuation =
+    (design : Design) → AreFaultless design.models → HasNoClockFault design → (order : List CoverAt)
+    → IsCoverOrder design order
+    → (inputs : List Bool) (state : LatchState) (bits others : Valuation)
+    → IsValuation design inputs state bits → IsValuation design inputs state others
+    → AgreeOnNets design bits others
 
 -- and no loop
 abbrev pub OrderedHaveNoLoop : Type 0
-OrderedHaveNoLoop = (design : Design) (order : List CoverAt) → IsCoverOrder design order → (nets : List Net) → ¬ IsCombinationalLoop design nets
+OrderedHaveNoLoop =
+    (design : Design) (order : List CoverAt) → IsCoverOrder design order → (nets : List Net)
+    → ¬ IsCombinationalLoop design nets
 
 -- and there is one, for each bits of the IN names and each state
 abbrev pub OrderedHaveAValuation : Type 0
-OrderedHaveAValuation = (design : Design) → AreFaultless design.models → HasNoClockFault design → (order : List CoverAt) → IsCoverOrder design order
-    → (names : List Name) → IsInNames design names → (inputs : List Bool) → length inputs ≡ length names → (state : LatchState) → (bits : Valuation) × IsValuation design inputs state bits
+OrderedHaveAValuation =
+    (design : Design) → AreFaultless design.models → HasNoClockFault design → (order : List CoverAt)
+    → IsCoverOrder design order
+    → (names : List Name) → IsInNames design names → (inputs : List Bool)
+    → length inputs ≡ length names → (state : LatchState)
+    → (bits : Valuation) × IsValuation design inputs state bits

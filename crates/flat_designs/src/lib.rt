@@ -37,7 +37,8 @@ pub fn loops_are_flat()
     ensures { LoopsAreFlat }
 {}
 
-/// The flat netlist is sound: each class but the clock nets' has one driver, and clock nets are neither read nor driven.
+/// The flat netlist is sound: each class but the clock nets' has one driver, and clock nets are
+/// neither read nor driven.
 pub fn flat_is_sound()
     ensures { FlatIsSound }
 {}

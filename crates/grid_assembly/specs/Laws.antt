@@ -9,8 +9,12 @@ use Rattle.grid_assembly.specs.PlanDrawing.{start_grid, IsPatternOf}
 
 -- the drawing of every admissible plan, whichever edges are lit, goes on by macro steps
 abbrev pub StepsByEdges : Type 0
-StepsByEdges = (plan : Plan) → IsAdmissible plan → (lit : Lit) → StepsByMacro shipped_drawing (drawn_tiling plan) lit
+StepsByEdges =
+    (plan : Plan) → IsAdmissible plan → (lit : Lit)
+    → StepsByMacro shipped_drawing (drawn_tiling plan) lit
 
 -- every admissible plan's pattern is the plane of its drawing at generation 0
 abbrev pub PatternsArePlanes : Type 0
-PatternsArePlanes = (plan : Plan) → IsAdmissible plan → IsPatternOf (start_grid plan) (drawn_plane shipped_drawing plan)
+PatternsArePlanes =
+    (plan : Plan) → IsAdmissible plan → IsPatternOf (start_grid plan)
+      (drawn_plane shipped_drawing plan)

@@ -11,8 +11,10 @@ is_port_at x y port = int_eq (pos x) (pos port.0) && int_eq (pos y) (pos port.1)
 
 -- the n-th entry of a tile is at this place of its box, and lit, so a head stands there
 abbrev pub head_at : Lit → ℕ → ℕ → Kind → ℕ → ℕ → ℕ → Bool
-head_at lit q l kind n x y = is_entry_lit lit q l (interface kind) n && is_port_at x y (get_or (entries kind) n (0, 0))
+head_at lit q l kind n x y =
+    is_entry_lit lit q l (interface kind) n && is_port_at x y (get_or (entries kind) n (0, 0))
 
 -- the n-th exit is, so a tail does
 abbrev pub tail_at : Lit → ℕ → ℕ → Kind → ℕ → ℕ → ℕ → Bool
-tail_at lit q l kind n x y = is_exit_lit lit q l (interface kind) n && is_port_at x y (get_or (exits kind) n (0, 0))
+tail_at lit q l kind n x y =
+    is_exit_lit lit q l (interface kind) n && is_port_at x y (get_or (exits kind) n (0, 0))

@@ -9,11 +9,14 @@ use Rattle.plan_layout.specs.Tape.{drawn_plane}
 use Rattle.grid_assembly.specs.declared.west.West.{West}
 use Rattle.grid_assembly.specs.declared.west.West.TheVariants.{Blank, Wire}
 
--- west of this x no tile stands but the tape's: it is a tile column less than the plan is drawn further east
+-- west of this x no tile stands but the tape's: it is a tile column less than the plan is drawn
+-- further east
 abbrev pub tape_end : Plan → ℕ
 tape_end plan = 32 * (tape_shift plan - 1)
 
--- what a row of cells has there: no cell, or the wire of an input, which runs along the middle of its lane
+-- what a row of cells has there: no cell, or the wire of an input, which runs along the middle of
+-- its lane
 abbrev pub IsWest : Plan → ℕ → West → Type 0
-IsWest plan y Blank = (x : ℕ) → x < tape_end plan → drawn_plane shipped_drawing plan (pos x) (pos y) ≡ Empty
+IsWest plan y Blank =
+    (x : ℕ) → x < tape_end plan → drawn_plane shipped_drawing plan (pos x) (pos y) ≡ Empty
 IsWest plan y Wire = (y % 16 ≡ 8) × (list_any (λ input. input == y / 16) plan.ins ≡ true)

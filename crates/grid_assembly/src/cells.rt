@@ -17,8 +17,8 @@ use tile_core::{Kind, Library};
 use tile_library::Shipped;
 use ww_rule::State;
 
-// Whether the edge at a port is lit at generation 0, by the port's place in the box of a piece whose first block is at this
-// tile column and lane.
+// Whether the edge at a port is lit at generation 0, by the port's place in the box of a piece
+// whose first block is at this tile column and lane.
 fn is_port_lit(plan: &Plan, column: u64, lane: u64, port: (u32, u32)) -> bool
     requires admissible { IsAdmissible plan.now }
     requires far { column < 2 ^ 57 }
@@ -72,8 +72,8 @@ fn is_port_at(place: (u32, u32), port: (u32, u32)) -> bool
     place.0 == port.0 && place.1 == port.1
 }
 
-// Whether the n-th entry of a tile is at a place of its box, and lit. Few places are that of a port, so this is looked at
-// first.
+// Whether the n-th entry of a tile is at a place of its box, and lit. Few places are that of a
+// port, so this is looked at first.
 fn is_lit_entry(
     plan: &Plan,
     column: u64,
@@ -179,7 +179,8 @@ fn has_tail(plan: &Plan, column: u64, lane: u64, kind: Kind, n: usize, y: u32) -
     kind.exits()[n].1 == y && is_exit_lit(plan, column, lane, kind, n)
 }
 
-// A cell of a tile whose first block is at this tile column and lane, by its place in the tile's box.
+// A cell of a tile whose first block is at this tile column and lane, by its place in the tile's
+// box.
 pub fn tile_cell(plan: &Plan, column: u64, lane: u64, kind: Kind, place: (u32, u32)) -> State
     requires admissible { IsAdmissible plan.now }
     requires far { column < 2 ^ 57 }
@@ -198,7 +199,8 @@ pub fn tile_cell(plan: &Plan, column: u64, lane: u64, kind: Kind, place: (u32, u
     }
 }
 
-// A cell of a piece whose first block is at this tile column and lane, by its place in the piece's box.
+// A cell of a piece whose first block is at this tile column and lane, by its place in the piece's
+// box.
 fn piece_cell(plan: &Plan, column: u64, lane: u64, piece: Piece, place: (u32, u32)) -> State
     requires admissible { IsAdmissible plan.now }
     requires far { column < 2 ^ 57 }
@@ -229,7 +231,8 @@ pub fn output_cell(plan: &Plan, column: u64, lane: u64, place: (u32, u32)) -> St
     }
 }
 
-/// A cell of the block of this tile column and lane, in which `slot` stands, by its place in the block.
+/// A cell of the block of this tile column and lane, in which `slot` stands, by its place in the
+/// block.
 pub fn slot_cell(plan: &Plan, column: u64, lane: u64, slot: Slot, x: u32, y: u32) -> State
     requires admissible { IsAdmissible plan.now }
     requires slot { slot_of slot ≡ drawn_tiling plan.now column lane }

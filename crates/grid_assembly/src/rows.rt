@@ -29,8 +29,8 @@ pub fn size(plan: &Plan) -> (u64, u64)
     )
 }
 
-/// The cell at column `x` and row `y`, both counted from 0 from the north-western corner; past the drawing all cells are
-/// empty.
+/// The cell at column `x` and row `y`, both counted from 0 from the north-western corner; past the
+/// drawing all cells are empty.
 pub fn cell(plan: &Plan, x: u64, y: u64) -> State
     requires { IsAdmissible plan.now }
     ensures { result ≡ drawn_plane shipped_drawing plan.now (pos x) (pos y) }

@@ -1,4 +1,5 @@
-// Runs of equal cells west of a plan, where its tape alone lies: from electron to electron in one step.
+// Runs of equal cells west of a plan, where its tape alone lies: from electron to electron in one
+// step.
 ghost use Rattle.std.specs.Prelude.{◌≡◌, ◌+◌, ◌-◌, ◌*◌, ◌<◌, ◌≤◌, ◌==◌, ◌/◌, ◌%◌, ◌^◌, ◌&&◌, cond, pos};
 ghost use Rattle.std.specs.List.{list_any};
 ghost use Rattle.lane_core.specs.Plans.{IsAdmissible};
@@ -58,7 +59,8 @@ pub fn west_of(plan: &Plan, y: u64) -> West
     }
 }
 
-// The first tile column east of this one at whose west side an electron may lie: a cycle begins there.
+// The first tile column east of this one at whose west side an electron may lie: a cycle begins
+// there.
 fn next_cycle(plan: &Plan, column: u64) -> u64
     requires admissible { IsAdmissible plan.now }
     requires west { column < tape_shift plan.now }
@@ -114,9 +116,9 @@ fn wire_run(plan: &Plan, y: u64, x: u64) -> (State, u64)
     }
 }
 
-/// The state of the cell at column `x` and row `y`, west of `tape_end`, and a number of cells from it on to the east that
-/// all have it: 1 to `limit`, and none past `tape_end`. It takes one step to `tape_end` where the row is blank, and two from
-/// cycle to cycle where it has a wire.
+/// The state of the cell at column `x` and row `y`, west of `tape_end`, and a number of cells from
+/// it on to the east that all have it: 1 to `limit`, and none past `tape_end`. It takes one step to
+/// `tape_end` where the row is blank, and two from cycle to cycle where it has a wire.
 pub fn run_on_tape(plan: &Plan, west: West, y: u64, x: u64, limit: u64) -> (State, u64)
     requires admissible { IsAdmissible plan.now }
     requires row { IsWest plan.now y west }

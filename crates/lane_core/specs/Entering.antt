@@ -1,11 +1,12 @@
--- The bits on lanes where they enter the instructions of a program or the columns of a plan, and where they leave them.
+-- The bits on lanes where they enter the instructions of a program or the columns of a plan, and
+-- where they leave them.
 use Rattle.std.specs.Prelude.{ℕ, zero, suc, ◌+◌, ◌-◌, ◌==◌, Bool, false, ◌&&◌, ◌||◌, List, [], ◌∷◌, ◌++◌, map, take, drop, reverse, Option, Some, None}
 use Rattle.std.specs.List.{range_with_len}
 use Rattle.lane_core.specs.declared.instr.Column.{Column}
 use Rattle.lane_core.specs.Columns.{after_columns}
 
--- of so many lanes, the one on which the first of so many loops enters; the others follow below. There are as many lanes
--- that no loop enters.
+-- of so many lanes, the one on which the first of so many loops enters; the others follow below.
+-- There are as many lanes that no loop enters.
 abbrev pub first_loop_lane : ℕ → ℕ → ℕ
 first_loop_lane lanes loops = lanes - loops
 
@@ -23,18 +24,22 @@ row_bits free ins row = map (lane_bit ins row) (range_with_len 0 free)
 abbrev pub entry_bits : ℕ → List ℕ → List Bool → List Bool → List Bool
 entry_bits free ins row loops = row_bits free ins row ++ loops
 
--- the bits of the loops where all lanes leave with these bits: the first loop leaves on the lowest lane
+-- the bits of the loops where all lanes leave with these bits: the first loop leaves on the lowest
+-- lane
 abbrev pub leaving : ℕ → List Bool → List Bool
 leaving free bits = reverse (drop free bits)
 
--- the bits at the start, or after the step of this number, of all that enter; `after` says what steps make of bits
-abbrev pub bits_after : {Step : Type 0} → (List Step → List Bool → List Bool) → List Step → Option ℕ → List Bool → List Bool
+-- the bits at the start, or after the step of this number, of all that enter; `after` says what
+-- steps make of bits
+abbrev pub bits_after : {Step : Type 0} → (List Step → List Bool → List Bool) → List Step → Option ℕ
+    → List Bool → List Bool
 bits_after after steps None bits = bits
 bits_after after steps (Some step) bits = after (take (step + 1) steps) bits
 
--- the bits that enter columns in a cycle, from the bits of each cycle on the first lanes and the start of the loops: after
--- the first cycle loops bring what left the columns in the cycle before
+-- the bits that enter columns in a cycle, from the bits of each cycle on the first lanes and the
+-- start of the loops: after the first cycle loops bring what left the columns in the cycle before
 abbrev pub entering_bits : ℕ → List Column → (ℕ → List Bool) → List Bool → ℕ → List Bool
 entering_bits free columns inputs starts zero = inputs zero ++ starts
 entering_bits free columns inputs starts (suc t) =
-    inputs (suc t) ++ leaving free (after_columns columns (entering_bits free columns inputs starts t))
+    inputs (suc t) ++ leaving free (after_columns columns
+        (entering_bits free columns inputs starts t))

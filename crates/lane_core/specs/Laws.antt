@@ -5,4 +5,6 @@ use Rattle.lane_core.specs.Instrs.{after_instr, AreApart}
 
 -- they may be done in either order
 abbrev pub CommuteWhenApart : Type 0
-CommuteWhenApart = (i j : Instr) → AreApart i j → (bits : List Bool) → after_instr (after_instr bits i) j ≡ after_instr (after_instr bits j) i
+CommuteWhenApart =
+    (i j : Instr) → AreApart i j → (bits : List Bool)
+    → after_instr (after_instr bits i) j ≡ after_instr (after_instr bits j) i

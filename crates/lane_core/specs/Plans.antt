@@ -1,5 +1,6 @@
--- Which plans have a drawing, and where their signals are found in it, without a tape. A lane is 16 rows high, and its
--- signals run along its row 8. A column is 32 cells wide, and a signal takes 32 generations through it.
+-- Which plans have a drawing, and where their signals are found in it, without a tape. A lane is 16
+-- rows high, and its signals run along its row 8. A column is 32 cells wide, and a signal takes 32
+-- generations through it.
 use Rattle.std.specs.Prelude.{ℕ, ◌+◌, ◌-◌, ◌*◌, ◌^◌, ◌<◌, ◌≤◌, ◌≡◌, ◌==◌, ◌↔◌, length, All, slice_index, slice_index_or, Option, Some, None, List, map, if◌then◌else◌}
 use Rattle.lane_core.specs.declared.plan.NetPlace.{NetPlace}
 use Rattle.lane_core.specs.declared.plan.Plan.{Plan}
@@ -16,7 +17,8 @@ pub record HasFittingSize (plan : Plan) : Type 0 where
   pub loops_on_lanes : plan.latches ≤ plan.lanes
   pub loops_in_columns : plan.latches ≤ length plan.columns
 
--- The plan can be drawn, wherever it starts. Where it has no lanes, these rules leave no columns, ports or nets.
+-- The plan can be drawn, wherever it starts. Where it has no lanes, these rules leave no columns,
+-- ports or nets.
 pub record IsAdmissible (plan : Plan) : Type 0 where
   pub size : HasFittingSize plan
   pub instrs : All (IsColumnOnLanes plan.lanes) plan.columns
@@ -30,7 +32,8 @@ pub record IsAdmissible (plan : Plan) : Type 0 where
 abbrev pub row_of : ℕ → ℕ
 row_of lane = 16 * lane + 8
 
--- the columns of a plan stand right of the turns of its loops, which take one column of cells for each loop
+-- the columns of a plan stand right of the turns of its loops, which take one column of cells for
+-- each loop
 abbrev pub left_of : Plan → ℕ → ℕ
 left_of plan column = 32 * (plan.latches + column)
 
@@ -38,11 +41,14 @@ left_of plan column = 32 * (plan.latches + column)
 abbrev pub in_cell_of : Plan → ℕ → ℕ × ℕ × ℕ
 in_cell_of plan i = (left_of plan 0, row_of (slice_index plan.ins i), 0)
 
--- x and y of the cell of output i, right of the last column, and the generations from the inputs to it
+-- x and y of the cell of output i, right of the last column, and the generations from the inputs to
+-- it
 abbrev pub out_cell_of : Plan → ℕ → ℕ × ℕ × ℕ
-out_cell_of plan i = (left_of plan (length plan.columns), row_of (slice_index plan.outs i), latency_of plan)
+out_cell_of plan i =
+    (left_of plan (length plan.columns), row_of (slice_index plan.outs i), latency_of plan)
 
--- x and y of the entry of the first column, or of the exit of a column, and the generations from the inputs to it
+-- x and y of the entry of the first column, or of the exit of a column, and the generations from
+-- the inputs to it
 abbrev pub cell_after : Plan → ℕ → Option ℕ → ℕ × ℕ × ℕ
 cell_after plan lane None = (left_of plan 0, row_of lane, 0)
 cell_after plan lane (Some column) = (left_of plan column + 31, row_of lane, 32 * column + 31)
@@ -67,9 +73,11 @@ output_cells plan = map (λ lane. (left_of plan (length plan.columns), row_of la
 abbrev pub net_cells : Plan → List (ℕ × ℕ × ℕ)
 net_cells plan = map (λ place. cell_after plan place.lane place.after) plan.nets
 
--- width and height of the drawing in cells: a tile is 32 cells wide and a lane 16 high, and the cells of the outputs
--- stand one column further out; a tape makes it wider, and a plan without lanes has no cells
+-- width and height of the drawing in cells: a tile is 32 cells wide and a lane 16 high, and the
+-- cells of the outputs stand one column further out; a tape makes it wider, and a plan without
+-- lanes has no cells
 abbrev pub size_of : Plan → ℕ × ℕ
 size_of plan =
     if plan.lanes == 0 then (0, 0)
-    else (32 * (tape_shift plan + (length plan.columns + 2 * plan.latches)) + 1, 16 * (plan.lanes + plan.latches))
+    else (32 * (tape_shift plan + (length plan.columns + 2 * plan.latches)) + 1,
+        16 * (plan.lanes + plan.latches))

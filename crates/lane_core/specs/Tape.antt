@@ -1,4 +1,5 @@
--- The tape of a plan: bits of the inputs that lie before the body at generation 0 and run in by themselves.
+-- The tape of a plan: bits of the inputs that lie before the body at generation 0 and run in by
+-- themselves.
 use Rattle.std.specs.Prelude.{ℕ, ◌+◌, ◌-◌, ◌*◌, ◌/◌, ◌%◌, ◌≤◌, ◌≡◌, ◌==◌, ◌⊎◌, Bool, false, ◌&&◌, List, [], map, length, slice_get, slice_index_or, unwrap_or, All}
 use Rattle.std.specs.List.{range_with_len}
 use Rattle.lane_core.specs.declared.plan.Plan.{Plan}
@@ -39,8 +40,8 @@ cycle_tiles plan = period_of plan / 32
 abbrev pub tape_tiles : Plan → ℕ
 tape_tiles plan = (tape_cycles plan - 1) * cycle_tiles plan
 
--- how many tile columns further east a plan is drawn, so that its tape has room: left of the body there is a tile column
--- for each loop
+-- how many tile columns further east a plan is drawn, so that its tape has room: left of the body
+-- there is a tile column for each loop
 abbrev pub tape_shift : Plan → ℕ
 tape_shift plan = tape_tiles plan - plan.latches
 
@@ -48,8 +49,9 @@ tape_shift plan = tape_tiles plan - plan.latches
 abbrev pub moved_east : ℕ → ℕ × ℕ × ℕ → ℕ × ℕ × ℕ
 moved_east columns cell = (32 * columns + cell.0, cell.1, cell.2)
 
--- whether the electron of a bit 1 lies on a lane at the edge so many tiles before the body: a bit runs in when its cycle
--- begins
+-- whether the electron of a bit 1 lies on a lane at the edge so many tiles before the body: a bit
+-- runs in when its cycle begins
 abbrev pub tape_bit : Plan → (tiles lane : ℕ) → Bool
 tape_bit plan tiles lane =
-    tiles % cycle_tiles plan == 0 && lane_bit plan.ins (tape_row plan (tiles / cycle_tiles plan)) lane
+    tiles % cycle_tiles plan == 0 && lane_bit plan.ins
+        (tape_row plan (tiles / cycle_tiles plan)) lane

@@ -5,7 +5,8 @@ ghost use Rattle.lane_core.specs.Instrs.{lane_of, upper_bit, lower_bit, are_sort
 
 use lists::List;
 
-/// An instruction works on the lane that it names and on the next one below it. Lanes count from 0 at the top.
+/// An instruction works on the lane that it names and on the next one below it. Lanes count from 0
+/// at the top.
 #[derive(Clone, Copy, Debug, PartialEq, Eq)]
 pub enum Instr {
     /// The two lanes exchange their bits.
@@ -49,8 +50,8 @@ impl Instr {
     }
 }
 
-/// Instructions that are done side by side: no two share a lane, and they are sorted by lane, so that the one on a lane is
-/// found by binary search.
+/// Instructions that are done side by side: no two share a lane, and they are sorted by lane, so
+/// that the one on a lane is found by binary search.
 #[derive(Drop)]
 pub struct Column {
     pub instrs: List<Instr>,

@@ -1,6 +1,6 @@
-// The times of a plan, and the cells where its signals are found. Each cell comes with x, y and an offset: the number of
-// generations from the start of a cycle to the generation at which the cell shows that cycle's bit. A plan with a tape is
-// drawn further east.
+// The times of a plan, and the cells where its signals are found. Each cell comes with x, y and an
+// offset: the number of generations from the start of a cycle to the generation at which the cell
+// shows that cycle's bit. A plan with a tape is drawn further east.
 ghost use Rattle.std.specs.Prelude.{◌≡◌, ◌+◌, ◌*◌, ◌^◌, ◌<◌, length};
 ghost use Rattle.lane_core.specs.Plans.{IsAdmissible, latency_of, period_of, left_of, in_cell_of, out_cell_of, net_cell_of};
 ghost use Rattle.lane_core.specs.Tape.{tape_shift, moved_east};
@@ -66,7 +66,8 @@ pub fn out_cell(plan: &Plan, i: usize) -> (u64, u64, u64)
     )
 }
 
-/// x, y and the offset of the cell of net `i`: an entry of the first column, or an exit of a column.
+/// x, y and the offset of the cell of net `i`: an entry of the first column, or an exit of a
+/// column.
 pub fn net_cell(plan: &Plan, i: usize) -> (u64, u64, u64)
     requires admissible { IsAdmissible plan.now }
     requires known { i < length plan.now.nets }

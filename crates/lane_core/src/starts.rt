@@ -4,8 +4,9 @@ ghost use Rattle.lane_core.specs.Starts.{are_starts_in_order, is_start_at};
 
 use lists::List;
 
-/// An edge between tiles that is lit at generation 0, named by a cell beside it: the one in which a tile is entered there,
-/// or else the one in which a tile is left. A name further north comes first, and of one row the one further west.
+/// An edge between tiles that is lit at generation 0, named by a cell beside it: the one in which a
+/// tile is entered there, or else the one in which a tile is left. A name further north comes
+/// first, and of one row the one further west.
 #[derive(Clone, Copy, Debug, PartialEq, Eq, PartialOrd, Ord)]
 pub struct Start {
     pub y: u64,

@@ -74,7 +74,8 @@ fn has_bit(ins: &[u32], tape: &[List<bool>], lane: u64, cycle: u64) -> bool
     false
 }
 
-/// Whether the electron of a bit 1 of the tape lies on a lane at the edge that is so many tiles before the body.
+/// Whether the electron of a bit 1 of the tape lies on a lane at the edge that is so many tiles
+/// before the body.
 pub fn tape_bit(plan: &Plan, tiles: u64, lane: u64) -> bool
     requires { IsAdmissible plan.now }
     ensures { result ≡ tape_bit plan.now tiles lane }

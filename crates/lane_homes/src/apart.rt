@@ -4,7 +4,8 @@ ghost use Rattle.lane_core.specs.Places.{AreDistinctBelow};
 
 use std::alloc::{AllocError, Global};
 
-/// Whether the lanes are below the limit, and none stands twice: there is a mark for each lane that stood.
+/// Whether the lanes are below the limit, and none stands twice: there is a mark for each lane that
+/// stood.
 pub fn are_apart_below(alloc: Global, lanes: &[u32], limit: u32) -> Result<bool, AllocError>
     ensures { IfOk result (λ apart. IsTrue apart → AreDistinctBelow limit lanes.now) }
 {

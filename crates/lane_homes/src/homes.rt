@@ -38,7 +38,8 @@ fn own_lanes(alloc: Global, above: u32, inputs: u32, is_dark: bool) -> Result<Ve
     Ok(lanes)
 }
 
-// The wanted lanes, if they are as many as are asked for, apart and above the loops; else lanes of its own.
+// The wanted lanes, if they are as many as are asked for, apart and above the loops; else lanes of
+// its own.
 fn upper_lanes(
     alloc: Global,
     above: u32,
@@ -60,9 +61,10 @@ fn upper_lanes(
     Ok(lanes)
 }
 
-/// Homes of so many inputs and loops, and of one value more where a lane is to stay dark: the loops' stand side by side from lane `above`
-/// on, and the others above them. `wanted` has the lanes of the inputs, and then the dark one: they are taken if they are apart and above
-/// the loops.
+/// Homes of so many inputs and loops, and of one value more where a lane is to stay dark: the
+/// loops' stand side by side from lane `above` on, and the others above them. `wanted` has the
+/// lanes of the inputs, and then the dark one: they are taken if they are apart and above the
+/// loops.
 pub fn homes_of(
     alloc: Global,
     above: u32,

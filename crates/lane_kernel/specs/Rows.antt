@@ -31,15 +31,18 @@ plane_of_rows above heads below tails wires = framed (three_rows above heads bel
 
 -- the heads around the cell of column x of the middle row, and its state one generation on
 abbrev pub heads_in_rows : List ℕ → List ℕ → List ℕ → List ℕ → List ℕ → ℕ → ℕ
-heads_in_rows above heads below tails wires x = heads_around (plane_of_rows above heads below tails wires) (pos x) (pos 1)
+heads_in_rows above heads below tails wires x =
+    heads_around (plane_of_rows above heads below tails wires) (pos x) (pos 1)
 
 abbrev pub next_in_rows : List ℕ → List ℕ → List ℕ → List ℕ → List ℕ → ℕ → State
-next_in_rows above heads below tails wires x = next_plane (plane_of_rows above heads below tails wires) (pos x) (pos 1)
+next_in_rows above heads below tails wires x =
+    next_plane (plane_of_rows above heads below tails wires) (pos x) (pos 1)
 
 -- no cell has its bit in two of the rows
 abbrev pub AreDisjoint : List ℕ → List ℕ → List ℕ → Type 0
 AreDisjoint heads tails wires =
-    (x : ℕ) → ((is_set heads x && is_set tails x) || (is_set heads x && is_set wires x) || (is_set tails x && is_set wires x)) ≡ false
+    (x : ℕ) → ((is_set heads x && is_set tails x) || (is_set heads x && is_set wires x)
+      || (is_set tails x && is_set wires x)) ≡ false
 
 -- by so many heads around it a conductor becomes a head
 abbrev pub is_one_or_two : ℕ → Bool

@@ -17,12 +17,15 @@ pub record IsStepped (above heads below tails wires new_heads new_wires : List �
   pub heads_are : (j : ℕ) → get_or new_heads j 0 ≡ heads_word above heads below wires j
   pub wires_are : (j : ℕ) → get_or new_wires j 0 ≡ wires_word above heads below tails wires j
 
--- The words of a row from one place up to another are those one generation on, the new heads in the tails' place; all others are as
--- they were.
-pub record AreWordsStepped (lo hi : ℕ) (above heads below tails wires new_tails new_wires : List ℕ) : Type 0 where
+-- The words of a row from one place up to another are those one generation on, the new heads in the
+-- tails' place; all others are as they were.
+pub record AreWordsStepped (lo hi : ℕ)
+    (above heads below tails wires new_tails new_wires : List ℕ) : Type 0 where
   pub long_tails : length new_tails ≡ length heads
   pub long_wires : length new_wires ≡ length heads
-  pub heads_are : (j : ℕ) → lo ≤ j → j < hi → get_or new_tails j 0 ≡ heads_word above heads below wires j
-  pub wires_are : (j : ℕ) → lo ≤ j → j < hi → get_or new_wires j 0 ≡ wires_word above heads below tails wires j
+  pub heads_are : (j : ℕ) → lo ≤ j → j < hi
+    → get_or new_tails j 0 ≡ heads_word above heads below wires j
+  pub wires_are : (j : ℕ) → lo ≤ j → j < hi
+    → get_or new_wires j 0 ≡ wires_word above heads below tails wires j
   pub other_tails : (j : ℕ) → IsBeyond lo hi j → get_or new_tails j 0 ≡ get_or tails j 0
   pub other_wires : (j : ℕ) → IsBeyond lo hi j → get_or new_wires j 0 ≡ get_or wires j 0

@@ -30,8 +30,8 @@ fn step_one(
     tails[j] = fired;
 }
 
-/// The new words of a row, as if it stood alone, four at once where there are enough, and else one: the new heads in the
-/// tails' place, the new wires in the wires'.
+/// The new words of a row, as if it stood alone, four at once where there are enough, and else one:
+/// the new heads in the tails' place, the new wires in the wires'.
 pub fn step_words(above: &[u64], heads: &[u64], below: &[u64], tails: &mut [u64], wires: &mut [u64])
     requires { AreEquallyLong above.now heads.now below.now tails.old wires.old }
     ensures { IsStepped
@@ -49,10 +49,11 @@ pub fn step_words(above: &[u64], heads: &[u64], below: &[u64], tails: &mut [u64]
     }
 }
 
-/// The next generation of a row that stands between two others, with nothing beyond the rows' ends: bit i of word j is
-/// cell 64 j + i. A new head stands where a wire has one or two heads among its eight neighbours, a new wire where a wire
-/// gave no head or a tail stood, and the new tails are the old heads. Where no cell has its bit in two rows this is the
-/// rule, and none has it afterwards.
+/// The next generation of a row that stands between two others, with nothing beyond the rows' ends:
+/// bit i of word j is cell 64 j + i. A new head stands where a wire has one or two heads among its
+/// eight neighbours, a new wire where a wire gave no head or a tail stood, and the new tails are
+/// the old heads. Where no cell has its bit in two rows this is the rule, and none has it
+/// afterwards.
 pub fn step_rows(
     above: &[u64],
     heads: &[u64],

@@ -38,8 +38,8 @@ fn has_last(above: &[u64], heads: &[u64], below: &[u64], j: usize) -> bool
     ((above[j] | heads[j] | below[j]) >> 63) & 1 == 1
 }
 
-/// Whether nothing of three rows of heads comes over the borders of the words from `lo` up to `hi`: no head stands at a
-/// border, or the border is an end of the rows.
+/// Whether nothing of three rows of heads comes over the borders of the words from `lo` up to `hi`:
+/// no head stands at a border, or the border is an end of the rows.
 pub fn stays_within(above: &[u64], heads: &[u64], below: &[u64], lo: usize, hi: usize) -> bool
     requires order { lo < hi }
     requires within { hi ≤ length heads.now }
@@ -51,8 +51,8 @@ pub fn stays_within(above: &[u64], heads: &[u64], below: &[u64], lo: usize, hi: 
         && (!has_last(above, heads, below, hi - 1) || hi == heads.len())
 }
 
-/// Where the heads of three rows whose words before `first` are dark come to in the west: a word further, if one stands at
-/// that border.
+/// Where the heads of three rows whose words before `first` are dark come to in the west: a word
+/// further, if one stands at that border.
 pub fn western_end(above: &[u64], heads: &[u64], below: &[u64], first: usize) -> usize
     requires within { first < length heads.now }
     requires near { AreDarkWhere (λ j. j < first) above.now heads.now below.now }
@@ -82,9 +82,9 @@ pub fn eastern_end(above: &[u64], heads: &[u64], below: &[u64], end: usize) -> u
     }
 }
 
-/// The next generation of a row whose light, with the heads beside it, lies in the words from `lo` up to `hi`, where nothing
-/// comes over the borders of these: no other word is looked at. The new heads stand in the tails' place, the new wires in the
-/// wires'; the heads are the new tails.
+/// The next generation of a row whose light, with the heads beside it, lies in the words from `lo`
+/// up to `hi`, where nothing comes over the borders of these: no other word is looked at. The new
+/// heads stand in the tails' place, the new wires in the wires'; the heads are the new tails.
 pub fn step_span(
     above: &[u64],
     heads: &[u64],

@@ -17,18 +17,23 @@ pub record IsPadded (size : ℕ) (columns padded : List Column) : Type 0 where
   pub empty : All (λ column. column.instrs ≡ []) more
   pub count : length padded ≡ max size (length columns)
 
--- columns enough for the starts of so many contexts on the ways back of so many loops; without loops there is nothing
--- to start
+-- columns enough for the starts of so many contexts on the ways back of so many loops; without
+-- loops there is nothing to start
 abbrev pub contexts_size : ℕ → ℕ → ℕ
 contexts_size loops contexts = cond (loops == 0) 0 (contexts - 4 * loops)
 
--- the greatest of the number of loops, of 1 where there are lanes, and of what so many contexts need
+-- the greatest of the number of loops, of 1 where there are lanes, and of what so many contexts
+-- need
 abbrev pub least_size : Program → ℕ → ℕ
-least_size program contexts = max (max (length program.latches) (min program.lanes 1)) (contexts_size (length program.latches) contexts)
+least_size program contexts =
+    max (max (length program.latches) (min program.lanes 1))
+      (contexts_size (length program.latches) contexts)
 
--- The plan has the program's lanes, loops, ports and nets, no tape, and these columns, which are at least as many as loops,
--- at least 1 where there are lanes, and enough for the starts of so many contexts.
-pub record IsClosed (program : Program) (columns : List Column) (contexts : ℕ) (plan : Plan) : Type 0 where
+-- The plan has the program's lanes, loops, ports and nets, no tape, and these columns, which are at
+-- least as many as loops, at least 1 where there are lanes, and enough for the starts of so many
+-- contexts.
+pub record IsClosed (program : Program) (columns : List Column) (contexts : ℕ)
+    (plan : Plan) : Type 0 where
   pub lanes : plan.lanes ≡ program.lanes
   pub latches : plan.latches ≡ length program.latches
   pub ins : plan.ins ≡ program.ins
@@ -40,17 +45,21 @@ pub record IsClosed (program : Program) (columns : List Column) (contexts : ℕ)
 -- as many contexts as a loop of the plan of one context has tiles; 1 without loops
 abbrev pub contexts_limit : List Column → Program → ℕ
 contexts_limit columns program =
-    cond (length program.latches == 0) 1 (2 * max (length columns) (length program.latches) + 4 * length program.latches)
+    cond (length program.latches == 0) 1
+        (2 * max (length columns) (length program.latches) + 4 * length program.latches)
 
 -- the plan does what the program does: at the end, and at each place of a net
 pub record DoesAsProgram (program : Program) (plan : Plan) : Type 0 where
   pub end : (bits : List Bool) → after_columns plan.columns bits ≡ after_instrs program.instrs bits
   pub nets : (bits : List Bool)
-      → map (λ place. bit_on (bits_after after_columns plan.columns place.after bits) place.lane) plan.nets
-      ≡ map (λ place. bit_on (bits_after after_instrs program.instrs place.after bits) place.lane) program.nets
+      → map (λ place. bit_on
+        (bits_after after_columns plan.columns place.after bits) place.lane) plan.nets
+      ≡ map (λ place. bit_on
+          (bits_after after_instrs program.instrs place.after bits) place.lane) program.nets
 
 -- so it computes what the program computes
 abbrev pub ClosingKeepsCells : Type 0
 ClosingKeepsCells =
-    (list : CellList) (program : Program) (columns : List Column) (contexts : ℕ) (plan : Plan) → IsClosed program columns contexts plan → DoesAsProgram program plan
+    (list : CellList) (program : Program) (columns : List Column) (contexts : ℕ) (plan : Plan)
+    → IsClosed program columns contexts plan → DoesAsProgram program plan
     → ComputesByProgram list program → ComputesByPlan list plan

@@ -22,10 +22,13 @@ pub record IsPaddedPlan (size : ℕ) (plan padded : Plan) : Type 0 where
 pub record DoesAsPlan (plan padded : Plan) : Type 0 where
   pub end : (bits : List Bool) → after_columns padded.columns bits ≡ after_columns plan.columns bits
   pub nets : (bits : List Bool)
-      → map (λ place. bit_on (bits_after after_columns padded.columns place.after bits) place.lane) padded.nets
-      ≡ map (λ place. bit_on (bits_after after_columns plan.columns place.after bits) place.lane) plan.nets
+      → map (λ place. bit_on
+        (bits_after after_columns padded.columns place.after bits) place.lane) padded.nets
+      ≡ map (λ place. bit_on
+          (bits_after after_columns plan.columns place.after bits) place.lane) plan.nets
 
 -- so it computes what the plan computes
 abbrev pub PaddingKeepsCells : Type 0
 PaddingKeepsCells =
-    (list : CellList) (size : ℕ) (plan padded : Plan) → IsPaddedPlan size plan padded → DoesAsPlan plan padded → ComputesByPlan list plan → ComputesByPlan list padded
+    (list : CellList) (size : ℕ) (plan padded : Plan) → IsPaddedPlan size plan padded
+    → DoesAsPlan plan padded → ComputesByPlan list plan → ComputesByPlan list padded

@@ -49,9 +49,10 @@ fn push_loop(
     Ok(())
 }
 
-/// The names of the edges that are lit at generation 0 where the loops of a plan start with these bits, one list a
-/// context and one bit a loop: those of context c lie c tiles before the loops' entries, on their ways back. There are
-/// no more contexts than tiles on a way back, and one without loops.
+/// The names of the edges that are lit at generation 0 where the loops of a plan start with these
+/// bits, one list a context and one bit a loop: those of context c lie c tiles before the loops'
+/// entries, on their ways back. There are no more contexts than tiles on a way back, and one
+/// without loops.
 pub fn starts_of(alloc: Global, plan: &Plan, starts: &[List<bool>]) -> Result<Starts, AllocError>
     requires admissible { IsAdmissible plan.now }
     requires fit { length starts.now ≤ contexts_on_ways plan.now }

@@ -25,7 +25,8 @@ pub fn padded(alloc: Global, columns: Vec<Column>, size: usize) -> Result<Vec<Co
     Ok(columns)
 }
 
-// How many columns a plan of so many loops needs, so that the starts of so many contexts lie on the ways back.
+// How many columns a plan of so many loops needs, so that the starts of so many contexts lie on the
+// ways back.
 fn contexts_size(loops: u32, contexts: usize) -> usize
     ensures { result ≡ contexts_size loops contexts }
 {
@@ -36,9 +37,10 @@ fn contexts_size(loops: u32, contexts: usize) -> usize
     }
 }
 
-/// The plan in several contexts, the loops of each of which start with these bits, one list a context: no more contexts
-/// than macro steps in the plan's period. Where there are loops and too few columns for all starts to lie on the ways
-/// back of the loops, it adds columns without instructions.
+/// The plan in several contexts, the loops of each of which start with these bits, one list a
+/// context: no more contexts than macro steps in the plan's period. Where there are loops and too
+/// few columns for all starts to lie on the ways back of the loops, it adds columns without
+/// instructions.
 #[tactic(auto, using(crate::proofs::PaddedPlans::padded_admissible, crate::proofs::PaddedPlans::room, crate::proofs::PaddedPlans::does_as_plan))]
 pub fn start_contexts(alloc: Global, plan: Plan, starts: &[List<bool>]) -> Result<Plan, CloseError>
     requires admissible { IsAdmissible plan }

@@ -10,7 +10,8 @@ ghost use Rattle.plan_waves.specs.WaysBack.{way_in, tile_before};
 use lane_core::Plan;
 use plan_layout::{Edge, Piece, Slot, is_left, slot_at};
 
-// The edge at a port, by its place in the box of a piece whose first block is at this tile column and lane.
+// The edge at a port, by its place in the box of a piece whose first block is at this tile column
+// and lane.
 fn port_edge(column: u64, lane: u64, port: (u32, u32)) -> Edge
     requires far { column < 2 ^ 62 }
     requires low { lane < 2 ^ 62 }
@@ -47,7 +48,8 @@ fn way_in(column: u64, lane: u64, slot: Slot) -> Edge
     }
 }
 
-/// One tile back from an edge, through that one of the two blocks that meet there which is left at it.
+/// One tile back from an edge, through that one of the two blocks that meet there which is left at
+/// it.
 pub fn tile_before(plan: &Plan, edge: Edge) -> Edge
     requires admissible { IsAdmissible plan.now }
     requires far { column_in (as_edge edge) < 2 ^ 62 }

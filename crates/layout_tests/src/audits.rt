@@ -68,7 +68,8 @@ const CASES: &[Case] = &[
         items: ITEMS,
         said: b"Cells",
     },
-    // another latency, another period, two contexts, a cell beside an entry, and a box without cells that is wide
+    // another latency, another period, two contexts, a cell beside an entry, and a box without
+    // cells that is wide
     Case {
         table: b"#C BLIFWW 1 P 32 L 33\n#C BLIFWW IN 0 8 a\n#C BLIFWW IN 0 24 b\n#C BLIFWW OUT 32 8 y\n",
         items: ITEMS,
@@ -94,7 +95,8 @@ const CASES: &[Case] = &[
         items: b"x = 5, y = 0, rule = WireWorld\n!\n",
         said: b"Ports",
     },
-    // a name at whose end a line would go on, one with a byte 11, and one of an input and of an output
+    // a name at whose end a line would go on, one with a byte 11, and one of an input and of an
+    // output
     Case {
         table: b"#C BLIFWW 1 P 32 L 32\n#C BLIFWW IN 0 8 a\\\n#C BLIFWW OUT 32 8 y\n",
         items: ITEMS,

@@ -13,8 +13,8 @@ use std::alloc::Global;
 use std::test::Fail;
 use ww_rule::{CellRows, Plane, RuleError, State, step_driven};
 
-/// A circuit of five lanes, with each instruction in one of its columns, an input on every other lane, and an output on
-/// every lane.
+/// A circuit of five lanes, with each instruction in one of its columns, an input on every other
+/// lane, and an output on every lane.
 pub const CIRCUIT: Written<'static> = Written {
     lanes: 5,
     columns: &[
@@ -152,8 +152,8 @@ fn has_heads_at(plane: &Plane, cells: &[Start]) -> bool {
     same
 }
 
-// Whether one of the two cells at the west side of a block is a head just where the edge is lit, and one of those at its
-// north side too.
+// Whether one of the two cells at the west side of a block is a head just where the edge is lit,
+// and one of those at its north side too.
 fn has_heads_round(plane: &Plane, edges: &Edges, column: u64, lane: u64) -> bool
     requires in_columns { column < 5 }
     requires in_lanes { lane < 4 }
@@ -173,8 +173,8 @@ fn has_heads_of(plane: &Plane, edges: &Edges) -> bool {
     same
 }
 
-// The heads after each 32 generations, through the Or and the Fork, to the output and round: the cells were read off the
-// drawing by hand.
+// The heads after each 32 generations, through the Or and the Fork, to the output and round: the
+// cells were read off the drawing by hand.
 const LOOP_HEADS: &[&[Start]] = &[
     &[Start { x: 32, y: 24 }],
     &[Start { x: 64, y: 8 }],
@@ -194,7 +194,8 @@ fn plane_after(alloc: Global, plan: &Plan, steps: u64) -> Result<Plane, RuleErro
     evolved(alloc, drawn(alloc, plan)?, steps.saturating_mul(32))
 }
 
-// After so many times 32 generations the heads are at these cells, and those of so many macro steps.
+// After so many times 32 generations the heads are at these cells, and those of so many macro
+// steps.
 fn expect_plane(alloc: Global, plan: &Plan, steps: u64, heads: &[Start]) -> Result<(), Fail>
     requires admissible { IsAdmissible plan.now }
     requires starts { HasStartEdges plan.now }

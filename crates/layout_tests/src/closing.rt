@@ -10,7 +10,8 @@ use std::alloc::Global;
 use std::slice::from_ref;
 use std::test::Fail;
 
-/// Three columns; net 1 names an instruction that does not work on its lane, and net 2 a lane before its first use.
+/// Three columns; net 1 names an instruction that does not work on its lane, and net 2 a lane
+/// before its first use.
 pub const FIVE_LANES: Listed<'static> = Listed {
     lanes: 5,
     instrs: &[

@@ -7,8 +7,8 @@ use lane_core::{NetPlace, Plan, Start, in_cell, latency, net_cell, out_cell, per
 use std::test::Fail;
 use ww_rule::State;
 
-/// What a plan has: `Size` is of its drawing, `Cells`, `Rows` and `Slots` are drawn, and a port is found at x and y, with
-/// an offset.
+/// What a plan has: `Size` is of its drawing, `Cells`, `Rows` and `Slots` are drawn, and a port is
+/// found at x and y, with an offset.
 pub enum Fact {
     Size(u64, u64),
     Period(u64),

@@ -103,8 +103,8 @@ fn goes_round(alloc: Global, plan: &Plan) -> Result<(), Fail>
     Ok(())
 }
 
-// Three columns and three loops: a loop has 2 * 3 + 4 * 3 tiles, and the return reverses the lanes, so that lane 0 leads to
-// lane 2 and back.
+// Three columns and three loops: a loop has 2 * 3 + 4 * 3 tiles, and the return reverses the lanes,
+// so that lane 0 leads to lane 2 and back.
 #[test]
 fn an_electron_goes_round_a_loop(rt: HostRuntime) -> Result<(), Fail> {
     let plan = admitted(rt.alloc(), &BARE)?;

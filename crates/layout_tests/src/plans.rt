@@ -10,8 +10,8 @@ use macro_grid::admissible;
 use std::alloc::{AllocError, Global};
 use std::test::Fail;
 
-/// A plan as it is written down: the instructions of each column, at most two of them, and the bits of each input on its
-/// tape, a letter for each bit.
+/// A plan as it is written down: the instructions of each column, at most two of them, and the bits
+/// of each input on its tape, a letter for each bit.
 #[derive(Drop)]
 pub struct Written<'a> {
     pub lanes: u32,
@@ -61,7 +61,8 @@ pub const BARE: Written<'static> = Written {
     tape: &[],
 };
 
-/// Two lanes and a loop that starts with 1: the Or takes its bit, and the Fork gives it to the output and back to the loop.
+/// Two lanes and a loop that starts with 1: the Or takes its bit, and the Fork gives it to the
+/// output and back to the loop.
 pub const LOOP: Written<'static> = Written {
     lanes: 2,
     columns: &[&[Instr::Or(0)], &[Instr::Fork(0)]],
@@ -80,7 +81,8 @@ fn is_above(first: Instr, second: Instr) -> bool
     (first.lane() as u64) + 1 < second.lane() as u64
 }
 
-// Whether there are at most two instructions, and the lanes of the second are below those of the first.
+// Whether there are at most two instructions, and the lanes of the second are below those of the
+// first.
 fn are_apart(instrs: &[Instr]) -> bool
     ensures { IsTrue result → IsTrue (are_sorted_apart instrs.now) }
 {

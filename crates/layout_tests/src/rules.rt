@@ -6,8 +6,8 @@ use macro_grid::admissible;
 use std::alloc::Global;
 use std::test::Fail;
 
-// What is written otherwise of a plan: the lanes and the loops of an Or, its inputs and its outputs, its tape or its
-// start, or the start of the loop.
+// What is written otherwise of a plan: the lanes and the loops of an Or, its inputs and its
+// outputs, its tape or its start, or the start of the loop.
 enum Change {
     Ports(u32, u32, &'static [u32], &'static [u32]),
     Tape(&'static [&'static [u8]]),
@@ -43,7 +43,8 @@ const RULES: &[(Change, bool)] = &[
         false,
     ),
     (Change::Ports(u32::MAX, 0, &[u32::MAX], &[]), false),
-    // a start names an edge by the cell by which a tile is entered, or left where nothing is entered
+    // a start names an edge by the cell by which a tile is entered, or left where nothing is
+    // entered
     (Change::LoopStart(&[Start { x: 32, y: 24 }]), true),
     (Change::LoopStart(&[Start { x: 31, y: 24 }]), false),
     (Change::LoopStart(&[Start { x: 33, y: 24 }]), false),

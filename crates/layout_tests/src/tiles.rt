@@ -51,8 +51,8 @@ fn or_without_diodes() -> [State; 1024] {
     cells
 }
 
-// Whether the law holds of the drawing, of one without diodes, as one of another kind, without its last cell, and with a
-// head.
+// Whether the law holds of the drawing, of one without diodes, as one of another kind, without its
+// last cell, and with a head.
 fn laws() -> [bool; 5] {
     let or = or_cells();
     let all_but_one = &or[..1023];

@@ -14,21 +14,25 @@ use Rattle.carries.specs.Cells.{Spells}
 use Rattle.circuit_plans.specs.Circuits.{IsCircuit, first_bits}
 use Rattle.tile_match.specs.Circuit.{IsPlanDrawing}
 
--- The plan's start edges, which are edges of its drawing, start one context: the loops start with these bits where they enter the columns.
+-- The plan's start edges, which are edges of its drawing, start one context: the loops start with
+-- these bits where they enter the columns.
 pub record StartsOneContext (plan : Plan) (bits : List Bool) : Type 0 where
   pub edges : HasStartEdges plan
   pub on_loops : StartsContexts plan (bits ∷ []) (start_edges plan)
 
--- an admissible plan without a tape that starts one context is a circuit's plan, whose loops start with these bits
+-- an admissible plan without a tape that starts one context is a circuit's plan, whose loops start
+-- with these bits
 abbrev pub OneContextIsCircuit : Type 0
-OneContextIsCircuit = (plan : Plan) → IsAdmissible plan → plan.tape ≡ [] → (bits : List Bool) → StartsOneContext plan bits → IsCircuit plan × (first_bits plan ≡ bits)
+OneContextIsCircuit =
+    (plan : Plan) → IsAdmissible plan → plan.tape ≡ [] → (bits : List Bool)
+    → StartsOneContext plan bits → IsCircuit plan × (first_bits plan ≡ bits)
 
 -- and the start edges of every circuit's plan start one context
 abbrev pub CircuitsStartOneContext : Type 0
 CircuitsStartOneContext = (plan : Plan) → IsCircuit plan → StartsOneContext plan (first_bits plan)
 
--- What a compiler makes of a flat netlist for one context: a plan that starts where its loops enter the columns, and its port table. The
--- netlist's names and places can stand in a table.
+-- What a compiler makes of a flat netlist for one context: a plan that starts where its loops enter
+-- the columns, and its port table. The netlist's names and places can stand in a table.
 pub record IsCompiledForOne (flat : Flat) (plan : Plan) (ports : Ports) : Type 0 where
   pub sound : IsSound flat
   pub named : IsNamed flat
@@ -37,10 +41,13 @@ pub record IsCompiledForOne (flat : Flat) (plan : Plan) (ports : Ports) : Type 0
   pub circuit : IsCircuit plan
   pub table : IsTableOf flat plan 1 ports
 
--- the written text of a plan and a table spells the plan's pattern and this table, and they are the drawing of the plan
+-- the written text of a plan and a table spells the plan's pattern and this table, and they are the
+-- drawing of the plan
 pub record IsWrittenDrawing (plan : Plan) (ports : Ports) : Type 0 where
   pub spells : Spells (pattern_text (start_grid plan) ports) (start_grid plan) ports
   pub drawing : IsPlanDrawing (start_grid plan) ports plan
 
 abbrev pub CompiledAreDrawings : Type 0
-CompiledAreDrawings = (flat : Flat) (plan : Plan) (ports : Ports) → IsCompiledForOne flat plan ports → IsWrittenDrawing plan ports
+CompiledAreDrawings =
+    (flat : Flat) (plan : Plan) (ports : Ports) → IsCompiledForOne flat plan ports
+    → IsWrittenDrawing plan ports

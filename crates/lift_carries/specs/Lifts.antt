@@ -12,9 +12,10 @@ use Rattle.lifted_designs.specs.Lifted.{lifted_design}
 use Rattle.tile_match.specs.Circuit.{IsPlanDrawing}
 use Rattle.tile_match.specs.Names.{has_bad_name}
 
--- A text spells a plan: it spells a pattern and a port table, which are the drawing of the plan, and no name in the table is bad. The
--- list has the cells of the plan.
-pub record SpellsPlan (text : List ℕ) (grid : Grid) (ports : Ports) (plan : Plan) (list : CellList) : Type 0 where
+-- A text spells a plan: it spells a pattern and a port table, which are the drawing of the plan,
+-- and no name in the table is bad. The list has the cells of the plan.
+pub record SpellsPlan (text : List ℕ) (grid : Grid) (ports : Ports) (plan : Plan)
+    (list : CellList) : Type 0 where
   pub spells : Spells text grid ports
   pub drawing : IsPlanDrawing grid ports plan
   pub names : has_bad_name ports ≡ false
@@ -24,5 +25,6 @@ pub record SpellsPlan (text : List ℕ) (grid : Grid) (ports : Ports) (plan : Pl
 -- such a text carries the netlist of these cells, whose ports have the table's names
 abbrev pub LiftsCarry : Type 0
 LiftsCarry =
-    (text : List ℕ) (grid : Grid) (ports : Ports) (plan : Plan) (list : CellList) → SpellsPlan text grid ports plan list
+    (text : List ℕ) (grid : Grid) (ports : Ports) (plan : Plan) (list : CellList)
+    → SpellsPlan text grid ports plan list
     → Carries text (lifted_design (names_of ports.ins) (names_of ports.outs) list)

@@ -16,7 +16,8 @@ use plan_ports::tables_are_readable;
 use port_table::laws::tables_are_sound;
 use tile_library::Shipped;
 
-/// A text that spells the drawing of a plan carries the netlist of the plan's cells, with the names of the ports in the text.
+/// A text that spells the drawing of a plan carries the netlist of the plan's cells, with the names
+/// of the ports in the text.
 pub fn lifts_carry()
     ensures { LiftsCarry }
 {
@@ -27,7 +28,8 @@ pub fn lifts_carry()
     lifted_have_runs();
 }
 
-/// An admissible plan without a tape that starts one context starts only where its loops enter the columns.
+/// An admissible plan without a tape that starts one context starts only where its loops enter the
+/// columns.
 pub fn one_context_is_circuit()
     ensures { OneContextIsCircuit }
 {}

@@ -1,4 +1,5 @@
--- The netlist that is lifted of a list has no combinational loop: a cell reads earlier cells, and nobody reads an output.
+-- The netlist that is lifted of a list has no combinational loop: a cell reads earlier cells, and
+-- nobody reads an output.
 use Rattle.std.specs.Prelude.{◌<◌, ◌^◌, ◌≡◌, false, List, length}
 use Rattle.netlist_core.specs.Names.{Name}
 use Rattle.netlist_meaning.specs.Nets.{Net}
@@ -10,6 +11,7 @@ use Rattle.lifted_designs.specs.Runs.{ArePortNames}
 
 abbrev pub LiftedHaveNoLoop : Type 0
 LiftedHaveNoLoop =
-    (list : CellList) (ins outs : List Name) → length ins ≡ list.inputs → length outs ≡ length list.outs → names_one list ≡ false
+    (list : CellList) (ins outs : List Name) → length ins ≡ list.inputs
+    → length outs ≡ length list.outs → names_one list ≡ false
     → ArePortNames ins outs → length list.cells < 2 ^ 64 → length list.latches < 2 ^ 64
     → (nets : List Net) → ¬ IsCombinationalLoop (lifted_design ins outs list) nets

@@ -6,7 +6,9 @@ use Rattle.depth_walk.specs.Links.{Links}
 
 -- the node that drives input k of a node, where one does
 abbrev pub IsDriverOf : Flat → ℕ → ℕ → Option ℕ → Type 0
-IsDriverOf flat n k driver = ((b : ℕ) → driver ≡ Some b → IsDrivenBy flat n k b) × ((b : ℕ) → IsDrivenBy flat n k b → driver ≡ Some b)
+IsDriverOf flat n k driver =
+    ((b : ℕ) → driver ≡ Some b → IsDrivenBy flat n k b)
+    × ((b : ℕ) → IsDrivenBy flat n k b → driver ≡ Some b)
 
 -- the drivers of all its inputs, in order
 abbrev pub AreDriversOf : Flat → ℕ → List (Option ℕ) → Type 0

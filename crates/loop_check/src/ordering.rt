@@ -18,7 +18,8 @@ use std::alloc::{AllocError, AllocFailed, Global};
 pub enum OrderError {
     /// There is no memory for it.
     NoMemory,
-    /// Nets of which each is read by a node whose output is the next, and the last by one whose output is the first.
+    /// Nets of which each is read by a node whose output is the next, and the last by one whose
+    /// output is the first.
     Loop(List<NetId>),
 }
 

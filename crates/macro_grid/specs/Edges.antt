@@ -6,8 +6,9 @@ use Rattle.lane_core.specs.declared.plan.Plan.{Plan}
 use Rattle.lane_core.specs.Tape.{tape_shift}
 use Rattle.plan_layout.specs.Layout.{end_of_body}
 
--- A bit for each edge. The blocks of a tile column follow one another, `lanes` of them, and the tile columns too; a
--- block has a bit in `beside` for the edge on its west side, and one in `above` for the edge on its north side.
+-- A bit for each edge. The blocks of a tile column follow one another, `lanes` of them, and the
+-- tile columns too; a block has a bit in `beside` for the edge on its west side, and one in `above`
+-- for the edge on its north side.
 pub record EdgeBits : Type 0 where
   pub lanes : ℕ
   pub beside : List Bool
@@ -15,14 +16,18 @@ pub record EdgeBits : Type 0 where
 
 -- the edges whose bits are true
 abbrev pub lit_of : EdgeBits → Lit
-lit_of bits (Beside column lane) = nat_lt lane bits.lanes && get_or bits.beside (column * bits.lanes + lane) false
-lit_of bits (Above column lane) = nat_lt lane bits.lanes && get_or bits.above (column * bits.lanes + lane) false
+lit_of bits (Beside column lane) =
+    nat_lt lane bits.lanes && get_or bits.beside (column * bits.lanes + lane) false
+lit_of bits (Above column lane) =
+    nat_lt lane bits.lanes && get_or bits.above (column * bits.lanes + lane) false
 
 -- The first bits tell which edges are lit: bit k is that of block k on one of its sides.
 abbrev pub TellEdges : (count lanes : ℕ) → (side : ℕ → ℕ → Edge) → List Bool → Lit → Type 0
-TellEdges count lanes side bits lit = (k : ℕ) → k < count → get_or bits k false ≡ lit (side (k / lanes) (k % lanes))
+TellEdges count lanes side bits lit =
+    (k : ℕ) → k < count → get_or bits k false ≡ lit (side (k / lanes) (k % lanes))
 
--- the tile columns and lanes that have bits: those of the drawing, and some round it, where nothing stands
+-- the tile columns and lanes that have bits: those of the drawing, and some round it, where nothing
+-- stands
 abbrev pub edge_columns : Plan → ℕ
 edge_columns plan = tape_shift plan + (end_of_body plan + plan.latches + 2)
 

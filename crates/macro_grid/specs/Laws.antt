@@ -1,4 +1,5 @@
--- What the plane of a plan's drawing does in time, in every library of tiles that keep the timing law.
+-- What the plane of a plan's drawing does in time, in every library of tiles that keep the timing
+-- law.
 use Rattle.ww_rule.specs.Wireworld.{Due}
 use Rattle.tile_core.specs.declared.kind.Kind.{Kind}
 use Rattle.tile_core.specs.Drawing.{Drawing}
@@ -8,10 +9,16 @@ use Rattle.lane_core.specs.declared.plan.Plan.{Plan}
 use Rattle.lane_core.specs.Plans.{IsAdmissible}
 use Rattle.plan_layout.specs.Tape.{drawn_tiling}
 
--- the drawing of every admissible plan, whoever made it and whichever edges are lit, goes on by macro steps of 32 generations
+-- the drawing of every admissible plan, whoever made it and whichever edges are lit, goes on by
+-- macro steps of 32 generations
 abbrev pub PlansStepByMacro : Type 0
-PlansStepByMacro = (library : Kind → Drawing) → KeepsLaw library → (plan : Plan) → IsAdmissible plan → (lit : Lit) → StepsByMacro library (drawn_tiling plan) lit
+PlansStepByMacro =
+    (library : Kind → Drawing) → KeepsLaw library → (plan : Plan) → IsAdmissible plan → (lit : Lit)
+    → StepsByMacro library (drawn_tiling plan) lit
 
 -- the same where heads are injected at free entries at multiples of 32
 abbrev pub PlansAreDriven : Type 0
-PlansAreDriven = (library : Kind → Drawing) → KeepsLaw library → (plan : Plan) → IsAdmissible plan → (due : Due) → DrivesEntries (drawn_tiling plan) due → (lit : Lit) → IsDriven library (drawn_tiling plan) due lit
+PlansAreDriven =
+    (library : Kind → Drawing) → KeepsLaw library → (plan : Plan) → IsAdmissible plan → (due : Due)
+    → DrivesEntries (drawn_tiling plan) due → (lit : Lit)
+    → IsDriven library (drawn_tiling plan) due lit

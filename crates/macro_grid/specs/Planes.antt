@@ -7,4 +7,5 @@ use Rattle.tiling.specs.Tiling.{Tiling, Lit, drawn}
 
 -- after 32 generations the plane that is drawn with some edges is the one that is drawn with others
 abbrev pub IsDrawnAfter32 : (Kind → Drawing) → Tiling → Lit → Lit → Type 0
-IsDrawnAfter32 library tiling before after = evolve 32 (drawn library tiling before) ≡ drawn library tiling after
+IsDrawnAfter32 library tiling before after =
+    evolve 32 (drawn library tiling before) ≡ drawn library tiling after

@@ -1,5 +1,5 @@
-// Which edges of a plan's drawing are lit. An edge is a side at which two blocks meet, named by the tile column and the lane of the
-// block east of it (`beside`) or south of it (`above`).
+// Which edges of a plan's drawing are lit. An edge is a side at which two blocks meet, named by the
+// tile column and the lane of the block east of it (`beside`) or south of it (`above`).
 ghost use Rattle.std.specs.Prelude.{◌≡◌, ◌+◌, ◌*◌, ◌^◌, ◌<◌, ◌≤◌, ◌&&◌, nat_lt, length, IfOk};
 ghost use Rattle.lists.specs.Items.{flag_at};
 ghost use Rattle.tiling.specs.Tiling as tiling;

@@ -1,5 +1,5 @@
-// Whether the ports of a list are on distinct lanes. No memory is taken: the lanes are looked at in spans, with a mark for
-// each lane of a span, and only where there are ports.
+// Whether the ports of a list are on distinct lanes. No memory is taken: the lanes are looked at in
+// spans, with a mark for each lane of a span, and only where there are ports.
 ghost use Rattle.std.specs.Prelude.{◌≡◌, ◌≢◌, ◌+◌, ◌<◌, ◌≤◌, ◌⊎◌, ◌↔◌, IsTrue, All, AllPairs, MatchOption};
 ghost use Rattle.lane_core.specs.Places.{AreDistinctBelow};
 ghost use Rattle.macro_grid.specs.Spans.{AreDistinctWithin, IsLeastFrom};

@@ -19,8 +19,8 @@ use lane_core::Plan;
 use plan_layout::{Piece, Slot, slot_drawn_at};
 use tile_core::Kind;
 
-// Whether the edge at a port is lit, by the port's place in the box of a piece whose first block is at this tile column
-// and lane.
+// Whether the edge at a port is lit, by the port's place in the box of a piece whose first block is
+// at this tile column and lane.
 fn is_port_lit(edges: &Edges, column: u64, lane: u64, port: (u32, u32)) -> bool
     requires far { column < 2 ^ 63 }
     requires low { lane < 2 ^ 62 }
@@ -164,7 +164,8 @@ fn step_above(plan: &Plan, old: &Edges, lanes: usize, bits: &mut [bool])
     }
 }
 
-/// The edges that are lit 32 generations after those of `old`: the exits of tiles that answer 1 to their entry edges.
+/// The edges that are lit 32 generations after those of `old`: the exits of tiles that answer 1 to
+/// their entry edges.
 pub fn macro_step(plan: &Plan, old: &Edges, new: &mut Edges)
     requires admissible { IsAdmissible plan.now }
     requires made { IsEdgesOf plan.now new.old }

@@ -11,7 +11,9 @@ abbrev pub net_of_gate : ℕ → ℕ
 net_of_gate j = 6 + j
 
 abbrev pub net_name : ℕ → List ℕ
-net_name n = cond (nat_lt n 4) (codes "i" ++ decimal n) (cond (nat_lt n 6) (codes "q" ++ decimal (n - 4)) (codes "g" ++ decimal (n - 6)))
+net_name n =
+    cond (nat_lt n 4) (codes "i" ++ decimal n)
+      (cond (nat_lt n 6) (codes "q" ++ decimal (n - 4)) (codes "g" ++ decimal (n - 6)))
 
 -- the kinds by their numbers, and the rows of each
 abbrev pub drawn_kind : ℕ → GateKind
@@ -35,24 +37,33 @@ drawn_gate seed j = record {
 abbrev pub drawn_gates : ℕ → ℕ → List Gate
 drawn_gates seed size = map (drawn_gate seed) (range_with_len 0 size)
 
--- The two draws after those of so many gates give the data of latch 0 and of latch 1, among all nets.
+-- The two draws after those of so many gates give the data of latch 0 and of latch 1, among all
+-- nets.
 abbrev pub latch_data : ℕ → ℕ → ℕ → ℕ
 latch_data seed size l = draw_after seed (3 * size + l) (net_of_gate size)
 
 -- the lines of a gate
 abbrev pub names_text : ℕ → ℕ → ℕ → List ℕ
-names_text first second out = codes ".names " ++ (net_name first ++ (codes " " ++ (net_name second ++ (codes " " ++ (net_name out ++ codes "\n")))))
+names_text first second out =
+    codes ".names " ++ (net_name first
+      ++ (codes " " ++ (net_name second ++ (codes " " ++ (net_name out ++ codes "\n")))))
 
 abbrev pub drawn_gate_text : Gate → List ℕ
 drawn_gate_text gate = names_text gate.first gate.second gate.out ++ kind_rows gate.kind
 
--- the lines before the gates: the ports, with the last gate's net among the outputs, and the latches with their data
+-- the lines before the gates: the ports, with the last gate's net among the outputs, and the
+-- latches with their data
 abbrev pub head_text : ℕ → ℕ → ℕ → List ℕ
-head_text last data0 data1 = codes ".model made\n.inputs i0 i1 i2 i3\n.outputs " ++ (net_name last ++ (codes " q0 q1\n.latch " ++ (net_name data0 ++ (codes " q0 0\n.latch " ++ (net_name data1 ++ codes " q1 1\n")))))
+head_text last data0 data1 =
+    codes ".model made\n.inputs i0 i1 i2 i3\n.outputs "
+    ++ (net_name last ++ (codes " q0 q1\n.latch "
+      ++ (net_name data0 ++ (codes " q0 0\n.latch " ++ (net_name data1 ++ codes " q1 1\n")))))
 
 -- the text of a seed and a number of gates, of at least one
 abbrev pub made_text : ℕ → ℕ → List ℕ
-made_text seed size = head_text (net_of_gate (size - 1)) (latch_data seed size 0) (latch_data seed size 1) ++ (flat_map drawn_gate_text (drawn_gates seed size) ++ codes ".end\n")
+made_text seed size =
+    head_text (net_of_gate (size - 1)) (latch_data seed size 0) (latch_data seed size 1)
+    ++ (flat_map drawn_gate_text (drawn_gates seed size) ++ codes ".end\n")
 
 -- the state after it
 abbrev pub made_state : ℕ → ℕ → ℕ

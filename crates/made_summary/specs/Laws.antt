@@ -20,7 +20,8 @@ use Rattle.made_summary.specs.Streams.{drawn_streams}
 use Rattle.made_summary.specs.Summaries.{IsMadePlan, HasSummaryCause}
 use Rattle.made_summary.specs.declared.error.SummaryError.TheVariants.{TooFar}
 
--- The text of a plan's pattern and its table reads as these, and its inputs lie in the pattern's box.
+-- The text of a plan's pattern and its table reads as these, and its inputs lie in the pattern's
+-- box.
 pub record ReadsAsPlan (plan : Plan) (ports : Ports) : Type 0 where
   pub spells : Spells (pattern_text (start_grid plan) ports) (start_grid plan) ports
   pub inside : AreInBox (start_grid plan).width (start_grid plan).height (cells_of ports.ins)
@@ -28,23 +29,28 @@ pub record ReadsAsPlan (plan : Plan) (ports : Ports) : Type 0 where
 -- So it is of an admissible plan and its table for the design of a text.
 abbrev pub WrittenPlansRead : Type 0
 WrittenPlansRead =
-    (text : List ℕ) (design : Design) (flat : Flat) (plan : Plan) (ports : Ports) → IsDesignOf text design → weight design < 2 ^ 31 → IsFlatOf design flat
+    (text : List ℕ) (design : Design) (flat : Flat) (plan : Plan) (ports : Ports)
+    → IsDesignOf text design → weight design < 2 ^ 31 → IsFlatOf design flat
     → IsAdmissible plan → IsTableOf flat plan 1 ports → ReadsAsPlan plan ports
 
 -- the most columns of a plan of a design of that weight
 abbrev pub most_columns : ℕ → ℕ
 most_columns w = 256 * ((w + 1) * (w + 1))
 
--- and the most generations to the last bits: through the columns, and for each further cycle once round three loops
+-- and the most generations to the last bits: through the columns, and for each further cycle once
+-- round three loops
 abbrev pub most_generations : (w cycles : ℕ) → ℕ
 most_generations w cycles = 32 * most_columns w + 32 * (cycles - 1) * (2 * most_columns w + 12)
 
 abbrev pub RunsAreBounded : Type 0
 RunsAreBounded =
     (seed size cycles : ℕ) (plan : Plan) (ports : Ports) → IsMadePlan seed size plan ports
-    → last_generation ports (drawn_streams seed size cycles) ≤ most_generations (weight (made_design seed size)) cycles
+    → last_generation ports (drawn_streams seed size cycles)
+      ≤ most_generations (weight (made_design seed size)) cycles
 
 -- where these are within the limit, no cause says that a run goes too far
 abbrev pub FewCyclesAreInTime : Type 0
 FewCyclesAreInTime =
-    (seed size cycles generations : ℕ) → most_generations (weight (made_design seed size)) cycles ≤ greatest_generation → HasSummaryCause seed size cycles (TooFar generations) → ⊥
+    (seed size cycles generations : ℕ)
+    → most_generations (weight (made_design seed size)) cycles ≤ greatest_generation
+    → HasSummaryCause seed size cycles (TooFar generations) → ⊥

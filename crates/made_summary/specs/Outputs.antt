@@ -16,26 +16,32 @@ use Rattle.made_summary.specs.declared.summarizing.OutputBits.{OutputBits}
 use Rattle.made_summary.specs.declared.summarizing.Summary.{Summary}
 
 -- these are the design's outputs, with these simulated bits and the bits of a run on the streams
-pub record AreOutputsIn (design : Design) (streams : Streams) (simulated : List (List Bool)) (outputs : List OutputBits) : Type 0 where
+pub record AreOutputsIn (design : Design) (streams : Streams) (simulated : List (List Bool))
+    (outputs : List OutputBits) : Type 0 where
   pub evaluated : List (List Bool)
   pub runs : ShowsRun design streams evaluated
   pub are : outputs ≡ outputs_by_name (main_outputs design) simulated evaluated
 
 -- the summary is of this netlist and its plan under the streams
-pub record IsToldOf (netlist : Netlist) (planned : Planned) (streams : Streams) (summary : Summary) : Type 0 where
+pub record IsToldOf (netlist : Netlist) (planned : Planned) (streams : Streams)
+    (summary : Summary) : Type 0 where
   pub weight : summary.weight ≡ netlist.flat.weight
   pub lanes : summary.lanes ≡ planned.plan.lanes
   pub columns : summary.columns ≡ length planned.plan.columns
   pub period : summary.p ≡ planned.ports.p
   pub latency : summary.l ≡ planned.ports.l
   pub near : last_generation planned.ports streams ≤ greatest_generation
-  pub outputs : AreOutputsIn netlist.design streams (shown_bits planned.ports streams (plane_of (start_grid planned.plan).rows)) summary.outputs
+  pub outputs : AreOutputsIn netlist.design streams
+      (shown_bits planned.ports streams (plane_of (start_grid planned.plan).rows)) summary.outputs
 
 -- the plan's pattern is quiet where the streams drive it, up to the last bits that are shown
 abbrev pub IsQuietUnder : Planned → Streams → Type 0
-IsQuietUnder planned streams = first_miss planned.ports streams (plane_of (start_grid planned.plan).rows) (last_generation planned.ports streams) ≡ None
+IsQuietUnder planned streams =
+    first_miss planned.ports streams (plane_of (start_grid planned.plan).rows)
+      (last_generation planned.ports streams) ≡ None
 
 -- why a run up to this generation is not told
 abbrev pub HasTooFarCause : ℕ → SummaryError → Type 0
 HasTooFarCause last NoMemory = ⊤
-HasTooFarCause last (TooFar generations) = (generations ≡ last) × (greatest_generation < generations)
+HasTooFarCause last (TooFar generations) =
+    (generations ≡ last) × (greatest_generation < generations)

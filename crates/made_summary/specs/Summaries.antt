@@ -21,8 +21,9 @@ use Rattle.made_summary.specs.declared.summarizing.Summary.{Summary}
 use Rattle.made_summary.specs.declared.error.SummaryError.{SummaryError}
 use Rattle.made_summary.specs.declared.error.SummaryError.TheVariants.{NoMemory, TooFar}
 
--- The plan is admissible, and the written text of it and its table, of one context, carries the made design. It is small, by the design's weight, with a
--- loop for each of the two latches and at most one more.
+-- The plan is admissible, and the written text of it and its table, of one context, carries the
+-- made design. It is small, by the design's weight, with a loop for each of the two latches and at
+-- most one more.
 pub record IsMadePlan (seed size : ℕ) (plan : Plan) (ports : Ports) : Type 0 where
   pub admissible : IsAdmissible plan
   pub carries : Carries (pattern_text (start_grid plan) ports) (made_design seed size)
@@ -30,22 +31,31 @@ pub record IsMadePlan (seed size : ℕ) (plan : Plan) (ports : Ports) : Type 0 w
   pub period : ports.p ≡ period_of plan
   pub latency : ports.l ≡ latency_of plan
   pub lanes : plan.lanes ≤ 4 * weight (made_design seed size) + 4
-  pub columns : length plan.columns ≤ 256 * ((weight (made_design seed size) + 1) * (weight (made_design seed size) + 1))
+  pub columns : length plan.columns ≤ 256 *
+      ((weight (made_design seed size) + 1) * (weight (made_design seed size) + 1))
   pub loops : plan.latches ≤ 3
 
 -- the outputs of these names, each with what is simulated and what is evaluated of it
-abbrev pub output_at : (names : List Name) → (simulated evaluated : List (List Bool)) → ℕ → OutputBits
-output_at names simulated evaluated k = record { name = get_or names k []; simulated = get_or simulated k []; evaluated = get_or evaluated k [] }
+abbrev pub output_at : (names : List Name) → (simulated evaluated : List (List Bool)) → ℕ
+    → OutputBits
+output_at names simulated evaluated k =
+    record { name = get_or names k []; simulated = get_or simulated k [];
+      evaluated = get_or evaluated k [] }
 
-abbrev pub outputs_by_name : (names : List Name) → (simulated evaluated : List (List Bool)) → List OutputBits
-outputs_by_name names simulated evaluated = map (output_at names simulated evaluated) (range_with_len 0 (length names))
+abbrev pub outputs_by_name : (names : List Name) → (simulated evaluated : List (List Bool))
+    → List OutputBits
+outputs_by_name names simulated evaluated =
+    map (output_at names simulated evaluated) (range_with_len 0 (length names))
 
--- an output with its bits in a run, which are those that the pattern shows and those that the netlist gives
+-- an output with its bits in a run, which are those that the pattern shows and those that the
+-- netlist gives
 abbrev pub output_in_run : (ℕ → Valuation) → ℕ → Name → OutputBits
-output_in_run run cycles name = record { name = name; simulated = bits_in_run run cycles name; evaluated = bits_in_run run cycles name }
+output_in_run run cycles name =
+    record { name = name; simulated = bits_in_run run cycles name;
+      evaluated = bits_in_run run cycles name }
 
--- the weight of the made design, the numbers of such a plan, which shows the last bits within the limit of generations, and the outputs
--- in a run of the design on the drawn streams
+-- the weight of the made design, the numbers of such a plan, which shows the last bits within the
+-- limit of generations, and the outputs in a run of the design on the drawn streams
 pub record Summarizes (seed size cycles : ℕ) (summary : Summary) : Type 0 where
   pub weight : summary.weight ≡ weight (made_design seed size)
   pub plan : Plan
@@ -58,10 +68,14 @@ pub record Summarizes (seed size cycles : ℕ) (summary : Summary) : Type 0 wher
   pub near : last_generation ports (drawn_streams seed size cycles) ≤ greatest_generation
   pub run : ℕ → Valuation
   pub is_run : IsRun (made_design seed size) (rows_of (drawn_streams seed size cycles)) run
-  pub outputs : summary.outputs ≡ map (output_in_run run cycles) (main_outputs (made_design seed size))
+  pub outputs : summary.outputs ≡ map (output_in_run run cycles)
+      (main_outputs (made_design seed size))
 
--- why there is no summary: the last bits of such a plan are shown too late, at the generation that is told
+-- why there is no summary: the last bits of such a plan are shown too late, at the generation that
+-- is told
 abbrev pub HasSummaryCause : (seed size cycles : ℕ) → SummaryError → Type 0
 HasSummaryCause seed size cycles NoMemory = ⊤
 HasSummaryCause seed size cycles (TooFar generations) =
-    (plan : Plan) × (ports : Ports) × IsMadePlan seed size plan ports × (generations ≡ last_generation ports (drawn_streams seed size cycles)) × (greatest_generation < generations)
+    (plan : Plan) × (ports : Ports) × IsMadePlan seed size plan ports
+    × (generations ≡ last_generation ports (drawn_streams seed size cycles))
+    × (greatest_generation < generations)

@@ -24,7 +24,8 @@ use netlist_text::Netlist;
 use shown_runs::{carriers_are_quiet, carriers_show_runs};
 use std::alloc::{AllocError, Global};
 
-/// An output's bits, cycle after cycle: those that the pattern shows at the output's cell, and those that the netlist gives.
+/// An output's bits, cycle after cycle: those that the pattern shows at the output's cell, and
+/// those that the netlist gives.
 #[derive(Drop)]
 pub struct OutputBits {
     pub name: Name,
@@ -32,8 +33,8 @@ pub struct OutputBits {
     pub evaluated: List<bool>,
 }
 
-/// The weight of a netlist, the lanes and columns of its plan, the period `p` and the latency `l` of its pattern in generations, and the
-/// bits of its outputs.
+/// The weight of a netlist, the lanes and columns of its plan, the period `p` and the latency `l`
+/// of its pattern in generations, and the bits of its outputs.
 #[derive(Drop)]
 pub struct Summary {
     pub weight: u64,
@@ -188,8 +189,9 @@ fn told_by(
     Ok(told(weight, planned, outputs))
 }
 
-/// The netlist of a seed and a number of gates, made, compiled, simulated and evaluated under so many cycles of bits that are drawn on
-/// after it. `TooFar` comes once the netlist is compiled, where the pattern would show the last bits after generation 4,294,967,296.
+/// The netlist of a seed and a number of gates, made, compiled, simulated and evaluated under so
+/// many cycles of bits that are drawn on after it. `TooFar` comes once the netlist is compiled,
+/// where the pattern would show the last bits after generation 4,294,967,296.
 pub fn summarize(
     alloc: Global,
     seed: u32,

@@ -34,7 +34,9 @@ IsNoLater best line = MatchOption best ⊥ (λ circle. circle.line ≤ line)
 
 -- the line, if it lies on a circle, is no earlier
 abbrev pub Covers : List Model → Option Circle → ℕ → ℕ → Type 0
-Covers models best n k = (subckt : Subckt) → slice_get (subckts_of models n) k ≡ Some subckt → LiesOnCircle models n k → IsNoLater best subckt.line
+Covers models best n k =
+    (subckt : Subckt) → slice_get (subckts_of models n) k ≡ Some subckt → LiesOnCircle models n k
+    → IsNoLater best subckt.line
 
 -- the earlier of a circle and one of the k-th line of a model
 pub record IsLookedAt (models : List Model) (n k : ℕ) (old new : Option Circle) : Type 0 where

@@ -12,7 +12,8 @@ pub record AreWithin (count : ℕ) (components : Components) : Type 0 where
 
 -- the rank of what a model's lines place is no greater than its own
 abbrev pub NeverRisesAt : List Model → List ℕ → ℕ → Type 0
-NeverRisesAt models ranks n = (k inner : ℕ) → Places models n k inner → get_or ranks inner 0 ≤ get_or ranks n 0
+NeverRisesAt models ranks n =
+    (k inner : ℕ) → Places models n k inner → get_or ranks inner 0 ≤ get_or ranks n 0
 
 pub record AreRanks (models : List Model) (ranks : List ℕ) : Type 0 where
   pub fit : length ranks ≡ length models

@@ -8,8 +8,10 @@ use Rattle.model_index.specs.Numbers.{PlacesSomewhere}
 abbrev pub IsFound : List (Option ℕ) → ℕ → Type 0
 IsFound places n = (p : ℕ) × (get_or places n None ≡ Some p)
 
--- where models stand among those found, and of each but the first the place of one before it that places it
-pub record IsSearch (models : List Model) (first : ℕ) (places : List (Option ℕ)) (found parents : List ℕ) : Type 0 where
+-- where models stand among those found, and of each but the first the place of one before it that
+-- places it
+pub record IsSearch (models : List Model) (first : ℕ) (places : List (Option ℕ))
+    (found parents : List ℕ) : Type 0 where
   pub fit : length places ≡ length models
   pub parents_fit : length parents ≡ length found
   pub counted : count_by is_none places + length found ≡ length models
@@ -17,11 +19,15 @@ pub record IsSearch (models : List Model) (first : ℕ) (places : List (Option �
   pub is_first : get_or found 0 0 ≡ first
   pub numbers : (i : ℕ) → i < length found → get_or found i 0 < length models
   pub at_place : (i : ℕ) → i < length found → get_or places (get_or found i 0) None ≡ Some i
-  pub place_of : (n i : ℕ) → get_or places n None ≡ Some i → (i < length found) × (get_or found i 0 ≡ n)
-  pub before : (i : ℕ) → 0 < i → i < length found → (get_or parents i 0 < i) × PlacesSomewhere models (get_or found (get_or parents i 0) 0) (get_or found i 0)
+  pub place_of : (n i : ℕ) → get_or places n None ≡ Some i
+    → (i < length found) × (get_or found i 0 ≡ n)
+  pub before : (i : ℕ) → 0 < i → i < length found
+    → (get_or parents i 0 < i) × PlacesSomewhere models (get_or found (get_or parents i 0) 0)
+      (get_or found i 0)
 
 abbrev pub IsSearchOf : List Model → ℕ → Search → Type 0
-IsSearchOf models first search = IsSearch models first search.places.items search.found.items search.parents.items
+IsSearchOf models first search =
+    IsSearch models first search.places.items search.found.items search.parents.items
 
 -- what was found keeps its place
 abbrev pub StillFound : List (Option ℕ) → List (Option ℕ) → Type 0
@@ -29,16 +35,20 @@ StillFound before after = (n p : ℕ) → get_or before n None ≡ Some p → ge
 
 -- what the models found before a place place is found
 abbrev pub AreMetBefore : List Model → List (Option ℕ) → List ℕ → ℕ → Type 0
-AreMetBefore models places found at = (i inner : ℕ) → i < at → PlacesSomewhere models (get_or found i 0) inner → IsFound places inner
+AreMetBefore models places found at =
+    (i inner : ℕ) → i < at → PlacesSomewhere models (get_or found i 0) inner → IsFound places inner
 
 -- all that the first leads to is found
 pub record IsWholeSearch (models : List Model) (first : ℕ) (search : Search) : Type 0 where
   pub is_search : IsSearchOf models first search
-  pub closed : AreMetBefore models search.places.items search.found.items (length search.found.items)
+  pub closed : AreMetBefore models search.places.items search.found.items
+      (length search.found.items)
 
 -- a model that is met has a place, the next one where it had none
 abbrev pub IsMetAs : Option ℕ → Search → ℕ → ℕ → Search → Type 0
-IsMetAs (Some p) old inner at new = (new.places.items ≡ old.places.items) × (new.found.items ≡ old.found.items) × (new.parents.items ≡ old.parents.items)
+IsMetAs (Some p) old inner at new =
+    (new.places.items ≡ old.places.items) × (new.found.items ≡ old.found.items)
+    × (new.parents.items ≡ old.parents.items)
 IsMetAs None old inner at new =
     (new.places.items ≡ slice_set old.places.items inner (Some (length old.found.items)))
     × (new.found.items ≡ old.found.items ++ inner ∷ [])

@@ -11,8 +11,8 @@ use model_index::{NamedModels, placed};
 use netlist_core::Model;
 use std::alloc::{AllocError, Global};
 
-/// A circle of models by their numbers: the one in which the line stands, and the others, of which the line places the
-/// first and the last places the one in which it stands.
+/// A circle of models by their numbers: the one in which the line stands, and the others, of which
+/// the line places the first and the last places the one in which it stands.
 #[derive(Drop)]
 pub struct Circle {
     pub line: u64,

@@ -1,4 +1,5 @@
-// Ranks of models by strongly connected components. Nothing is proved of the ranks here: whoever uses them checks them.
+// Ranks of models by strongly connected components. Nothing is proved of the ranks here: whoever
+// uses them checks them.
 ghost use Rattle.std.specs.Prelude.{◌≡◌, ◌<◌, length, IfOk, OnOk};
 ghost use Rattle.model_circles.specs.Ranks.{AreWithin};
 
@@ -6,8 +7,9 @@ use model_index::{NamedModels, placed};
 use netlist_core::Model;
 use std::alloc::{AllocError, Global};
 
-// What the walk knows of a model: its number in the order of opening, from 1; the least number of an open model that
-// is reached from it; the line to look at next; and its rank, once its component is whole.
+// What the walk knows of a model: its number in the order of opening, from 1; the least number of
+// an open model that is reached from it; the line to look at next; and its rank, once its component
+// is whole.
 #[derive(Clone, Copy)]
 struct Note {
     number: usize,

@@ -38,7 +38,8 @@ fn never_rise(models: &[Model], named: &NamedModels, ranks: &[usize]) -> bool
     true
 }
 
-/// Ranks of which none rises along a line, by components, so that lines on no circle mostly lead to a lower rank.
+/// Ranks of which none rises along a line, by components, so that lines on no circle mostly lead to
+/// a lower rank.
 pub fn ranks(alloc: Global, models: &[Model], named: &NamedModels) -> Result<Vec<usize>, AllocError>
     requires { named.now ≡ models.now }
     ensures { IfOk result (λ ranks. AreRanks models.now ranks.items) }

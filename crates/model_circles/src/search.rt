@@ -9,8 +9,8 @@ use model_index::{NamedModels, placed};
 use netlist_core::Model;
 use std::alloc::{AllocError, Global};
 
-/// The models found so far, in the order in which they were, each with the place there of the one that places it; and
-/// the place of each model.
+/// The models found so far, in the order in which they were, each with the place there of the one
+/// that places it; and the place of each model.
 #[derive(Drop)]
 pub struct Search {
     pub places: Vec<Option<usize>>,

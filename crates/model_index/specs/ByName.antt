@@ -13,12 +13,15 @@ pub record IsNumberOf (models : List Model) (name : Name) (number : ℕ) : Type 
   pub model : Model
   pub is_there : slice_get models number ≡ Some model
   pub is_named : model_named models name ≡ Some model
-  pub is_first : (k : ℕ) (earlier : Model) → k < number → slice_get models k ≡ Some earlier → is_model_named name earlier ≡ false
+  pub is_first : (k : ℕ) (earlier : Model) → k < number → slice_get models k ≡ Some earlier
+    → is_model_named name earlier ≡ false
 
 -- what a map keeps for a name
 abbrev pub number_kept : BTreeMap (Bor (List ℕ)) ℕ → Name → Option ℕ
 number_kept numbers name = get_by (λ k. slice_cmp nat_cmp name k.now) numbers
 
--- A map has the number of the first model of each name, where the models are numbered from this one on.
+-- A map has the number of the first model of each name, where the models are numbered from this one
+-- on.
 abbrev pub HasNumbersFrom : BTreeMap (Bor (List ℕ)) ℕ → ℕ → List Model → Type 0
-HasNumbersFrom numbers number models = (name : Name) → number_kept numbers name ≡ position_from (is_model_named name) number models
+HasNumbersFrom numbers number models =
+    (name : Name) → number_kept numbers name ≡ position_from (is_model_named name) number models

@@ -19,7 +19,8 @@ subckts_of models n = option_map_or (λ model. model.subckts) (slice_get models 
 
 -- the number of the model that a model's subckt line of that number names
 unfoldable pub number_placed : List Model → ℕ → ℕ → Option ℕ
-number_placed models n k = option_and_then (λ line. first_named models line.model) (slice_get (subckts_of models n) k)
+number_placed models n k =
+    option_and_then (λ line. first_named models line.model) (slice_get (subckts_of models n) k)
 
 -- the k-th subckt line of a model places another
 abbrev pub Places : List Model → ℕ → ℕ → ℕ → Type 0
@@ -32,4 +33,5 @@ PlacesSomewhere models n inner = (k : ℕ) × Places models n k inner
 -- each model places the next, and the last the one at the end
 abbrev pub LeadsBy : List Model → ℕ → List ℕ → ℕ → Type 0
 LeadsBy models n [] end = PlacesSomewhere models n end
-LeadsBy models n (next ∷ numbers) end = PlacesSomewhere models n next × LeadsBy models next numbers end
+LeadsBy models n (next ∷ numbers) end =
+    PlacesSomewhere models n next × LeadsBy models next numbers end

@@ -9,4 +9,5 @@ pub record IsModelOrder (models : List Model) (order : List ℕ) : Type 0 where
   pub once : AllPairs (λ a b. a ≢ b) order
   pub all : (n : ℕ) → n < length models → Contains order n
   pub few : length order ≤ length models
-  pub after : (i k inner : ℕ) → i < length order → Places models (get_or order i 0) k inner → (j : ℕ) × (j < i) × (get_or order j 0 ≡ inner)
+  pub after : (i k inner : ℕ) → i < length order → Places models (get_or order i 0) k inner
+    → (j : ℕ) × (j < i) × (get_or order j 0 ≡ inner)

@@ -7,4 +7,5 @@ use Rattle.netlist_rules.specs.ModelFaults.{earliest, fault_of_port, words_at_fa
 
 -- the fault at the earliest word at which the models break this rule
 abbrev pub earliest_broken : FaultKind → List Model → Option Fault
-earliest_broken kind models = option_map (fault_of_port kind) (earliest (flat_map (words_at_fault kind models) models))
+earliest_broken kind models =
+    option_map (fault_of_port kind) (earliest (flat_map (words_at_fault kind models) models))

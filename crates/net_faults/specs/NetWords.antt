@@ -8,7 +8,8 @@ use Rattle.net_faults.specs.Numbering.{AreNumbered, numbered_ports}
 
 -- the drivers of a model's nets that are no inputs
 abbrev pub other_drivers : List Model → Model → List Port
-other_drivers models m = map cover_output m.covers ++ map latch_output m.latches ++ actuals models is_output_pin m
+other_drivers models m =
+    map cover_output m.covers ++ map latch_output m.latches ++ actuals models is_output_pin m
 
 -- the words have their names' numbers
 pub record HaveNumbers (words : NetWords) : Type 0 where

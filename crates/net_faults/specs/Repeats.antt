@@ -6,6 +6,7 @@ use Rattle.net_faults.specs.declared.repeats.Repeats.{Repeats}
 use Rattle.net_faults.specs.FirstLines.{AreFirstLines}
 
 -- The words before, the nearest first, have been passed, and those after have not.
-pub record IsBetween (names : Numbering) (repeats : Repeats) (before after : List Port) : Type 0 where
+pub record IsBetween (names : Numbering) (repeats : Repeats)
+    (before after : List Port) : Type 0 where
   pub all : AreFirstLines names repeats.all (before ++ after)
   pub passed : AreFirstLines names repeats.passed before

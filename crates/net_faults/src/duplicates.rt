@@ -61,7 +61,8 @@ fn offer_doubles<'a>(
     Ok(())
 }
 
-// Offers the names of a model that are twice a port, by the lines of its inputs and clocks and those of its outputs.
+// Offers the names of a model that are twice a port, by the lines of its inputs and clocks and
+// those of its outputs.
 fn offer_duplicates_by<'a>(
     alloc: Global,
     model: &'a Model,
@@ -89,8 +90,8 @@ fn offer_duplicates_by<'a>(
     Ok(())
 }
 
-/// Offers the names of a model that are twice a port: twice in `.inputs`, twice in `.clock`, twice in `.outputs`, or among the
-/// inputs and in `.outputs`.
+/// Offers the names of a model that are twice a port: twice in `.inputs`, twice in `.clock`, twice
+/// in `.outputs`, or among the inputs and in `.outputs`.
 pub fn offer_duplicates<'a>(
     alloc: Global,
     model: &'a Model,

@@ -15,15 +15,17 @@ use model_words::{Earliest, Fault, FaultKind, PlacedPorts};
 use netlist_core::Model;
 use std::alloc::{AllocError, Global};
 
-/// The fault by each rule on how nets are named, driven and read, at the earliest word that breaks it.
+/// The fault by each rule on how nets are named, driven and read, at the earliest word that breaks
+/// it.
 #[derive(Drop)]
 pub struct NetFaults {
-    /// Of a name that is twice a port of a model: twice in `.inputs`, twice in `.clock`, twice in `.outputs`, or among the inputs
-    /// and in `.outputs`.
+    /// Of a name that is twice a port of a model: twice in `.inputs`, twice in `.clock`, twice in
+    /// `.outputs`, or among the inputs and in `.outputs`.
     pub duplicate_port: Option<Fault>,
     /// Of a net that has two drivers.
     pub second_driver: Option<Fault>,
-    /// Of a net that is read and has no driver. A pin of an unknown model or formal counts as a driver here.
+    /// Of a net that is read and has no driver. A pin of an unknown model or formal counts as a
+    /// driver here.
     pub undriven: Option<Fault>,
 }
 

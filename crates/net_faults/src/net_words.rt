@@ -15,7 +15,8 @@ use model_words::PlacedPorts;
 use netlist_core::Model;
 use std::alloc::{AllocError, Global};
 
-/// The words of a model that name its nets where they are driven, and its outputs, each with the number of its name.
+/// The words of a model that name its nets where they are driven, and its outputs, each with the
+/// number of its name.
 #[derive(Drop)]
 pub struct NetWords<'a> {
     pub names: Numbering<'a>,

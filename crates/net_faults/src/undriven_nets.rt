@@ -49,7 +49,8 @@ fn driver_lines(alloc: Global, words: &NetWords<'_>) -> Result<FirstLines, Alloc
     FirstLines::of(alloc, &words.names, &drivers)
 }
 
-/// Offers the readings of a model's nets that have no driver. A pin of an unknown model or formal counts as a driver here.
+/// Offers the readings of a model's nets that have no driver. A pin of an unknown model or formal
+/// counts as a driver here.
 pub fn offer_undriven<'a>(
     alloc: Global,
     model: &'a Model,

@@ -6,8 +6,9 @@ use lists::{Bytes, List};
 #[derive(Clone, Copy)]
 pub struct NetId(pub u32);
 
-/// A net: its place in the design, its name there, and the number of its class of joined nets. In the flat netlist of a
-/// design that is the position of the net of the class that is nearest the main model.
+/// A net: its place in the design, its name there, and the number of its class of joined nets. In
+/// the flat netlist of a design that is the position of the net of the class that is nearest the
+/// main model.
 #[derive(Drop)]
 pub struct Net {
     pub place: List<u32>,
@@ -43,10 +44,11 @@ pub struct FlatLatch {
     pub init: u8,
 }
 
-/// A flat netlist: `ins` are the nets of the IN names, `outs` those of the main outputs, `clocks` those of the main
-/// model's `.clock` names, and `control` is the first latch's. Nets stand by place, and there by where the name first
-/// stands in the model's text; nodes and latches stand by place and line. Port tables list the nets where `listed` is
-/// true, as it is for the flat netlist of a design.
+/// A flat netlist: `ins` are the nets of the IN names, `outs` those of the main outputs, `clocks`
+/// those of the main model's `.clock` names, and `control` is the first latch's. Nets stand by
+/// place, and there by where the name first stands in the model's text; nodes and latches stand by
+/// place and line. Port tables list the nets where `listed` is true, as it is for the flat netlist
+/// of a design.
 #[derive(Drop)]
 pub struct Flat {
     pub nets: List<Net>,

@@ -25,8 +25,8 @@ pub struct Pin {
     pub actual: Name,
 }
 
-/// A `.names` line with its rows: `rows` has the characters before the output column, and `on` is true
-/// where the rows end in `1` or there are none.
+/// A `.names` line with its rows: `rows` has the characters before the output column, and `on` is
+/// true where the rows end in `1` or there are none.
 #[derive(Drop)]
 pub struct Cover {
     pub line: u64,
@@ -36,7 +36,8 @@ pub struct Cover {
     pub on: bool,
 }
 
-/// A `.latch` line: `kind` is `None` where there is no control (or it is `NIL`), and `init` is 0 to 3, 3 where it is left out.
+/// A `.latch` line: `kind` is `None` where there is no control (or it is `NIL`), and `init` is 0 to
+/// 3, 3 where it is left out.
 #[derive(Drop)]
 pub struct LatchRow {
     pub line: u64,

@@ -26,8 +26,8 @@ fn literals(row: &[u8]) -> usize
         .count()
 }
 
-/// The weight of a cover with these rows, at most the greatest u64: one for the cover, one for each row and one for each
-/// `0` and `1` in it.
+/// The weight of a cover with these rows, at most the greatest u64: one for the cover, one for each
+/// row and one for each `0` and `1` in it.
 pub fn rows_weight(rows: &[Bytes]) -> u64
     ensures { result ≡ min (rows_weight rows.now) u64.MAX }
 {
@@ -54,8 +54,9 @@ fn port_weight(model: &Model) -> u64
         .saturating_add(clocks as u64)
 }
 
-/// The part of the weight that is the model's own, at most the greatest u64: one for each port name, two for each
-/// latch, one for each subckt line, and for each cover one, one for each row and one for each `0` and `1` in its rows.
+/// The part of the weight that is the model's own, at most the greatest u64: one for each port
+/// name, two for each latch, one for each subckt line, and for each cover one, one for each row and
+/// one for each `0` and `1` in its rows.
 pub fn weight_of(model: &Model) -> u64
     ensures { result ≡ min (own_weight model.now) u64.MAX }
 {

@@ -9,8 +9,13 @@ use Rattle.netlist_meaning.specs.FlatOrder.{IsOrder}
 
 -- along an order there is exactly one
 abbrev pub OrderedHaveOneValuation : Type 0
-OrderedHaveOneValuation = (flat : Flat) → IsSound flat → (order : List ℕ) → IsOrder flat order → (inputs state : List Bool) → length inputs ≡ length flat.ins → length state ≡ length flat.latches
-    → (bits : ℕ → Bool) × IsFlatValuation flat inputs state bits × ((others : ℕ → Bool) → IsFlatValuation flat inputs state others → AgreeWhereDriven flat bits others)
+OrderedHaveOneValuation =
+    (flat : Flat) → IsSound flat → (order : List ℕ) → IsOrder flat order
+    → (inputs state : List Bool) → length inputs ≡ length flat.ins
+    → length state ≡ length flat.latches
+    → (bits : ℕ → Bool) × IsFlatValuation flat inputs state bits
+    × ((others : ℕ → Bool) → IsFlatValuation flat inputs state others
+      → AgreeWhereDriven flat bits others)
 
 -- bits by class, as they are computed
 abbrev pub class_bit : List Bool → ℕ → Bool
@@ -35,12 +40,16 @@ abbrev pub settled : Flat → List ℕ → List Bool → List Bool
 settled flat order bits = fold (settle_node flat) bits order
 
 abbrev pub evaluated : Flat → List ℕ → List Bool → List Bool → List Bool → List Bool
-evaluated flat order inputs state bits = settled flat order (with_state flat state (with_inputs flat inputs bits))
+evaluated flat order inputs state bits =
+    settled flat order (with_state flat state (with_inputs flat inputs bits))
 
 -- what a cycle gives is told by the inputs and the state
 abbrev pub CyclesAreOne : Type 0
-CyclesAreOne = (flat : Flat) → IsSound flat → (order : List ℕ) → IsOrder flat order → (inputs state outputs next outputs' next' : List Bool)
-    → IsCycle flat inputs state outputs next → IsCycle flat inputs state outputs' next' → (outputs ≡ outputs') × (next ≡ next')
+CyclesAreOne =
+    (flat : Flat) → IsSound flat → (order : List ℕ) → IsOrder flat order
+    → (inputs state outputs next outputs' next' : List Bool)
+    → IsCycle flat inputs state outputs next → IsCycle flat inputs state outputs' next'
+    → (outputs ≡ outputs') × (next ≡ next')
 
 -- what a machine shows: its netlist, and the state of the latches
 pub record Held : Type 0 where

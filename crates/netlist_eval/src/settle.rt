@@ -1,4 +1,5 @@
-// The bits of a cycle, by class: those of inputs and latches are put, those of nodes are computed along the order.
+// The bits of a cycle, by class: those of inputs and latches are put, those of nodes are computed
+// along the order.
 ghost use Rattle.std.specs.Prelude.{◌≡◌, ◌<◌, length, map, All, IfOk, ◌==◌};
 ghost use Rattle.netlist_meaning.specs.FlatValuation.{start_bits};
 ghost use Rattle.netlist_meaning.specs.Flat.{IsInRange, class_of};

@@ -16,18 +16,25 @@ HoldsUnder row bits =
     (column : ℕ) (bit : Bool) → slice_get bits column ≡ Some bit
     → (slice_get row column ≡ Some 49 → bit ≡ true) × (slice_get row column ≡ Some 48 → bit ≡ false)
 
--- rows that end in `1`: the value is 1 exactly when a row holds; rows that end in `0`: it is 0 exactly when one holds; no rows: it is 0
+-- rows that end in `1`: the value is 1 exactly when a row holds; rows that end in `0`: it is 0
+-- exactly when one holds; no rows: it is 0
 pub record CoversSay : Type 0 where
-  pub on : (rows : List (List ℕ)) (bits : List Bool) → (cover_value rows true bits ≡ true) ↔ Any (λ row. HoldsUnder row bits) rows
+  pub on : (rows : List (List ℕ)) (bits : List Bool) → (cover_value rows true bits ≡ true)
+    ↔ Any (λ row. HoldsUnder row bits) rows
   pub no_rows : (on : Bool) (bits : List Bool) → cover_value [] on bits ≡ false
-  pub off : (rows : List (List ℕ)) (bits : List Bool) → rows ≢ [] → (cover_value rows false bits ≡ false) ↔ Any (λ row. HoldsUnder row bits) rows
+  pub off : (rows : List (List ℕ)) (bits : List Bool) → rows ≢ []
+    → (cover_value rows false bits ≡ false) ↔ Any (λ row. HoldsUnder row bits) rows
 
 -- a valuation is one by its bits at the design's nets alone, and so are the outputs
 pub record OnlyNetsMatter (design : Design) : Type 0 where
-  pub solves : (inputs : List Bool) (state : LatchState) (bits others : Valuation) → AgreeOnNets design bits others → IsValuation design inputs state bits → IsValuation design inputs state others
-  pub outputs : (bits others : Valuation) → AgreeOnNets design bits others → output_bits design bits ≡ output_bits design others
+  pub solves : (inputs : List Bool) (state : LatchState) (bits others : Valuation)
+    → AgreeOnNets design bits others → IsValuation design inputs state bits
+    → IsValuation design inputs state others
+  pub outputs : (bits others : Valuation) → AgreeOnNets design bits others
+    → output_bits design bits ≡ output_bits design others
 
--- so it is where each formal is a name of its model, no line names one with two actuals, and no clock net is read or driven
+-- so it is where each formal is a name of its model, no line names one with two actuals, and no
+-- clock net is read or driven
 abbrev pub WiredDesignsHaveNets : Type 0
 WiredDesignsHaveNets = (design : Design) → IsWired design → OnlyNetsMatter design
 
@@ -37,10 +44,14 @@ pub data IsSublist : List Port → List Port → Type 0 where
   without : {p : Port} {some all : List Port} → IsSublist some all → IsSublist some (p ∷ all)
   with : {p : Port} {some all : List Port} → IsSublist some all → IsSublist (p ∷ some) (p ∷ all)
 
--- The words at fault stand in the order of the models' own lists, in which the words of one line stand as on the line: so the first of the earliest line is that line's first.
+-- The words at fault stand in the order of the models' own lists, in which the words of one line
+-- stand as on the line: so the first of the earliest line is that line's first.
 pub record WordsKeepOrder : Type 0 where
   pub ports : (m : Model) → IsSublist (duplicate_ports m) (m.ins ++ m.clocks ++ m.outs)
-  pub drivers : (models : List Model) (m : Model) → IsSublist (second_drivers models m) (drivers_of models m)
-  pub readings : (models : List Model) (m : Model) → IsSublist (undriven_readings models m) (readings_of models m)
-  pub formals : (models : List Model) (s : Subckt) → IsSublist (unknown_formals models s) (formals_of s)
+  pub drivers : (models : List Model) (m : Model)
+    → IsSublist (second_drivers models m) (drivers_of models m)
+  pub readings : (models : List Model) (m : Model)
+    → IsSublist (undriven_readings models m) (readings_of models m)
+  pub formals : (models : List Model) (s : Subckt)
+    → IsSublist (unknown_formals models s) (formals_of s)
   pub formals_twice : (s : Subckt) → IsSublist (repeats (formals_of s)) (formals_of s)

@@ -44,10 +44,14 @@ loop_design = design_with (loop_main ∷ [])
 
 -- .names a b c s / 100 1 / 010 1 / 001 1 / 111 1, and .names a b c co / 11- 1 / 1-1 1 / -11 1
 abbrev pub sum_cover : Cover
-sum_cover = cover_with 10 (codes "a" ∷ codes "b" ∷ codes "c" ∷ []) (codes "s") (codes "100" ∷ codes "010" ∷ codes "001" ∷ codes "111" ∷ [])
+sum_cover =
+    cover_with 10 (codes "a" ∷ codes "b" ∷ codes "c" ∷ []) (codes "s")
+      (codes "100" ∷ codes "010" ∷ codes "001" ∷ codes "111" ∷ [])
 
 abbrev pub carry_cover : Cover
-carry_cover = cover_with 15 (codes "a" ∷ codes "b" ∷ codes "c" ∷ []) (codes "co") (codes "11-" ∷ codes "1-1" ∷ codes "-11" ∷ [])
+carry_cover =
+    cover_with 15 (codes "a" ∷ codes "b" ∷ codes "c" ∷ []) (codes "co")
+      (codes "11-" ∷ codes "1-1" ∷ codes "-11" ∷ [])
 
 -- .model fa / .inputs a b c / .outputs s co / .names a b c s / 100 1 / 010 1 / 001 1 / 111 1
 -- / .names a b c co / 11- 1 / 1-1 1 / -11 1 / .end
@@ -66,10 +70,16 @@ full_adder =
 
 -- .subckt fa a=a0 b=b0 c=ci s=s0 co=k, and .subckt fa a=a1 b=b1 c=k s=s1 co=c
 abbrev pub first_line : Subckt
-first_line = subckt_with 4 (codes "fa") (pin_with (codes "a") (codes "a0") ∷ pin_with (codes "b") (codes "b0") ∷ pin_with (codes "c") (codes "ci") ∷ pin_with (codes "s") (codes "s0") ∷ pin_with (codes "co") (codes "k") ∷ [])
+first_line =
+    subckt_with 4 (codes "fa") (pin_with (codes "a") (codes "a0")
+      ∷ pin_with (codes "b") (codes "b0") ∷ pin_with (codes "c") (codes "ci")
+    ∷ pin_with (codes "s") (codes "s0") ∷ pin_with (codes "co") (codes "k") ∷ [])
 
 abbrev pub second_line : Subckt
-second_line = subckt_with 5 (codes "fa") (pin_with (codes "a") (codes "a1") ∷ pin_with (codes "b") (codes "b1") ∷ pin_with (codes "c") (codes "k") ∷ pin_with (codes "s") (codes "s1") ∷ pin_with (codes "co") (codes "c") ∷ [])
+second_line =
+    subckt_with 5 (codes "fa") (pin_with (codes "a") (codes "a1")
+      ∷ pin_with (codes "b") (codes "b1") ∷ pin_with (codes "c") (codes "k")
+    ∷ pin_with (codes "s") (codes "s1") ∷ pin_with (codes "co") (codes "c") ∷ [])
 
 -- .model add / .inputs a0 a1 b0 b1 ci / .outputs s0 s1 c / .subckt fa a=a0 b=b0 c=ci s=s0 co=k
 -- / .subckt fa a=a1 b=b1 c=k s=s1 co=c / .end, and the full adder
@@ -115,7 +125,8 @@ wide_design inputs = design_with (wide_main inputs ∷ [])
 abbrev pub storey_name : ℕ → Name
 storey_name n = codes "h" ++ decimal n
 
--- .model h0 / .names y / .end, and above it .model hj / .subckt h(j-1) / .subckt h(j-1) / .end, from a line on
+-- .model h0 / .names y / .end, and above it .model hj / .subckt h(j-1) / .subckt h(j-1) / .end,
+-- from a line on
 abbrev pub storey : ℕ → ℕ → Model
 storey line zero =
     record {
@@ -137,7 +148,9 @@ storey line (suc n) =
       clocks = [];
       covers = [];
       latches = [];
-      subckts = subckt_with (line + 1) (storey_name n) [] ∷ subckt_with (line + 2) (storey_name n) [] ∷ [];
+      subckts =
+          subckt_with (line + 1) (storey_name n) [] ∷ subckt_with (line + 2) (storey_name n) []
+          ∷ [];
     }
 
 -- the models hn down to h0, from a line on
@@ -158,7 +171,9 @@ clocked_main =
       outs = ports_with 4 (codes "q" ∷ []);
       clocks = [];
       covers = [];
-      latches = record { line = 5; input = codes "d"; output = codes "q"; kind = Some Rise; control = Some (codes "clk"); init = 2 } ∷ [];
+      latches =
+          record { line = 5; input = codes "d"; output = codes "q"; kind = Some Rise;
+            control = Some (codes "clk"); init = 2 } ∷ [];
       subckts = [];
     }
 
@@ -175,14 +190,17 @@ read_clock_main =
       outs = ports_with 3 (codes "q" ∷ codes "y" ∷ []);
       clocks = [];
       covers = cover_with 5 (codes "clk" ∷ []) (codes "y") (codes "1" ∷ []) ∷ [];
-      latches = record { line = 4; input = codes "d"; output = codes "q"; kind = Some Rise; control = Some (codes "clk"); init = 2 } ∷ [];
+      latches =
+          record { line = 4; input = codes "d"; output = codes "q"; kind = Some Rise;
+            control = Some (codes "clk"); init = 2 } ∷ [];
       subckts = [];
     }
 
 abbrev pub read_clock_design : Design
 read_clock_design = design_with (read_clock_main ∷ [])
 
--- .model m / .inputs d / .clock c e / .outputs p q / .latch d p re c / .latch d q re e / .end: latches with two clocks
+-- .model m / .inputs d / .clock c e / .outputs p q / .latch d p re c / .latch d q re e / .end:
+-- latches with two clocks
 abbrev pub two_clocks_main : Model
 two_clocks_main =
     record {
@@ -193,8 +211,10 @@ two_clocks_main =
       clocks = ports_with 3 (codes "c" ∷ codes "e" ∷ []);
       covers = [];
       latches =
-          record { line = 5; input = codes "d"; output = codes "p"; kind = Some Rise; control = Some (codes "c"); init = 3 }
-          ∷ record { line = 6; input = codes "d"; output = codes "q"; kind = Some Rise; control = Some (codes "e"); init = 3 }
+          record { line = 5; input = codes "d"; output = codes "p"; kind = Some Rise;
+              control = Some (codes "c"); init = 3 }
+          ∷ record { line = 6; input = codes "d"; output = codes "q"; kind = Some Rise;
+            control = Some (codes "e"); init = 3 }
           ∷ [];
       subckts = [];
     }
@@ -221,7 +241,9 @@ latch_design init = design_with (latch_main init ∷ [])
 
 -- .model m / .outputs x / .subckt b i=x o=x / .end
 abbrev pub circle_line : Subckt
-circle_line = subckt_with 3 (codes "b") (pin_with (codes "i") (codes "x") ∷ pin_with (codes "o") (codes "x") ∷ [])
+circle_line =
+    subckt_with 3 (codes "b") (pin_with (codes "i") (codes "x") ∷ pin_with (codes "o") (codes "x")
+      ∷ [])
 
 abbrev pub circle_main : Model
 circle_main =
@@ -255,7 +277,9 @@ circle_design = design_with (circle_main ∷ buffer_model ∷ [])
 
 -- .subckt s x=d k=clk z=r
 abbrev pub shared_line : Subckt
-shared_line = subckt_with 5 (codes "s") (pin_with (codes "x") (codes "d") ∷ pin_with (codes "k") (codes "clk") ∷ pin_with (codes "z") (codes "r") ∷ [])
+shared_line =
+    subckt_with 5 (codes "s") (pin_with (codes "x") (codes "d") ∷ pin_with (codes "k") (codes "clk")
+      ∷ pin_with (codes "z") (codes "r") ∷ [])
 
 -- .model m / .inputs d clk / .outputs q r / .latch d q re clk / .subckt s x=d k=clk z=r / .end
 abbrev pub shared_main : Model
@@ -267,7 +291,9 @@ shared_main =
       outs = ports_with 3 (codes "q" ∷ codes "r" ∷ []);
       clocks = [];
       covers = [];
-      latches = record { line = 4; input = codes "d"; output = codes "q"; kind = Some Rise; control = Some (codes "clk"); init = 3 } ∷ [];
+      latches =
+          record { line = 4; input = codes "d"; output = codes "q"; kind = Some Rise;
+            control = Some (codes "clk"); init = 3 } ∷ [];
       subckts = shared_line ∷ [];
     }
 
@@ -281,7 +307,9 @@ shared_inner =
       outs = ports_with 9 (codes "z" ∷ []);
       clocks = [];
       covers = [];
-      latches = record { line = 10; input = codes "x"; output = codes "z"; kind = Some Rise; control = Some (codes "k"); init = 3 } ∷ [];
+      latches =
+          record { line = 10; input = codes "x"; output = codes "z"; kind = Some Rise;
+            control = Some (codes "k"); init = 3 } ∷ [];
       subckts = [];
     }
 
@@ -299,7 +327,8 @@ half_clocked_main =
       clocks = [];
       covers = [];
       latches =
-          record { line = 4; input = codes "d"; output = codes "p"; kind = Some Rise; control = Some (codes "c"); init = 3 }
+          record { line = 4; input = codes "d"; output = codes "p"; kind = Some Rise;
+              control = Some (codes "c"); init = 3 }
           ∷ plain_latch 5 (codes "d") (codes "q") 3
           ∷ [];
       subckts = [];

@@ -16,10 +16,13 @@ abbrev pub is_odd_cycle : ℕ → Bool
 is_odd_cycle zero = false
 is_odd_cycle (suc n) = not (is_odd_cycle n)
 
--- there is a run on every list of rows without bits, and in every run the one output is 0 and 1 in turn
+-- there is a run on every list of rows without bits, and in every run the one output is 0 and 1 in
+-- turn
 pub record IsToggle (design : Design) : Type 0 where
-  pub runs : (rows : List (List Bool)) → All (λ row. length row ≡ 0) rows → (run : ℕ → Valuation) × IsRun design rows run
-  pub gives : (rows : List (List Bool)) (run : ℕ → Valuation) → IsRun design rows run → (cycle : ℕ) → cycle < length rows → output_bits design (run cycle) ≡ is_odd_cycle cycle ∷ []
+  pub runs : (rows : List (List Bool)) → All (λ row. length row ≡ 0) rows
+    → (run : ℕ → Valuation) × IsRun design rows run
+  pub gives : (rows : List (List Bool)) (run : ℕ → Valuation) → IsRun design rows run → (cycle : ℕ)
+    → cycle < length rows → output_bits design (run cycle) ≡ is_odd_cycle cycle ∷ []
 
 -- a latch that starts as 0 and takes the inverse of its output is a toggle
 abbrev pub LatchToggles : Type 0
@@ -27,7 +30,8 @@ LatchToggles = (n q : Name) → n ≢ q → IsToggle (toggle_design n q)
 
 -- a circle through a latch is no loop
 abbrev pub LatchBreaksLoop : Type 0
-LatchBreaksLoop = (n q : Name) → n ≢ q → (nets : List Net) → ¬ IsCombinationalLoop (toggle_design n q) nets
+LatchBreaksLoop =
+    (n q : Name) → n ≢ q → (nets : List Net) → ¬ IsCombinationalLoop (toggle_design n q) nets
 
 -- a cover that reads its own output is one
 abbrev pub CoverReadsItself : Type 0
@@ -61,11 +65,16 @@ abbrev pub number_spelled : List Bool → ℕ
 number_spelled [] = 0
 number_spelled (bit ∷ bits) = cond bit 1 0 + 2 * number_spelled bits
 
--- there is a run on every list of rows of five bits a0 a1 b0 b1 ci, and in every run the outputs of each cycle are the sum
+-- there is a run on every list of rows of five bits a0 a1 b0 b1 ci, and in every run the outputs of
+-- each cycle are the sum
 pub record IsAdder (design : Design) : Type 0 where
-  pub runs : (rows : List (List Bool)) → All (λ row. length row ≡ 5) rows → (run : ℕ → Valuation) × IsRun design rows run
-  pub adds : (rows : List (List Bool)) (run : ℕ → Valuation) → IsRun design rows run → (cycle : ℕ) (a0 a1 b0 b1 ci : Bool) → slice_get rows cycle ≡ Some (a0 ∷ a1 ∷ b0 ∷ b1 ∷ ci ∷ [])
-      → number_spelled (output_bits design (run cycle)) ≡ number_spelled (a0 ∷ a1 ∷ []) + number_spelled (b0 ∷ b1 ∷ []) + number_spelled (ci ∷ [])
+  pub runs : (rows : List (List Bool)) → All (λ row. length row ≡ 5) rows
+    → (run : ℕ → Valuation) × IsRun design rows run
+  pub adds : (rows : List (List Bool)) (run : ℕ → Valuation) → IsRun design rows run
+    → (cycle : ℕ) (a0 a1 b0 b1 ci : Bool)
+    → slice_get rows cycle ≡ Some (a0 ∷ a1 ∷ b0 ∷ b1 ∷ ci ∷ [])
+      → number_spelled (output_bits design (run cycle))
+        ≡ number_spelled (a0 ∷ a1 ∷ []) + number_spelled (b0 ∷ b1 ∷ []) + number_spelled (ci ∷ [])
 
 abbrev pub AdderAdds : Type 0
 AdderAdds = IsAdder adder_design
@@ -75,10 +84,13 @@ abbrev pub delayed : Bool → List (List Bool) → ℕ → List Bool
 delayed first rows zero = first ∷ []
 delayed first rows (suc cycle) = get_or rows cycle []
 
--- there is a run on every list of rows of one bit, and in every run the output is the first bit and then the input of the cycle before
+-- there is a run on every list of rows of one bit, and in every run the output is the first bit and
+-- then the input of the cycle before
 pub record IsDelay (first : Bool) (design : Design) : Type 0 where
-  pub runs : (rows : List (List Bool)) → All (λ row. length row ≡ 1) rows → (run : ℕ → Valuation) × IsRun design rows run
-  pub gives : (rows : List (List Bool)) (run : ℕ → Valuation) → IsRun design rows run → (cycle : ℕ) → cycle < length rows → output_bits design (run cycle) ≡ delayed first rows cycle
+  pub runs : (rows : List (List Bool)) → All (λ row. length row ≡ 1) rows
+    → (run : ℕ → Valuation) × IsRun design rows run
+  pub gives : (rows : List (List Bool)) (run : ℕ → Valuation) → IsRun design rows run → (cycle : ℕ)
+    → cycle < length rows → output_bits design (run cycle) ≡ delayed first rows cycle
 
 -- a latch delays its input, and starts as 1 where its init is 1, and as 0 for any other
 abbrev pub LatchDelays : Type 0
@@ -94,7 +106,8 @@ pub record IsLoopThroughPins : Type 0 where
   pub input : IsCombinationalLoop circle_design (net_at (0 ∷ []) (codes "i") ∷ [])
   pub output : IsCombinationalLoop circle_design (net_at (0 ∷ []) (codes "o") ∷ [])
 
--- latches of two places whose controls are joined by a pin have one clock, and its name at the main model is no IN name
+-- latches of two places whose controls are joined by a pin have one clock, and its name at the main
+-- model is no IN name
 pub record HasSharedClock : Type 0 where
   pub one_clock : HasOneClock shared_design
   pub in_names : IsInNames shared_design (codes "d" ∷ [])
@@ -107,6 +120,9 @@ LatchHasNoClock = IsTwoClocks half_clocked_design 5 (codes "-")
 abbrev pub CoverReadsMainClock : Type 0
 CoverReadsMainClock = IsClockRead read_main_clock_design 5 (codes "e")
 
--- the classes of the two-bit adder's nets: a0 a1 b0 b1 ci s0 s1 c k, and in each full adder a b c s co
+-- the classes of the two-bit adder's nets: a0 a1 b0 b1 ci s0 s1 c k, and in each full adder a b c s
+-- co
 abbrev pub AdderHasClasses : Type 0
-AdderHasClasses = map (class_of_net adder_design) (nets_in_order adder_design) ≡ 0 ∷ 1 ∷ 2 ∷ 3 ∷ 4 ∷ 5 ∷ 6 ∷ 7 ∷ 8 ∷ 0 ∷ 2 ∷ 4 ∷ 5 ∷ 8 ∷ 1 ∷ 3 ∷ 8 ∷ 6 ∷ 7 ∷ []
+AdderHasClasses =
+    map (class_of_net adder_design) (nets_in_order adder_design) ≡ 0 ∷ 1 ∷ 2 ∷ 3 ∷ 4 ∷ 5 ∷ 6 ∷ 7 ∷ 8
+    ∷ 0 ∷ 2 ∷ 4 ∷ 5 ∷ 8 ∷ 1 ∷ 3 ∷ 8 ∷ 6 ∷ 7 ∷ []

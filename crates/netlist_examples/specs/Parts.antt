@@ -19,7 +19,8 @@ cover_with line ins out rows = record { line = line; ins = ins; out = out; rows 
 
 -- a latch without a control
 abbrev pub plain_latch : ℕ → Name → Name → ℕ → LatchRow
-plain_latch line input output init = record { line = line; input = input; output = output; kind = None; control = None; init = init }
+plain_latch line input output init =
+    record { line = line; input = input; output = output; kind = None; control = None; init = init }
 
 abbrev pub pin_with : Name → Name → Pin
 pin_with formal actual = record { formal = formal; actual = actual }

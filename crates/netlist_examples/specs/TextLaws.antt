@@ -11,8 +11,14 @@ begins_with_row [] = false
 begins_with_row (l ∷ lines) = is_row l
 
 abbrev pub AnnotationsGiveNothing : Type 0
-AnnotationsGiveNothing = (before : List Logical) (line : Logical) (after : List Logical) → is_row line ≡ false → is_annotation (first_word line) ≡ true → begins_with_row after ≡ false → models_of (before ++ line ∷ after) ≡ models_of (before ++ after)
+AnnotationsGiveNothing =
+    (before : List Logical) (line : Logical) (after : List Logical) → is_row line ≡ false
+    → is_annotation (first_word line) ≡ true → begins_with_row after ≡ false
+    → models_of (before ++ line ∷ after) ≡ models_of (before ++ after)
 
--- Lines are cut before each `.model`: what stands before it and what it begins have their own models.
+-- Lines are cut before each `.model`: what stands before it and what it begins have their own
+-- models.
 abbrev pub ModelsAreCut : Type 0
-ModelsAreCut = (before : List Logical) (line : Logical) (after : List Logical) → begins_model line ≡ true → models_of (before ++ line ∷ after) ≡ models_of before ++ models_of (line ∷ after)
+ModelsAreCut =
+    (before : List Logical) (line : Logical) (after : List Logical) → begins_model line ≡ true
+    → models_of (before ++ line ∷ after) ≡ models_of before ++ models_of (line ∷ after)

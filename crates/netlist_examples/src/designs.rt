@@ -2,7 +2,8 @@
 ghost use Rattle.netlist_examples.specs.Instances.{AdderAdds, LatchBreaksLoop, LatchToggles};
 ghost use Rattle.netlist_examples.specs.OneCover.{OneCoverComputes};
 
-/// A latch with init 0 that takes the inverse of its output gives 0 and 1 in turn, in a run that is there.
+/// A latch with init 0 that takes the inverse of its output gives 0 and 1 in turn, in a run that is
+/// there.
 pub fn latch_toggles()
     ensures { LatchToggles }
 {}
@@ -12,12 +13,14 @@ pub fn latch_breaks_loop()
     ensures { LatchBreaksLoop }
 {}
 
-/// The two-bit adder, made of two full adders, has a run on all rows of five bits, and in every run it adds.
+/// The two-bit adder, made of two full adders, has a run on all rows of five bits, and in every run
+/// it adds.
 pub fn adder_adds()
     ensures { AdderAdds }
 {}
 
-/// A model of one cover of two inputs has a run on all rows of two bits, and in every run its output is the cover's value.
+/// A model of one cover of two inputs has a run on all rows of two bits, and in every run its
+/// output is the cover's value.
 pub fn one_cover_computes_its_value()
     ensures { OneCoverComputes }
 {}

@@ -15,4 +15,6 @@ pub record AreInputs (design : Design) (ports : List Port) (inputs : List FlatPo
 
 -- the control of one of the latches has that class
 abbrev pub HasControlClass : List ℕ → List FlatLatch → ℕ → Type 0
-HasControlClass classes latches class = (latch : FlatLatch) × (id : NetId) × Contains latches latch × (latch.control ≡ Some id) × (get_or classes id.0 0 ≡ class)
+HasControlClass classes latches class =
+    (latch : FlatLatch) × (id : NetId) × Contains latches latch × (latch.control ≡ Some id)
+    × (get_or classes id.0 0 ≡ class)

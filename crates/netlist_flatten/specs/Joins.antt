@@ -18,4 +18,6 @@ pub record IsLineTo (design : Design) (outer inner : ℕ) (line : Subckt) : Type
 
 -- the numbers of the nets at a place
 abbrev pub own_numbers : Design → ℕ → List ℕ
-own_numbers design k = map (λ j. length (nets_before design k) + j) (range_with_len 0 (length (nets_at design (place_at design k))))
+own_numbers design k =
+    map (λ j. length (nets_before design k) + j)
+      (range_with_len 0 (length (nets_at design (place_at design k))))

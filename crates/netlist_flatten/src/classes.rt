@@ -1,4 +1,5 @@
-// The class of each net, place by place: a net has the class of its actual, which stands at an earlier place, or is its own.
+// The class of each net, place by place: a net has the class of its actual, which stands at an
+// earlier place, or is its own.
 ghost use Rattle.std.specs.Prelude.{◌≡◌, ◌<◌, ◌^◌, Some, length, map, IfOk};
 ghost use Rattle.netlist_core.specs.declared.model.Subckt.{Subckt};
 ghost use Rattle.netlist_core.specs.declared.model.Model as models;

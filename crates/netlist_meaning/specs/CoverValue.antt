@@ -15,8 +15,8 @@ product_holds row bits = list_all (λ column. fits column.0 column.1) (zip row b
 abbrev pub any_holds : List (List ℕ) → List Bool → Bool
 any_holds rows bits = list_any (λ row. product_holds row bits) rows
 
--- Rows ending in `1`: the output is 1 exactly when a product holds. Rows ending in `0`: it is 0 exactly when one holds.
--- No rows: constant 0
+-- Rows ending in `1`: the output is 1 exactly when a product holds. Rows ending in `0`: it is 0
+-- exactly when one holds. No rows: constant 0
 abbrev pub cover_value : List (List ℕ) → Bool → List Bool → Bool
 cover_value [] on bits = false
 cover_value (row ∷ rows) true bits = any_holds (row ∷ rows) bits

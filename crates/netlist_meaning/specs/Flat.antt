@@ -51,19 +51,25 @@ pub data FlatDriver : Type 0 where
   node : ℕ → FlatDriver
 
 abbrev pub FlatDrives : Flat → FlatDriver → ℕ → Type 0
-FlatDrives flat (input i) class = (port : FlatPort) × (slice_get flat.ins i ≡ Some port) × (class_of flat port.net ≡ class)
-FlatDrives flat (latch i) class = (l : FlatLatch) × (slice_get flat.latches i ≡ Some l) × (class_of flat l.output ≡ class)
+FlatDrives flat (input i) class =
+    (port : FlatPort) × (slice_get flat.ins i ≡ Some port) × (class_of flat port.net ≡ class)
+FlatDrives flat (latch i) class =
+    (l : FlatLatch) × (slice_get flat.latches i ≡ Some l) × (class_of flat l.output ≡ class)
 FlatDrives flat (node n) class = (n < length flat.nodes) × (out_class flat n ≡ class)
 
 -- a clock's class: the control's, or that of one of the clocks which is no input's
 abbrev pub IsClockClass : Flat → ℕ → Type 0
-IsClockClass flat class = MatchOption flat.control ⊥ (λ id. class_of flat id ≡ class) ⊎ (Contains (port_classes flat flat.clocks) class × ¬ Contains (port_classes flat flat.ins) class)
+IsClockClass flat class =
+    MatchOption flat.control ⊥ (λ id. class_of flat id ≡ class)
+    ⊎ (Contains (port_classes flat flat.clocks) class
+      × ¬ Contains (port_classes flat flat.ins) class)
 
 -- the same as a test (`is_clock_class-Decides`), and the nets but the clock nets, in order
 abbrev pub is_clock_class : Flat → ℕ → Bool
 is_clock_class flat class =
     option_map_or (λ id. class_of flat id == class) flat.control false
-    || (list_any (λ clock. clock == class) (port_classes flat flat.clocks) && not (list_any (λ input. input == class) (port_classes flat flat.ins)))
+    || (list_any (λ clock. clock == class) (port_classes flat flat.clocks)
+        && not (list_any (λ input. input == class) (port_classes flat flat.ins)))
 
 abbrev pub nets_but_clocks : Flat → List FlatNet
 nets_but_clocks flat = filter (λ net. not (is_clock_class flat net.class)) flat.nets
@@ -72,7 +78,8 @@ nets_but_clocks flat = filter (λ net. not (is_clock_class flat net.class)) flat
 abbrev pub listed_nets : Flat → List FlatNet
 listed_nets flat = cond flat.listed (nets_but_clocks flat) []
 
--- every number is in range, and the numbers of nodes are u32, as an order has them. Class numbers are below the number of nets, so that a table of classes is no longer than the nets
+-- every number is in range, and the numbers of nodes are u32, as an order has them. Class numbers
+-- are below the number of nets, so that a table of classes is no longer than the nets
 pub record IsInRange (flat : Flat) : Type 0 where
   pub few : length flat.nodes < 2 ^ 32
   pub classes : All (λ net. net.class < length flat.nets) flat.nets
@@ -85,13 +92,16 @@ pub record IsInRange (flat : Flat) : Type 0 where
   pub node_ins : All (λ node. All (IsNetId flat) node.ins) flat.nodes
   pub node_outs : All (λ node. IsNetId flat node.out) flat.nodes
 
--- A sound netlist: each class but the clocks' has exactly one driver, and clock classes are neither read nor driven.
--- Latches may still differ in type or clock.
+-- A sound netlist: each class but the clocks' has exactly one driver, and clock classes are neither
+-- read nor driven. Latches may still differ in type or clock.
 pub record IsSound (flat : Flat) : Type 0 where
   pub in_range : IsInRange flat
-  pub one_driver : (class : ℕ) (d e : FlatDriver) → FlatDrives flat d class → FlatDrives flat e class → d ≡ e
-  pub driven : (id : NetId) → IsNetId flat id → ¬ IsClockClass flat (class_of flat id) → (d : FlatDriver) × FlatDrives flat d (class_of flat id)
-  pub clocks_undriven : (class : ℕ) (d : FlatDriver) → FlatDrives flat d class → ¬ IsClockClass flat class
+  pub one_driver : (class : ℕ) (d e : FlatDriver) → FlatDrives flat d class
+    → FlatDrives flat e class → d ≡ e
+  pub driven : (id : NetId) → IsNetId flat id → ¬ IsClockClass flat (class_of flat id)
+    → (d : FlatDriver) × FlatDrives flat d (class_of flat id)
+  pub clocks_undriven : (class : ℕ) (d : FlatDriver) → FlatDrives flat d class
+    → ¬ IsClockClass flat class
   pub clocks_unread : (n class : ℕ) → Contains (in_classes flat n) class → ¬ IsClockClass flat class
   pub clocks_no_outs : All (λ port. ¬ IsClockClass flat (class_of flat port.net)) flat.outs
   pub clocks_no_data : All (λ latch. ¬ IsClockClass flat (class_of flat latch.input)) flat.latches
@@ -99,7 +109,8 @@ pub record IsSound (flat : Flat) : Type 0 where
 -- The weight bounds the parts: nets, ports, latches and covers. Twice the weight is a u32.
 pub record IsWeighed (flat : Flat) : Type 0 where
   pub nets : length flat.nets ≤ flat.weight
-  pub parts : length flat.ins + length flat.outs + 2 * length flat.latches + sum_by (λ node. rows_weight node.rows) flat.nodes ≤ flat.weight
+  pub parts : length flat.ins + length flat.outs + 2 * length flat.latches + sum_by
+      (λ node. rows_weight node.rows) flat.nodes ≤ flat.weight
   pub few : flat.weight < 2 ^ 31
 
 -- the names of ports, in order
@@ -111,7 +122,8 @@ pub record AreNamedPorts (flat : Flat) (ports : List FlatPort) : Type 0 where
   pub main : All (λ port. (get_or flat.nets port.net.0 no_net).place ≡ []) ports
   pub distinct : AllPairs (λ a b. a ≢ b) (names_of_ports flat ports)
 
--- The names of inputs are distinct, and so are those of outputs: so a table of them can be read back.
+-- The names of inputs are distinct, and so are those of outputs: so a table of them can be read
+-- back.
 pub record IsNamed (flat : Flat) : Type 0 where
   pub ins : AreNamedPorts flat flat.ins
   pub outs : AreNamedPorts flat flat.outs

@@ -1,5 +1,6 @@
--- The flat netlist of a design: its nets in order, and its covers and latches at each place, between them. It is said by
--- structure, so that a design has one flat netlist whether or not its bits can be told.
+-- The flat netlist of a design: its nets in order, and its covers and latches at each place,
+-- between them. It is said by structure, so that a design has one flat netlist whether or not its
+-- bits can be told.
 use Rattle.std.specs.Prelude.{ℕ, suc, ◌≡◌, List, [], ◌∷◌, Bool, true, false, ◌&&◌, map, flat_map, Option, slice_get, option_map, option_and_then, bytes_eq}
 use Rattle.netlist_core.specs.declared.model.Design.{Design}
 use Rattle.netlist_core.specs.declared.model.Model.{Model}
@@ -35,11 +36,13 @@ position_of (first ∷ nets) net = zero_or_next (is_same_net first net) (positio
 abbrev pub id_of : Design → Place → Name → NetId
 id_of design place name = record { 0 = position_of (nets_in_order design) (net_at place name) }
 
--- the class of a net is the position of its root: of all nets joined with it, the one nearest the main model
+-- the class of a net is the position of its root: of all nets joined with it, the one nearest the
+-- main model
 abbrev pub class_of_net : Design → Net → ℕ
 class_of_net design net = position_of (nets_in_order design) (root design net)
 
--- a net, a cover, a latch and a port of the design in its flat netlist, each with its own name, place or line
+-- a net, a cover, a latch and a port of the design in its flat netlist, each with its own name,
+-- place or line
 abbrev pub flat_net : Design → Net → FlatNet
 flat_net design net = record { place = net.place; name = net.name; class = class_of_net design net }
 
@@ -65,22 +68,29 @@ flat_latch design place latch = record {
 abbrev pub flat_port : Design → Port → FlatPort
 flat_port design port = record { line = port.line; net = id_of design [] port.name }
 
--- what the model at each place lists of some kind, in order: a model's covers and latches stand by line
+-- what the model at each place lists of some kind, in order: a model's covers and latches stand by
+-- line
 abbrev pub at_places : {X Y : Type 0} → Design → (Model → List X) → (Place → X → Y) → List Y
-at_places design items f = flat_map (λ place. map (f place) (of_some items (model_at design place))) (places_in_order design)
+at_places design items f =
+    flat_map (λ place. map (f place) (of_some items (model_at design place)))
+      (places_in_order design)
 
 -- the ports of a list that are not the control at the main model, in order
 pub data PortsWithoutControl (design : Design) : List Port → List Port → Type 0 where
   none : PortsWithoutControl design [] []
-  kept : {port : Port} {ports rest : List Port} → ¬ IsControl design (net_at [] port.name) → PortsWithoutControl design ports rest → PortsWithoutControl design (port ∷ ports) (port ∷ rest)
-  left_out : {port : Port} {ports rest : List Port} → IsControl design (net_at [] port.name) → PortsWithoutControl design ports rest → PortsWithoutControl design (port ∷ ports) rest
+  kept : {port : Port} {ports rest : List Port} → ¬ IsControl design (net_at [] port.name)
+    → PortsWithoutControl design ports rest
+    → PortsWithoutControl design (port ∷ ports) (port ∷ rest)
+  left_out : {port : Port} {ports rest : List Port} → IsControl design (net_at [] port.name)
+    → PortsWithoutControl design ports rest → PortsWithoutControl design (port ∷ ports) rest
 
 -- the control of the first latch
 abbrev pub first_control : List FlatLatch → Option NetId
 first_control latches = option_and_then (λ latch. latch.control) (slice_get latches 0)
 
--- What is joined with the control of any latch is left out of the inputs, and the flat netlist's control is the first
--- latch's: these agree where all latches have one clock, and with latches of two clocks no command uses them.
+-- What is joined with the control of any latch is left out of the inputs, and the flat netlist's
+-- control is the first latch's: these agree where all latches have one clock, and with latches of
+-- two clocks no command uses them.
 pub record IsFlatOf (design : Design) (flat : Flat) : Type 0 where
   pub in_ports : List Port
   pub are_in_ports : PortsWithoutControl design (main_ports (λ model. model.ins) design) in_ports

@@ -14,25 +14,31 @@ pub record FlatFeeds (flat : Flat) (read written : ℕ) : Type 0 where
 -- a class feeds the first of a list, each of the list the next, and the last the end
 abbrev pub FlatFeedsThrough : Flat → ℕ → List ℕ → ℕ → Type 0
 FlatFeedsThrough flat start [] end = FlatFeeds flat start end
-FlatFeedsThrough flat start (class ∷ classes) end = FlatFeeds flat start class × FlatFeedsThrough flat class classes end
+FlatFeedsThrough flat start (class ∷ classes) end =
+    FlatFeeds flat start class × FlatFeedsThrough flat class classes end
 
--- a loop: at least one class, each of which is read by a node whose output is of the next, and the last by one whose output is of the first
+-- a loop: at least one class, each of which is read by a node whose output is of the next, and the
+-- last by one whose output is of the first
 abbrev pub IsFlatLoop : Flat → List ℕ → Type 0
 IsFlatLoop flat [] = ⊥
 IsFlatLoop flat (class ∷ classes) = FlatFeedsThrough flat class classes class
 
 -- input k of node n is driven by node b
 abbrev pub IsDrivenBy : Flat → ℕ → ℕ → ℕ → Type 0
-IsDrivenBy flat n k b = (b < length flat.nodes) × (k < length (in_classes flat n)) × (get_or (in_classes flat n) k 0 ≡ out_class flat b)
+IsDrivenBy flat n k b =
+    (b < length flat.nodes) × (k < length (in_classes flat n))
+    × (get_or (in_classes flat n) k 0 ≡ out_class flat b)
 
 -- an order: all nodes, each once, after those that drive what it reads
 pub record IsOrder (flat : Flat) (order : List ℕ) : Type 0 where
   pub nodes : All (λ n. n < length flat.nodes) order
   pub once : AllPairs (λ a b. a ≢ b) order
   pub all : (n : ℕ) → n < length flat.nodes → Contains order n
-  pub after : (i k b : ℕ) → i < length order → IsDrivenBy flat (get_or order i 0) k b → (j : ℕ) × (j < i) × (get_or order j 0 ≡ b)
+  pub after : (i k b : ℕ) → i < length order → IsDrivenBy flat (get_or order i 0) k b
+    → (j : ℕ) × (j < i) × (get_or order j 0 ≡ b)
 
--- no net before it is of its class. In the nets of a design, which stand by place, that is the one nearest the main model
+-- no net before it is of its class. In the nets of a design, which stand by place, that is the one
+-- nearest the main model
 abbrev pub IsFirstOfClass : Flat → NetId → Type 0
 IsFirstOfClass flat id = (k : ℕ) → k < id.0 → (get_or flat.nets k no_net).class ≢ class_of flat id
 

@@ -1,4 +1,5 @@
--- What a flat netlist means: bits for its classes that solve the equations of its inputs, latches and nodes.
+-- What a flat netlist means: bits for its classes that solve the equations of its inputs, latches
+-- and nodes.
 use Rattle.std.specs.Prelude.{ℕ, zero, suc, ◌≡◌, ◌<◌, List, map, get_or, length, slice_get, Some, All, Bool, false, ◌==◌}
 use Rattle.netlist_core.specs.declared.flat.Flat.{Flat}
 use Rattle.netlist_meaning.specs.CoverValue.{cover_value}
@@ -6,23 +7,29 @@ use Rattle.netlist_meaning.specs.Flat.{class_of, node_at, out_class, FlatDriver,
 
 -- the value of a node's cover, under bits for the classes
 abbrev pub node_value : Flat → (ℕ → Bool) → ℕ → Bool
-node_value flat bits n = cover_value (node_at flat n).rows (node_at flat n).on (map (λ id. bits (class_of flat id)) (node_at flat n).ins)
+node_value flat bits n =
+    cover_value (node_at flat n).rows (node_at flat n).on
+      (map (λ id. bits (class_of flat id)) (node_at flat n).ins)
 
--- inputs have the input bits, latches' outputs the state's, in order, and each node's output its value
+-- inputs have the input bits, latches' outputs the state's, in order, and each node's output its
+-- value
 pub record IsFlatValuation (flat : Flat) (inputs state : List Bool) (bits : ℕ → Bool) : Type 0 where
   pub inputs_given : map (λ port. bits (class_of flat port.net)) flat.ins ≡ inputs
   pub latches_hold : map (λ latch. bits (class_of flat latch.output)) flat.latches ≡ state
-  pub nodes_hold : (n : ℕ) → n < length flat.nodes → bits (out_class flat n) ≡ node_value flat bits n
+  pub nodes_hold : (n : ℕ) → n < length flat.nodes
+    → bits (out_class flat n) ≡ node_value flat bits n
 
 -- two such valuations are one and the same where they agree on each class that is driven
 abbrev pub AgreeWhereDriven : Flat → (ℕ → Bool) → (ℕ → Bool) → Type 0
-AgreeWhereDriven flat bits others = (class : ℕ) (d : FlatDriver) → FlatDrives flat d class → bits class ≡ others class
+AgreeWhereDriven flat bits others =
+    (class : ℕ) (d : FlatDriver) → FlatDrives flat d class → bits class ≡ others class
 
 -- the start: a latch with init 1 is 1, each other is 0
 abbrev pub start_bits : Flat → List Bool
 start_bits flat = map (λ latch. latch.init == 1) flat.latches
 
--- the bits of the main outputs, in order, and the bit of the one of that number, from 0, which below the number of outputs means something
+-- the bits of the main outputs, in order, and the bit of the one of that number, from 0, which
+-- below the number of outputs means something
 abbrev pub flat_output_bits : Flat → (ℕ → Bool) → List Bool
 flat_output_bits flat bits = map (λ port. bits (class_of flat port.net)) flat.outs
 
@@ -45,10 +52,12 @@ abbrev pub flat_state_in : Flat → List Bool → (ℕ → ℕ → Bool) → ℕ
 flat_state_in flat start run zero = start
 flat_state_in flat start run (suc cycle) = flat_state_after flat (run cycle)
 
--- a run on rows of input bits, from a state on: bits for the classes in each cycle. `run cycle` has those of the cycle, from 0; from the
--- number of rows on it means nothing
+-- a run on rows of input bits, from a state on: bits for the classes in each cycle. `run cycle` has
+-- those of the cycle, from 0; from the number of rows on it means nothing
 abbrev pub IsFlatRun : Flat → List Bool → List (List Bool) → (ℕ → ℕ → Bool) → Type 0
-IsFlatRun flat start rows run = (cycle : ℕ) (row : List Bool) → slice_get rows cycle ≡ Some row → IsFlatValuation flat row (flat_state_in flat start run cycle) (run cycle)
+IsFlatRun flat start rows run =
+    (cycle : ℕ) (row : List Bool) → slice_get rows cycle ≡ Some row
+    → IsFlatValuation flat row (flat_state_in flat start run cycle) (run cycle)
 
 -- rows of input bits: each has one bit for each input
 abbrev pub AreFlatRows : Flat → List (List Bool) → Type 0

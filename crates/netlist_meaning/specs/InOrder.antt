@@ -1,5 +1,5 @@
--- The places and names of a design in order: places by their numbers, a place before those inside it, and at a place the
--- names by where they first stand in the model's text.
+-- The places and names of a design in order: places by their numbers, a place before those inside
+-- it, and at a place the names by where they first stand in the model's text.
 use Rattle.std.specs.Prelude.{ℕ, zero, suc, List, [], ◌∷◌, ◌++◌, Bool, true, false, cond, nat_le, ◌==◌, length, map, flat_map, Option, Some, None, option_to_list, bytes_eq}
 use Rattle.netlist_core.specs.declared.model.Design.{Design}
 use Rattle.netlist_core.specs.declared.model.Model.{Model}
@@ -19,14 +19,18 @@ of_some f (Some x) = f x
 -- the places inside the models of some subckt lines, of which the first has that number
 abbrev pub places_in_lines : (Subckt → List Place) → ℕ → List Subckt → List Place
 places_in_lines places number [] = []
-places_in_lines places number (line ∷ lines) = map (λ place. number ∷ place) (places line) ++ places_in_lines places (suc number) lines
+places_in_lines places number (line ∷ lines) =
+    map (λ place. number ∷ place) (places line) ++ places_in_lines places (suc number) lines
 
 -- the place of a model, and after it those inside, fewer than so many lines deep
 abbrev pub places_below : Design → ℕ → Model → List Place
 places_below design zero model = []
-places_below design (suc depth) model = [] ∷ places_in_lines (λ line. of_some (places_below design depth) (model_named design.models line.model)) 0 model.subckts
+places_below design (suc depth) model =
+    [] ∷ places_in_lines (λ line. of_some (places_below design depth)
+      (model_named design.models line.model)) 0 model.subckts
 
--- the places in order. Where no model stands inside a place of itself, none is as deep as there are models
+-- the places in order. Where no model stands inside a place of itself, none is as deep as there are
+-- models
 abbrev pub places_in_order : Design → List Place
 places_in_order design = of_some (places_below design (length design.models)) (main_model design)
 
@@ -35,7 +39,8 @@ abbrev pub cover_words : Cover → List Port
 cover_words cover = map (at_line cover.line) (cover.ins ++ cover.out ∷ [])
 
 abbrev pub latch_words : LatchRow → List Port
-latch_words latch = map (at_line latch.line) (latch.input ∷ latch.output ∷ option_to_list latch.control)
+latch_words latch =
+    map (at_line latch.line) (latch.input ∷ latch.output ∷ option_to_list latch.control)
 
 abbrev pub subckt_words : Subckt → List Port
 subckt_words line = map (λ pin. at_line line.line pin.actual) line.pins
@@ -52,7 +57,8 @@ model_words model =
 -- a word among others that stand by line: before the first that is on no earlier line
 abbrev pub put_by_line : Port → List Port → List Port
 put_by_line word [] = word ∷ []
-put_by_line word (next ∷ words) = cond (nat_le word.line next.line) (word ∷ next ∷ words) (next ∷ put_by_line word words)
+put_by_line word (next ∷ words) =
+    cond (nat_le word.line next.line) (word ∷ next ∷ words) (next ∷ put_by_line word words)
 
 -- words by line, and those of one line as they stood: the order of the text
 abbrev pub by_line : List Port → List Port
@@ -75,7 +81,8 @@ cons_unless false name names = name ∷ names
 
 abbrev pub without_name : Name → List Name → List Name
 without_name name [] = []
-without_name name (other ∷ names) = cons_unless (bytes_eq name other) other (without_name name names)
+without_name name (other ∷ names) =
+    cons_unless (bytes_eq name other) other (without_name name names)
 
 -- each name where it first stands
 abbrev pub first_names : List Name → List Name

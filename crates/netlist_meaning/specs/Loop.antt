@@ -7,7 +7,8 @@ use Rattle.netlist_core.specs.Names.{Name}
 use Rattle.netlist_meaning.specs.Places.{Place, model_at}
 use Rattle.netlist_meaning.specs.Nets.{Net, net_at, Joined}
 
--- a net is read by a cover whose output is the other, where joined nets count as one. A latch makes no such step
+-- a net is read by a cover whose output is the other, where joined nets count as one. A latch makes
+-- no such step
 pub record Feeds (design : Design) (read written : Net) : Type 0 where
   pub place : Place
   pub model : Model
@@ -22,10 +23,11 @@ pub record Feeds (design : Design) (read written : Net) : Type 0 where
 -- a net feeds the first of a list, each of the list the next, and the last the end
 abbrev pub FeedsThrough : Design → Net → List Net → Net → Type 0
 FeedsThrough design start [] end = Feeds design start end
-FeedsThrough design start (net ∷ nets) end = Feeds design start net × FeedsThrough design net nets end
+FeedsThrough design start (net ∷ nets) end =
+    Feeds design start net × FeedsThrough design net nets end
 
--- a combinational loop: a list of at least one net in which each is read by a cover whose output is the next,
--- and the last by a cover whose output is the first
+-- a combinational loop: a list of at least one net in which each is read by a cover whose output is
+-- the next, and the last by a cover whose output is the first
 abbrev pub IsCombinationalLoop : Design → List Net → Type 0
 IsCombinationalLoop design [] = ⊥
 IsCombinationalLoop design (net ∷ nets) = FeedsThrough design net nets net

@@ -1,5 +1,6 @@
--- Nets, which pins join which, and the names of the main model's ports. By the BLIF report a pin `formal=actual` of a
--- `.subckt` line makes the actual, in the model in which the line stands, and the formal, in the model that it places, one net.
+-- Nets, which pins join which, and the names of the main model's ports. By the BLIF report a pin
+-- `formal=actual` of a `.subckt` line makes the actual, in the model in which the line stands, and
+-- the formal, in the model that it places, one net.
 use Rattle.std.specs.Prelude.{ℕ, ◌≡◌, ◌⊎◌, List, [], ◌∷◌, ◌++◌, Some, slice_get, map, flat_map, option_to_list, Contains}
 use Rattle.netlist_core.specs.declared.model.Design.{Design}
 use Rattle.netlist_core.specs.declared.model.Model.{Model}
@@ -29,7 +30,9 @@ model_names model =
 
 -- a net of the design: its name is one of the model at its place
 abbrev pub IsNet : Design → Net → Type 0
-IsNet design net = (model : Model) × (model_at design net.place ≡ Some model) × Contains (model_names model) net.name
+IsNet design net =
+    (model : Model) × (model_at design net.place ≡ Some model)
+    × Contains (model_names model) net.name
 
 -- a pin joins its actual, at the place of its line, with its formal, one place deeper
 pub record IsPinned (design : Design) (outer inner : Net) : Type 0 where
@@ -68,17 +71,22 @@ pub record IsMainClock (design : Design) (net : Net) : Type 0 where
 abbrev pub IsControl : Design → Net → Type 0
 IsControl design net = (source : Net) × IsLatchControl design source × Joined design source net
 
--- a clock net: the latches' control, or a `.clock` name of the main model that is not in its `.inputs`,
--- with all nets joined to them
+-- a clock net: the latches' control, or a `.clock` name of the main model that is not in its
+-- `.inputs`, with all nets joined to them
 abbrev pub IsClockNet : Design → Net → Type 0
-IsClockNet design net = (source : Net) × (IsLatchControl design source ⊎ IsMainClock design source) × Joined design source net
+IsClockNet design net =
+    (source : Net) × (IsLatchControl design source ⊎ IsMainClock design source)
+    × Joined design source net
 
 -- the names of a list that are not the control at the main model, in order
 pub data WithoutControl (design : Design) : List Name → List Name → Type 0 where
   none : WithoutControl design [] []
-  kept : {name : Name} {names rest : List Name} → ¬ IsControl design (net_at [] name) → WithoutControl design names rest → WithoutControl design (name ∷ names) (name ∷ rest)
-  left_out : {name : Name} {names rest : List Name} → IsControl design (net_at [] name) → WithoutControl design names rest → WithoutControl design (name ∷ names) rest
+  kept : {name : Name} {names rest : List Name} → ¬ IsControl design (net_at [] name)
+    → WithoutControl design names rest → WithoutControl design (name ∷ names) (name ∷ rest)
+  left_out : {name : Name} {names rest : List Name} → IsControl design (net_at [] name)
+    → WithoutControl design names rest → WithoutControl design (name ∷ names) rest
 
--- the IN names: those of the main model's `.inputs`, in order, but the control. The OUT names are `main_outputs`
+-- the IN names: those of the main model's `.inputs`, in order, but the control. The OUT names are
+-- `main_outputs`
 abbrev pub IsInNames : Design → List Name → Type 0
 IsInNames design names = WithoutControl design (main_inputs design) names

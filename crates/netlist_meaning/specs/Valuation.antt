@@ -9,7 +9,8 @@ use Rattle.netlist_meaning.specs.Places.{Place, model_at, latch_at, main_outputs
 use Rattle.netlist_meaning.specs.Nets.{Net, IsNet, Joined, IsClockNet, IsInNames}
 use Rattle.netlist_meaning.specs.CoverValue.{cover_value}
 
--- a bit for each net: for each place and name. What it gives at a clock net, and where there is no net, means nothing
+-- a bit for each net: for each place and name. What it gives at a clock net, and where there is no
+-- net, means nothing
 abbrev pub Valuation : Type 0
 Valuation = Place → Name → Bool
 
@@ -17,22 +18,32 @@ Valuation = Place → Name → Bool
 abbrev pub LatchState : Type 0
 LatchState = Place → ℕ → Bool
 
--- the bits solve the equations of the design, for the bits of its IN names and the state of its latches
-pub record IsValuation (design : Design) (inputs : List Bool) (state : LatchState) (bits : Valuation) : Type 0 where
+-- the bits solve the equations of the design, for the bits of its IN names and the state of its
+-- latches
+pub record IsValuation (design : Design) (inputs : List Bool) (state : LatchState)
+    (bits : Valuation) : Type 0 where
   -- the main inputs have the input bits, one for each IN name
   pub in_names : List Name
   pub are_in_names : IsInNames design in_names
   pub inputs_given : map (bits []) in_names ≡ inputs
-  -- joined nets agree, but for clock nets, of which no equation speaks in a design whose clock nets are not read or driven
-  pub joined_agree : (a b : Net) → Joined design a b → ¬ IsClockNet design a → bits a.place a.name ≡ bits b.place b.name
+  -- joined nets agree, but for clock nets, of which no equation speaks in a design whose clock nets
+  -- are not read or driven
+  pub joined_agree : (a b : Net) → Joined design a b → ¬ IsClockNet design a
+    → bits a.place a.name ≡ bits b.place b.name
   -- the output of each cover, in each place, is the cover's value
-  pub covers_hold : (place : Place) (model : Model) (cover : Cover) → model_at design place ≡ Some model → Contains model.covers cover → bits place cover.out ≡ cover_value cover.rows cover.on (map (bits place) cover.ins)
+  pub covers_hold : (place : Place) (model : Model) (cover : Cover)
+    → model_at design place ≡ Some model → Contains model.covers cover
+    → bits place cover.out ≡ cover_value cover.rows cover.on (map (bits place) cover.ins)
   -- each latch output is its state bit
-  pub latches_hold : (place : Place) (number : ℕ) (latch : LatchRow) → latch_at design place number ≡ Some latch → bits place latch.output ≡ state place number
+  pub latches_hold : (place : Place) (number : ℕ) (latch : LatchRow)
+    → latch_at design place number ≡ Some latch → bits place latch.output ≡ state place number
 
--- two valuations are one and the same where they agree on each net of the design that is no clock net
+-- two valuations are one and the same where they agree on each net of the design that is no clock
+-- net
 abbrev pub AgreeOnNets : Design → Valuation → Valuation → Type 0
-AgreeOnNets design bits others = (net : Net) → IsNet design net → ¬ IsClockNet design net → bits net.place net.name ≡ others net.place net.name
+AgreeOnNets design bits others =
+    (net : Net) → IsNet design net → ¬ IsClockNet design net
+    → bits net.place net.name ≡ others net.place net.name
 
 -- a latch with init 1 starts as 1, each other as 0
 abbrev pub start_bit : Option LatchRow → Bool
@@ -59,17 +70,22 @@ latches_in design start run (suc cycle) = latches_after design (run cycle)
 
 -- a valuation for each row of input bits, from a state on
 abbrev pub IsRunFrom : Design → LatchState → List (List Bool) → (ℕ → Valuation) → Type 0
-IsRunFrom design start rows run = (cycle : ℕ) (row : List Bool) → slice_get rows cycle ≡ Some row → IsValuation design row (latches_in design start run cycle) (run cycle)
+IsRunFrom design start rows run =
+    (cycle : ℕ) (row : List Bool) → slice_get rows cycle ≡ Some row
+    → IsValuation design row (latches_in design start run cycle) (run cycle)
 
--- a run: from the start state on. `run cycle` is the valuation of the cycle, from 0; from the number of rows on it means nothing
+-- a run: from the start state on. `run cycle` is the valuation of the cycle, from 0; from the
+-- number of rows on it means nothing
 abbrev pub IsRun : Design → List (List Bool) → (ℕ → Valuation) → Type 0
 IsRun design rows run = IsRunFrom design (start_state design) rows run
 
 -- rows of input bits: each has one bit for each IN name
 abbrev pub AreInputRows : Design → List (List Bool) → Type 0
-AreInputRows design rows = (names : List Name) × IsInNames design names × All (λ row. length row ≡ length names) rows
+AreInputRows design rows =
+    (names : List Name) × IsInNames design names × All (λ row. length row ≡ length names) rows
 
--- the bits of the main outputs, in order, and the bit of the one of that number, from 0, which below the number of outputs means something
+-- the bits of the main outputs, in order, and the bit of the one of that number, from 0, which
+-- below the number of outputs means something
 abbrev pub output_bits : Design → Valuation → List Bool
 output_bits design bits = map (bits []) (main_outputs design)
 

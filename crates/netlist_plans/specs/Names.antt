@@ -8,4 +8,6 @@ use Rattle.plan_ports.specs.Tables.{HasPortNames}
 
 -- they can stand in a port table
 abbrev pub TextsHavePortNames : Type 0
-TextsHavePortNames = (text : List ℕ) (design : Design) (flat : Flat) → IsDesignOf text design → IsFlatOf design flat → HasPortNames flat
+TextsHavePortNames =
+    (text : List ℕ) (design : Design) (flat : Flat) → IsDesignOf text design → IsFlatOf design flat
+    → HasPortNames flat

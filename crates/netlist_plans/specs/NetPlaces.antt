@@ -19,22 +19,38 @@ IsEntry lane place = (place.lane ≡ lane) × (place.after ≡ None)
 
 -- at the exit of a column, on the upper lane of an instruction of it that makes a cell
 abbrev pub IsCellExit : Plan → NetPlace → Type 0
-IsCellExit plan place = (cell : Cell) × IsExitOf plan.columns (cell_instr place.lane cell) place.after
+IsCellExit plan place =
+    (cell : Cell) × IsExitOf plan.columns (cell_instr place.lane cell) place.after
 
 -- listed net k is driven by this input, latch or cover
 abbrev pub DrivesNet : Flat → FlatDriver → ℕ → FlatNet → Type 0
-DrivesNet flat driver k net = (k < length (listed_nets flat)) × FlatDrives flat driver (get_or (listed_nets flat) k net).class
+DrivesNet flat driver k net =
+    (k < length (listed_nets flat)) × FlatDrives flat driver (get_or (listed_nets flat) k net).class
 
--- Each listed net, in order, has a place. Where an input or a latch drives it, this is the entry of the input's lane or of the lane of the latch's loop;
--- where a cover does, it is an entry, or the exit of a column that makes a cell there;
--- where the cover is a constant by its text, it is an entry, for constant 1 that of the lane of its loop, the one after those of the latches;
--- and where a cover of two nets is an OR, an XOR or an AND-NOT, it is the exit of a column with that instruction.
+-- Each listed net, in order, has a place. Where an input or a latch drives it, this is the entry of
+-- the input's lane or of the lane of the latch's loop; where a cover does, it is an entry, or the
+-- exit of a column that makes a cell there; where the cover is a constant by its text, it is an
+-- entry, for constant 1 that of the lane of its loop, the one after those of the latches; and where
+-- a cover of two nets is an OR, an XOR or an AND-NOT, it is the exit of a column with that
+-- instruction.
 pub record HasNetPlaces (flat : Flat) (plan : Plan) : Type 0 where
   pub many : length plan.nets ≡ length (listed_nets flat)
-  pub inputs : (k i : ℕ) (net : FlatNet) (place : NetPlace) → DrivesNet flat (FlatDriver.input i) k net → IsEntry (get_or plan.ins i 0) (get_or plan.nets k place)
-  pub latches : (k i : ℕ) (net : FlatNet) (place : NetPlace) → DrivesNet flat (FlatDriver.latch i) k net → IsEntry (plan.lanes - plan.latches + i) (get_or plan.nets k place)
-  pub covers : (k n : ℕ) (net : FlatNet) (place : NetPlace) → DrivesNet flat (FlatDriver.node n) k net → ((get_or plan.nets k place).after ≡ None) ⊎ IsCellExit plan (get_or plan.nets k place)
-  pub constants : (k n : ℕ) (net : FlatNet) (place : NetPlace) → DrivesNet flat (FlatDriver.node n) k net
-      → (constant_of flat n ≡ Some Zero → (get_or plan.nets k place).after ≡ None) × (constant_of flat n ≡ Some One → IsEntry (plan.lanes - plan.latches + length flat.latches) (get_or plan.nets k place))
-  pub singles : (k n : ℕ) (net : FlatNet) (place : NetPlace) (a b : Src) (cell : Cell) → DrivesNet flat (FlatDriver.node n) k net → length (node_at flat n).ins ≡ 2
-      → single_cell (a ∷ b ∷ []) (node_at flat n).rows (node_at flat n).on ≡ Some cell → IsExitOf plan.columns (cell_instr (get_or plan.nets k place).lane cell) (get_or plan.nets k place).after
+  pub inputs : (k i : ℕ) (net : FlatNet) (place : NetPlace)
+    → DrivesNet flat (FlatDriver.input i) k net
+    → IsEntry (get_or plan.ins i 0) (get_or plan.nets k place)
+  pub latches : (k i : ℕ) (net : FlatNet) (place : NetPlace)
+    → DrivesNet flat (FlatDriver.latch i) k net
+    → IsEntry (plan.lanes - plan.latches + i) (get_or plan.nets k place)
+  pub covers : (k n : ℕ) (net : FlatNet) (place : NetPlace)
+    → DrivesNet flat (FlatDriver.node n) k net
+    → ((get_or plan.nets k place).after ≡ None) ⊎ IsCellExit plan (get_or plan.nets k place)
+  pub constants : (k n : ℕ) (net : FlatNet) (place : NetPlace)
+    → DrivesNet flat (FlatDriver.node n) k net
+      → (constant_of flat n ≡ Some Zero → (get_or plan.nets k place).after ≡ None)
+      × (constant_of flat n ≡ Some One → IsEntry (plan.lanes - plan.latches + length flat.latches)
+        (get_or plan.nets k place))
+  pub singles : (k n : ℕ) (net : FlatNet) (place : NetPlace) (a b : Src) (cell : Cell)
+    → DrivesNet flat (FlatDriver.node n) k net → length (node_at flat n).ins ≡ 2
+      → single_cell (a ∷ b ∷ []) (node_at flat n).rows (node_at flat n).on ≡ Some cell
+      → IsExitOf plan.columns (cell_instr (get_or plan.nets k place).lane cell)
+        (get_or plan.nets k place).after

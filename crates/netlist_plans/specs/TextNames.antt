@@ -16,8 +16,13 @@ pub record IsNameWord (name : Name) : Type 0 where
 
 -- the names that the lines of a model name are words
 abbrev pub NamesAreWords : Type 0
-NamesAreWords = (text : List ℕ) (design : Design) → IsDesignOf text design → (model : Model) → Contains design.models model → (name : Name) → Contains (model_names model) name → IsNameWord name
+NamesAreWords =
+    (text : List ℕ) (design : Design) → IsDesignOf text design → (model : Model)
+    → Contains design.models model → (name : Name) → Contains (model_names model) name
+    → IsNameWord name
 
 -- and so are those of the nets
 abbrev pub NetsAreWords : Type 0
-NetsAreWords = (text : List ℕ) (design : Design) → IsDesignOf text design → (net : Net) → IsNet design net → IsNameWord net.name
+NetsAreWords =
+    (text : List ℕ) (design : Design) → IsDesignOf text design → (net : Net) → IsNet design net
+    → IsNameWord net.name

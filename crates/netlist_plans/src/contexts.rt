@@ -64,9 +64,10 @@ fn all_loop_bits(
     Ok(all)
 }
 
-/// The plan that `plan_netlist` makes of a flat netlist, in several contexts, in each of which the latches start with
-/// these bits, in order. There are at most as many contexts as its period has macro steps of 32 generations. Where the
-/// starts of all contexts have no room on the ways back of its loops, it gets columns without instructions.
+/// The plan that `plan_netlist` makes of a flat netlist, in several contexts, in each of which the
+/// latches start with these bits, in order. There are at most as many contexts as its period has
+/// macro steps of 32 generations. Where the starts of all contexts have no room on the ways back of
+/// its loops, it gets columns without instructions.
 pub fn plan_contexts(
     alloc: Global,
     flat: &Flat,

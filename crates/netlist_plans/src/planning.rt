@@ -62,8 +62,8 @@ fn plan_of_cells(alloc: Global, flat: &Flat, order: &Order) -> Result<Plan, Netl
     Ok(chosen.plan)
 }
 
-/// A plan of a sound flat netlist, for an order of its covers in which each comes after those that it reads. Its names and
-/// places are to stand in a port table.
+/// A plan of a sound flat netlist, for an order of its covers in which each comes after those that
+/// it reads. Its names and places are to stand in a port table.
 pub fn plan_netlist(alloc: Global, flat: &Flat, order: &Order) -> Result<Planned, NetlistPlanError>
     requires sound { IsSound flat.now }
     requires weighed { IsWeighed flat.now }

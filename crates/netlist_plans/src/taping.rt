@@ -23,9 +23,10 @@ use plan_tapes::load;
 use std::alloc::Global;
 use streams::Streams;
 
-/// The plan that `plan_netlist` makes of a flat netlist, with streams of its inputs on its tape, and the table of that plan,
-/// which names no input. The text of both runs by itself: nothing drives it, and it shows the run on the streams, and on 0
-/// from then on. There are streams for one context, of 1 to 4,096 cycles.
+/// The plan that `plan_netlist` makes of a flat netlist, with streams of its inputs on its tape,
+/// and the table of that plan, which names no input. The text of both runs by itself: nothing
+/// drives it, and it shows the run on the streams, and on 0 from then on. There are streams for one
+/// context, of 1 to 4,096 cycles.
 pub fn load_netlist(
     alloc: Global,
     flat: &Flat,

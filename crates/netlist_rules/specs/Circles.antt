@@ -20,12 +20,14 @@ abbrev pub Leads : List Model → List ℕ → List (List ℕ) → List ℕ → 
 Leads models name [] end = HasSubcktOf models name end
 Leads models name (next ∷ names) end = HasSubcktOf models name next × Leads models next names end
 
--- the names lead on from the model that a subckt line names, back to the model in which the line stands
+-- the names lead on from the model that a subckt line names, back to the model in which the line
+-- stands
 abbrev pub LeadsBack : List Model → List ℕ → List (List ℕ) → List ℕ → Type 0
 LeadsBack models placed [] end = placed ≡ end
 LeadsBack models placed (next ∷ names) end = (placed ≡ next) × Leads models next names end
 
--- a subckt line lies on a simple circle of models: the names, of which no two are the same, begin with the model in which it stands
+-- a subckt line lies on a simple circle of models: the names, of which no two are the same, begin
+-- with the model in which it stands
 pub record IsOnCircle (models : List Model) (line : ℕ) (names : List (List ℕ)) : Type 0 where
   pub model : Model
   pub is_model : model_named models model.name ≡ Some model
@@ -43,4 +45,5 @@ pub record IsCircleFault (models : List Model) (fault : Fault) : Type 0 where
   pub names : List (List ℕ)
   pub circle : IsOnCircle models fault.line names
   pub word : fault.word ≡ join_with_byte 32 names
-  pub is_earliest : (line : ℕ) (others : List (List ℕ)) → IsOnCircle models line others → fault.line ≤ line
+  pub is_earliest : (line : ℕ) (others : List (List ℕ)) → IsOnCircle models line others
+    → fault.line ≤ line

@@ -23,7 +23,8 @@ pub record PlacedLatch : Type 0 where
 abbrev pub IsPlacedLatch : Design → PlacedLatch → Type 0
 IsPlacedLatch design a = latch_at design a.place a.number ≡ Some a.latch
 
--- the order of latches: by their places, and at one place by their lines, since a model's latches are in the order of the text
+-- the order of latches: by their places, and at one place by their lines, since a model's latches
+-- are in the order of the text
 abbrev pub ComesBefore : PlacedLatch → PlacedLatch → Type 0
 ComesBefore a b = IsBefore a.place b.place ⊎ ((a.place ≡ b.place) × (a.number < b.number))
 
@@ -44,8 +45,8 @@ abbrev pub control_word : Option Name → Name
 control_word None = codes "-"
 control_word (Some name) = name
 
--- B20: a latch differs in type or control from the first; of those that do, the one that is named is the first in
--- that same order, by its line and its control or `-`
+-- B20: a latch differs in type or control from the first; of those that do, the one that is named
+-- is the first in that same order, by its line and its control or `-`
 pub record IsTwoClocks (design : Design) (line : ℕ) (word : Name) : Type 0 where
   pub first : PlacedLatch
   pub has_first : IsPlacedLatch design first
@@ -53,28 +54,39 @@ pub record IsTwoClocks (design : Design) (line : ℕ) (word : Name) : Type 0 whe
   pub found : PlacedLatch
   pub has_found : IsPlacedLatch design found
   pub differs : ¬ HasSameClock design first found
-  pub agree_before : (other : PlacedLatch) → IsPlacedLatch design other → ComesBefore other found → HasSameClock design first other
+  pub agree_before : (other : PlacedLatch) → IsPlacedLatch design other → ComesBefore other found
+    → HasSameClock design first other
   pub is_line : line ≡ found.latch.line
   pub is_word : word ≡ control_word found.latch.control
 
--- a word on a line that reads or drives a net as a cover, as a latch's data or as a main output does:
--- the line's number, a position that rises along the line's words, and the net
+-- a word on a line that reads or drives a net as a cover, as a latch's data or as a main output
+-- does: the line's number, a position that rises along the line's words, and the net
 pub data IsUse (design : Design) : ℕ → ℕ → Net → Type 0 where
-  by_cover : {place : Place} {model : Model} {cover : Cover} {position : ℕ} {name : Name} → model_at design place ≡ Some model → Contains model.covers cover → slice_get (cover.ins ++ cover.out ∷ []) position ≡ Some name → IsUse design cover.line position (net_at place name)
-  by_latch : {place : Place} {model : Model} {latch : LatchRow} {position : ℕ} {name : Name} → model_at design place ≡ Some model → Contains model.latches latch → slice_get (latch.input ∷ latch.output ∷ []) position ≡ Some name → IsUse design latch.line position (net_at place name)
-  by_main_output : {port : Port} {position : ℕ} → slice_get (main_ports (λ model. model.outs) design) position ≡ Some port → IsUse design port.line position (net_at [] port.name)
+  by_cover : {place : Place} {model : Model} {cover : Cover} {position : ℕ} {name : Name}
+    → model_at design place ≡ Some model → Contains model.covers cover
+    → slice_get (cover.ins ++ cover.out ∷ []) position ≡ Some name
+    → IsUse design cover.line position (net_at place name)
+  by_latch : {place : Place} {model : Model} {latch : LatchRow} {position : ℕ} {name : Name}
+    → model_at design place ≡ Some model → Contains model.latches latch
+    → slice_get (latch.input ∷ latch.output ∷ []) position ≡ Some name
+    → IsUse design latch.line position (net_at place name)
+  by_main_output : {port : Port} {position : ℕ}
+    → slice_get (main_ports (λ model. model.outs) design) position ≡ Some port
+    → IsUse design port.line position (net_at [] port.name)
 
 -- a clock net is so used, by that word of the line
 abbrev pub IsClockUse : Design → ℕ → ℕ → Net → Type 0
 IsClockUse design line position net = IsUse design line position net × IsClockNet design net
 
--- B21: a clock net is read by a cover, a latch's data or a main output, or is driven by a cover or a latch;
--- the earliest such line, and there the earliest such word
+-- B21: a clock net is read by a cover, a latch's data or a main output, or is driven by a cover or
+-- a latch; the earliest such line, and there the earliest such word
 pub record IsClockRead (design : Design) (line : ℕ) (word : Name) : Type 0 where
   pub position : ℕ
   pub net : Net
   pub is_use : IsClockUse design line position net
-  pub is_earliest : (other_line other_position : ℕ) (other : Net) → IsClockUse design other_line other_position other → (line < other_line) ⊎ ((line ≡ other_line) × (position ≤ other_position))
+  pub is_earliest : (other_line other_position : ℕ) (other : Net)
+    → IsClockUse design other_line other_position other
+    → (line < other_line) ⊎ ((line ≡ other_line) × (position ≤ other_position))
   pub is_word : word ≡ net.name
 
 -- no latch differs in type or control from the first
@@ -83,14 +95,17 @@ HasOneClock design = (line : ℕ) (word : Name) → ¬ IsTwoClocks design line w
 
 -- the clock fault of a design, with its line and word: B20, or where there is none B21
 pub data IsClockFault (design : Design) : Fault → Type 0 where
-  two_clocks : {line : ℕ} {word : Name} → IsTwoClocks design line word → IsClockFault design (fault_on TwoClocks line word)
-  clock_read : {line : ℕ} {word : Name} → HasOneClock design → IsClockRead design line word → IsClockFault design (fault_on ClockRead line word)
+  two_clocks : {line : ℕ} {word : Name} → IsTwoClocks design line word
+    → IsClockFault design (fault_on TwoClocks line word)
+  clock_read : {line : ℕ} {word : Name} → HasOneClock design → IsClockRead design line word
+    → IsClockFault design (fault_on ClockRead line word)
 
 -- there is no clock fault
 abbrev pub HasNoClockFault : Design → Type 0
 HasNoClockFault design = (fault : Fault) → ¬ IsClockFault design fault
 
--- Wired: each formal is a name of the model that its line places, no line names one with two actuals, and no clock net is read or driven
+-- Wired: each formal is a name of the model that its line places, no line names one with two
+-- actuals, and no clock net is read or driven
 pub record IsWired (design : Design) : Type 0 where
   pub formals_named : (outer inner : Net) → IsPinned design outer inner → IsNet design inner
   pub formals_once : NamesFormalsOnce design

@@ -20,16 +20,21 @@ same_name_before p q = has_name p.name q && nat_lt q.line p.line
 
 -- whether the name stands earlier: on an earlier line, or on the same line earlier in the list
 abbrev pub stands_earlier : List Port → Port → List Port → Bool
-stands_earlier before p after = list_any (same_name_up_to p) before || list_any (same_name_before p) after
+stands_earlier before p after =
+    list_any (same_name_up_to p) before || list_any (same_name_before p) after
 
--- Of a list, cut into what stands before and after: the ones after that stand earlier too, and those that do not.
+-- Of a list, cut into what stands before and after: the ones after that stand earlier too, and
+-- those that do not.
 abbrev pub repeats_after : List Port → List Port → List Port
 repeats_after before [] = []
-repeats_after before (p ∷ after) = option_to_list (then_some (stands_earlier before p after) p) ++ repeats_after (p ∷ before) after
+repeats_after before (p ∷ after) =
+    option_to_list (then_some (stands_earlier before p after) p) ++ repeats_after (p ∷ before) after
 
 abbrev pub firsts_after : List Port → List Port → List Port
 firsts_after before [] = []
-firsts_after before (p ∷ after) = option_to_list (then_some (not (stands_earlier before p after)) p) ++ firsts_after (p ∷ before) after
+firsts_after before (p ∷ after) =
+    option_to_list (then_some (not (stands_earlier before p after)) p)
+    ++ firsts_after (p ∷ before) after
 
 -- the names of a list that stand earlier in it too; the first of each name
 abbrev pub repeats : List Port → List Port
@@ -38,7 +43,8 @@ repeats ports = repeats_after [] ports
 abbrev pub firsts : List Port → List Port
 firsts ports = firsts_after [] ports
 
--- A `.clock` name counts among the inputs, and a name in `.inputs` and `.clock` is one input, where it first stands.
+-- A `.clock` name counts among the inputs, and a name in `.inputs` and `.clock` is one input, where
+-- it first stands.
 abbrev pub inputs_of : Model → List Port
 inputs_of m = firsts (m.ins ++ m.clocks)
 
@@ -69,7 +75,8 @@ actuals_on models test s = filter_map (actual_if (test (model_named models s.mod
 abbrev pub actuals : List Model → (Option Model → Pin → Bool) → Model → List Port
 actuals models test m = flat_map (actuals_on models test) m.subckts
 
--- The drivers of a model: its inputs, a cover's output, a latch's output, the actual of an output formal.
+-- The drivers of a model: its inputs, a cover's output, a latch's output, the actual of an output
+-- formal.
 abbrev pub cover_output : Cover → Port
 cover_output c = at_line c.line c.out
 
@@ -77,9 +84,12 @@ abbrev pub latch_output : LatchRow → Port
 latch_output l = at_line l.line l.output
 
 abbrev pub drivers_of : List Model → Model → List Port
-drivers_of models m = inputs_of m ++ map cover_output m.covers ++ map latch_output m.latches ++ actuals models is_output_pin m
+drivers_of models m =
+    inputs_of m ++ map cover_output m.covers ++ map latch_output m.latches
+    ++ actuals models is_output_pin m
 
--- The readings: a cover's input, a latch's data or control, the actual of an input formal, a name in `.outputs`.
+-- The readings: a cover's input, a latch's data or control, the actual of an input formal, a name
+-- in `.outputs`.
 abbrev pub cover_readings : Cover → List Port
 cover_readings c = map (at_line c.line) c.ins
 
@@ -87,4 +97,6 @@ abbrev pub latch_readings : LatchRow → List Port
 latch_readings l = at_line l.line l.input ∷ map (at_line l.line) (option_to_list l.control)
 
 abbrev pub readings_of : List Model → Model → List Port
-readings_of models m = m.outs ++ flat_map cover_readings m.covers ++ flat_map latch_readings m.latches ++ actuals models is_input_pin m
+readings_of models m =
+    m.outs ++ flat_map cover_readings m.covers ++ flat_map latch_readings m.latches
+    ++ actuals models is_input_pin m

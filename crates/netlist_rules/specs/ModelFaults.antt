@@ -15,13 +15,17 @@ use Rattle.netlist_core.specs.Names.{at_line, is_named, model_named}
 use Rattle.netlist_rules.specs.Drivers.{same_name_before, same_name_up_to, stands_earlier, repeats, has_input, has_output, is_unknown_pin, actuals, drivers_of, readings_of}
 use Rattle.netlist_rules.specs.Circles.{IsOnCircle, IsCircleFault}
 
--- 12: a name stands twice in `.inputs`, twice in `.clock`, twice in `.outputs`, or among the inputs and in `.outputs`.
--- Of one of these lists, cut into what stands before and after: the names after that stand earlier in it, or pass the test.
+-- 12: a name stands twice in `.inputs`, twice in `.clock`, twice in `.outputs`, or among the inputs
+-- and in `.outputs`. Of one of these lists, cut into what stands before and after: the names after
+-- that stand earlier in it, or pass the test.
 abbrev pub doubles_after : (Port → Bool) → List Port → List Port → List Port
 doubles_after test before [] = []
-doubles_after test before (p ∷ after) = option_to_list (then_some (stands_earlier before p after || test p) p) ++ doubles_after test (p ∷ before) after
+doubles_after test before (p ∷ after) =
+    option_to_list (then_some (stands_earlier before p after || test p) p)
+    ++ doubles_after test (p ∷ before) after
 
--- whether an input stands in `.outputs` on an earlier line; whether an output stands among the inputs up to its line
+-- whether an input stands in `.outputs` on an earlier line; whether an output stands among the
+-- inputs up to its line
 abbrev pub is_output_before : Model → Port → Bool
 is_output_before m p = list_any (same_name_before p) m.outs
 
@@ -29,7 +33,9 @@ abbrev pub is_input_by_then : Model → Port → Bool
 is_input_by_then m p = list_any (same_name_up_to p) (m.ins ++ m.clocks)
 
 abbrev pub duplicate_ports : Model → List Port
-duplicate_ports m = doubles_after (is_output_before m) [] m.ins ++ doubles_after (is_output_before m) [] m.clocks ++ doubles_after (is_input_by_then m) [] m.outs
+duplicate_ports m =
+    doubles_after (is_output_before m) [] m.ins ++ doubles_after (is_output_before m) [] m.clocks
+    ++ doubles_after (is_input_by_then m) [] m.outs
 
 -- 13: a net has two drivers
 abbrev pub second_drivers : List Model → Model → List Port
@@ -41,7 +47,9 @@ unless_named drivers p = then_some (not (is_named drivers p.name)) p
 
 -- 14: a net is read and has no driver; here a pin whose model or formal is unknown counts as one
 abbrev pub undriven_readings : List Model → Model → List Port
-undriven_readings models m = filter_map (unless_named (drivers_of models m ++ actuals models is_unknown_pin m)) (readings_of models m)
+undriven_readings models m =
+    filter_map (unless_named (drivers_of models m ++ actuals models is_unknown_pin m))
+      (readings_of models m)
 
 -- 15: a subckt line names no model
 abbrev pub unplaced : Option Model → Subckt → List Port
@@ -62,13 +70,15 @@ abbrev pub formal_if : (Pin → Bool) → ℕ → Pin → Option Port
 formal_if test line pin = then_some (test pin) (at_line line pin.formal)
 
 abbrev pub unknown_formals : List Model → Subckt → List Port
-unknown_formals models s = filter_map (formal_if (is_portless (model_named models s.model)) s.line) s.pins
+unknown_formals models s =
+    filter_map (formal_if (is_portless (model_named models s.model)) s.line) s.pins
 
 -- 17: a subckt line names a formal twice
 abbrev pub formals_of : Subckt → List Port
 formals_of s = map (λ (pin : Pin). at_line s.line pin.formal) s.pins
 
--- 18: an input formal has no pin; the word is the first such formal, in the order of the model's own text
+-- 18: an input formal has no pin; the word is the first such formal, in the order of the model's
+-- own text
 abbrev pub earlier_of : Port → Option Port → Option Port
 earlier_of p None = Some p
 earlier_of p (Some q) = Some (cond (nat_le p.line q.line) p q)
@@ -85,9 +95,13 @@ abbrev pub on_line : ℕ → Port → Port
 on_line line p = at_line line p.name
 
 abbrev pub missing_pin : List Model → Subckt → List Port
-missing_pin models s = map (on_line s.line) (option_to_list (option_map_or (λ (placed : Model). earliest (unpinned_inputs s placed)) (model_named models s.model) None))
+missing_pin models s =
+    map (on_line s.line) (option_to_list
+      (option_map_or (λ (placed : Model). earliest (unpinned_inputs s placed))
+      (model_named models s.model) None))
 
--- the words at which a model breaks this rule, with their lines; those of one line stand in its order, since each list of a model does
+-- the words at which a model breaks this rule, with their lines; those of one line stand in its
+-- order, since each list of a model does
 abbrev pub words_at_fault : FaultKind → List Model → Model → List Port
 words_at_fault DuplicatePort models m = duplicate_ports m
 words_at_fault MultipleDrivers models m = second_drivers models m
@@ -100,27 +114,33 @@ words_at_fault _ models m = []
 
 -- the rules on models but the one on circles, in the order of their numbers
 abbrev pub model_rules : List FaultKind
-model_rules = DuplicatePort ∷ MultipleDrivers ∷ Undriven ∷ NoSuchModel ∷ NoSuchPin ∷ PinTwice ∷ PinMissing ∷ []
+model_rules =
+    DuplicatePort ∷ MultipleDrivers ∷ Undriven ∷ NoSuchModel ∷ NoSuchPin ∷ PinTwice ∷ PinMissing
+    ∷ []
 
 abbrev pub fault_of_port : FaultKind → Port → Fault
 fault_of_port kind p = fault_on kind p.line p.name
 
 abbrev pub first_broken_by : List FaultKind → List Model → Option Fault
 first_broken_by [] models = None
-first_broken_by (kind ∷ kinds) models = option_or (option_map (fault_of_port kind) (earliest (flat_map (words_at_fault kind models) models))) (first_broken_by kinds models)
+first_broken_by (kind ∷ kinds) models =
+    option_or (option_map (fault_of_port kind)
+      (earliest (flat_map (words_at_fault kind models) models))) (first_broken_by kinds models)
 
 -- 22: there is no model, so the text has no logical line
 abbrev pub no_model : List Model → Option Fault
 no_model [] = Some (fault_on NoModel 1 (codes "-"))
 no_model (m ∷ models) = None
 
--- The fault by the lowest rule that holds of the models, at its earliest line, there the earliest word.
+-- The fault by the lowest rule that holds of the models, at its earliest line, there the earliest
+-- word.
 abbrev pub model_fault : List Model → Option Fault
 model_fault models = option_or (no_model models) (first_broken_by model_rules models)
 
 -- The fault of a list of models: by the lowest rule that holds of them, the one on circles last.
 abbrev pub HasModelFault : List Model → Fault → Type 0
-HasModelFault models fault = (model_fault models ≡ Some fault) ⊎ ((model_fault models ≡ None) × IsCircleFault models fault)
+HasModelFault models fault =
+    (model_fault models ≡ Some fault) ⊎ ((model_fault models ≡ None) × IsCircleFault models fault)
 
 -- Models without a fault.
 pub record AreFaultless (models : List Model) : Type 0 where

@@ -23,15 +23,20 @@ pub record ShowsRun (design : Design) (streams : Streams) (shown : List (List Bo
 
 -- the bits of the outputs in each of so many cycles
 abbrev pub output_rows : Design → ℕ → (ℕ → Valuation) → List (List Bool)
-output_rows design cycles run = map (λ cycle. output_bits design (run cycle)) (range_with_len 0 cycles)
+output_rows design cycles run =
+    map (λ cycle. output_bits design (run cycle)) (range_with_len 0 cycles)
 
 -- the run of the first cycles, with the outputs that they gave and the state after them
-pub record Ran (design : Design) (streams : Streams) (cycles : ℕ) (rows : List (List Bool)) (state : List Bool) : Type 0 where
+pub record Ran (design : Design) (streams : Streams) (cycles : ℕ) (rows : List (List Bool))
+    (state : List Bool) : Type 0 where
   pub run : ℕ → Valuation
-  pub holds : (t : ℕ) → t < cycles → IsValuation design (stream_row streams t) (latches_in design (start_state design) run t) (run t)
+  pub holds : (t : ℕ) → t < cycles → IsValuation design (stream_row streams t)
+      (latches_in design (start_state design) run t) (run t)
   pub are_rows : rows ≡ output_rows design cycles run
   pub state_is : state ≡ state_in_order design (latches_in design (start_state design) run cycles)
 
 -- the outputs' bits, row by row, in a run of any design of this flat netlist
 abbrev pub AreRowsInRun : Flat → Streams → List (List Bool) → Type 0
-AreRowsInRun flat streams rows = (design : Design) (order : List ℕ) → AreParts design flat order → (state : List Bool) × Ran design streams streams.cycles rows state
+AreRowsInRun flat streams rows =
+    (design : Design) (order : List ℕ) → AreParts design flat order
+    → (state : List Bool) × Ran design streams streams.cycles rows state

@@ -26,7 +26,8 @@ fn put_column(lists: &[List<bool>], place: usize, row: &mut [bool])
     }
 }
 
-// The outputs' bits of each cycle that a machine shows under the streams, over a row for its inputs and one for its outputs.
+// The outputs' bits of each cycle that a machine shows under the streams, over a row for its inputs
+// and one for its outputs.
 fn machine_rows(
     alloc: Global,
     machine: &mut Machine<'_>,
@@ -88,7 +89,8 @@ fn columns_in_run(
     Ok(columns_of(alloc, &rows, flat.outs.len())?)
 }
 
-/// The bits of each main output, cycle after cycle, in the netlist's run under the streams of its inputs.
+/// The bits of each main output, cycle after cycle, in the netlist's run under the streams of its
+/// inputs.
 pub fn run(alloc: Global, netlist: Netlist, streams: &Streams) -> Result<List<List<bool>>, RunError>
     requires parts { AreParts netlist.design netlist.flat netlist.order.nodes }
     requires many { length streams.now.bits ≡ length netlist.flat.ins }

@@ -9,7 +9,8 @@ use std::alloc::{AllocError, Global};
 use std::test::Fail;
 use ww_base::expect;
 
-// A model as it is written down: its name, and for each of its subckt lines its number and the letter of a model.
+// A model as it is written down: its name, and for each of its subckt lines its number and the
+// letter of a model.
 struct Written {
     name: u8,
     subckts: &'static [(u64, u8)],

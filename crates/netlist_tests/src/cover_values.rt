@@ -7,8 +7,8 @@ use std::alloc::{AllocError, Global};
 use std::test::Fail;
 use ww_base::expect;
 
-// A cover of rows, as it is written down: whether these end in `1`, the bits of its inputs time after time, and a letter
-// for each value.
+// A cover of rows, as it is written down: whether these end in `1`, the bits of its inputs time
+// after time, and a letter for each value.
 struct Written {
     rows: &'static [&'static [u8]],
     on: bool,

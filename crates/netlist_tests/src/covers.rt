@@ -31,7 +31,8 @@ pub fn are_there(list: &CellList, sources: &[Src]) -> bool
     })
 }
 
-// A cover as it is written down: what it reads, its rows and whether they end in `1`, and how many cells it takes.
+// A cover as it is written down: what it reads, its rows and whether they end in `1`, and how many
+// cells it takes.
 struct Written {
     about: &'static str,
     sources: &'static [Src],

@@ -10,7 +10,8 @@ use std::alloc::{AllocError, Global};
 use std::test::Fail;
 use ww_base::expect;
 
-// Two latches, of which the second starts with 1; the main model joins q0 with a net of another model, and drives n by a cover.
+// Two latches, of which the second starts with 1; the main model joins q0 with a net of another
+// model, and drives n by a cover.
 const COUNTER: &[u8] =
     b".model k\n.outputs q1\n.subckt l d=n q=q0\n.latch m q1 1\n.names q0 n\n0 1\n.names q0 q1 m\n10 1\n01 1\n.end\n.model l\n.inputs d\n.outputs q\n.latch d q 0\n.end\n";
 

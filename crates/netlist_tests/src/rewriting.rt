@@ -70,8 +70,8 @@ fn count_of(alloc: Global, lists: &[CellList], want: &str) -> Result<u64, AllocE
     Ok(count)
 }
 
-// Of a list with these cells and nets, where these sources are kept, four lists are made that have this text, also the
-// first of all.
+// Of a list with these cells and nets, where these sources are kept, four lists are made that have
+// this text, also the first of all.
 fn expect_lists(
     alloc: Global,
     cells: &[Cell],

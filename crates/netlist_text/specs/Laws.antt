@@ -6,23 +6,27 @@ use Rattle.netlist_rules.specs.declared.fault.Fault.{Fault}
 use Rattle.netlist_rules.specs.declared.fault.FaultKind.TheVariants.{Recursive, ClockRead}
 use Rattle.netlist_text.specs.NetlistText.{IsNetlist, IsAtFault, IsTooHeavy, HasLoop}
 
--- Two faults are of one kind, at one line, and the same, but that one line may lie on several circles of models, and may read several
--- clock nets.
+-- Two faults are of one kind, at one line, and the same, but that one line may lie on several
+-- circles of models, and may read several clock nets.
 pub record AreAlikeFaults (a b : Fault) : Type 0 where
   pub kind : a.kind ≡ b.kind
   pub line : a.line ≡ b.line
   pub whole : a.kind ≢ Recursive → a.kind ≢ ClockRead → a ≡ b
 
--- A text is not both, it has no two of the causes, and of each it has one, but that there may be several loops.
+-- A text is not both, it has no two of the causes, and of each it has one, but that there may be
+-- several loops.
 pub record IsDecided (text : List ℕ) : Type 0 where
   pub one_design : (a b : Design) → IsNetlist text a → IsNetlist text b → a ≡ b
-  pub not_at_fault : (design : Design) (fault : Fault) → IsNetlist text design → IsAtFault text fault → ⊥
+  pub not_at_fault : (design : Design) (fault : Fault) → IsNetlist text design
+    → IsAtFault text fault → ⊥
   pub not_heavy : (design : Design) (told : ℕ) → IsNetlist text design → IsTooHeavy text told → ⊥
-  pub not_a_loop : (design : Design) (names : List Name) → IsNetlist text design → HasLoop text names → ⊥
+  pub not_a_loop : (design : Design) (names : List Name) → IsNetlist text design
+    → HasLoop text names → ⊥
   pub one_fault : (a b : Fault) → IsAtFault text a → IsAtFault text b → AreAlikeFaults a b
   pub one_weight : (a b : ℕ) → IsTooHeavy text a → IsTooHeavy text b → a ≡ b
   pub fault_or_heavy : (fault : Fault) (told : ℕ) → IsAtFault text fault → IsTooHeavy text told → ⊥
-  pub fault_or_loop : (fault : Fault) (names : List Name) → IsAtFault text fault → HasLoop text names → ⊥
+  pub fault_or_loop : (fault : Fault) (names : List Name) → IsAtFault text fault
+    → HasLoop text names → ⊥
   pub heavy_or_loop : (told : ℕ) (names : List Name) → IsTooHeavy text told → HasLoop text names → ⊥
 
 abbrev pub TextsAreDecided : Type 0

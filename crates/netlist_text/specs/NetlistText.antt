@@ -17,7 +17,8 @@ pub record IsLight (text : List ℕ) (design : Design) : Type 0 where
   pub design_of : IsDesignOf text design
   pub light : weight design ≤ weight_limit
 
--- The text is a netlist: this design, within the limit, of which no clock is at fault and no covers read each other in a circle.
+-- The text is a netlist: this design, within the limit, of which no clock is at fault and no covers
+-- read each other in a circle.
 pub record IsNetlist (text : List ℕ) (design : Design) : Type 0 where
   pub is : IsLight text design
   pub clocks : HasNoClockFault design
@@ -26,7 +27,8 @@ pub record IsNetlist (text : List ℕ) (design : Design) : Type 0 where
 -- the text has a fault: by a rule on lines or models, or within the limit by one on clocks
 pub data IsAtFault (text : List ℕ) (fault : Fault) : Type 0 where
   of_text : HasFault (logical_lines text) fault → IsAtFault text fault
-  of_clocks : {design : Design} → IsLight text design → IsClockFault design fault → IsAtFault text fault
+  of_clocks : {design : Design} → IsLight text design → IsClockFault design fault
+    → IsAtFault text fault
 
 -- its design is over the limit; the number that is told is its weight, or the greatest u64
 pub record IsTooHeavy (text : List ℕ) (told : ℕ) : Type 0 where
@@ -35,8 +37,8 @@ pub record IsTooHeavy (text : List ℕ) (told : ℕ) : Type 0 where
   pub heavy : weight_limit < weight design
   pub is_told : told ≡ min (weight design) (2 ^ 64 - 1)
 
--- covers read each other in a circle, whose nets have these names: each the one nearest the main model of those that it is joined
--- with, and none twice
+-- covers read each other in a circle, whose nets have these names: each the one nearest the main
+-- model of those that it is joined with, and none twice
 pub record HasLoop (text : List ℕ) (names : List Name) : Type 0 where
   pub design : Design
   pub is : IsLight text design

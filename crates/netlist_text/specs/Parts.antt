@@ -9,7 +9,8 @@ use Rattle.netlist_rules.specs.ModelFaults.{AreFaultless}
 use Rattle.netlist_rules.specs.Clocks.{HasNoClockFault}
 use Rattle.netlist_core.specs.Limit.{weight_limit}
 
--- A design without a fault, of a weight within the limit, its flat netlist, and an order of the covers.
+-- A design without a fault, of a weight within the limit, its flat netlist, and an order of the
+-- covers.
 pub record AreParts (design : Design) (flat : Flat) (order : List ℕ) : Type 0 where
   pub faultless : AreFaultless design.models
   pub clocks : HasNoClockFault design

@@ -22,7 +22,8 @@ pub enum NetlistError {
     /// The netlist weighs more than the limit.
     #[error("the netlist is too large: it weighs {weight}")]
     TooLarge { weight: u64 },
-    /// The names of nets of which each is read by a cover whose output is the next, and the last by one whose output is the first.
+    /// The names of nets of which each is read by a cover whose output is the next, and the last by
+    /// one whose output is the first.
     #[error("covers read each other in a circle")]
     Loop(List<Name>),
     #[error("out of memory")]

@@ -23,8 +23,8 @@ pub struct Netlist {
     pub order: Order,
 }
 
-/// The netlist of a BLIF text. Of several causes why there is none the first in this order is answered: a fault of its lines or
-/// models, too great a weight, a fault of its clocks, a loop.
+/// The netlist of a BLIF text. Of several causes why there is none the first in this order is
+/// answered: a fault of its lines or models, too great a weight, a fault of its clocks, a loop.
 pub fn netlist_of(alloc: Global, text: &[u8]) -> Result<Netlist, NetlistError>
     ensures netlist { IfOk result (λ n. IsNetlist text.now n.design) }
     ensures parts { IfOk result (λ n. AreParts n.design n.flat n.order.nodes) }

@@ -1,4 +1,5 @@
-// A list of cells by the numbers of its values: inputs, loops, constant 0, and then what the cells make.
+// A list of cells by the numbers of its values: inputs, loops, constant 0, and then what the cells
+// make.
 use cell_core::{Cell, CellError, CellList, Src};
 use std::alloc::Global;
 
@@ -18,8 +19,8 @@ impl Gate {
     }
 }
 
-/// What a list asks of lanes. `ports` are the values of the loops' data and then those of the outputs; `uses` says how often each value
-/// is read.
+/// What a list asks of lanes. `ports` are the values of the loops' data and then those of the
+/// outputs; `uses` says how often each value is read.
 #[derive(Drop)]
 pub struct Gates {
     pub inputs: usize,
@@ -73,7 +74,8 @@ impl Gates {
         self.uses.get(value).copied().unwrap_or(0)
     }
 
-    /// The fewest lanes on which the cells can be placed in an order: one for each value that is still read, and for the copies in hand.
+    /// The fewest lanes on which the cells can be placed in an order: one for each value that is
+    /// still read, and for the copies in hand.
     pub fn fewest_lanes(&self, alloc: Global, order: &[u32]) -> Result<usize, CellError> {
         let mut left = self.uses.as_slice().to_vec(alloc)?;
         let most = self.most_live(&mut left, order);

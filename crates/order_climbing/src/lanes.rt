@@ -1,9 +1,10 @@
-// Lanes as the placer sees them, without instructions: what stands on each, and from which column on it is idle.
+// Lanes as the placer sees them, without instructions: what stands on each, and from which column
+// on it is idle.
 use cell_core::CellError;
 use std::alloc::Global;
 
-/// What stands on a lane is a number: of a value, or of a port, or of an operand in hand, and `nothing` on a free lane. Each but `nothing`
-/// stands on one lane at most, which `places` tells.
+/// What stands on a lane is a number: of a value, or of a port, or of an operand in hand, and
+/// `nothing` on a free lane. Each but `nothing` stands on one lane at most, which `places` tells.
 #[derive(Drop)]
 pub struct Lanes {
     standing: Vec<usize>,
@@ -144,7 +145,8 @@ impl Lanes {
         self.set_clock(to, time);
     }
 
-    // What stands on a lane goes to the one beside it, whose own comes to the lane at that time or later; when it does.
+    // What stands on a lane goes to the one beside it, whose own comes to the lane at that time or
+    // later; when it does.
     fn shift(&mut self, from: usize, to: usize, time: usize) -> usize {
         let time = time.max(self.clock(from)).saturating_add(1);
         self.put(to, self.standing_on(from));
@@ -221,8 +223,8 @@ impl Lanes {
         Some(Copying { free, meeting })
     }
 
-    /// Makes a second copy of what stands on a lane, by the free lane that it can meet first: the upper one of the two lanes that then have
-    /// it. There is none where no lane is free.
+    /// Makes a second copy of what stands on a lane, by the free lane that it can meet first: the
+    /// upper one of the two lanes that then have it. There is none where no lane is free.
     pub fn copy(&mut self, lane: usize) -> Option<usize> {
         let below = self.copy_below(lane);
         let above = self.copy_above(lane);

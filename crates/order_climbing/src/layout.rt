@@ -91,8 +91,8 @@ impl Homes {
         }
     }
 
-    /// So many lanes, of which `above` stand above the loops: inputs that would stand on loops' lanes go to free ones. Whether there are
-    /// enough.
+    /// So many lanes, of which `above` stand above the loops: inputs that would stand on loops'
+    /// lanes go to free ones. Whether there are enough.
     pub fn resize(&mut self, lanes: usize, above: usize) -> bool {
         self.lanes = lanes;
         for input in 0..self.ins.len() {
@@ -116,7 +116,8 @@ pub struct Layout {
 }
 
 impl Layout {
-    /// The order, with inputs spread over the lanes above the loops, those whose first reader comes latest at the top.
+    /// The order, with inputs spread over the lanes above the loops, those whose first reader comes
+    /// latest at the top.
     pub fn spread(
         alloc: Global,
         gates: &Gates,
@@ -146,7 +147,8 @@ impl Layout {
         Ok(())
     }
 
-    /// The places to which the cell at a place may go: after those that it reads, and before those that read it.
+    /// The places to which the cell at a place may go: after those that it reads, and before those
+    /// that read it.
     pub fn range(&self, gates: &Gates, place: usize) -> Option<Range<usize>> {
         let cell = *self.order.get(place)?;
         let gate = *gates.gates.get(cell)?;
@@ -188,7 +190,8 @@ impl Layout {
     }
 }
 
-// The inputs, each with how far before the end its first reader stands, those whose first reader comes latest first.
+// The inputs, each with how far before the end its first reader stands, those whose first reader
+// comes latest first.
 fn by_first_reader(
     alloc: Global,
     gates: &Gates,

@@ -1,11 +1,13 @@
-// How many columns the placer takes for an order of the cells: the placer's own steps, without instructions.
+// How many columns the placer takes for an order of the cells: the placer's own steps, without
+// instructions.
 use crate::gates::{Gate, Gates};
 use crate::lanes::Lanes;
 use crate::layout::Layout;
 use cell_core::CellError;
 use std::alloc::Global;
 
-/// A placer of some gates. It takes memory once; what stands on lanes is numbered as `Lanes` says: values, ports, the two operands.
+/// A placer of some gates. It takes memory once; what stands on lanes is numbered as `Lanes` says:
+/// values, ports, the two operands.
 #[derive(Drop)]
 pub struct Placer<'a> {
     gates: &'a Gates,
@@ -29,7 +31,8 @@ impl<'a> Placer<'a> {
         })
     }
 
-    /// How many tiles the drawing of a layout has, if these are at most so many, and the lanes are enough.
+    /// How many tiles the drawing of a layout has, if these are at most so many, and the lanes are
+    /// enough.
     pub fn tiles(&mut self, layout: &Layout, most: u64) -> Result<Option<u64>, CellError> {
         self.begin(layout)?;
         let lanes = layout.homes.lanes;
@@ -73,7 +76,8 @@ impl<'a> Placer<'a> {
         }
     }
 
-    // All gates, ports and loops; how many columns they take. Where a gate comes after so many columns, the rest is not placed.
+    // All gates, ports and loops; how many columns they take. Where a gate comes after so many
+    // columns, the rest is not placed.
     fn place_all(&mut self, layout: &Layout, most: u64) -> Option<usize> {
         for cell in &layout.order {
             let gate = *self.gates.gates.get(*cell)?;
@@ -107,7 +111,8 @@ impl<'a> Placer<'a> {
         Some(time)
     }
 
-    // One use of a value: a number stands for it on its lane, or on a copy, the one on the partner's side, where there are later uses.
+    // One use of a value: a number stands for it on its lane, or on a copy, the one on the
+    // partner's side, where there are later uses.
     fn fetch(&mut self, value: usize, number: usize, partner: usize) -> Option<()> {
         let left = self.left.get_mut(value)?;
         *left = left.saturating_sub(1);

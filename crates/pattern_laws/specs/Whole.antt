@@ -9,12 +9,15 @@ use Rattle.pattern_reading.specs.PortTable.{HasPortFault, ReadsAsPorts}
 
 -- The text reads as a pattern that a reader takes, and as a port table in the pattern's box.
 abbrev pub ReadsWhole : List ℕ → Grid → Ports → Type 0
-ReadsWhole text grid ports = ReadsWithinLimit text grid × ReadsAsPorts text grid.width grid.height ports
+ReadsWhole text grid ports =
+    ReadsWithinLimit text grid × ReadsAsPorts text grid.width grid.height ports
 
--- The text reads as a pattern that a reader takes, and its port table has this first fault in the pattern's box. So what is at fault
--- in the pattern, and a box that is too large, come before what is at fault in the table.
+-- The text reads as a pattern that a reader takes, and its port table has this first fault in the
+-- pattern's box. So what is at fault in the pattern, and a box that is too large, come before what
+-- is at fault in the table.
 abbrev pub HasTableFault : List ℕ → PortFaultKind → ℕ → Type 0
-HasTableFault text kind line = (grid : Grid) × ReadsWithinLimit text grid × HasPortFault text grid.width grid.height kind line
+HasTableFault text kind line =
+    (grid : Grid) × ReadsWithinLimit text grid × HasPortFault text grid.width grid.height kind line
 
 -- what a reader of the whole text answers
 pub data Answer : Type 0 where

@@ -1,4 +1,5 @@
-// Texts whose reading is known, and texts that are at fault: the definitions say of each what they should.
+// Texts whose reading is known, and texts that are at fault: the definitions say of each what they
+// should.
 ghost use Rattle.std.specs.List.{AllByRecursion};
 ghost use Rattle.pattern_laws.specs.Examples.{ReadsAsSaid, HasSaidFault, ReadsAsSaidPorts, HasSaidPortFault};
 ghost use Rattle.pattern_laws.specs.Examples.{header_examples, item_examples};

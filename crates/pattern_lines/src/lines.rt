@@ -8,7 +8,8 @@ ghost use Rattle.pattern_lines.specs.Lines.{line_of};
 
 use crate::blanks::is_all_blank;
 
-/// A line without its end, with its number, which is counted from 1. Only the last line of a text may lack an end.
+/// A line without its end, with its number, which is counted from 1. Only the last line of a text
+/// may lack an end.
 #[derive(Clone, Copy)]
 pub struct Line<'a> {
     pub number: u64,
@@ -27,7 +28,8 @@ impl Line<'_> {
         }
     }
 
-    /// Whether the line is skipped where it stands before the header: comments are, and lines of blanks.
+    /// Whether the line is skipped where it stands before the header: comments are, and lines of
+    /// blanks.
     pub fn is_skipped(self) -> bool
         ensures { result ≡ is_skipped (line_of self.entry) }
     {

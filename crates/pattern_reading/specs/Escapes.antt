@@ -1,12 +1,13 @@
--- Bytes of which some stand as escapes: `%` and two hexadecimal digits, as in URLs (RFC 3986, section 2.1).
+-- Bytes of which some stand as escapes: `%` and two hexadecimal digits, as in URLs (RFC 3986,
+-- section 2.1).
 use Rattle.std.specs.Prelude.{ℕ, ◌+◌, ◌*◌, ◌/◌, ◌%◌, Bool, true, ◌&&◌, ◌||◌, not, ◌==◌, nat_lt, if◌then◌else◌, List, [], ◌∷◌, flat_map, Option, Some, None, option_map}
 use Rattle.std.specs.Char.{digit_value, is_ascii_graphic, is_digit}
 use Rattle.std.specs.Fmt.{digit_glyph}
 use Rattle.std.specs.Str.{byte}
 use Rattle.pattern_reading.specs.Numbers.{◌>>=◌}
 
--- A byte as it is written: itself where it is plain, and else an escape, whose digits are in upper case. A number over 255, which
--- is no byte, stands for itself.
+-- A byte as it is written: itself where it is plain, and else an escape, whose digits are in upper
+-- case. A number over 255, which is no byte, stands for itself.
 abbrev pub escaped_byte : (ℕ → Bool) → ℕ → List ℕ
 escaped_byte is_plain b =
     if is_plain b || nat_lt 255 b then b ∷ []
@@ -30,8 +31,8 @@ escape_in high low =
 abbrev pub onto : ℕ → Option (List ℕ) → Option (List ℕ)
 onto b bytes = option_map (λ bs. b ∷ bs) bytes
 
--- The bytes that a text with escapes stands for: each `%` begins an escape, else the text stands for nothing, and any other byte
--- stands for itself.
+-- The bytes that a text with escapes stands for: each `%` begins an escape, else the text stands
+-- for nothing, and any other byte stands for itself.
 abbrev pub unescaped : List ℕ → Option (List ℕ)
 unescaped [] = Some []
 unescaped (b ∷ high ∷ low ∷ rest) =

@@ -12,8 +12,8 @@ pub record Header : Type 0 where
   pub height : ℕ
   pub rule : Option (List ℕ)
 
--- The end of a header, after its two numbers: nothing, or `,` `rule` `=` and the rule's name, which is not empty. Blanks are free
--- between these and at the end.
+-- The end of a header, after its two numbers: nothing, or `,` `rule` `=` and the rule's name, which
+-- is not empty. Blanks are free between these and at the end.
 abbrev pub rule_name_in : List ℕ → Option (List ℕ)
 rule_name_in bytes = do
   after_comma ← after_word (codes ",") bytes
@@ -22,10 +22,11 @@ rule_name_in bytes = do
   non_empty (without_blanks_around after_equals)
 
 abbrev pub rule_in : List ℕ → Option (Option (List ℕ))
-rule_in bytes = if list_all is_blank bytes then Some None else (rule_name_in bytes >>= λ name. Some (Some name))
+rule_in bytes =
+    if list_all is_blank bytes then Some None else (rule_name_in bytes >>= λ name. Some (Some name))
 
--- A header: `x`, `=`, a number, `,`, `y`, `=`, a number, and perhaps `,`, `rule`, `=` and the rule's name. Blanks are free between
--- these and at both ends.
+-- A header: `x`, `=`, a number, `,`, `y`, `=`, a number, and perhaps `,`, `rule`, `=` and the
+-- rule's name. Blanks are free between these and at both ends.
 abbrev pub header_in : List ℕ → Option Header
 header_in bytes = do
   after_x ← after_word (codes "x") bytes

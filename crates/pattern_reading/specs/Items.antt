@@ -1,4 +1,5 @@
--- The items of extended RLE, by Golly's description: a run of cells, the end of rows, or the end of the pattern.
+-- The items of extended RLE, by Golly's description: a run of cells, the end of rows, or the end of
+-- the pattern.
 use Rattle.std.specs.Prelude.{ℕ, ◌<◌, zero, suc, Bool, true, false, ◌||◌, not, ◌==◌, if◌then◌else◌, List, [], ◌∷◌, map, Option, Some, None, sum_by, take_while, flat_map}
 use Rattle.std.specs.Str.{byte}
 use Rattle.std.specs.Char.{is_ascii_digit}
@@ -8,7 +9,8 @@ use Rattle.pattern_reading.specs.Lines.{Line}
 use Rattle.pattern_reading.specs.Numbers.{is_blank, number_in}
 use Rattle.pattern_reading.specs.Header.{is_comment}
 
--- a byte that is no digit, with the digits directly before it; where the line ends with digits, they are a piece without such a byte
+-- a byte that is no digit, with the digits directly before it; where the line ends with digits,
+-- they are a piece without such a byte
 pub record TaggedDigits : Type 0 where
   pub digits : List ℕ
   pub tag : Option ℕ
@@ -23,7 +25,8 @@ abbrev pub pieces_of : List ℕ → List TaggedDigits
 pieces_of [] = []
 pieces_of (b ∷ bs) =
     let of_rest = pieces_of bs in
-    if is_ascii_digit b then onto_first_piece b of_rest else record { digits = []; tag = Some b } ∷ of_rest
+    if is_ascii_digit b then onto_first_piece b of_rest
+      else record { digits = []; tag = Some b } ∷ of_rest
 
 -- what a piece of a line stands for: one of the three items, or one of three things that are none
 pub data Item : Type 0 where
@@ -40,7 +43,8 @@ pub data Item : Type 0 where
   -- anything else, which is no item
   NoItem : Item
 
--- what a tag with a count stands for: `.` and `b` are empty cells, `A` and `o` heads, `B` tails, `C` conductors, and `$` ends a row
+-- what a tag with a count stands for: `.` and `b` are empty cells, `A` and `o` heads, `B` tails,
+-- `C` conductors, and `$` ends a row
 abbrev pub counted_item : ℕ → ℕ → Item
 counted_item count tag =
     if tag == byte "." || tag == byte "b" then Cells count Empty
@@ -58,7 +62,8 @@ item_with_count (Some (suc n)) tag = counted_item (suc n) tag
 
 -- what a byte without a count stands for: `!` and the blanks take none, and for other tags it is 1
 abbrev pub item_without_count : ℕ → Item
-item_without_count tag = if tag == byte "!" then End else if is_blank tag then Blank else counted_item 1 tag
+item_without_count tag =
+    if tag == byte "!" then End else if is_blank tag then Blank else counted_item 1 tag
 
 -- digits at a line's end are cut off where the line has no end, since the text ends there
 abbrev pub item_in : Bool → List ℕ → Option ℕ → Item
@@ -74,7 +79,9 @@ pub record LineItem : Type 0 where
 -- the items of a line after the header; a comment has none
 abbrev pub items_of_line : Line → List LineItem
 items_of_line line =
-    if is_comment line then [] else map (λ piece. record { line = line.number; item = item_in line.is_ended piece.digits piece.tag }) (pieces_of line.bytes)
+    if is_comment line then [] else map
+        (λ piece. record { line = line.number;
+        item = item_in line.is_ended piece.digits piece.tag }) (pieces_of line.bytes)
 
 abbrev pub items_of_lines : List Line → List LineItem
 items_of_lines lines = flat_map items_of_line lines
@@ -102,7 +109,8 @@ abbrev pub is_end : Item → Bool
 is_end End = true
 is_end _ = false
 
--- the column at which an item begins: the sum of the counts of cells since the last `$`, of the items before it, the nearest first
+-- the column at which an item begins: the sum of the counts of cells since the last `$`, of the
+-- items before it, the nearest first
 abbrev pub column_after : List Item → ℕ
 column_after before = sum_by cell_count (take_while (λ item. not (is_row_end item)) before)
 
@@ -114,7 +122,8 @@ row_after before = sum_by row_end_count before
 abbrev pub placed_after : List Item → List LineItem → List Placed
 placed_after before [] = []
 placed_after before (i ∷ is) =
-    record { line = i.line; x = column_after before; y = row_after before; item = i.item } ∷ placed_after (i.item ∷ before) is
+    record { line = i.line; x = column_after before; y = row_after before; item = i.item }
+      ∷ placed_after (i.item ∷ before) is
 
 -- a count is at least 1
 abbrev pub IsCounted : Item → Type 0

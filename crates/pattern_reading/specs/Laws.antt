@@ -20,17 +20,24 @@ HasOnePattern text = (a b : Grid) → ReadsAsPattern text a → ReadsAsPattern t
 
 -- It has at most one fault that is the first.
 abbrev pub HasOneRleFault : List ℕ → Type 0
-HasOneRleFault text = (k k' : RleFaultKind) (line line' : ℕ) → HasRleFault text k line → HasRleFault text k' line' → (k ≡ k') × (line ≡ line')
+HasOneRleFault text =
+    (k k' : RleFaultKind) (line line' : ℕ) → HasRleFault text k line → HasRleFault text k' line'
+    → (k ≡ k') × (line ≡ line')
 
 -- It never reads and has a fault.
 abbrev pub HasNoFaultIfRead : List ℕ → Type 0
-HasNoFaultIfRead text = (grid : Grid) (kind : RleFaultKind) (line : ℕ) → ReadsAsPattern text grid → HasRleFault text kind line → ⊥
+HasNoFaultIfRead text =
+    (grid : Grid) (kind : RleFaultKind) (line : ℕ) → ReadsAsPattern text grid
+    → HasRleFault text kind line → ⊥
 
 -- It reads or has a fault.
 abbrev pub HasPatternOrFault : List ℕ → Type 0
-HasPatternOrFault text = ((grid : Grid) × ReadsAsPattern text grid) ⊎ ((kind : RleFaultKind) × (line : ℕ) × HasRleFault text kind line)
+HasPatternOrFault text =
+    ((grid : Grid) × ReadsAsPattern text grid)
+    ⊎ ((kind : RleFaultKind) × (line : ℕ) × HasRleFault text kind line)
 
--- A reader answers it in one of three ways: a pattern, a fault and its line, or a box that is too large with its numbers.
+-- A reader answers it in one of three ways: a pattern, a fault and its line, or a box that is too
+-- large with its numbers.
 abbrev pub HasReaderAnswer : List ℕ → Type 0
 HasReaderAnswer text =
     ((grid : Grid) × ReadsWithinLimit text grid)
@@ -39,26 +46,34 @@ HasReaderAnswer text =
 
 -- No two of them are possible, and a box has one width and one height.
 pub record HasOneReaderAnswer (text : List ℕ) : Type 0 where
-  pub reads_or_fault : (grid : Grid) (kind : RleFaultKind) (line : ℕ) → ReadsWithinLimit text grid → HasReaderFault text kind line → ⊥
-  pub reads_or_large : (grid : Grid) (width height : ℕ) → ReadsWithinLimit text grid → HasLargeBox text width height → ⊥
-  pub fault_or_large : (kind : RleFaultKind) (line width height : ℕ) → HasReaderFault text kind line → HasLargeBox text width height → ⊥
-  pub one_box : (width height width' height' : ℕ) → HasBox text width height → HasBox text width' height' → (width ≡ width') × (height ≡ height')
+  pub reads_or_fault : (grid : Grid) (kind : RleFaultKind) (line : ℕ) → ReadsWithinLimit text grid
+    → HasReaderFault text kind line → ⊥
+  pub reads_or_large : (grid : Grid) (width height : ℕ) → ReadsWithinLimit text grid
+    → HasLargeBox text width height → ⊥
+  pub fault_or_large : (kind : RleFaultKind) (line width height : ℕ) → HasReaderFault text kind line
+    → HasLargeBox text width height → ⊥
+  pub one_box : (width height width' height' : ℕ) → HasBox text width height
+    → HasBox text width' height' → (width ≡ width') × (height ≡ height')
 
 -- The same of the port table of a text, in a box of this width and height.
 abbrev pub HasOneTable : List ℕ → ℕ → ℕ → Type 0
-HasOneTable text width height = (a b : Ports) → ReadsAsPorts text width height a → ReadsAsPorts text width height b → a ≡ b
+HasOneTable text width height =
+    (a b : Ports) → ReadsAsPorts text width height a → ReadsAsPorts text width height b → a ≡ b
 
 abbrev pub HasOnePortFault : List ℕ → ℕ → ℕ → Type 0
 HasOnePortFault text width height =
-    (k k' : PortFaultKind) (line line' : ℕ) → HasPortFault text width height k line → HasPortFault text width height k' line' → (k ≡ k') × (line ≡ line')
+    (k k' : PortFaultKind) (line line' : ℕ) → HasPortFault text width height k line
+    → HasPortFault text width height k' line' → (k ≡ k') × (line ≡ line')
 
 abbrev pub HasNoPortFaultIfRead : List ℕ → ℕ → ℕ → Type 0
 HasNoPortFaultIfRead text width height =
-    (ports : Ports) (kind : PortFaultKind) (line : ℕ) → ReadsAsPorts text width height ports → HasPortFault text width height kind line → ⊥
+    (ports : Ports) (kind : PortFaultKind) (line : ℕ) → ReadsAsPorts text width height ports
+    → HasPortFault text width height kind line → ⊥
 
 abbrev pub HasTableOrFault : List ℕ → ℕ → ℕ → Type 0
 HasTableOrFault text width height =
-    ((ports : Ports) × ReadsAsPorts text width height ports) ⊎ ((kind : PortFaultKind) × (line : ℕ) × HasPortFault text width height kind line)
+    ((ports : Ports) × ReadsAsPorts text width height ports)
+    ⊎ ((kind : PortFaultKind) × (line : ℕ) × HasPortFault text width height kind line)
 
 -- a line with a line feed for its end, if it has one
 abbrev pub with_end : Line → List ℕ
@@ -70,7 +85,8 @@ HasAllInLines text = flat_map with_end (lines_of text) ≡ with_line_feeds text
 
 -- The lines are numbered from 1 on.
 abbrev pub HasNumberedLines : List ℕ → Type 0
-HasNumberedLines text = map (λ line. line.number) (lines_of text) ≡ range_with_len 1 (length (lines_of text))
+HasNumberedLines text =
+    map (λ line. line.number) (lines_of text) ≡ range_with_len 1 (length (lines_of text))
 
 -- The lines are those that `lines` of Rust gives.
 abbrev pub HasLinesOfRust : List ℕ → Type 0
@@ -86,7 +102,9 @@ later_by n line = record line { number = n + line.number }
 
 -- A line before a text is its first line, and the others are the text's.
 abbrev pub HasFirstLine : List ℕ → List ℕ → Type 0
-HasFirstLine bytes rest = lines_of (bytes ++ 10 ∷ rest) ≡ record { number = 1; bytes = bytes; is_ended = true } ∷ map (later_by 1) (lines_of rest)
+HasFirstLine bytes rest =
+    lines_of (bytes ++ 10 ∷ rest) ≡ record { number = 1; bytes = bytes; is_ended = true }
+    ∷ map (later_by 1) (lines_of rest)
 
 -- where the item after another begins, by where that one began
 abbrev pub next_column : Item → ℕ → ℕ
@@ -101,20 +119,26 @@ next_row _ y = y
 -- The sums of counts grow item by item.
 abbrev pub HasNextPlace : Item → List Item → Type 0
 HasNextPlace item before =
-    (column_after (item ∷ before) ≡ next_column item (column_after before)) × (row_after (item ∷ before) ≡ next_row item (row_after before))
+    (column_after (item ∷ before) ≡ next_column item (column_after before))
+    × (row_after (item ∷ before) ≡ next_row item (row_after before))
 
--- Any text that is not empty is a line and the rest: up to its first line feed, less the carriage return directly before it; or, where
--- it has no line feed, all of it.
+-- Any text that is not empty is a line and the rest: up to its first line feed, less the carriage
+-- return directly before it; or, where it has no line feed, all of it.
 abbrev pub HasLineThenRest : List ℕ → List ℕ → Type 0
 HasLineThenRest bytes rest =
-    All (λ b. b ≢ 10) bytes → lines_of (bytes ++ 10 ∷ rest) ≡ record { number = 1; bytes = strip_carriage_return bytes; is_ended = true } ∷ map (later_by 1) (lines_of rest)
+    All (λ b. b ≢ 10) bytes → lines_of (bytes ++ 10 ∷ rest) ≡ record
+        { number = 1; bytes = strip_carriage_return bytes; is_ended = true }
+      ∷ map (later_by 1) (lines_of rest)
 
 abbrev pub HasLoneLine : List ℕ → Type 0
-HasLoneLine bytes = All (λ b. b ≢ 10) bytes → bytes ≢ [] → lines_of bytes ≡ record { number = 1; bytes = bytes; is_ended = false } ∷ []
+HasLoneLine bytes =
+    All (λ b. b ≢ 10) bytes → bytes ≢ []
+    → lines_of bytes ≡ record { number = 1; bytes = bytes; is_ended = false } ∷ []
 
 -- The numbers of a header fit 64 bits.
 abbrev pub HasSmallBox : List ℕ → ℕ → ℕ → Type 0
-HasSmallBox text width height = HasBox text width height → (width ≤ greatest_number) × (height ≤ greatest_number)
+HasSmallBox text width height =
+    HasBox text width height → (width ≤ greatest_number) × (height ≤ greatest_number)
 
 -- a port and a net in a box
 abbrev pub IsPortInside : ℕ → ℕ → PortLine → Type 0
@@ -130,8 +154,10 @@ pub record HasCellsInside (width height : ℕ) (ports : Ports) : Type 0 where
   pub nets : AllByRecursion (IsNetInside width height) ports.nets
 
 abbrev pub HasPortsInside : List ℕ → ℕ → ℕ → Type 0
-HasPortsInside text width height = (ports : Ports) → ReadsAsPorts text width height ports → HasCellsInside width height ports
+HasPortsInside text width height =
+    (ports : Ports) → ReadsAsPorts text width height ports → HasCellsInside width height ports
 
 -- At most one run of cells covers a cell.
 abbrev pub HasOneRun : List ℕ → Type 0
-HasOneRun text = (x y : ℕ) → length (filter_map (λ p. state_in x y p p.item) (placed_items text)) ≤ 1
+HasOneRun text =
+    (x y : ℕ) → length (filter_map (λ p. state_in x y p p.item) (placed_items text)) ≤ 1

@@ -1,5 +1,5 @@
--- The lines of a text. A line ends with a line feed (byte 10), or with a carriage return (byte 13) and a line feed.
--- The last line may lack its end, and nothing stands after the last line end.
+-- The lines of a text. A line ends with a line feed (byte 10), or with a carriage return (byte 13)
+-- and a line feed. The last line may lack its end, and nothing stands after the last line end.
 use Rattle.std.specs.Prelude.{ℕ, ◌+◌, Bool, true, false, ◌&&◌, ◌==◌, if◌then◌else◌, List, [], ◌∷◌, length, max}
 
 -- a line without its end; the lines have the numbers 1, 2, 3, ..
@@ -14,7 +14,8 @@ abbrev pub begins_with : ℕ → List ℕ → Bool
 begins_with b [] = false
 begins_with b (c ∷ cs) = c == b
 
--- the text with a line feed alone for each line end: a carriage return directly before a line feed is left out
+-- the text with a line feed alone for each line end: a carriage return directly before a line feed
+-- is left out
 abbrev pub with_line_feeds : List ℕ → List ℕ
 with_line_feeds [] = []
 with_line_feeds (b ∷ bs) =
@@ -26,13 +27,15 @@ abbrev pub onto_first_line : ℕ → ℕ → List Line → List Line
 onto_first_line n b [] = record { number = n; bytes = b ∷ []; is_ended = false } ∷ []
 onto_first_line n b (line ∷ lines) = record line { bytes = b ∷ line.bytes } ∷ lines
 
--- the lines of a text whose line ends are line feeds alone, numbered from n: each line feed ends a line
+-- the lines of a text whose line ends are line feeds alone, numbered from n: each line feed ends a
+-- line
 abbrev pub lines_from : ℕ → List ℕ → List Line
 lines_from n [] = []
 lines_from n (b ∷ bs) =
     let after_end = lines_from (n + 1) bs in
     let of_rest = lines_from n bs in
-    if b == 10 then record { number = n; bytes = []; is_ended = true } ∷ after_end else onto_first_line n b of_rest
+    if b == 10 then record { number = n; bytes = []; is_ended = true } ∷ after_end
+      else onto_first_line n b of_rest
 
 -- the lines of a text
 abbrev pub lines_of : List ℕ → List Line

@@ -8,7 +8,8 @@ use Rattle.std.specs.Str.Parse.{digits_value}
 abbrev pub greatest_number : ℕ
 greatest_number = 2 ^ 64 - 1
 
--- The number that bytes write: one or more decimal digits, leading zeros free, at most the greatest number.
+-- The number that bytes write: one or more decimal digits, leading zeros free, at most the greatest
+-- number.
 abbrev pub number_in : List ℕ → Option ℕ
 number_in [] = None
 number_in (b ∷ bs) =
@@ -25,7 +26,8 @@ abbrev pub without_leading_blanks : List ℕ → List ℕ
 without_leading_blanks bytes = drop (prefix_len is_blank bytes) bytes
 
 abbrev pub without_blanks_around : List ℕ → List ℕ
-without_blanks_around bytes = reverse (without_leading_blanks (reverse (without_leading_blanks bytes)))
+without_blanks_around bytes =
+    reverse (without_leading_blanks (reverse (without_leading_blanks bytes)))
 
 -- One reading after the other, as long as each finds what it looks for.
 infixl 10 ◌>>=◌

@@ -29,14 +29,18 @@ items_after_header text = items_of_lines (lines_after_header text)
 abbrev pub has_end : List ℕ → Bool
 has_end text = list_any (λ i. is_end i.item) (items_after_header text)
 
--- the items before the first `!`, or all where there is none, at their places; what follows it is ignored
+-- the items before the first `!`, or all where there is none, at their places; what follows it is
+-- ignored
 abbrev pub placed_items : List ℕ → List Placed
-placed_items text = placed_after [] (take_while (λ i. not (is_end i.item)) (items_after_header text))
+placed_items text =
+    placed_after [] (take_while (λ i. not (is_end i.item)) (items_after_header text))
 
--- what is at fault in a run of cells: heads, tails and conductors lie in the box, and empty cells may pass it
+-- what is at fault in a run of cells: heads, tails and conductors lie in the box, and empty cells
+-- may pass it
 abbrev pub run_fault : ℕ → ℕ → Placed → ℕ → State → Option RleFaultKind
 run_fault width height p n Empty = None
-run_fault width height p n _ = if nat_le (p.x + n) width && nat_lt p.y height then None else Some CellOutside
+run_fault width height p n _ =
+    if nat_le (p.x + n) width && nat_lt p.y height then None else Some CellOutside
 
 -- what is at fault in an item
 abbrev pub item_fault : ℕ → ℕ → Placed → Item → Option RleFaultKind
@@ -50,7 +54,8 @@ pub record RleFaultAt : Type 0 where
   pub line : ℕ
 
 abbrev pub fault_at : ℕ → ℕ → Placed → Option RleFaultAt
-fault_at width height p = item_fault width height p p.item >>= λ kind. Some (record { kind = kind; line = p.line })
+fault_at width height p =
+    item_fault width height p p.item >>= λ kind. Some (record { kind = kind; line = p.line })
 
 -- the faults of the items before the `!`, in order
 abbrev pub item_faults : List ℕ → ℕ → ℕ → List RleFaultAt
@@ -58,57 +63,71 @@ item_faults text width height = filter_map (fault_at width height) (placed_items
 
 -- the state that an item gives to a cell, where it is a run of cells that covers it
 abbrev pub state_in : ℕ → ℕ → Placed → Item → Option State
-state_in x y p (Cells n state) = if p.y == y && nat_le p.x x && nat_lt x (p.x + n) then Some state else None
+state_in x y p (Cells n state) =
+    if p.y == y && nat_le p.x x && nat_lt x (p.x + n) then Some state else None
 state_in x y p _ = None
 
 -- the state of a cell: that of the run that covers it, and empty where none does
 abbrev pub state_at : List Placed → ℕ → ℕ → State
 state_at items x y = unwrap_or (slice_get (filter_map (λ p. state_in x y p p.item) items) 0) Empty
 
--- The text reads as a pattern: after the lines that are skipped stands a header, and then items without fault, ended by `!`. The
--- pattern has the header's box and the items' cells.
+-- The text reads as a pattern: after the lines that are skipped stands a header, and then items
+-- without fault, ended by `!`. The pattern has the header's box and the items' cells.
 pub record ReadsAsPattern (text : List ℕ) (grid : Grid) : Type 0 where
   pub header : HasBox text grid.width grid.height
   pub no_fault : item_faults text grid.width grid.height ≡ []
   pub ends : has_end text ≡ true
   pub in_rows : IsGrid grid.width grid.height grid.rows
-  pub cells : (x y : ℕ) → x < grid.width → y < grid.height → get_or (get_or grid.rows y []) x Empty ≡ state_at (placed_items text) x y
+  pub cells : (x y : ℕ) → x < grid.width → y < grid.height
+    → get_or (get_or grid.rows y []) x Empty ≡ state_at (placed_items text) x y
 
--- This fault comes first in the text, and it is on this line. What is at fault in the header comes first, and then the items, in the
--- text's order. That a box is too large is no fault of the text, but a reader's limit.
+-- This fault comes first in the text, and it is on this line. What is at fault in the header comes
+-- first, and then the items, in the text's order. That a box is too large is no fault of the text,
+-- but a reader's limit.
 abbrev pub HasRleFault : List ℕ → RleFaultKind → ℕ → Type 0
 -- there is no line to be the header, or it does not begin with `x`, blanks before it aside
 HasRleFault text NoHeader line =
     ((header_line text ≡ None) × (line ≡ last_line text))
-    ⊎ ((header : Line) × (header_line text ≡ Some header) × (after_word (codes "x") header.bytes ≡ None) × (line ≡ header.number))
+    ⊎ ((header : Line) × (header_line text ≡ Some header)
+      × (after_word (codes "x") header.bytes ≡ None) × (line ≡ header.number))
 -- it has another form
 HasRleFault text BadHeader line =
-    (header : Line) × (header_line text ≡ Some header) × (is_some (after_word (codes "x") header.bytes) ≡ true) × (header_in header.bytes ≡ None) × (line ≡ header.number)
+    (header : Line) × (header_line text ≡ Some header)
+    × (is_some (after_word (codes "x") header.bytes) ≡ true) × (header_in header.bytes ≡ None)
+    × (line ≡ header.number)
 -- it names no rule, or another
 HasRleFault text OtherRule line =
-    (header : Line) × (header_line text ≡ Some header) × (parts : Header) × (header_in header.bytes ≡ Some parts) × (is_wireworld parts.rule ≡ false) × (line ≡ header.number)
+    (header : Line) × (header_line text ≡ Some header) × (parts : Header)
+    × (header_in header.bytes ≡ Some parts) × (is_wireworld parts.rule ≡ false)
+    × (line ≡ header.number)
 -- of the items that are at fault the first is no item, or has cells outside the box
 HasRleFault text BadItem line =
-    (width height : ℕ) × HasBox text width height × (slice_get (item_faults text width height) 0 ≡ Some (record { kind = BadItem; line = line }))
+    (width height : ℕ) × HasBox text width height
+    × (slice_get (item_faults text width height) 0 ≡ Some (record { kind = BadItem; line = line }))
 HasRleFault text CellOutside line =
-    (width height : ℕ) × HasBox text width height × (slice_get (item_faults text width height) 0 ≡ Some (record { kind = CellOutside; line = line }))
+    (width height : ℕ) × HasBox text width height
+    × (slice_get (item_faults text width height) 0
+      ≡ Some (record { kind = CellOutside; line = line }))
 -- no item is at fault, and there is no `!`
 HasRleFault text NoEnd line =
-    (width height : ℕ) × HasBox text width height × (item_faults text width height ≡ []) × (has_end text ≡ false) × (line ≡ last_line text)
+    (width height : ℕ) × HasBox text width height × (item_faults text width height ≡ [])
+    × (has_end text ≡ false) × (line ≡ last_line text)
 HasRleFault text GridTooLarge line = ⊥
 
 -- the most cells that the box of a text may have for a reader
 abbrev pub most_cells : ℕ
 most_cells = 268435456
 
--- The header is without fault, and its box has more cells than a reader takes, whatever the items are.
+-- The header is without fault, and its box has more cells than a reader takes, whatever the items
+-- are.
 abbrev pub HasLargeBox : List ℕ → ℕ → ℕ → Type 0
 HasLargeBox text width height = HasBox text width height × (most_cells < width * height)
 
 abbrev pub IsGridTooLarge : List ℕ → Type 0
 IsGridTooLarge text = (width height : ℕ) × HasLargeBox text width height
 
--- The fault with a line that a reader answers: a box that is too large it answers in place of what is at fault in the items.
+-- The fault with a line that a reader answers: a box that is too large it answers in place of what
+-- is at fault in the items.
 abbrev pub HasReaderFault : List ℕ → RleFaultKind → ℕ → Type 0
 HasReaderFault text kind line = HasRleFault text kind line × ¬ (IsGridTooLarge text)
 

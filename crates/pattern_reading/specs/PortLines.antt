@@ -1,5 +1,6 @@
--- The lines of a port table. It stands in comments before the header, in a form of this program's own, so that other readers of
--- extended RLE pass over it. There are two versions: version 2 is written, and version 1 is still read.
+-- The lines of a port table. It stands in comments before the header, in a form of this program's
+-- own, so that other readers of extended RLE pass over it. There are two versions: version 2 is
+-- written, and version 1 is still read.
 use Rattle.std.specs.Prelude.{ℕ, Bool, ◌&&◌, ◌||◌, not, ◌==◌, ◌*◌, nat_le, if◌then◌else◌, List, [], ◌∷◌, length, slice_index, Option, Some, None, codes, is_some, filter_map, take_while, unwrap_or}
 use Rattle.std.specs.List.{list_all, slice_split}
 use Rattle.std.specs.Str.{bytes_eq, byte}
@@ -26,14 +27,17 @@ pub data PortForm : Type 0 where
 
 -- a number without leading zeros
 abbrev pub is_path_number : List ℕ → Bool
-is_path_number digits = is_some (number_in digits) && (length digits == 1 || not (slice_index digits 0 == byte "0"))
+is_path_number digits =
+    is_some (number_in digits) && (length digits == 1 || not (slice_index digits 0 == byte "0"))
 
 -- a path is `-`, or numbers without leading zeros, joined by single dots
 abbrev pub path_in : List ℕ → Option (List ℕ)
 path_in field =
-    if bytes_eq field (codes "-") || list_all is_path_number (slice_split (λ b. b == byte ".") field) then Some field else None
+    if bytes_eq field (codes "-") || list_all is_path_number
+        (slice_split (λ b. b == byte ".") field) then Some field else None
 
--- whether a period has room for so many contexts: for one, and for more where each has 32 generations of it
+-- whether a period has room for so many contexts: for one, and for more where each has 32
+-- generations of it
 abbrev pub has_room : ℕ → ℕ → Bool
 has_room period contexts = contexts == 1 || (not (contexts == 0) && nat_le (32 * contexts) period)
 
@@ -43,14 +47,17 @@ count_in c_word c = if bytes_eq c_word (codes "C") then number_in c else None
 
 -- the version that a word names
 abbrev pub version_named : List ℕ → Option TableVersion
-version_named word = if bytes_eq word (codes "1") then Some Raw else if bytes_eq word (codes "2") then Some Escaped else None
+version_named word =
+    if bytes_eq word (codes "1") then Some Raw else if bytes_eq word (codes "2") then Some Escaped
+    else None
 
 -- the number of contexts where a version line does not say it: version 2 always says it
 abbrev pub uncounted : TableVersion → Option ℕ
 uncounted Raw = Some 1
 uncounted Escaped = None
 
--- a version line, by the fields after the version: the period is not 0, and has room for the contexts
+-- a version line, by the fields after the version: the period is not 0, and has room for the
+-- contexts
 abbrev pub version_in : List ℕ → List ℕ → List ℕ → List ℕ → Option ℕ → Option PortForm
 version_in p_word p l_word l contexts =
     if bytes_eq p_word (codes "P") && bytes_eq l_word (codes "L")
@@ -58,11 +65,12 @@ version_in p_word p l_word l contexts =
       period ← number_in p
       latency ← number_in l
       count ← contexts
-      if period == 0 || not (has_room period count) then None else Some (Version period latency count))
+      if period == 0 || not (has_room period count) then None
+        else Some (Version period latency count))
     else None
 
--- The name that a field says, of one or more bytes: in version 1 the field as it stands, and in version 2 with escapes. No space
--- stands in a field, since spaces separate the fields.
+-- The name that a field says, of one or more bytes: in version 1 the field as it stands, and in
+-- version 2 with escapes. No space stands in a field, since spaces separate the fields.
 abbrev pub name_of_field : TableVersion → List ℕ → Option (List ℕ)
 name_of_field Raw field = non_empty field
 name_of_field Escaped field = unescaped field >>= non_empty
@@ -94,7 +102,8 @@ form_of_fields version (number ∷ p_word ∷ p ∷ l_word ∷ l ∷ []) =
 form_of_fields version (number ∷ p_word ∷ p ∷ l_word ∷ l ∷ c_word ∷ c ∷ []) =
     version_named number >>= λ named. version_in p_word p l_word l (count_in c_word c)
 form_of_fields version (kind ∷ x ∷ y ∷ offset ∷ name ∷ path ∷ []) =
-    if bytes_eq kind (codes "NET") then (net_in version x y offset name path >>= λ net. Some (Net net)) else None
+    if bytes_eq kind (codes "NET") then
+        (net_in version x y offset name path >>= λ net. Some (Net net)) else None
 form_of_fields version _ = None
 
 -- what follows `#C BLIFWW ` in a line that begins so: such lines before the header are the table
@@ -105,13 +114,15 @@ table_entry line = after_prefix (codes "#C BLIFWW ") line.bytes
 abbrev pub first_field : List ℕ → List ℕ
 first_field entry = take_while (λ b. not (b == byte " ")) entry
 
--- The version of a table, which the first field of its first entry names. Where it names none, names are read as they stand: then that
--- entry, which is no version line, is in the wrong order if it has a form.
+-- The version of a table, which the first field of its first entry names. Where it names none,
+-- names are read as they stand: then that entry, which is no version line, is in the wrong order if
+-- it has a form.
 abbrev pub version_of_entries : List (List ℕ) → TableVersion
 version_of_entries [] = Raw
 version_of_entries (entry ∷ entries) = unwrap_or (version_named (first_field entry)) Raw
 
--- a line of the table: its number, and its form, if it has one. The fields of a line are separated by single spaces
+-- a line of the table: its number, and its form, if it has one. The fields of a line are separated
+-- by single spaces
 pub record TableLine : Type 0 where
   pub number : ℕ
   pub form : Option PortForm
@@ -119,12 +130,14 @@ pub record TableLine : Type 0 where
 abbrev pub table_line : TableVersion → Line → Option TableLine
 table_line version line = do
   entry ← table_entry line
-  Some (record { number = line.number; form = form_of_fields version (slice_split (λ b. b == byte " ") entry) })
+  Some (record { number = line.number;
+      form = form_of_fields version (slice_split (λ b. b == byte " ") entry) })
 
 abbrev pub table_version : List ℕ → TableVersion
 table_version text = version_of_entries (filter_map table_entry (lines_before_header text))
 
--- The lines of a text's table, in order. The header that they stand before is the first line that is neither a comment nor blank,
--- whatever its form; where there is none, they are looked for in all lines.
+-- The lines of a text's table, in order. The header that they stand before is the first line that
+-- is neither a comment nor blank, whatever its form; where there is none, they are looked for in
+-- all lines.
 abbrev pub table_of : List ℕ → List TableLine
 table_of text = filter_map (table_line (table_version text)) (lines_before_header text)

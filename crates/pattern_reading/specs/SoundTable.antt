@@ -24,8 +24,9 @@ pub record IsSoundNet (net : NetLine) : Type 0 where
   pub name : IsPortName net.name
   pub path : path_in net.path ≡ Some net.path
 
--- The period is not 0, there is a context, and where there are more each has 32 generations of the period. All numbers fit 64 bits,
--- all names have one or more bytes and no line feed, and no two inputs, no two outputs and no two nets of one path have one name.
+-- The period is not 0, there is a context, and where there are more each has 32 generations of the
+-- period. All numbers fit 64 bits, all names have one or more bytes and no line feed, and no two
+-- inputs, no two outputs and no two nets of one path have one name.
 pub record IsSoundTable (ports : Ports) : Type 0 where
   pub period : ports.p ≢ 0
   pub p : ports.p ≤ greatest_number
@@ -41,11 +42,14 @@ pub record IsSoundTable (ports : Ports) : Type 0 where
 
 -- Such is a table that a text reads as.
 abbrev pub HasSoundTable : List ℕ → ℕ → ℕ → Type 0
-HasSoundTable text width height = (ports : Ports) → ReadsAsPorts text width height ports → IsSoundTable ports
+HasSoundTable text width height =
+    (ports : Ports) → ReadsAsPorts text width height ports → IsSoundTable ports
 
 -- A sound table whose cells lie in a box has lines of which none is at fault there.
 abbrev pub HasSoundLines : ℕ → ℕ → Ports → Type 0
-HasSoundLines width height ports = IsSoundTable ports → HasCellsInside width height ports → IsSoundAfter width height [] (port_forms ports)
+HasSoundLines width height ports =
+    IsSoundTable ports → HasCellsInside width height ports
+    → IsSoundAfter width height [] (port_forms ports)
 
 -- They can be spelled.
 abbrev pub HasSpellableLines : Ports → Type 0

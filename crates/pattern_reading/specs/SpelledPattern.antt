@@ -10,7 +10,8 @@ use Rattle.pattern_reading.specs.Items.{Item, Placed, counted_item, is_end, item
 use Rattle.pattern_reading.specs.Pattern.{ReadsAsPattern, fault_at, state_at}
 use Rattle.pattern_reading.specs.Laws.{IsLineText}
 
--- an item that is written out: the digits of its count, of which there are none where it is left out, and its tag
+-- an item that is written out: the digits of its count, of which there are none where it is left
+-- out, and its tag
 pub record SpelledItem : Type 0 where
   pub digits : List ℕ
   pub tag : ℕ
@@ -34,39 +35,54 @@ lines_text lines = flat_map (λ items. line_text items ++ 10 ∷ []) lines
 
 -- what the items of some lines stand for
 abbrev pub items_of_text : List (List SpelledItem) → List Item
-items_of_text lines = flat_map (λ items. map (λ item. item_in true item.digits (Some item.tag)) items) lines
+items_of_text lines =
+    flat_map (λ items. map (λ item. item_in true item.digits (Some item.tag)) items) lines
 
 -- the items before the first `!` at their places, on one line
 abbrev pub places_of : List Item → List Placed
-places_of items = placed_after [] (map (λ item. record { line = 0; item = item }) (take_while (λ item. not (is_end item)) items))
+places_of items =
+    placed_after [] (map (λ item. record { line = 0; item = item })
+      (take_while (λ item. not (is_end item)) items))
 
--- The items spell the cells of a grid: none of them is at fault in its box, they are ended by `!`, and each cell is as they say.
+-- The items spell the cells of a grid: none of them is at fault in its box, they are ended by `!`,
+-- and each cell is as they say.
 pub record SpellsGrid (items : List Item) (grid : Grid) : Type 0 where
   pub no_fault : filter_map (fault_at grid.width grid.height) (places_of items) ≡ []
   pub ends : list_any is_end items ≡ true
   pub in_rows : IsGrid grid.width grid.height grid.rows
-  pub cells : (x y : ℕ) → x < grid.width → y < grid.height → get_or (get_or grid.rows y []) x Empty ≡ state_at (places_of items) x y
+  pub cells : (x y : ℕ) → x < grid.width → y < grid.height
+    → get_or (get_or grid.rows y []) x Empty ≡ state_at (places_of items) x y
 
 -- the bytes are a header of the grid's box
 abbrev pub IsHeaderOf : List ℕ → Grid → Type 0
 IsHeaderOf bytes grid =
-    (name : List ℕ) × (header_in bytes ≡ Some (record { width = grid.width; height = grid.height; rule = Some name })) × (is_wireworld (Some name) ≡ true)
+    (name : List ℕ) × (header_in bytes
+      ≡ Some (record { width = grid.width; height = grid.height; rule = Some name }))
+      × (is_wireworld (Some name) ≡ true)
 
--- A header and lines of items that spell a grid read as that grid, whatever follows, and however the items are cut into lines.
+-- A header and lines of items that spell a grid read as that grid, whatever follows, and however
+-- the items are cut into lines.
 abbrev pub HasSpelledPattern : List ℕ → List (List SpelledItem) → List ℕ → Type 0
 HasSpelledPattern header lines rest =
-    (grid : Grid) → IsLineText header → IsHeaderOf header grid → AllByRecursion (AllByRecursion IsSpelledItem) lines → SpellsGrid (items_of_text lines) grid → ReadsAsPattern (header ++ 10 ∷ (lines_text lines ++ rest)) grid
+    (grid : Grid) → IsLineText header → IsHeaderOf header grid
+    → AllByRecursion (AllByRecursion IsSpelledItem) lines → SpellsGrid (items_of_text lines) grid
+    → ReadsAsPattern (header ++ 10 ∷ (lines_text lines ++ rest)) grid
 
 -- the header of a box, with its numbers without leading zeros
 abbrev pub spelled_header : ℕ → ℕ → List ℕ
-spelled_header width height = codes "x = " ++ (decimal width ++ (codes ", y = " ++ (decimal height ++ codes ", rule = WireWorld")))
+spelled_header width height =
+    codes "x = " ++ (decimal width ++ (codes ", y = "
+      ++ (decimal height ++ codes ", rule = WireWorld")))
 
 -- It is a header of the box, and it can stand in a line.
 abbrev pub HasSpelledHeader : Grid → Type 0
 HasSpelledHeader grid =
-    grid.width < 2 ^ 64 → grid.height < 2 ^ 64 → IsLineText (spelled_header grid.width grid.height) × IsHeaderOf (spelled_header grid.width grid.height) grid
+    grid.width < 2 ^ 64 → grid.height < 2 ^ 64
+      → IsLineText (spelled_header grid.width grid.height)
+      × IsHeaderOf (spelled_header grid.width grid.height) grid
 
 -- A count of at least 1 that is written without leading zeros is read as that count.
 abbrev pub HasSpelledCount : ℕ → ℕ → Type 0
 HasSpelledCount count tag =
-    count ≢ 0 → count < 2 ^ 64 → (list_all is_ascii_digit (decimal count) ≡ true) × (item_in true (decimal count) (Some tag) ≡ counted_item count tag)
+    count ≢ 0 → count < 2 ^ 64 → (list_all is_ascii_digit (decimal count) ≡ true)
+      × (item_in true (decimal count) (Some tag) ≡ counted_item count tag)

@@ -6,7 +6,8 @@ use std::test::Fail;
 use ww_base::expect;
 use ww_rule::Pattern;
 
-// The rows of the pattern of a text, or the text's fault and its line, or the size of a box past the limit.
+// The rows of the pattern of a text, or the text's fault and its line, or the size of a box past
+// the limit.
 fn read_shown(alloc: Global, read: &Result<Pattern, RleReadError>) -> Result<Vec<u8>, AllocError> {
     let shown = match read {
         Ok(pattern) => return drawn(alloc, &pattern.rows),

@@ -1,4 +1,5 @@
-// Small patterns by hand, in the letters of RLE: '.' is empty, A a head, B a tail and C a conductor.
+// Small patterns by hand, in the letters of RLE: '.' is empty, A a head, B a tail and C a
+// conductor.
 use crate::texts::{drawn, push_all};
 use rle_read::read;
 use std::alloc::{AllocError, Global};

@@ -118,8 +118,8 @@ fn streams_for(
     Streams::read(alloc, &words, &names, cycles, contexts)
 }
 
-/// What is asked of a pattern that streams drive: what its outputs show, generation by generation, or by its cells where
-/// it is a drawing; or a dump of its nets.
+/// What is asked of a pattern that streams drive: what its outputs show, generation by generation,
+/// or by its cells where it is a drawing; or a dump of its nets.
 #[derive(Clone, Copy)]
 pub enum Asked {
     Outputs,
@@ -235,8 +235,9 @@ pub fn expect_shown(
 // A ring on which an electron goes round for ever.
 const RING: &[u8] = b"x = 4, y = 3, rule = WireWorld\n.BA$C2.C$.2C!";
 
-// Cases, with an empty line between any two: a pattern, cycles, words, and after `=>` what is said, with ` -- ` before a word on the
-// cases from there on; then the table's lines. They are one text, since a table costs its proof for each row.
+// Cases, with an empty line between any two: a pattern, cycles, words, and after `=>` what is said,
+// with ` -- ` before a word on the cases from there on; then the table's lines. They are one text,
+// since a table costs its proof for each row.
 const RUNS: &str = "\
 wire 2 a=11 => 11, -- a wire of each period
 #C BLIFWW 1 P 4 L 2

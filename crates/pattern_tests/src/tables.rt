@@ -53,7 +53,8 @@ fn push_table(alloc: Global, line: &mut Vec<u8>, ports: &Ports) -> Result<(), Al
     Ok(())
 }
 
-// A table as one line: the period, the latency and the number of contexts, and then each port and net.
+// A table as one line: the period, the latency and the number of contexts, and then each port and
+// net.
 fn shown(alloc: Global, ports: &Ports) -> Result<Vec<u8>, AllocError> {
     let mut line = format!(in alloc; "{} {} {}", ports.p, ports.l, ports.c)?.into_bytes();
     push_table(alloc, &mut line, ports)?;
@@ -86,7 +87,8 @@ fn expect_table(
 const OR_LINES: &[u8] =
     b"#C BLIFWW 2 P 32 L 32 C 1\n#C BLIFWW IN 0 8 a\n#C BLIFWW IN 0 24 b\n#C BLIFWW OUT 32 8 y\n#C BLIFWW NET 0 8 0 a -\n#C BLIFWW NET 0 24 0 b -\n#C BLIFWW NET 31 8 31 y -\nx = 33, y = 32, rule = WireWorld\n!\n";
 
-// Texts, the sizes of their patterns, and the tables as lines, or the kinds and lines of their first faults.
+// Texts, the sizes of their patterns, and the tables as lines, or the kinds and lines of their
+// first faults.
 const TABLES: &[(&[u8], u64, u64, &[u8])] = &[
     (
         OR_LINES,

@@ -106,7 +106,8 @@ $var wire 1 # 1:y $end\n$var wire 1 $ 1:1.0/a $end\n$enddefinitions $end
         1,
         b"$var wire 1 ! 0/%24%24%25%20b $end\n$enddefinitions $end\n#0\n1!\n#1\n",
     ),
-    // an injection that meets no conductor, with nets and without them, where generation 0 alone is needed
+    // an injection that meets no conductor, with nets and without them, where generation 0 alone is
+    // needed
     (
         b"#C BLIFWW 1 P 1 L 2\n#C BLIFWW IN 0 0 a\n#C BLIFWW NET 2 0 2 y -\n",
         WIRE,

@@ -38,7 +38,8 @@ WrappingKeepsItems = (used : ℕ) (items : List (List ℕ)) →
 abbrev pub joined : List (List ℕ) → List ℕ
 joined items = flat_map (λ item. item) items
 
--- the first item on the lines that follow a line of so many bytes does not fit on it; each of these lines has items
+-- the first item on the lines that follow a line of so many bytes does not fit on it; each of these
+-- lines has items
 abbrev pub BreaksAfter : ℕ → List (List (List ℕ)) → Type 0
 BreaksAfter used [] = Unit {0}
 BreaksAfter used ([] ∷ lines) = ⊥
@@ -49,8 +50,8 @@ abbrev pub HasNeededBreaks : List (List (List ℕ)) → Type 0
 HasNeededBreaks [] = Unit {0}
 HasNeededBreaks (line ∷ lines) = BreaksAfter (length (joined line)) lines × HasNeededBreaks lines
 
--- Items stand on these lines, all of them, in order and uncut: the lines are those of their text, each has at most 70 bytes, and no
--- line ends before an item that it has room for.
+-- Items stand on these lines, all of them, in order and uncut: the lines are those of their text,
+-- each has at most 70 bytes, and no line ends before an item that it has room for.
 pub record AreOnLines (items : List (List ℕ)) (lines : List (List (List ℕ))) : Type 0 where
   pub all : flat_map (λ line. line) lines ≡ items
   pub text : ended_lines (map joined lines) ≡ wrapped 0 items ++ 10 ∷ []
@@ -63,4 +64,6 @@ IsShort item = length item ≤ 70
 
 -- wrapping puts items on such lines
 abbrev pub WrappedIsLines : Type 0
-WrappedIsLines = (items : List (List ℕ)) → AllByRecursion IsShort items → (lines : List (List (List ℕ))) × AreOnLines items lines
+WrappedIsLines =
+    (items : List (List ℕ)) → AllByRecursion IsShort items
+    → (lines : List (List (List ℕ))) × AreOnLines items lines

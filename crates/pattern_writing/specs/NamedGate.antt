@@ -9,12 +9,16 @@ use Rattle.pattern_writing.specs.SamplePorts.{port_line_at}
 
 -- the port lines of an OR gate whose inputs and output have these names
 abbrev pub named_or_forms : List ℕ → List ℕ → List ℕ → List PortForm
-named_or_forms a b y = Version 32 32 1 ∷ In (port_line_at 0 8 a) ∷ In (port_line_at 0 24 b) ∷ Out (port_line_at 32 8 y) ∷ []
+named_or_forms a b y =
+    Version 32 32 1 ∷ In (port_line_at 0 8 a) ∷ In (port_line_at 0 24 b) ∷ Out (port_line_at 32 8 y)
+    ∷ []
 
 abbrev pub named_or_text : List ℕ → List ℕ → List ℕ → List ℕ
 named_or_text a b y = spelled_table (named_or_forms a b y) ++ or_items_text
 
--- The text spells the gate's drawing, whatever its names are, and its ports, where the inputs have two names.
+-- The text spells the gate's drawing, whatever its names are, and its ports, where the inputs have
+-- two names.
 abbrev pub HasNamedGate : List ℕ → List ℕ → List ℕ → Type 0
 HasNamedGate a b y =
-    ReadsAsPattern (named_or_text a b y) or_grid × (a ≢ b → ReadsAsPorts (named_or_text a b y) 33 32 (ports_of (named_or_forms a b y)))
+    ReadsAsPattern (named_or_text a b y) or_grid
+      × (a ≢ b → ReadsAsPorts (named_or_text a b y) 33 32 (ports_of (named_or_forms a b y)))

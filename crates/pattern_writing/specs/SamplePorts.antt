@@ -8,7 +8,8 @@ abbrev pub port_line_at : ℕ → ℕ → List ℕ → PortLine
 port_line_at x y name = record { x = x; y = y; name = name }
 
 abbrev pub net_line_at : ℕ → ℕ → ℕ → List ℕ → List ℕ → NetLine
-net_line_at x y offset name path = record { x = x; y = y; offset = offset; name = name; path = path }
+net_line_at x y offset name path =
+    record { x = x; y = y; offset = offset; name = name; path = path }
 
 -- of an OR gate
 abbrev pub or_ports : Ports
@@ -18,7 +19,9 @@ or_ports = record {
   c = 1;
   ins = port_line_at 0 8 (codes "a") ∷ port_line_at 0 24 (codes "b") ∷ [];
   outs = port_line_at 32 8 (codes "y") ∷ [];
-  nets = net_line_at 0 8 0 (codes "a") (codes "-") ∷ net_line_at 0 24 0 (codes "b") (codes "-") ∷ net_line_at 31 8 31 (codes "y") (codes "-") ∷ [];
+  nets =
+      net_line_at 0 8 0 (codes "a") (codes "-") ∷ net_line_at 0 24 0 (codes "b") (codes "-")
+      ∷ net_line_at 31 8 31 (codes "y") (codes "-") ∷ [];
 }
 
 -- of a circuit without ports

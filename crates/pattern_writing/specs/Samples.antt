@@ -103,7 +103,8 @@ bare_lines = codes "#C BLIFWW 2 P 32 L 0 C 1" ∷ []
 abbrev pub bare_text : List ℕ
 bare_text = codes "#C BLIFWW 2 P 32 L 0 C 1\nx = 0, y = 0, rule = WireWorld\n!\n"
 
--- a box of cells of all states, whose empty ends of rows, empty rows and empty last row are left out
+-- a box of cells of all states, whose empty ends of rows, empty rows and empty last row are left
+-- out
 abbrev pub mixed_grid : Grid
 mixed_grid = record {
   width = 4;

@@ -1,5 +1,5 @@
--- The text of a pattern in extended RLE (cells by run lengths), as Golly's description of its pattern
--- formats has it for rules of several states, with lines before it that a reader may skip.
+-- The text of a pattern in extended RLE (cells by run lengths), as Golly's description of its
+-- pattern formats has it for rules of several states, with lines before it that a reader may skip.
 use Rattle.std.specs.Prelude.{ℕ, ◌+◌, ◌==◌, nat_le, Bool, if◌then◌else◌, List, [], ◌∷◌, ◌++◌, map, flat_map, length, codes, decimal}
 use Rattle.ww_rule.specs.declared.pattern.State.{State}
 use Rattle.ww_rule.specs.declared.pattern.State.TheVariants.{Empty, Head, Tail, Conductor}
@@ -84,7 +84,8 @@ wrapped used (item ∷ items) = line_break used item ++ item ++ wrapped (used_af
 -- the line with the size of the box and the rule
 abbrev pub header_text : ℕ → ℕ → List ℕ
 header_text width height =
-    codes "x = " ++ decimal width ++ codes ", y = " ++ decimal height ++ codes ", rule = WireWorld\n"
+    codes "x = " ++ decimal width ++ codes ", y = " ++ decimal height
+      ++ codes ", rule = WireWorld\n"
 
 -- lines, each with its line end
 abbrev pub ended_lines : List (List ℕ) → List ℕ
@@ -93,4 +94,5 @@ ended_lines lines = flat_map (λ line. line ++ 10 ∷ []) lines
 -- the writer's text of a box of cells, with lines before it
 abbrev pub writer_text : Grid → List (List ℕ) → List ℕ
 writer_text grid lines =
-    ended_lines lines ++ header_text grid.width grid.height ++ wrapped 0 (item_texts grid.rows) ++ 10 ∷ []
+    ended_lines lines ++ header_text grid.width grid.height ++ wrapped 0 (item_texts grid.rows)
+      ++ 10 ∷ []

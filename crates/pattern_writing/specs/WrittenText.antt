@@ -27,15 +27,20 @@ pattern_text grid ports = writer_text grid (port_lines ports)
 
 -- It reads as the pattern.
 abbrev pub HasWrittenPattern : Grid → List PortForm → Type 0
-HasWrittenPattern grid forms = IsWritable grid → AllByRecursion IsSpellable forms → ReadsAsPattern (written grid forms) grid
+HasWrittenPattern grid forms =
+    IsWritable grid → AllByRecursion IsSpellable forms → ReadsAsPattern (written grid forms) grid
 
 -- It reads as the table of the lines, where none of them is at fault in the pattern's box.
 abbrev pub HasWrittenPorts : Grid → List PortForm → Type 0
 HasWrittenPorts grid forms =
-    IsWritable grid → AllByRecursion IsSpellable forms → IsSoundAfter grid.width grid.height [] forms → ReadsAsPorts (written grid forms) grid.width grid.height (ports_of forms)
+    IsWritable grid → AllByRecursion IsSpellable forms
+      → IsSoundAfter grid.width grid.height [] forms
+      → ReadsAsPorts (written grid forms) grid.width grid.height (ports_of forms)
 
--- The writer's text of a pattern and its ports reads as both, where the ports' cells lie in the pattern's box, and their names can
--- stand in a table, each of one port.
+-- The writer's text of a pattern and its ports reads as both, where the ports' cells lie in the
+-- pattern's box, and their names can stand in a table, each of one port.
 abbrev pub HasWrittenText : Grid → Ports → Type 0
 HasWrittenText grid ports =
-    IsWritable grid → IsSoundTable ports → HasCellsInside grid.width grid.height ports → ReadsAsPattern (pattern_text grid ports) grid × ReadsAsPorts (pattern_text grid ports) grid.width grid.height ports
+    IsWritable grid → IsSoundTable ports → HasCellsInside grid.width grid.height ports
+      → ReadsAsPattern (pattern_text grid ports) grid
+      × ReadsAsPorts (pattern_text grid ports) grid.width grid.height ports

@@ -21,16 +21,17 @@ ghost use Rattle.pattern_writing.specs.SamplePorts.{or_ports, bare_ports};
 ghost use Rattle.pattern_writing.specs.NamedGate.{HasNamedGate};
 ghost use Rattle.pattern_writing.specs.WrittenText.{HasWrittenPattern, HasWrittenPorts, HasWrittenText};
 
-/// Does nothing: its clauses are laws of every pattern whose sizes fit 64 bits and of every port table whose lines can be spelled:
-/// what is written of them reads as them.
+/// Does nothing: its clauses are laws of every pattern whose sizes fit 64 bits and of every port
+/// table whose lines can be spelled: what is written of them reads as them.
 pub fn written_text_reads()
     ensures pattern { (grid : Grid) (forms : List PortForm) → HasWrittenPattern grid forms }
     ensures ports { (grid : Grid) (forms : List PortForm) → HasWrittenPorts grid forms }
     ensures text { (grid : Grid) (ports : Ports) → HasWrittenText grid ports }
 {}
 
-/// Does nothing: its clauses are facts about the definition, for an OR gate in a box of 33 by 32 cells, for a box without cells, for
-/// one with cells of all four states and empty rows, and for one of empty cells.
+/// Does nothing: its clauses are facts about the definition, for an OR gate in a box of 33 by 32
+/// cells, for a box without cells, for one with cells of all four states and empty rows, and for
+/// one of empty cells.
 pub fn samples_are_so()
     ensures gate { writer_text or_grid or_port_lines ≡ or_text }
     ensures gate_length { length or_text ≡ 246 }
@@ -48,14 +49,16 @@ pub fn items_are_runs()
     ensures longest { ItemsAreLongestRuns }
 {}
 
-/// Does nothing: its clauses are laws of all items on lines: nothing but line ends is put between them, and where each fits on a
-/// line, no item is cut, no line is too long, and none ends too early.
+/// Does nothing: its clauses are laws of all items on lines: nothing but line ends is put between
+/// them, and where each fits on a line, no item is cut, no line is too long, and none ends too
+/// early.
 pub fn wrapping_keeps_items()
     ensures kept { WrappingKeepsItems }
     ensures on_lines { WrappedIsLines }
 {}
 
-/// Does nothing: the text of an OR gate, with its net lines and without them, spells its drawing and its ports.
+/// Does nothing: the text of an OR gate, with its net lines and without them, spells its drawing
+/// and its ports.
 pub fn gate_reads()
     ensures pattern { ReadsAsPattern or_text or_grid }
     ensures ports { ReadsAsPorts or_text 33 32 (record or_ports { nets = [] }) }

@@ -24,8 +24,10 @@ HasTableNumbers place = All (λ number. number < 2 ^ 64) place
 
 -- such a path is read as it stands
 abbrev pub PathsAreRead : Type 0
-PathsAreRead = (place : Place) → HasTableNumbers place → path_in (path_of place) ≡ Some (path_of place)
+PathsAreRead =
+    (place : Place) → HasTableNumbers place → path_in (path_of place) ≡ Some (path_of place)
 
 -- two places have two paths
 abbrev pub PathsAreDistinct : Type 0
-PathsAreDistinct = (a b : Place) → HasTableNumbers a → HasTableNumbers b → path_of a ≡ path_of b → a ≡ b
+PathsAreDistinct =
+    (a b : Place) → HasTableNumbers a → HasTableNumbers b → path_of a ≡ path_of b → a ≡ b

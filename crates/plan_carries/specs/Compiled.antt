@@ -12,14 +12,18 @@ use Rattle.cell_meaning.specs.Computes.{ComputesByPlan}
 use Rattle.pattern_reading.specs.declared.ports.Ports.{Ports}
 use Rattle.plan_ports.specs.Tables.{IsTableOf, HasPortNames, HasTablePlaces}
 
--- the list computes the flat netlist: in each of its valuations, outputs, latches' data and listed nets have their bits
+-- the list computes the flat netlist: in each of its valuations, outputs, latches' data and listed
+-- nets have their bits
 pub record ComputesFlat (flat : Flat) (list : CellList) : Type 0 where
   pub mapped : IsMapped flat list
-  pub bits : (inputs state : List Bool) (bits : ℕ → Bool) → IsFlatValuation flat inputs state bits → HasBits flat list inputs state bits
+  pub bits : (inputs state : List Bool) (bits : ℕ → Bool) → IsFlatValuation flat inputs state bits
+    → HasBits flat list inputs state bits
 
--- The flat netlist is sound and has an order, and its names and places can stand in a port table. The list computes it, the plan
--- computes the list and has no tape, and the table is the plan's, of so many contexts.
-pub record IsCompiled (flat : Flat) (list : CellList) (plan : Plan) (contexts : ℕ) (ports : Ports) : Type 0 where
+-- The flat netlist is sound and has an order, and its names and places can stand in a port table.
+-- The list computes it, the plan computes the list and has no tape, and the table is the plan's, of
+-- so many contexts.
+pub record IsCompiled (flat : Flat) (list : CellList) (plan : Plan) (contexts : ℕ)
+    (ports : Ports) : Type 0 where
   pub sound : IsSound flat
   pub order : List ℕ
   pub ordered : IsOrder flat order

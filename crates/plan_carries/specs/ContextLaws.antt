@@ -1,4 +1,5 @@
--- What is compiled of a flat netlist shows it in several contexts, where the loops' starts of each context lie on their ways back.
+-- What is compiled of a flat netlist shows it in several contexts, where the loops' starts of each
+-- context lie on their ways back.
 use Rattle.std.specs.Prelude.{ℕ, ◌<◌, ◌≡◌, Bool, List, length, map, All}
 use Rattle.tile_core.specs.declared.kind.Kind.{Kind}
 use Rattle.tile_core.specs.Drawing.{Drawing}
@@ -26,33 +27,43 @@ use Rattle.carries.specs.DesignContexts.{CarriesNetsInContexts}
 use Rattle.plan_carries.specs.Compiled.{IsCompiled}
 use Rattle.plan_carries.specs.Pictures.{grid_with}
 
--- the edges start the loops of a list's plan with these bits of the latches, in order, in each context, and with 1 that of constant 1
-pub record StartsLatches (flat : Flat) (list : CellList) (plan : Plan) (starts : List (List Bool)) (lit : Lit) : Type 0 where
+-- the edges start the loops of a list's plan with these bits of the latches, in order, in each
+-- context, and with 1 that of constant 1
+pub record StartsLatches (flat : Flat) (list : CellList) (plan : Plan) (starts : List (List Bool))
+    (lit : Lit) : Type 0 where
   pub long : All (λ start. length start ≡ length flat.latches) starts
   pub on_plan : StartsContexts plan (map (loop_state list) starts) lit
 
--- the plane of the plan with these edges lit, drawn with any library of tiles that keep the timing law, shows the flat netlist's runs in
--- each context
+-- the plane of the plan with these edges lit, drawn with any library of tiles that keep the timing
+-- law, shows the flat netlist's runs in each context
 abbrev pub PlanesShowContexts : Type 0
 PlanesShowContexts =
-    (library : Kind → Drawing) → KeepsLaw library → (flat : Flat) (list : CellList) (plan : Plan) (ports : Ports) (starts : List (List Bool)) → IsCompiled flat list plan (length starts) ports
+    (library : Kind → Drawing) → KeepsLaw library
+    → (flat : Flat) (list : CellList) (plan : Plan) (ports : Ports) (starts : List (List Bool))
+    → IsCompiled flat list plan (length starts) ports
     → (lit : Lit) → StartsLatches flat list plan starts lit
     → ShowsFlatContexts (plane_with library plan lit) ports flat starts
 
 -- of every admissible plan and all lit edges, the rows of the drawing are its plane
 abbrev pub PicturesArePlanes : Type 0
-PicturesArePlanes = (plan : Plan) → IsAdmissible plan → (lit : Lit) → IsPatternOf (grid_with plan lit) (plane_with shipped_drawing plan lit)
+PicturesArePlanes =
+    (plan : Plan) → IsAdmissible plan → (lit : Lit)
+    → IsPatternOf (grid_with plan lit) (plane_with shipped_drawing plan lit)
 
--- and the text that is written of these rows and the plan's table carries the flat netlist in these contexts, of which there is one
--- or more
+-- and the text that is written of these rows and the plan's table carries the flat netlist in these
+-- contexts, of which there is one or more
 abbrev pub TextsCarryContexts : Type 0
 TextsCarryContexts =
-    (flat : Flat) (list : CellList) (plan : Plan) (ports : Ports) (starts : List (List Bool)) → 0 < length starts → IsCompiled flat list plan (length starts) ports
+    (flat : Flat) (list : CellList) (plan : Plan) (ports : Ports) (starts : List (List Bool))
+    → 0 < length starts → IsCompiled flat list plan (length starts) ports
     → (lit : Lit) → StartsLatches flat list plan starts lit
     → CarriesFlatContexts (pattern_text (grid_with plan lit) ports) flat starts
 
--- a text that carries the flat netlist of a design in contexts carries the design and its nets in them, whoever wrote the text
+-- a text that carries the flat netlist of a design in contexts carries the design and its nets in
+-- them, whoever wrote the text
 abbrev pub DesignsAreCarriedInContexts : Type 0
 DesignsAreCarriedInContexts =
-    (text : List ℕ) (design : Design) (flat : Flat) → AreFaultless design.models → HasNoClockFault design → IsFlatOf design flat
-    → (starts : List LatchState) → CarriesFlatContexts text flat (map (state_in_order design) starts) → CarriesNetsInContexts text design starts
+    (text : List ℕ) (design : Design) (flat : Flat) → AreFaultless design.models
+    → HasNoClockFault design → IsFlatOf design flat
+    → (starts : List LatchState) → CarriesFlatContexts text flat
+      (map (state_in_order design) starts) → CarriesNetsInContexts text design starts

@@ -1,4 +1,5 @@
--- What is compiled of a flat netlist shows its runs, and a text that carries a design's flat netlist carries the design.
+-- What is compiled of a flat netlist shows its runs, and a text that carries a design's flat
+-- netlist carries the design.
 use Rattle.std.specs.Prelude.{ℕ, List, [], ◌∷◌}
 use Rattle.tile_core.specs.declared.kind.Kind.{Kind}
 use Rattle.tile_core.specs.Drawing.{Drawing}
@@ -25,26 +26,34 @@ use Rattle.plan_carries.specs.ContextLaws.{StartsLatches}
 
 -- a plan that computes the list of a flat netlist has its inputs and outputs
 abbrev pub PlansHavePorts : Type 0
-PlansHavePorts = (flat : Flat) (list : CellList) (plan : Plan) → ComputesFlat flat list → ComputesByPlan list plan → HasPortsOf flat plan
+PlansHavePorts =
+    (flat : Flat) (list : CellList) (plan : Plan) → ComputesFlat flat list
+    → ComputesByPlan list plan → HasPortsOf flat plan
 
 -- the plan's start edges start one context, the loops of the latches as the flat netlist starts
 abbrev pub StartsAsFlat : Flat → CellList → Plan → Type 0
 StartsAsFlat flat list plan = StartsLatches flat list plan (start_bits flat ∷ []) (start_edges plan)
 
--- the plane of a plan that starts so, drawn with any library of tiles that keep the timing law, shows the flat netlist's runs
+-- the plane of a plan that starts so, drawn with any library of tiles that keep the timing law,
+-- shows the flat netlist's runs
 abbrev pub PlanesShowRuns : Type 0
 PlanesShowRuns =
-    (library : Kind → Drawing) → KeepsLaw library → (flat : Flat) (list : CellList) (plan : Plan) (ports : Ports)
-    → IsCompiled flat list plan 1 ports → StartsAsFlat flat list plan → ShowsFlatRuns (start_plane library plan) ports flat
+    (library : Kind → Drawing) → KeepsLaw library
+    → (flat : Flat) (list : CellList) (plan : Plan) (ports : Ports)
+    → IsCompiled flat list plan 1 ports → StartsAsFlat flat list plan
+    → ShowsFlatRuns (start_plane library plan) ports flat
 
 -- and the text that is written of the plan's pattern and its table carries the flat netlist
 abbrev pub TextsCarryFlats : Type 0
 TextsCarryFlats =
     (flat : Flat) (list : CellList) (plan : Plan) (ports : Ports)
-    → IsCompiled flat list plan 1 ports → StartsAsFlat flat list plan → CarriesFlat (pattern_text (start_grid plan) ports) flat
+    → IsCompiled flat list plan 1 ports → StartsAsFlat flat list plan
+    → CarriesFlat (pattern_text (start_grid plan) ports) flat
 
--- a text that carries the flat netlist of a design carries the design and its nets, whoever wrote the text
+-- a text that carries the flat netlist of a design carries the design and its nets, whoever wrote
+-- the text
 abbrev pub DesignsAreCarried : Type 0
 DesignsAreCarried =
-    (text : List ℕ) (design : Design) (flat : Flat) → AreFaultless design.models → HasNoClockFault design → IsFlatOf design flat
+    (text : List ℕ) (design : Design) (flat : Flat) → AreFaultless design.models
+    → HasNoClockFault design → IsFlatOf design flat
     → CarriesFlat text flat → CarriesNets text design

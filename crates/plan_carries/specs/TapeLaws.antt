@@ -1,4 +1,5 @@
--- The plan of what is compiled of a flat netlist, with bits of the inputs on its tape, runs by itself.
+-- The plan of what is compiled of a flat netlist, with bits of the inputs on its tape, runs by
+-- itself.
 use Rattle.std.specs.Prelude.{ℕ, ◌≡◌, Bool, List, length}
 use Rattle.lane_core.specs.declared.plan.Plan.{Plan}
 use Rattle.lane_core.specs.Tape.{AreTapeLists, tape_rows}
@@ -18,17 +19,21 @@ use Rattle.plan_ports.specs.Tables.{IsTableOf}
 use Rattle.plan_carries.specs.Compiled.{IsCompiled}
 use Rattle.plan_carries.specs.Laws.{StartsAsFlat}
 
--- The text that is written of the loaded plan's pattern and of its own table runs by itself as the flat netlist does on the rows of the
--- tape.
+-- The text that is written of the loaded plan's pattern and of its own table runs by itself as the
+-- flat netlist does on the rows of the tape.
 abbrev pub TapesRunByThemselves : Type 0
 TapesRunByThemselves =
-    (flat : Flat) (list : CellList) (plan : Plan) (ports : Ports) → IsCompiled flat list plan 1 ports → StartsAsFlat flat list plan → HasStartEdges plan
+    (flat : Flat) (list : CellList) (plan : Plan) (ports : Ports)
+    → IsCompiled flat list plan 1 ports → StartsAsFlat flat list plan → HasStartEdges plan
     → (bits : List (List Bool)) → length bits ≡ length plan.ins → AreTapeLists bits
     → (table : Ports) → IsTableOf flat (with_tape bits plan) 1 table
-    → RunsByItselfFlat (pattern_text (start_grid (with_tape bits plan)) table) flat (tape_rows (with_tape bits plan))
+    → RunsByItselfFlat (pattern_text (start_grid (with_tape bits plan)) table) flat
+      (tape_rows (with_tape bits plan))
 
--- a text that runs by itself as the flat netlist of a design does so as the design, whoever wrote the text
+-- a text that runs by itself as the flat netlist of a design does so as the design, whoever wrote
+-- the text
 abbrev pub DesignsRunByThemselves : Type 0
 DesignsRunByThemselves =
-    (text : List ℕ) (design : Design) (flat : Flat) (rows : List (List Bool)) → AreFaultless design.models → HasNoClockFault design → IsFlatOf design flat
+    (text : List ℕ) (design : Design) (flat : Flat) (rows : List (List Bool))
+    → AreFaultless design.models → HasNoClockFault design → IsFlatOf design flat
     → RunsByItselfFlat text flat rows → RunsByItself text design rows

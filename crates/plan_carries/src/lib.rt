@@ -22,8 +22,8 @@ pub fn plans_have_ports()
     ensures { PlansHavePorts }
 {}
 
-/// The plane of the plan, with edges lit that start the loops of several contexts, shows the runs of the flat netlist in
-/// each.
+/// The plane of the plan, with edges lit that start the loops of several contexts, shows the runs
+/// of the flat netlist in each.
 pub fn planes_show_contexts()
     ensures { PlanesShowContexts }
 {}
@@ -33,7 +33,8 @@ pub fn pictures_are_planes()
     ensures { PicturesArePlanes }
 {}
 
-/// The text that is written of these rows and the plan's table carries the flat netlist in these contexts.
+/// The text that is written of these rows and the plan's table carries the flat netlist in these
+/// contexts.
 pub fn texts_carry_contexts()
     ensures { TextsCarryContexts }
 {
@@ -44,8 +45,8 @@ pub fn texts_carry_contexts()
     planes_show_contexts();
 }
 
-/// A text that carries the flat netlist of a design without a fault in contexts carries the design and its nets in
-/// them.
+/// A text that carries the flat netlist of a design without a fault in contexts carries the design
+/// and its nets in them.
 pub fn designs_are_carried_in_contexts()
     ensures { DesignsAreCarriedInContexts }
 {}
@@ -62,13 +63,14 @@ pub fn texts_carry_flats()
     texts_carry_contexts();
 }
 
-/// A text that carries the flat netlist of a design without a fault carries the design and its nets.
+/// A text that carries the flat netlist of a design without a fault carries the design and its
+/// nets.
 pub fn designs_are_carried()
     ensures { DesignsAreCarried }
 {}
 
-/// The text that is written of the plan with bits of the inputs on its tape, and of the table of that plan, runs by itself
-/// as the flat netlist does on these bits.
+/// The text that is written of the plan with bits of the inputs on its tape, and of the table of
+/// that plan, runs by itself as the flat netlist does on these bits.
 pub fn tapes_run_by_themselves()
     ensures { TapesRunByThemselves }
 {
@@ -81,7 +83,8 @@ pub fn tapes_run_by_themselves()
     planes_show_runs();
 }
 
-/// A text that runs by itself as the flat netlist of a design without a fault does so as the design.
+/// A text that runs by itself as the flat netlist of a design without a fault does so as the
+/// design.
 pub fn designs_run_by_themselves()
     ensures { DesignsRunByThemselves }
 {}

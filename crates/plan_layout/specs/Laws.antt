@@ -16,7 +16,9 @@ PlansFitTogether = (plan : Plan) → IsAdmissible plan → IsMatched (tiling_of 
 
 -- so do its tiles and those of a tape, however long the tape is and wherever the plan stands
 abbrev pub TapesFitTogether : Type 0
-TapesFitTogether = (plan : Plan) → IsAdmissible plan → (shift tiles : ℕ) → IsMatched (taped_tiling plan shift tiles)
+TapesFitTogether =
+    (plan : Plan) → IsAdmissible plan → (shift tiles : ℕ)
+    → IsMatched (taped_tiling plan shift tiles)
 
 -- the drawing is that of the plan alone
 pub record IsDrawnBare (plan : Plan) : Type 0 where

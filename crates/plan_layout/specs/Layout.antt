@@ -1,11 +1,13 @@
--- Where the tiles of a plan stand, by tile column and by lane, both counted from 0 from the north-western corner.
+-- Where the tiles of a plan stand, by tile column and by lane, both counted from 0 from the
+-- north-western corner.
 --
--- The body has a tile column for each column of the plan and a lane for each of its lanes, and carries signals eastward.
--- Left and right of it is a tile column for each loop, and below it a lane for each loop. A loop leaves the body
--- eastward, is turned down by the right turns, comes back westward below the body, and is turned up by the left turns
--- to enter the body again. The turns lie round each other about the line between the body's lanes and those below.
--- Of N lanes and k loops, loop s leaves the body on lane N - 1 - s; the turn brings it to lane N + s, the way back to
--- lane N + k - 1 - s, and the second turn to lane N - k + s.
+-- The body has a tile column for each column of the plan and a lane for each of its lanes, and
+-- carries signals eastward. Left and right of it is a tile column for each loop, and below it a
+-- lane for each loop. A loop leaves the body eastward, is turned down by the right turns, comes
+-- back westward below the body, and is turned up by the left turns to enter the body again. The
+-- turns lie round each other about the line between the body's lanes and those below. Of N lanes
+-- and k loops, loop s leaves the body on lane N - 1 - s; the turn brings it to lane N + s, the way
+-- back to lane N + k - 1 - s, and the second turn to lane N - k + s.
 use Rattle.std.specs.Prelude.{ℕ, ◌+◌, ◌-◌, ◌%◌, ◌==◌, nat_lt, ◌&&◌, if◌then◌else◌, List, length, slice_index_or, map, Option, Some, None, []}
 use Rattle.std.specs.List.{list_any}
 use Rattle.tile_core.specs.declared.kind.Kind.{Kind}
@@ -26,7 +28,8 @@ kind_of (Xor i) = kind.Xor
 kind_of (Or i) = kind.Or
 kind_of (AndNot i) = kind.AndNot
 
--- what stands on a lane of a column of the body: half of the tile of the instruction on it, or a tile that only goes on
+-- what stands on a lane of a column of the body: half of the tile of the instruction on it, or a
+-- tile that only goes on
 abbrev pub body_slot : ℕ → Option Instr → Slot
 body_slot lane None = Whole (Tile kind.East)
 body_slot lane (Some instr) =
@@ -36,22 +39,25 @@ body_slot lane (Some instr) =
 abbrev pub instrs_of : Plan → ℕ → List Instr
 instrs_of plan column = slice_index_or (map (λ c. c.instrs) plan.columns) column []
 
--- what stands in the turns of this many loops, in the tile column that lies `away` columns beyond the body, and `off`
--- lanes from the two lanes that the innermost turn joins: the loops round about go along, the turn of this column has
--- its corner here, and inside there is the way across of this turn
+-- what stands in the turns of this many loops, in the tile column that lies `away` columns beyond
+-- the body, and `off` lanes from the two lanes that the innermost turn joins: the loops round about
+-- go along, the turn of this column has its corner here, and inside there is the way across of this
+-- turn
 abbrev pub turn_slot : ℕ → ℕ → ℕ → Kind → Kind → Kind → Slot
 turn_slot loops away off along corner across =
     if nat_lt away loops && nat_lt off loops
     then Whole (Tile (if nat_lt away off then along else if away == off then corner else across))
     else Nothing
 
--- what stands on the way back, `back` tile columns from its beginning in the east and `off` lanes below the body: in
--- the first as many columns as there are loops, swaps of lanes e and e + 1 for each even e, then for each odd e, and so
--- on in turn, which reverses the lanes' order
+-- what stands on the way back, `back` tile columns from its beginning in the east and `off` lanes
+-- below the body: in the first as many columns as there are loops, swaps of lanes e and e + 1 for
+-- each even e, then for each odd e, and so on in turn, which reverses the lanes' order
 abbrev pub return_slot : ℕ → ℕ → ℕ → Slot
 return_slot loops back off =
-    if nat_lt back loops && off % 2 == back % 2 && nat_lt (off + 1) loops then Upper (Tile kind.WestSwap)
-    else if nat_lt back loops && (off + 1) % 2 == back % 2 && nat_lt 0 off then Lower (Tile kind.WestSwap)
+    if nat_lt back loops && off % 2 == back % 2 && nat_lt (off + 1) loops
+      then Upper (Tile kind.WestSwap)
+    else if nat_lt back loops && (off + 1) % 2 == back % 2 && nat_lt 0 off
+      then Lower (Tile kind.WestSwap)
     else Whole (Tile kind.West)
 
 -- the tile column right of the body
@@ -61,7 +67,8 @@ end_of_body plan = plan.latches + length plan.columns
 -- on a lane of the body, left of it
 abbrev pub upper_left : Plan → ℕ → ℕ → Slot
 upper_left plan column lane =
-    turn_slot plan.latches (plan.latches - 1 - column) (plan.lanes - 1 - lane) kind.East kind.NorthEast kind.North
+    turn_slot plan.latches (plan.latches - 1 - column)
+        (plan.lanes - 1 - lane) kind.East kind.NorthEast kind.North
 
 -- in the body
 abbrev pub in_body : Plan → ℕ → ℕ → Slot
@@ -72,35 +79,42 @@ abbrev pub upper_right : Plan → ℕ → ℕ → Slot
 upper_right plan column lane =
     if column == end_of_body plan && list_any (λ out. out == lane) plan.outs
     then Whole Output
-    else turn_slot plan.latches (column - end_of_body plan) (plan.lanes - 1 - lane) kind.East kind.EastSouth kind.South
+    else turn_slot plan.latches (column - end_of_body plan)
+        (plan.lanes - 1 - lane) kind.East kind.EastSouth kind.South
 
 -- on a lane below those of the body, left of it
 abbrev pub lower_left : Plan → ℕ → ℕ → Slot
 lower_left plan column lane =
-    turn_slot plan.latches (plan.latches - 1 - column) (lane - plan.lanes) kind.West kind.WestNorth kind.North
+    turn_slot plan.latches (plan.latches - 1 - column)
+        (lane - plan.lanes) kind.West kind.WestNorth kind.North
 
 -- below the body
 abbrev pub on_return : Plan → ℕ → ℕ → Slot
-on_return plan column lane = return_slot plan.latches (end_of_body plan - 1 - column) (lane - plan.lanes)
+on_return plan column lane =
+    return_slot plan.latches (end_of_body plan - 1 - column) (lane - plan.lanes)
 
 -- on a lane below those of the body, right of it
 abbrev pub lower_right : Plan → ℕ → ℕ → Slot
 lower_right plan column lane =
-    turn_slot plan.latches (column - end_of_body plan) (lane - plan.lanes) kind.West kind.SouthWest kind.South
+    turn_slot plan.latches (column - end_of_body plan)
+        (lane - plan.lanes) kind.West kind.SouthWest kind.South
 
 -- one of three, by whether a tile column lies left of the body, in line with it, or right of it
 abbrev pub by_column : Plan → ℕ → Slot → Slot → Slot → Slot
 by_column plan column left middle right =
-    if nat_lt column plan.latches then left else if nat_lt column (end_of_body plan) then middle else right
+    if nat_lt column plan.latches then left else if nat_lt column (end_of_body plan) then middle
+      else right
 
 -- what stands on a lane of the body, and on a lane below
 abbrev pub upper_part : Plan → ℕ → ℕ → Slot
 upper_part plan column lane =
-    by_column plan column (upper_left plan column lane) (in_body plan column lane) (upper_right plan column lane)
+    by_column plan column (upper_left plan column lane) (in_body plan column lane)
+        (upper_right plan column lane)
 
 abbrev pub lower_part : Plan → ℕ → ℕ → Slot
 lower_part plan column lane =
-    by_column plan column (lower_left plan column lane) (on_return plan column lane) (lower_right plan column lane)
+    by_column plan column (lower_left plan column lane) (on_return plan column lane)
+        (lower_right plan column lane)
 
 -- the tiles of a plan
 abbrev pub tiling_of : Plan → Tiling

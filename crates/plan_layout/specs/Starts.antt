@@ -15,18 +15,23 @@ HasCell (Above q l) x y = (x ≡ 32 * q + 16) × ((y ≡ 16 * l) ⊎ (y ≡ 16 *
 
 -- the edges with these names: of an edge's two cells one is a name
 abbrev pub named_edges : List Start → Lit
-named_edges names (Beside q l) = is_start_at names (32 * q) (16 * l + 8) || is_start_at names (32 * q - 1) (16 * l + 8)
-named_edges names (Above q l) = is_start_at names (32 * q + 16) (16 * l) || is_start_at names (32 * q + 16) (16 * l - 1)
+named_edges names (Beside q l) =
+    is_start_at names (32 * q) (16 * l + 8) || is_start_at names (32 * q - 1) (16 * l + 8)
+named_edges names (Above q l) =
+    is_start_at names (32 * q + 16) (16 * l) || is_start_at names (32 * q + 16) (16 * l - 1)
 
 -- the edges that are lit at generation 0
 abbrev pub start_edges : Plan → Lit
 start_edges plan = named_edges plan.starts.list
 
--- An edge is named by its entry cell, or by its exit cell where nothing is entered there. Signals of a plan that go west or
--- north always enter something, so such an exit cell lies west or north of its edge.
+-- An edge is named by its entry cell, or by its exit cell where nothing is entered there. Signals
+-- of a plan that go west or north always enter something, so such an exit cell lies west or north
+-- of its edge.
 abbrev pub edge_name : Tiling → Edge → Start
-edge_name tiling (Beside q l) = record { x = if is_entered (tiling q l) 0 8 then 32 * q else 32 * q - 1; y = 16 * l + 8 }
-edge_name tiling (Above q l) = record { x = 32 * q + 16; y = if is_entered (tiling q l) 16 0 then 16 * l else 16 * l - 1 }
+edge_name tiling (Beside q l) =
+    record { x = if is_entered (tiling q l) 0 8 then 32 * q else 32 * q - 1; y = 16 * l + 8 }
+edge_name tiling (Above q l) =
+    record { x = 32 * q + 16; y = if is_entered (tiling q l) 16 0 then 16 * l else 16 * l - 1 }
 
 -- what stands in a block is entered or left at this place of the block
 abbrev pub is_port : Slot → ℕ → ℕ → Bool
@@ -34,8 +39,10 @@ is_port slot x y = is_entered slot x y || is_left slot x y
 
 -- signals pass the edge: something is entered or left there
 abbrev pub is_passed : Tiling → Edge → Bool
-is_passed tiling (Beside q l) = (nat_lt 0 q && is_port (tiling (q - 1) l) 31 8) || is_port (tiling q l) 0 8
-is_passed tiling (Above q l) = (nat_lt 0 l && is_port (tiling q (l - 1)) 16 15) || is_port (tiling q l) 16 0
+is_passed tiling (Beside q l) =
+    (nat_lt 0 q && is_port (tiling (q - 1) l) 31 8) || is_port (tiling q l) 0 8
+is_passed tiling (Above q l) =
+    (nat_lt 0 l && is_port (tiling q (l - 1)) 16 15) || is_port (tiling q l) 16 0
 
 -- the start names an edge of the tiling
 pub record NamesEdge (tiling : Tiling) (start : Start) : Type 0 where

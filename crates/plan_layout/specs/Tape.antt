@@ -1,5 +1,6 @@
--- The drawing of a plan with its tape: lanes of East tiles lie before the body, where inputs enter it, and the electrons of
--- the tape lie between them. The plan stands so many tile columns further east that the tape has room.
+-- The drawing of a plan with its tape: lanes of East tiles lie before the body, where inputs enter
+-- it, and the electrons of the tape lie between them. The plan stands so many tile columns further
+-- east that the tape has room.
 use Rattle.std.specs.Prelude.{ℕ, ◌+◌, ◌-◌, ◌==◌, nat_lt, nat_le, Bool, ◌&&◌, ◌||◌, if◌then◌else◌}
 use Rattle.std.specs.List.{list_any}
 use Rattle.ww_rule.specs.Wireworld.{Plane}
@@ -15,8 +16,8 @@ use Rattle.lane_core.specs.Tape.{tape_tiles, tape_shift, tape_bit}
 use Rattle.plan_layout.specs.Layout.{tiling_of}
 use Rattle.plan_layout.specs.Starts.{start_edges}
 
--- whether a block is one of the tape's, which has so many tiles directly before the body on the lane of each input, where
--- the plan stands `shift` tile columns further east
+-- whether a block is one of the tape's, which has so many tiles directly before the body on the
+-- lane of each input, where the plan stands `shift` tile columns further east
 abbrev pub is_on_tape : Plan → (shift tiles column lane : ℕ) → Bool
 is_on_tape plan shift tiles column lane =
     (nat_lt column (shift + plan.latches) && nat_le (shift + plan.latches) (column + tiles))
@@ -33,15 +34,19 @@ taped_tiling plan shift tiles column lane =
 abbrev pub drawn_tiling : Plan → Tiling
 drawn_tiling plan = taped_tiling plan (tape_shift plan) (tape_tiles plan)
 
--- whether the electron of a bit 1 of the tape lies at the west side of a block: before the body, or at its entry
+-- whether the electron of a bit 1 of the tape lies at the west side of a block: before the body, or
+-- at its entry
 abbrev pub is_taped : Plan → (column lane : ℕ) → Bool
 is_taped plan column lane =
-    nat_le column (tape_shift plan + plan.latches) && tape_bit plan (tape_shift plan + plan.latches - column) lane
+    nat_le column (tape_shift plan + plan.latches)
+      && tape_bit plan (tape_shift plan + plan.latches - column) lane
 
--- the edges of the drawing that are lit at generation 0: those of the tape, and those that the starts name
+-- the edges of the drawing that are lit at generation 0: those of the tape, and those that the
+-- starts name
 abbrev pub drawn_edges : Plan → Lit
 drawn_edges plan (Beside column lane) =
-    is_taped plan column lane || (nat_le (tape_shift plan) column && start_edges plan (Beside (column - tape_shift plan) lane))
+    is_taped plan column lane || (nat_le (tape_shift plan) column
+        && start_edges plan (Beside (column - tape_shift plan) lane))
 drawn_edges plan (Above column lane) =
     nat_le (tape_shift plan) column && start_edges plan (Above (column - tape_shift plan) lane)
 

@@ -1,4 +1,5 @@
-// The drawing of a plan with its tape: which tile stands in which block, and which edges are lit at generation 0.
+// The drawing of a plan with its tape: which tile stands in which block, and which edges are lit at
+// generation 0.
 ghost use Rattle.std.specs.Prelude.{◌≡◌, ◌+◌, ◌<◌, ◌^◌, ◌==◌};
 ghost use Rattle.std.specs.List.{list_any};
 ghost use Rattle.lane_core.specs.Plans.{IsAdmissible};
@@ -36,8 +37,8 @@ fn is_on_tape(plan: &Plan, column: u64, lane: u64) -> bool
     column < body && body <= column + tape_tiles(plan) && is_input(plan.ins.as_slice(), lane)
 }
 
-/// What stands in the block of this tile column and this lane of the drawing, both counted from 0 from its north-western
-/// corner: a tile of the tape, or what the plan has there.
+/// What stands in the block of this tile column and this lane of the drawing, both counted from 0
+/// from its north-western corner: a tile of the tape, or what the plan has there.
 pub fn slot_drawn_at(plan: &Plan, column: u64, lane: u64) -> Slot
     requires { IsAdmissible plan.now }
     ensures { slot_of result ≡ drawn_tiling plan.now column lane }

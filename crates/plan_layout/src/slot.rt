@@ -8,7 +8,8 @@ pub enum Piece {
     Output,
 }
 
-/// What stands in a block: nothing, a piece of one lane, or the upper or the lower lane of a piece of two.
+/// What stands in a block: nothing, a piece of one lane, or the upper or the lower lane of a piece
+/// of two.
 #[derive(Clone, Copy)]
 pub enum Slot {
     Nothing,

@@ -14,14 +14,17 @@ pub record IsReadable (width height : ℕ) (ports : Ports) : Type 0 where
   pub sound : IsSoundTable ports
   pub inside : HasCellsInside width height ports
 
--- a plan's period has room for so many contexts: for one, and for more where each has 32 generations of it
+-- a plan's period has room for so many contexts: for one, and for more where each has 32
+-- generations of it
 pub record HasRoom (plan : Plan) (c : ℕ) : Type 0 where
   pub some : c ≢ 0
   pub room : 1 < c → 32 * c ≤ period_of plan
 
--- it holds of the table of every admissible plan with room for the contexts, where ports have distinct names, nets distinct names at
--- each place, and all names and places can stand in a table
+-- it holds of the table of every admissible plan with room for the contexts, where ports have
+-- distinct names, nets distinct names at each place, and all names and places can stand in a table
 abbrev pub TablesAreReadable : Type 0
 TablesAreReadable =
-    (flat : Flat) (plan : Plan) (c : ℕ) (ports : Ports) → IsInRange flat → IsNamed flat → HasPortNames flat → HasTablePlaces flat → IsAdmissible plan → HasRoom plan c → IsTableOf flat plan c ports
+    (flat : Flat) (plan : Plan) (c : ℕ) (ports : Ports) → IsInRange flat → IsNamed flat
+    → HasPortNames flat → HasTablePlaces flat → IsAdmissible plan → HasRoom plan c
+    → IsTableOf flat plan c ports
     → IsReadable (size_of plan).0 (size_of plan).1 ports

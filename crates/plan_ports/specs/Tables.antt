@@ -13,13 +13,15 @@ use Rattle.pattern_reading.specs.Ports.{cells_of, names_of}
 use Rattle.pattern_reading.specs.Spelling.{IsPortName}
 use Rattle.place_paths.specs.Paths.{name_and_path, names_and_paths, HasTableNumbers}
 
--- the plan has an input and an output for each of the netlist's, and a net for each that tables list
+-- the plan has an input and an output for each of the netlist's, and a net for each that tables
+-- list
 pub record HasPortsOf (flat : Flat) (plan : Plan) : Type 0 where
   pub ins : length plan.ins ≡ length flat.ins
   pub outs : length plan.outs ≡ length flat.outs
   pub nets : length plan.nets ≡ length (listed_nets flat)
 
--- what a table lists of the inputs of a plan: each, or none where their bits are on a tape, since nothing drives them then
+-- what a table lists of the inputs of a plan: each, or none where their bits are on a tape, since
+-- nothing drives them then
 abbrev pub driven_inputs : {X : Type 0} → Plan → List X → List X
 driven_inputs plan inputs = if length plan.tape == 0 then inputs else []
 
@@ -28,11 +30,13 @@ abbrev pub drawn_input_cells : Plan → List (ℕ × ℕ)
 drawn_input_cells plan = map (λ lane. (32 * tape_shift plan + left_of plan 0, row_of lane)) plan.ins
 
 abbrev pub drawn_output_cells : Plan → List (ℕ × ℕ)
-drawn_output_cells plan = map (λ lane. (32 * tape_shift plan + left_of plan (length plan.columns), row_of lane)) plan.outs
+drawn_output_cells plan =
+    map (λ lane. (32 * tape_shift plan + left_of plan (length plan.columns), row_of lane)) plan.outs
 
 -- and those of nets, with the generations from the inputs to them
 abbrev pub drawn_net_cells : Plan → List (ℕ × ℕ × ℕ)
-drawn_net_cells plan = map (λ place. moved_east (tape_shift plan) (cell_after plan place.lane place.after)) plan.nets
+drawn_net_cells plan =
+    map (λ place. moved_east (tape_shift plan) (cell_after plan place.lane place.after)) plan.nets
 
 -- the cells of nets, each with its offset
 abbrev pub net_cells_of : List NetLine → List (ℕ × ℕ × ℕ)
@@ -42,9 +46,10 @@ net_cells_of lines = map (λ line. (line.x, line.y, line.offset)) lines
 abbrev pub named_paths : List FlatNet → List (Name × List ℕ)
 named_paths nets = map (λ net. name_and_path net.place net.name) nets
 
--- The period, the latency, the cells of ports, and the cells and the offsets of nets are the plan's. The names of ports, and the
--- names and places of nets, are the netlist's, in order: the nets are those that tables list, and of a plan with a tape no input is
--- named. So many contexts run in the pattern.
+-- The period, the latency, the cells of ports, and the cells and the offsets of nets are the
+-- plan's. The names of ports, and the names and places of nets, are the netlist's, in order: the
+-- nets are those that tables list, and of a plan with a tape no input is named. So many contexts
+-- run in the pattern.
 pub record IsTableOf (flat : Flat) (plan : Plan) (c : ℕ) (ports : Ports) : Type 0 where
   pub period : ports.p ≡ period_of plan
   pub latency : ports.l ≡ latency_of plan

@@ -81,8 +81,9 @@ fn output_lines(alloc: Global, flat: &Flat, plan: &Plan) -> Result<Vec<PortLine>
     Ok(lines)
 }
 
-/// The port table of a plan that has an input and an output for each of the netlist's, and a net for each that tables list. In the
-/// pattern run `c` contexts. Where the bits of the inputs are on the plan's tape, no input has a line.
+/// The port table of a plan that has an input and an output for each of the netlist's, and a net
+/// for each that tables list. In the pattern run `c` contexts. Where the bits of the inputs are on
+/// the plan's tape, no input has a line.
 pub fn of_plan(alloc: Global, flat: &Flat, plan: &Plan, c: u64) -> Result<Ports, PortsError>
     requires in_range { IsInRange flat.now }
     requires admissible { IsAdmissible plan.now }

@@ -35,8 +35,8 @@ fn copied(alloc: Global, bits: &[List<bool>]) -> Result<Vec<List<bool>>, AllocEr
     Ok(copy)
 }
 
-/// The plan with these bits on its tape, in place of those that it had: a list for each of its inputs in order, with the
-/// bit of each cycle. All lists have one length, from 1 to 4,096.
+/// The plan with these bits on its tape, in place of those that it had: a list for each of its
+/// inputs in order, with the bit of each cycle. All lists have one length, from 1 to 4,096.
 pub fn load(alloc: Global, plan: Plan, bits: &[List<bool>]) -> Result<Plan, LoadError>
     requires each_input { length bits.now ≡ length plan.ins }
     requires lists { AreTapeLists bits.now }

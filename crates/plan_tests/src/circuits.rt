@@ -13,7 +13,8 @@ use netlist_plans::Planned;
 use std::alloc::Global;
 use std::test::Fail;
 
-// A circuit, the streams of its inputs and those of its outputs, and whether the period of its plan is 32.
+// A circuit, the streams of its inputs and those of its outputs, and whether the period of its plan
+// is 32.
 struct Case {
     text: &'static [u8],
     cycles: usize,
@@ -145,7 +146,8 @@ fn look_at(alloc: Global, text: &[u8], run: Run) -> Result<Seen, Fail> {
     see(alloc, run, &aig)
 }
 
-// Fails where a plan does not make the case's streams, has another period, or a table that lists nets.
+// Fails where a plan does not make the case's streams, has another period, or a table that lists
+// nets.
 fn expect_played(case: &Case, played: Played) -> Result<(), Fail> {
     let is_short = played.period == 32;
     if played.plays && is_short == case.is_short && played.nets == 0 {

@@ -102,8 +102,9 @@ fn check_1000(alloc: Global, draw: &mut Draw) -> Result<(), Fail> {
 // Where the generator stands after the first 1,000 lists.
 const AFTER_1000: u32 = 2_669_688_757;
 
-// Lists with constants as operands, doubled sources, cells that nothing reads, unused latches and inputs, outputs of one
-// source, outputs that are inputs, and none of any of these: 2,000 of them, in two tests.
+// Lists with constants as operands, doubled sources, cells that nothing reads, unused latches and
+// inputs, outputs of one source, outputs that are inputs, and none of any of these: 2,000 of them,
+// in two tests.
 #[test]
 fn plans_do_what_random_lists_do(rt: HostRuntime) -> Result<(), Fail> {
     let mut draw = Draw { state: 1 };

@@ -198,7 +198,8 @@ fn tiles_of(plan: &Plan) -> u64 {
     columns.saturating_mul(u64::from(plan.lanes).saturating_add(loops))
 }
 
-// Fails where the plan does not what its list does, makes other streams than the case's, or has too many tiles.
+// Fails where the plan does not what its list does, makes other streams than the case's, or has too
+// many tiles.
 fn check_plan(alloc: Global, case: &Case, list: &CellList, plan: &Plan) -> Result<(), Fail>
     requires { IsAdmissible plan.now }
 {

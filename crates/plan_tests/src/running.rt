@@ -180,7 +180,8 @@ fn next_state(alloc: Global, list: &CellList, cycle: Cycle<'_>) -> Result<Vec<bo
     Ok(bits)
 }
 
-// The bits that loops bring for the bits of latches, the last one for constant 1 where there is one for it.
+// The bits that loops bring for the bits of latches, the last one for constant 1 where there is one
+// for it.
 fn loops_of(alloc: Global, state: &[bool], one: bool) -> Result<Vec<bool>, AllocError> {
     let mut bits = state.to_vec(alloc)?;
     if one {
@@ -302,7 +303,8 @@ fn agrees_next(
     Ok(same)
 }
 
-// Whether the plan does what the list does, in four cycles of random inputs from these bits of the latches on.
+// Whether the plan does what the list does, in four cycles of random inputs from these bits of the
+// latches on.
 fn cycles_agree(
     alloc: Global,
     list: &CellList,
@@ -365,7 +367,8 @@ fn agrees_at(
     agrees_in(alloc, list, plan, cycle)
 }
 
-// Whether it does for the bits of a number: those of the latches are its last ones, and those of the inputs stand before.
+// Whether it does for the bits of a number: those of the latches are its last ones, and those of
+// the inputs stand before.
 fn agrees_for(alloc: Global, list: &CellList, plan: &Plan, number: u32) -> Result<bool, AllocError>
     requires { IsAdmissible plan.now }
 {
@@ -435,7 +438,8 @@ fn end_of(
     leave(alloc, plan, plan.columns.len(), &entry)
 }
 
-// Whether the plan makes in a cycle the letters of `outs` of those of `ins`; the loops then have the bits that they bring.
+// Whether the plan makes in a cycle the letters of `outs` of those of `ins`; the loops then have
+// the bits that they bring.
 fn plays_next(
     alloc: Global,
     plan: &Plan,

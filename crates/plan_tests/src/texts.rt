@@ -91,8 +91,8 @@ fn write_or(alloc: Global, sink: &mut MemSink) -> Result<Result<(), Failed>, Fai
     write_columns(alloc, 1, &ports, sink)
 }
 
-// A sink by its room, the most bytes that a call takes and the calls that fail; what comes of writing the OR to it, and how
-// much of the text is held then.
+// A sink by its room, the most bytes that a call takes and the calls that fail; what comes of
+// writing the OR to it, and how much of the text is held then.
 struct SinkCase {
     room: usize,
     chunk: usize,
@@ -180,7 +180,8 @@ fn write_wide(alloc: Global, sink: &mut MemSink) -> Result<Result<(), Failed>, F
     write_columns(alloc, 100, &ports, sink)
 }
 
-// Whether the text is longer than a page, with the lines of a wide plan first and the end of a pattern last.
+// Whether the text is longer than a page, with the lines of a wide plan first and the end of a
+// pattern last.
 fn is_wide_text(text: &[u8]) -> bool {
     text.len() > 8192
         && text.starts_with(b"#C BLIFWW 2 P 32 L 3200 C 1\nx = 3201, y = 32, rule = WireWorld\n")

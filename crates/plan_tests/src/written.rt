@@ -11,7 +11,8 @@ use lists::List;
 use std::alloc::Global;
 use std::test::Fail;
 
-/// A list as it is written down: the sources of the latches, and the bits with which they begin, in the same order.
+/// A list as it is written down: the sources of the latches, and the bits with which they begin, in
+/// the same order.
 #[derive(Clone, Copy)]
 pub struct Written<'a> {
     pub inputs: u32,

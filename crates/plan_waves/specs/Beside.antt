@@ -13,12 +13,17 @@ use Rattle.plan_layout.specs.Planes.{plane_with}
 abbrev pub IsRowOf : ℕ → ℕ → Type 0
 IsRowOf lane y = (16 * lane ≤ y) × (y < 16 * lane + 16)
 
--- the plane is empty on the lane of each input west of the input's cell, and on that of each output east of the output's
+-- the plane is empty on the lane of each input west of the input's cell, and on that of each output
+-- east of the output's
 pub record HasFreePorts (plan : Plan) (p : Plane) : Type 0 where
-  pub west : (i x y : ℕ) → i < length plan.ins → IsRowOf (slice_index plan.ins i) y → x < (in_cell_of plan i).0 → p (pos x) (pos y) ≡ Empty
-  pub east : (i x y : ℕ) → i < length plan.outs → IsRowOf (slice_index plan.outs i) y → (out_cell_of plan i).0 < x → p (pos x) (pos y) ≡ Empty
+  pub west : (i x y : ℕ) → i < length plan.ins → IsRowOf (slice_index plan.ins i) y
+    → x < (in_cell_of plan i).0 → p (pos x) (pos y) ≡ Empty
+  pub east : (i x y : ℕ) → i < length plan.outs → IsRowOf (slice_index plan.outs i) y
+    → (out_cell_of plan i).0 < x → p (pos x) (pos y) ≡ Empty
 
--- every admissible plan's plane is so, whichever library it is drawn with and whichever edges are lit
+-- every admissible plan's plane is so, whichever library it is drawn with and whichever edges are
+-- lit
 abbrev pub PortsStandFree : Type 0
 PortsStandFree =
-    (plan : Plan) → IsAdmissible plan → (library : Kind → Drawing) (lit : Lit) → HasFreePorts plan (plane_with library plan lit)
+    (plan : Plan) → IsAdmissible plan → (library : Kind → Drawing) (lit : Lit)
+    → HasFreePorts plan (plane_with library plan lit)

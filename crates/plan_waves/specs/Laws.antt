@@ -19,44 +19,61 @@ StepsGoOn = (plan : Plan) (lit : Lit) → GoesOn plan (after_steps (tiling_of pl
 
 -- where heads are injected at inputs, the tiling is driven at its free entries
 abbrev pub InputsAreEntries : Type 0
-InputsAreEntries = (plan : Plan) → IsAdmissible plan → (due : Due) → DrivesInputs plan due → DrivesEntries (tiling_of plan) due
+InputsAreEntries =
+    (plan : Plan) → IsAdmissible plan → (due : Due) → DrivesInputs plan due
+    → DrivesEntries (tiling_of plan) due
 
 -- and the edges of the driven tiling go on
 abbrev pub DrivenEdgesGoOn : Type 0
-DrivenEdgesGoOn = (plan : Plan) (due : Due) → DrivesInputs plan due → (lit : Lit) → GoesOn plan (driven_edges (tiling_of plan) due lit)
+DrivenEdgesGoOn =
+    (plan : Plan) (due : Due) → DrivesInputs plan due → (lit : Lit)
+    → GoesOn plan (driven_edges (tiling_of plan) due lit)
 
 -- no macro step lights a free entry
 abbrev pub FreeEntriesGoDark : Type 0
-FreeEntriesGoDark = (plan : Plan) → IsAdmissible plan → (lit : Lit) (edge : Edge) → is_free_entry plan edge ≡ true → macro_step (tiling_of plan) lit edge ≡ false
+FreeEntriesGoDark =
+    (plan : Plan) → IsAdmissible plan → (lit : Lit) (edge : Edge) → is_free_entry plan edge ≡ true
+    → macro_step (tiling_of plan) lit edge ≡ false
 
 -- so that after the beginning a free entry is lit exactly when a head is injected in its cell
 abbrev pub InputsEnter : Type 0
 InputsEnter =
-    (plan : Plan) → IsAdmissible plan → (due : Due) (lit : Lit) (m lane : ℕ) → lane < first_loop_lane plan.lanes plan.latches
-    → driven_edges (tiling_of plan) due lit (suc m) (Beside plan.latches lane) ≡ due (32 * suc m) (pos (left_of plan 0)) (pos (row_of lane))
+    (plan : Plan) → IsAdmissible plan → (due : Due) (lit : Lit) (m lane : ℕ)
+    → lane < first_loop_lane plan.lanes plan.latches
+    → driven_edges (tiling_of plan) due lit (suc m) (Beside plan.latches lane)
+      ≡ due (32 * suc m) (pos (left_of plan 0)) (pos (row_of lane))
 
--- each macro time starts a wave: what enters the body goes through its columns, one column a macro step
+-- each macro time starts a wave: what enters the body goes through its columns, one column a macro
+-- step
 abbrev pub ColumnsPass : Type 0
 ColumnsPass =
-    (plan : Plan) → IsAdmissible plan → (edges : ℕ → Lit) → GoesOn plan edges → (m c : ℕ) → c ≤ length plan.columns
-    → bits_at plan c (edges (m + c)) ≡ after_columns (take c plan.columns) (bits_at plan 0 (edges m))
+    (plan : Plan) → IsAdmissible plan → (edges : ℕ → Lit) → GoesOn plan edges → (m c : ℕ)
+    → c ≤ length plan.columns
+    → bits_at plan c (edges (m + c)) ≡ after_columns (take c plan.columns)
+      (bits_at plan 0 (edges m))
 
--- what leaves the body on a loop's lane enters it again, one macro step later for each tile of its way back
+-- what leaves the body on a loop's lane enters it again, one macro step later for each tile of its
+-- way back
 abbrev pub LoopsReturn : Type 0
 LoopsReturn =
-    (plan : Plan) → IsAdmissible plan → (edges : ℕ → Lit) → GoesOn plan edges → (m loop : ℕ) → loop < plan.latches
+    (plan : Plan) → IsAdmissible plan → (edges : ℕ → Lit) → GoesOn plan edges → (m loop : ℕ)
+    → loop < plan.latches
     → edges (m + tiles_back plan) (loop_entry plan loop) ≡ edges m (loop_exit plan loop)
 
--- both: what enters the body goes through all its columns and comes again on the loops' lanes, a period later
+-- both: what enters the body goes through all its columns and comes again on the loops' lanes, a
+-- period later
 abbrev pub LoopsComeRound : Type 0
 LoopsComeRound =
-    (plan : Plan) → IsAdmissible plan → (edges : ℕ → Lit) → GoesOn plan edges → (m loop : ℕ) → loop < plan.latches
+    (plan : Plan) → IsAdmissible plan → (edges : ℕ → Lit) → GoesOn plan edges → (m loop : ℕ)
+    → loop < plan.latches
     → edges (m + (length plan.columns + tiles_back plan)) (loop_entry plan loop)
     ≡ bit_on (after_columns plan.columns (bits_at plan 0 (edges m))) (plan.lanes - 1 - loop)
 
--- where the body is dark inside at first, it is dark until what enters it arrives; whether its entries are lit, or edges
--- on the way back, makes no difference
+-- where the body is dark inside at first, it is dark until what enters it arrives; whether its
+-- entries are lit, or edges on the way back, makes no difference
 abbrev pub BodyBeginsDark : Type 0
 BodyBeginsDark =
-    (plan : Plan) → IsAdmissible plan → (edges : ℕ → Lit) → GoesOn plan edges → IsDarkInside plan (edges 0)
-    → (m c : ℕ) → m < c → c ≤ length plan.columns → bits_at plan c (edges m) ≡ replicate plan.lanes false
+    (plan : Plan) → IsAdmissible plan → (edges : ℕ → Lit) → GoesOn plan edges
+    → IsDarkInside plan (edges 0)
+    → (m c : ℕ) → m < c → c ≤ length plan.columns
+    → bits_at plan c (edges m) ≡ replicate plan.lanes false

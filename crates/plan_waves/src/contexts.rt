@@ -3,15 +3,16 @@ ghost use Rattle.plan_waves.specs.Contexts.{PlansRunByContexts};
 ghost use Rattle.plan_waves.specs.ShownContexts.{PlansShowContexts, ContextsAreIsolated};
 ghost use Rattle.plan_waves.specs.ContextRows.{ContextRowsAreInjected, PlansShowContextRows};
 
-/// Where an admissible plan is driven from edges on that start contexts, by heads 32 generations later in each context than
-/// in the one before, the entries of each column, and the outputs, have the bits of each cycle of each context once, and
-/// are dark at all other macro times.
+/// Where an admissible plan is driven from edges on that start contexts, by heads 32 generations
+/// later in each context than in the one before, the entries of each column, and the outputs, have
+/// the bits of each cycle of each context once, and are dark at all other macro times.
 pub fn plans_run_by_contexts()
     ensures { PlansRunByContexts }
 {}
 
-/// Drawn with any library that keeps the timing law, it shows at its outputs and nets, context by context and cycle by
-/// cycle, the bits on their lanes, and no head at any other generation; and each injection meets a conductor.
+/// Drawn with any library that keeps the timing law, it shows at its outputs and nets, context by
+/// context and cycle by cycle, the bits on their lanes, and no head at any other generation; and
+/// each injection meets a conductor.
 pub fn plans_show_contexts()
     ensures { PlansShowContexts }
 {}
@@ -21,13 +22,14 @@ pub fn contexts_are_isolated()
     ensures { ContextsAreIsolated }
 {}
 
-/// Rows of input bits, a list of rows for each context, drive an admissible plan so, and inject exactly their bits.
+/// Rows of input bits, a list of rows for each context, drive an admissible plan so, and inject
+/// exactly their bits.
 pub fn context_rows_are_injected()
     ensures { ContextRowsAreInjected }
 {}
 
-/// So an admissible plan shows at its outputs and nets, context by context and cycle by cycle, what its columns make of the
-/// bits of the cycle's row and of those that its loops bring.
+/// So an admissible plan shows at its outputs and nets, context by context and cycle by cycle, what
+/// its columns make of the bits of the cycle's row and of those that its loops bring.
 pub fn plans_show_context_rows()
     ensures { PlansShowContextRows }
 {}

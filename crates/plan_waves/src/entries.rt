@@ -6,7 +6,8 @@ pub fn steps_go_on()
     ensures { StepsGoOn }
 {}
 
-/// Where heads are injected at the inputs of an admissible plan, its tiling is driven at free entries.
+/// Where heads are injected at the inputs of an admissible plan, its tiling is driven at free
+/// entries.
 pub fn inputs_are_entries()
     ensures { InputsAreEntries }
 {}
@@ -21,7 +22,8 @@ pub fn free_entries_go_dark()
     ensures { FreeEntriesGoDark }
 {}
 
-/// After the beginning, a free entry of an admissible plan is lit exactly when a head is injected in its cell.
+/// After the beginning, a free entry of an admissible plan is lit exactly when a head is injected
+/// in its cell.
 pub fn inputs_enter()
     ensures { InputsEnter }
 {}

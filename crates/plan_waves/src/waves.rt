@@ -2,13 +2,15 @@
 ghost use Rattle.plan_waves.specs.WaysBack.{LoopsHaveWaysBack, WaysBackAreApart};
 ghost use Rattle.plan_waves.specs.Laws.{ColumnsPass, LoopsReturn, LoopsComeRound, BodyBeginsDark};
 
-/// The bits at the entries of the body at any macro time leave its c-th column c macro steps later, as c columns make of them.
+/// The bits at the entries of the body at any macro time leave its c-th column c macro steps later,
+/// as c columns make of them.
 pub fn columns_pass()
     ensures { ColumnsPass }
 {}
 
-/// What is lit on the way back of a loop of an admissible plan enters the body one macro step later for each tile from there;
-/// the way back begins where the loop leaves the body, and meets the body again at its end alone.
+/// What is lit on the way back of a loop of an admissible plan enters the body one macro step later
+/// for each tile from there; the way back begins where the loop leaves the body, and meets the body
+/// again at its end alone.
 pub fn loops_have_ways_back()
     ensures { LoopsHaveWaysBack }
 {}
@@ -18,18 +20,20 @@ pub fn ways_back_are_apart()
     ensures { WaysBackAreApart }
 {}
 
-/// What leaves the body on the lane of a loop at any macro time enters it again one macro step later for each tile of the
-/// loop's way back.
+/// What leaves the body on the lane of a loop at any macro time enters it again one macro step
+/// later for each tile of the loop's way back.
 pub fn loops_return()
     ensures { LoopsReturn }
 {}
 
-/// A period after any macro time, each loop's lane brings what all columns make of the bits that entered the body then.
+/// A period after any macro time, each loop's lane brings what all columns make of the bits that
+/// entered the body then.
 pub fn loops_come_round()
     ensures { LoopsComeRound }
 {}
 
-/// Where no edge inside the body is lit at macro time 0, the entries of its c-th column, counted from 0, are dark before macro time c.
+/// Where no edge inside the body is lit at macro time 0, the entries of its c-th column, counted
+/// from 0, are dark before macro time c.
 pub fn body_begins_dark()
     ensures { BodyBeginsDark }
 {}

@@ -36,8 +36,8 @@ fn is_outside(width: u64, height: u64, form: &PortForm) -> bool
     }
 }
 
-// What is at fault in a line, by the lines seen before it, of which it is the first or not. If nothing is, it is seen
-// too.
+// What is at fault in a line, by the lines seen before it, of which it is the first or not. If
+// nothing is, it is seen too.
 fn fault_of_form<'a>(
     seen: &mut Seen<'a>,
     is_first: bool,

@@ -30,7 +30,8 @@ pub enum PortForm {
     Net(NetLine),
 }
 
-// Whether a period has room for so many contexts: for one, and for more where each has 32 generations of it.
+// Whether a period has room for so many contexts: for one, and for more where each has 32
+// generations of it.
 fn has_room(period: u64, contexts: u64) -> bool
     ensures { result ≡ has_room period contexts }
 {
@@ -71,7 +72,8 @@ fn uncounted(version: TableVersion) -> Option<u64>
     }
 }
 
-// What a version line says, by the fields after the version: its period is not 0, and has room for its contexts.
+// What a version line says, by the fields after the version: its period is not 0, and has room for
+// its contexts.
 fn version_in(
     p_word: &[u8],
     p: &[u8],
@@ -263,7 +265,8 @@ fn fields_of(alloc: Global, entry: &[u8]) -> Result<Vec<&[u8]>, AllocError>
     entry.split(|b| *b == b' ').take(8).collect(alloc)
 }
 
-/// The form of a line with this entry in a table of a version, if it has one. The fields of a line are separated by single spaces.
+/// The form of a line with this entry in a table of a version, if it has one. The fields of a line
+/// are separated by single spaces.
 pub fn form_in(
     alloc: Global,
     version: TableVersion,

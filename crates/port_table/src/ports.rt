@@ -10,7 +10,8 @@ use lists::List;
 use pattern_reading::{NetLine, PortLine, Ports};
 use std::alloc::{AllocError, Global};
 
-// The period, the latency and the number of contexts of the version line; 32, 0 and 1 where there is none.
+// The period, the latency and the number of contexts of the version line; 32, 0 and 1 where there
+// is none.
 fn version_of(lines: &[TableLine]) -> (u64, u64, u64)
     ensures period { result.0 ≡ period_in (forms_in lines.now) }
     ensures latency { result.1 ≡ latency_in (forms_in lines.now) }

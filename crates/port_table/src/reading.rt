@@ -30,14 +30,16 @@ impl From<AllocError> for PortReadError {
     }
 }
 
-/// Reads the port table that stands in the comments before the header of a text of extended RLE, in a box of `width`
-/// by `height` cells, which is the header's. All lines of a text without a header are looked at.
+/// Reads the port table that stands in the comments before the header of a text of extended RLE, in
+/// a box of `width` by `height` cells, which is the header's. All lines of a text without a header
+/// are looked at.
 ///
-/// The lines of the table begin with `#C BLIFWW `, and their fields are separated by single spaces. A text without
-/// such lines has the empty table of period 32, latency 0 and one context. Otherwise the first line is `2 P p L l C c`,
-/// or in version 1 `1 P p L l` or `1 P p L l C c`, with a period `p` of at least 1 and 1 to `p` / 32 contexts `c`, or
-/// one, and each later line is `IN x y name`, `OUT x y name` or `NET x y offset name path`. In version 2 a `%` in a name
-/// and two hexadecimal digits after it are a byte; in version 1 names are as they stand.
+/// The lines of the table begin with `#C BLIFWW `, and their fields are separated by single spaces.
+/// A text without such lines has the empty table of period 32, latency 0 and one context. Otherwise
+/// the first line is `2 P p L l C c`, or in version 1 `1 P p L l` or `1 P p L l C c`, with a period
+/// `p` of at least 1 and 1 to `p` / 32 contexts `c`, or one, and each later line is `IN x y name`,
+/// `OUT x y name` or `NET x y offset name path`. In version 2 a `%` in a name and two hexadecimal
+/// digits after it are a byte; in version 1 names are as they stand.
 ///
 /// `Fault` has the first line that is at fault, and the first fault of that line.
 pub fn read(alloc: Global, text: &[u8], width: u64, height: u64) -> Result<Ports, PortReadError>

@@ -35,8 +35,9 @@ fn put_line<O: Sink>(sink: &mut O, page: &mut Page, ports: &Ports, n: usize) -> 
     write_net(sink, page, ports.nets.get(output - ports.outs.len()))
 }
 
-/// Writes a line of a table, with its line end: line 0 is the version line, and the inputs, the outputs and the nets follow.
-/// Where a write fails, a front of the line stands written. It takes no memory.
+/// Writes a line of a table, with its line end: line 0 is the version line, and the inputs, the
+/// outputs and the nets follow. Where a write fails, a front of the line stands written. It takes
+/// no memory.
 pub fn write_line<O: Sink>(ports: &Ports, n: usize, sink: &mut O) -> Result<(), Failed>
     requires { n < length (port_lines ports.now) }
     ensures ok { OnOk result (Appends (O.written sink.old) (O.written sink.new)

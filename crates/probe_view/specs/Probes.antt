@@ -20,21 +20,25 @@ has_name_and_path name path net = bytes_eq net.name name && bytes_eq net.path pa
 abbrev pub net_named : Ports → (name path : List ℕ) → Option NetLine
 net_named ports name path = find (has_name_and_path name path) ports.nets
 
--- its bits in a context, cycle after cycle: 1 where its cell is a head at generation offset + 32 c + t P
+-- its bits in a context, cycle after cycle: 1 where its cell is a head at generation offset + 32 c
+-- + t P
 abbrev pub probed_at : Ports → Streams → Plane → (context : ℕ) → NetLine → List Bool
-probed_at ports streams plane context net = bits_of_cell ports streams plane net.offset context (net.x, net.y)
+probed_at ports streams plane context net =
+    bits_of_cell ports streams plane net.offset context (net.x, net.y)
 
 -- those in each context
 abbrev pub probed_bits : Ports → Streams → Plane → NetLine → List (List Bool)
-probed_bits ports streams plane net = map (λ context. probed_at ports streams plane context net) (range_with_len 0 ports.c)
+probed_bits ports streams plane net =
+    map (λ context. probed_at ports streams plane context net) (range_with_len 0 ports.c)
 
 -- the generation of the last of them
 abbrev pub last_probed : Ports → Streams → NetLine → ℕ
 last_probed ports streams net = last_from net.offset ports streams
 
--- There is such a net, all its bits are shown within the limit of generations, each injection up to there meets a conductor, and these are
--- the bits.
-pub record HasProbed (ports : Ports) (streams : Streams) (plane : Plane) (name path : List ℕ) (bits : List (List Bool)) : Type 0 where
+-- There is such a net, all its bits are shown within the limit of generations, each injection up to
+-- there meets a conductor, and these are the bits.
+pub record HasProbed (ports : Ports) (streams : Streams) (plane : Plane) (name path : List ℕ)
+    (bits : List (List Bool)) : Type 0 where
   pub net : NetLine
   pub is_there : net_named ports name path ≡ Some net
   pub near : last_probed ports streams net ≤ greatest_generation
@@ -42,25 +46,31 @@ pub record HasProbed (ports : Ports) (streams : Streams) (plane : Plane) (name p
   pub bits_are : bits ≡ probed_bits ports streams plane net
 
 -- There is such a net, and its last bit is shown at this generation, which is over the limit.
-pub record IsTooFar (ports : Ports) (streams : Streams) (name path : List ℕ) (generations : ℕ) : Type 0 where
+pub record IsTooFar (ports : Ports) (streams : Streams) (name path : List ℕ)
+    (generations : ℕ) : Type 0 where
   pub net : NetLine
   pub is_there : net_named ports name path ≡ Some net
   pub needed : generations ≡ last_probed ports streams net
   pub far : greatest_generation < generations
 
--- There is such a net, all its bits are shown within the limit, and the first injection up to there that meets no conductor is this one.
-pub record IsNotQuiet (ports : Ports) (streams : Streams) (plane : Plane) (name path : List ℕ) (generation x y : ℕ) : Type 0 where
+-- There is such a net, all its bits are shown within the limit, and the first injection up to there
+-- that meets no conductor is this one.
+pub record IsNotQuiet (ports : Ports) (streams : Streams) (plane : Plane) (name path : List ℕ)
+    (generation x y : ℕ) : Type 0 where
   pub net : NetLine
   pub is_there : net_named ports name path ≡ Some net
   pub near : last_probed ports streams net ≤ greatest_generation
-  pub first : first_miss ports streams plane (last_probed ports streams net) ≡ Some (record { generation = generation; x = x; y = y })
+  pub first : first_miss ports streams plane (last_probed ports streams net)
+      ≡ Some (record { generation = generation; x = x; y = y })
 
 -- why a probe gives no bits
 abbrev pub HasProbeCause : Ports → Streams → Plane → (name path : List ℕ) → ProbeError → Type 0
 HasProbeCause ports streams plane name path NoMemory = ⊤
 HasProbeCause ports streams plane name path NoSuchNet = net_named ports name path ≡ None
-HasProbeCause ports streams plane name path (TooFar generations) = IsTooFar ports streams name path generations
-HasProbeCause ports streams plane name path (NotQuiet generation x y) = IsNotQuiet ports streams plane name path generation x y
+HasProbeCause ports streams plane name path (TooFar generations) =
+    IsTooFar ports streams name path generations
+HasProbeCause ports streams plane name path (NotQuiet generation x y) =
+    IsNotQuiet ports streams plane name path generation x y
 
 -- why the cell of a net gives no bits
 abbrev pub probe_error : SimulateError → ProbeError

@@ -16,8 +16,8 @@ pub enum ProbeError {
     /// The run needs so many generations, which is over the limit of 4,294,967,296.
     #[error("the run needs {generations} generations")]
     TooFar { generations: u128 },
-    /// An injection of this generation is due at this cell, by its column and row, which is no conductor before the
-    /// injections of that generation.
+    /// An injection of this generation is due at this cell, by its column and row, which is no
+    /// conductor before the injections of that generation.
     #[error("generation {generation}: cell {x} {y} is no conductor")]
     NotQuiet { generation: u64, x: u64, y: u64 },
 }
@@ -27,8 +27,8 @@ pub enum ProbeError {
 pub enum WindowError {
     #[error("out of memory")]
     NoMemory,
-    /// An injection of this generation is due at this cell, by its column and row, which is no conductor before the
-    /// injections of that generation.
+    /// An injection of this generation is due at this cell, by its column and row, which is no
+    /// conductor before the injections of that generation.
     #[error("generation {generation}: cell {x} {y} is no conductor")]
     NotQuiet { generation: u64, x: u64, y: u64 },
 }

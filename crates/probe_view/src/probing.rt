@@ -33,12 +33,14 @@ fn net_named<'a>(nets: &'a [NetLine], name: &[u8], path: &[u8]) -> Option<&'a Ne
     None
 }
 
-/// The bits that a net shows in each context, cycle after cycle, while streams drive the pattern: bit t in context c is 1
-/// exactly where the net's cell is a head at generation `offset + 32 c + t p`. The net is the one of this name in the model
-/// of this path, which is `-` for the main model. A call asks for at least one cycle, for one stream of as many bits for each
-/// context and input, and for inputs inside the pattern's box; the net's cell may lie anywhere. `TooFar` comes where the last
-/// of these generations is over 4,294,967,296, and nothing is then run; `NotQuiet` names the first injection up to that
-/// generation whose cell is no conductor before the injections of its own.
+/// The bits that a net shows in each context, cycle after cycle, while streams drive the pattern:
+/// bit t in context c is 1 exactly where the net's cell is a head at generation
+/// `offset + 32 c + t p`. The net is the one of this name in the model of this path, which is `-`
+/// for the main model. A call asks for at least one cycle, for one stream of as many bits for each
+/// context and input, and for inputs inside the pattern's box; the net's cell may lie anywhere.
+/// `TooFar` comes where the last of these generations is over 4,294,967,296, and nothing is then
+/// run; `NotQuiet` names the first injection up to that generation whose cell is no conductor
+/// before the injections of its own.
 pub fn probe(
     alloc: Global,
     pattern: Pattern,

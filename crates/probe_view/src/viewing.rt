@@ -60,11 +60,12 @@ fn lines_of(
     Ok(text)
 }
 
-/// A part of the plane that a pattern has come to at a generation, while streams drive it: `height` lines of `width` tags,
-/// `.`, `A`, `B` or `C`, each ended by byte 10. The first tag is that of column x and row y, counted from the pattern's
-/// upper left cell; all beyond the pattern's box is empty. A call asks for one stream, of any number of
-/// cycles, for each context and input, and for inputs inside the pattern's box. `NotQuiet` names the first injection up to
-/// the generation whose cell is no conductor before the injections of its own.
+/// A part of the plane that a pattern has come to at a generation, while streams drive it: `height`
+/// lines of `width` tags, `.`, `A`, `B` or `C`, each ended by byte 10. The first tag is that of
+/// column x and row y, counted from the pattern's upper left cell; all beyond the pattern's box is
+/// empty. A call asks for one stream, of any number of cycles, for each context and input, and for
+/// inputs inside the pattern's box. `NotQuiet` names the first injection up to the generation whose
+/// cell is no conductor before the injections of its own.
 pub fn window(
     alloc: Global,
     pattern: Pattern,

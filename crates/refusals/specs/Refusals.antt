@@ -127,13 +127,16 @@ fault_line name line = name ++ (codes " line " ++ (decimal line ++ codes "\n"))
 abbrev pub stream_line : List ℕ → List ℕ → List ℕ
 stream_line name word = codes "stream: " ++ (name ++ (codes " " ++ (word ++ codes "\n")))
 
--- a fault of a netlist's text by its number, its name, its line and the word at fault, as `B21 ClockRead line 5: clk`
+-- a fault of a netlist's text by its number, its name, its line and the word at fault, as
+-- `B21 ClockRead line 5: clk`
 abbrev pub fault_text : (number name line word : List ℕ) → List ℕ
 fault_text number name line word =
-    codes "B" ++ (number ++ (codes " " ++ (name ++ (codes " line " ++ (line ++ (codes ": " ++ (word ++ codes "\n")))))))
+    codes "B" ++ (number ++ (codes " "
+        ++ (name ++ (codes " line " ++ (line ++ (codes ": " ++ (word ++ codes "\n")))))))
 
 abbrev pub netlist_line : Fault → List ℕ
-netlist_line fault = fault_text (decimal (number_of fault.kind)) (name_of fault.kind) (decimal fault.line) fault.word
+netlist_line fault =
+    fault_text (decimal (number_of fault.kind)) (name_of fault.kind) (decimal fault.line) fault.word
 
 -- each name after a blank
 abbrev pub after_blanks : List Name → List ℕ
@@ -149,7 +152,9 @@ aig_fault_text number name line =
     codes "A" ++ (number ++ (codes " " ++ (name ++ (codes " line " ++ (line ++ codes "\n")))))
 
 abbrev pub aig_fault_line : AigFault → List ℕ
-aig_fault_line fault = aig_fault_text (decimal (aig_fault_number fault.kind)) (aig_fault_name fault.kind) (decimal fault.line)
+aig_fault_line fault =
+    aig_fault_text (decimal (aig_fault_number fault.kind)) (aig_fault_name fault.kind)
+      (decimal fault.line)
 
 -- each number after a blank
 abbrev pub spaced_numbers : List ℕ → List ℕ
@@ -166,26 +171,33 @@ circuit_line name = codes "not a circuit: " ++ (name ++ codes "\n")
 -- the one line that tells such a cause
 abbrev pub cause_line : Cause → List ℕ
 cause_line (NetlistFault fault) = netlist_line fault
-cause_line (WeightTooLarge weight) = codes "too large: weight " ++ (decimal weight ++ (codes " limit " ++ (decimal weight_limit ++ codes "\n")))
+cause_line (WeightTooLarge weight) =
+    codes "too large: weight " ++ (decimal weight
+      ++ (codes " limit " ++ (decimal weight_limit ++ codes "\n")))
 cause_line (Loop names) = loop_line names
 cause_line (AigAtFault fault) = aig_fault_line fault
 cause_line (AigLoop literals) = aig_loop_line literals
 cause_line (Pattern fault) = fault_line (rle_fault_name fault.kind) fault.line
-cause_line (GridTooLarge width height) = codes "too large: grid " ++ (decimal width ++ (codes " by " ++ (decimal height ++ codes "\n")))
+cause_line (GridTooLarge width height) =
+    codes "too large: grid " ++ (decimal width ++ (codes " by " ++ (decimal height ++ codes "\n")))
 cause_line (PortTable fault) = fault_line (port_fault_name fault.kind) fault.line
 cause_line (Streams fault) = stream_line (stream_fault_name fault.kind) fault.word
 cause_line (StartWord fault) = stream_line (start_fault_name fault.kind) fault.word
 cause_line (NoSuchNet name) = stream_line (codes "NoSuchNet") name
-cause_line (TooFar generations) = codes "too large: generations " ++ (decimal generations ++ codes "\n")
+cause_line (TooFar generations) =
+    codes "too large: generations " ++ (decimal generations ++ codes "\n")
 cause_line (TooManyContexts contexts limit) =
-    codes "too large: contexts " ++ (decimal contexts ++ (codes " limit " ++ (decimal limit ++ codes "\n")))
+    codes "too large: contexts " ++ (decimal contexts
+        ++ (codes " limit " ++ (decimal limit ++ codes "\n")))
 cause_line (NotQuiet generation x y) =
-    codes "not quiet: generation " ++ (decimal generation ++ (codes " cell " ++ (decimal x ++ (codes " " ++ (decimal y ++ codes "\n")))))
+    codes "not quiet: generation " ++ (decimal generation
+        ++ (codes " cell " ++ (decimal x ++ (codes " " ++ (decimal y ++ codes "\n")))))
 cause_line (NotCircuit fault) = circuit_line (circuit_fault_name fault)
 
 -- the one line that tells a refusal
 abbrev pub refusal_line : Refusal → List ℕ
-refusal_line Usage = codes "usage: blifww compile|simulate|eval|probe|window|make|self|tape|aiger|vcd|lift\n"
+refusal_line Usage =
+    codes "usage: blifww compile|simulate|eval|probe|window|make|self|tape|aiger|vcd|lift\n"
 refusal_line TooLong = codes "too long: limit 16777216\n"
 refusal_line ReadFault = codes "read fault\n"
 refusal_line WriteFault = codes "write fault\n"

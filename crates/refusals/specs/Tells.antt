@@ -4,8 +4,10 @@ use Rattle.std.specs.declared.option.Option.{Option}
 use Rattle.std.specs.Io.KnownBytes.{Appends}
 use Rattle.ww_base.specs.Faults.{HasCause}
 
--- the sink held a and holds b now, and its faults were f and are g: it has all of the line, or a front of it where a write failed
-pub record Tells {T E : Type 0} (line : List ℕ) (a b : Option (List ℕ)) (f g : ℕ) (result : Result T E) : Type 0 where
+-- the sink held a and holds b now, and its faults were f and are g: it has all of the line, or a
+-- front of it where a write failed
+pub record Tells {T E : Type 0} (line : List ℕ) (a b : Option (List ℕ)) (f g : ℕ)
+    (result : Result T E) : Type 0 where
   pub ok : OnOk result (Appends a b line)
   pub front : OnErr result ((n : ℕ) × Appends a b (take n line))
   pub cause : HasCause f g result

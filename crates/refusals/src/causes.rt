@@ -46,7 +46,8 @@ pub enum Cause {
     TooFar { generations: u128 },
     /// The plan has room for `limit` contexts, and more are asked for.
     TooManyContexts { contexts: u64, limit: u64 },
-    /// An injection is due at this generation and cell, which is no conductor before the injections of that generation.
+    /// An injection is due at this generation and cell, which is no conductor before the injections
+    /// of that generation.
     NotQuiet { generation: u64, x: u64, y: u64 },
     /// The pattern with its port table is no circuit.
     NotCircuit(CircuitFault),

@@ -1,5 +1,5 @@
-// The lines that tell refusals. Each is gathered on a page, and written at once where it is no longer than one. They
-// take no memory.
+// The lines that tell refusals. Each is gathered on a page, and written at once where it is no
+// longer than one. They take no memory.
 ghost use Rattle.std.specs.Prelude.{◌≡◌, ℕ, List, ◌++◌, take, OnOk, OnErr};
 ghost use Rattle.std.specs.Io.KnownBytes.{Appends};
 ghost use Rattle.ww_base.specs.Faults.{HasCause};

@@ -95,7 +95,8 @@ impl Cut {
         Ok(true)
     }
 
-    /// The cut of a cell: first its operands; then that leaf is opened which brings the fewest new ones, while they are few enough.
+    /// The cut of a cell: first its operands; then that leaf is opened which brings the fewest new
+    /// ones, while they are few enough.
     pub fn of(alloc: Global, network: &Network, number: u32) -> Result<Cut, CellError> {
         let mut cut = Cut {
             leaves: Vec::new(alloc),

@@ -8,8 +8,9 @@ use crate::windows::Window;
 use cell_core::{Cell, CellError, CellList, Src};
 use std::alloc::Global;
 
-/// Cells to be added at the end of a list, and a source, one of these cells or another, that has the bit of a cell of the list and may be read in its place:
-/// by the tables over at most six leaves of the cells of a cone, each of which stands after those that it reads.
+/// Cells to be added at the end of a list, and a source, one of these cells or another, that has
+/// the bit of a cell of the list and may be read in its place: by the tables over at most six
+/// leaves of the cells of a cone, each of which stands after those that it reads.
 #[derive(Drop)]
 pub struct Replacement {
     pub cells: Vec<Cell>,
@@ -24,7 +25,8 @@ pub struct Replacement {
 pub enum Round {
     /// Those by which cells become fewer.
     Fewer,
-    /// For one cell in four, by chance, also those by which there are as many: they open the way for others.
+    /// For one cell in four, by chance, also those by which there are as many: they open the way
+    /// for others.
     Wander,
 }
 
@@ -36,8 +38,8 @@ enum Most {
     Two,
 }
 
-// The most visits of one round: of cells that go with another, of readers, and of pairs of divisors. What the cell needs at
-// which they are spent comes on top.
+// The most visits of one round: of cells that go with another, of readers, and of pairs of
+// divisors. What the cell needs at which they are spent comes on top.
 const MOST_VISITS: usize = 1 << 24;
 
 // A search in one round.
@@ -362,8 +364,9 @@ impl Search {
     }
 }
 
-/// The replacements of one round over the cells of a list, in the order in which they are to be made. The kept sources are not replaced.
-/// A round ends early where it has made 16.8 million visits, of cells or of pairs of them.
+/// The replacements of one round over the cells of a list, in the order in which they are to be
+/// made. The kept sources are not replaced. A round ends early where it has made 16.8 million
+/// visits, of cells or of pairs of them.
 pub fn replacements(
     alloc: Global,
     list: &CellList,

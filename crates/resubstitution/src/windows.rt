@@ -1,4 +1,5 @@
-// Windows: the tables of all cells that are functions of a cut's leaves, but for those that read the cell of the cut.
+// Windows: the tables of all cells that are functions of a cut's leaves, but for those that read
+// the cell of the cut.
 use crate::cuts::Cut;
 use crate::network::{Network, Role};
 use cell_core::{Cell, CellError, Src};

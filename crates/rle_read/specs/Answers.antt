@@ -15,23 +15,28 @@ use Rattle.rle_read.specs.declared.error.RleReadError.TheVariants.{Fault, TooLar
 -- The text's header line, and the text that holds the lines after it.
 pub record IsHeaderAt (text : List ℕ) (parts : lent.Line × Bor (List ℕ)) : Type 0 where
   pub header : header_line text ≡ Some (line_of parts.0)
-  pub after : lines_after_header text ≡ lines_from (parts.0.number + 1) (with_line_feeds parts.1.now)
-  pub last : parts.0.number + length (lines_from (parts.0.number + 1) (with_line_feeds parts.1.now)) ≡ last_line text
+  pub after : lines_after_header text
+      ≡ lines_from (parts.0.number + 1) (with_line_feeds parts.1.now)
+  pub last : parts.0.number + length (lines_from (parts.0.number + 1) (with_line_feeds parts.1.now))
+      ≡ last_line text
   pub room : parts.0.number + length parts.1.now < 2 ^ 64
 
 -- what is at fault in the bytes of a header line
 abbrev pub IsHeaderFault : List ℕ → RleFaultKind → Type 0
 IsHeaderFault bytes NoHeader = after_word (codes "x") bytes ≡ None
-IsHeaderFault bytes BadHeader = (is_some (after_word (codes "x") bytes) ≡ true) × (header_in bytes ≡ None)
-IsHeaderFault bytes OtherRule = (header : Header) × (header_in bytes ≡ Some header) × (is_wireworld header.rule ≡ false)
+IsHeaderFault bytes BadHeader =
+    (is_some (after_word (codes "x") bytes) ≡ true) × (header_in bytes ≡ None)
+IsHeaderFault bytes OtherRule =
+    (header : Header) × (header_in bytes ≡ Some header) × (is_wireworld header.rule ≡ false)
 IsHeaderFault bytes BadItem = ⊥
 IsHeaderFault bytes CellOutside = ⊥
 IsHeaderFault bytes NoEnd = ⊥
 IsHeaderFault bytes GridTooLarge = ⊥
 
--- Why a reader reads no pattern of a text: its first fault; a box that is too large; or want of memory, where the header is without
--- fault and the box is not too large.
+-- Why a reader reads no pattern of a text: its first fault; a box that is too large; or want of
+-- memory, where the header is without fault and the box is not too large.
 abbrev pub HasReadReason : List ℕ → RleReadError → Type 0
 HasReadReason text (Fault fault) = HasReaderFault text fault.kind fault.line
 HasReadReason text (TooLarge width height) = HasLargeBox text width height
-HasReadReason text NoMemory = (width height : ℕ) × HasBox text width height × (width * height ≤ most_cells)
+HasReadReason text NoMemory =
+    (width height : ℕ) × HasBox text width height × (width * height ≤ most_cells)

@@ -11,8 +11,8 @@ use Rattle.rle_read.specs.declared.error.RleFault.{RleFault}
 use Rattle.rle_read.specs.declared.draw_text.LineEnd.{LineEnd}
 use Rattle.rle_read.specs.declared.draw_text.LineEnd.TheVariants.{OfLine, OfPattern}
 
--- a box of cells that is drawn: its rows so far, and the column and the row at which the next item begins; a place past the greatest
--- number of 64 bits is kept as the greatest
+-- a box of cells that is drawn: its rows so far, and the column and the row at which the next item
+-- begins; a place past the greatest number of 64 bits is kept as the greatest
 pub record Drawn : Type 0 where
   pub width : ℕ
   pub height : ℕ
@@ -30,7 +30,8 @@ kept n = min n (2 ^ 64 - 1)
 -- the box with empty cells
 abbrev pub blank_drawing : ℕ → ℕ → Drawn
 blank_drawing width height =
-    record { width = width; height = height; rows = (if width == 0 then [] else replicate height (replicate width Empty)); x = 0; y = 0 }
+    record { width = width; height = height;
+        rows = (if width == 0 then [] else replicate height (replicate width Empty)); x = 0; y = 0 }
 
 -- the rows with a run of cells; empty cells change nothing
 abbrev pub rows_with : Drawn → ℕ → State → List (List State)
@@ -47,7 +48,8 @@ drawn_after _ d = d
 abbrev pub place_of : ℕ → Drawn → Item → Placed
 place_of line d item = record { line = line; x = d.x; y = d.y; item = item }
 
--- how far items are drawn: up to an item at fault, up to the end of the pattern, or all of them, where none is that end
+-- how far items are drawn: up to an item at fault, up to the end of the pattern, or all of them,
+-- where none is that end
 pub data Reached : Type 0 where
   Fault : RleFaultAt → Reached
   Ended : Drawn → Reached
@@ -62,7 +64,8 @@ reached_by false None d item go_on = go_on (drawn_after item d)
 abbrev pub drawn_with : Drawn → List LineItem → Reached
 drawn_with d [] = Open d
 drawn_with d (i ∷ is) =
-    reached_by (is_end i.item) (fault_at d.width d.height (place_of i.line d i.item)) d i.item (λ after. drawn_with after is)
+    reached_by (is_end i.item) (fault_at d.width d.height (place_of i.line d i.item)) d i.item
+        (λ after. drawn_with after is)
 
 abbrev pub rle_fault_of : RleFault → RleFaultAt
 rle_fault_of fault = record { kind = fault.kind; line = fault.line }

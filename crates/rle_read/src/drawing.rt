@@ -13,8 +13,9 @@ use pattern_reading::RleFaultKind;
 use std::alloc::Global;
 use ww_rule::{CellRows, State};
 
-/// A pattern while its items are read: its rows so far, and the column and the row at which the next item begins. A
-/// column or a row past the greatest number is kept as the greatest, since no cell of a box lies there.
+/// A pattern while its items are read: its rows so far, and the column and the row at which the
+/// next item begins. A column or a row past the greatest number is kept as the greatest, since no
+/// cell of a box lies there.
 #[derive(Drop)]
 pub struct Drawing {
     pub width: u64,

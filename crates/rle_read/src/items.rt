@@ -7,8 +7,8 @@ use crate::words::digits_at_front;
 use pattern_lines::{is_blank, number_in};
 use ww_rule::State;
 
-/// A byte that is no digit, with the digits directly before it; where a line ends with digits, they are a piece without
-/// such a byte.
+/// A byte that is no digit, with the digits directly before it; where a line ends with digits, they
+/// are a piece without such a byte.
 #[derive(Clone, Copy)]
 pub struct TaggedDigits<'a> {
     pub digits: &'a [u8],

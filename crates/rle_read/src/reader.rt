@@ -99,8 +99,9 @@ fn pattern_in(alloc: Global, text: &[u8]) -> Result<Pattern, RleReadError>
 /// Reads the text of a pattern in extended RLE, by Golly's description of it: a header such as
 /// `x = 3, y = 1, rule = WireWorld`, and then items such as `3C!`.
 ///
-/// The answer is the pattern that the text says, or the text's first fault and its line, counted from 1. A box of more
-/// than 268435456 cells is refused once the header is read, and before any memory is taken.
+/// The answer is the pattern that the text says, or the text's first fault and its line, counted
+/// from 1. A box of more than 268435456 cells is refused once the header is read, and before any
+/// memory is taken.
 pub fn read(alloc: Global, text: &[u8]) -> Result<Pattern, RleReadError>
     ensures pattern { IfOk result (λ pattern. ReadsWithinLimit text.now (grid_of pattern)) }
     ensures refused { IfErr result (HasReadReason text.now) }

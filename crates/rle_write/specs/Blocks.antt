@@ -8,4 +8,5 @@ use Rattle.plan_layout.specs.Tape.{drawn_tiling}
 
 -- what stands in the first blocks of a lane of the drawing
 abbrev pub AreBlocks : Plan → ℕ → List Slot → Type 0
-AreBlocks plan lane blocks = (k : ℕ) → k < length blocks → slot_of (get_or blocks k Nothing) ≡ drawn_tiling plan k lane
+AreBlocks plan lane blocks =
+    (k : ℕ) → k < length blocks → slot_of (get_or blocks k Nothing) ≡ drawn_tiling plan k lane

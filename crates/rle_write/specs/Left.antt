@@ -11,7 +11,8 @@ rows_left ends rows = without_end row_end (replicate ends row_end ++ flat_map ro
 -- the tags of the rest of a row and of the rows after it, where row ends are due before them
 abbrev pub row_left : ℕ → List ℕ → List (List State) → List ℕ
 row_left ends tags rows =
-    without_end row_end (replicate ends row_end ++ (without_end (tag_of Empty) tags ++ row_end ∷ flat_map row_tags rows))
+    without_end row_end (replicate ends row_end
+        ++ (without_end (tag_of Empty) tags ++ row_end ∷ flat_map row_tags rows))
 
 -- the item of the row ends that are due
 abbrev pub end_items : ℕ → List TagRun
@@ -35,7 +36,9 @@ abbrev pub BeginsOther : ℕ → List ℕ → Type 0
 BeginsOther t [] = Unit {0}
 BeginsOther t (z ∷ zs) = t ≢ z
 
--- a run of a row's cells that other tags follow: it ends before them, and does not stand at the row's empty end
+-- a run of a row's cells that other tags follow: it ends before them, and does not stand at the
+-- row's empty end
 pub record IsRunBefore (count tag : ℕ) (tags : List ℕ) : Type 0 where
   pub other : BeginsOther tag tags
-  pub inside : without_end (tag_of Empty) (replicate count tag ++ tags) ≡ replicate count tag ++ without_end (tag_of Empty) tags
+  pub inside : without_end (tag_of Empty) (replicate count tag ++ tags) ≡ replicate count tag
+    ++ without_end (tag_of Empty) tags

@@ -30,7 +30,8 @@ fn look_up(plan: &Plan, lane: u64, blocks: &mut [Slot])
     }
 }
 
-/// Keeps the first blocks of the lane that row `y` crosses, where those of the row before it are kept.
+/// Keeps the first blocks of the lane that row `y` crosses, where those of the row before it are
+/// kept.
 pub fn keep_blocks(plan: &Plan, y: u64, blocks: &mut [Slot])
     requires admissible { IsAdmissible plan.now }
     requires before { y % 16 ≢ 0 → AreBlocks plan.now (y / 16) blocks.old }

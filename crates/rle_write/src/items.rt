@@ -89,7 +89,8 @@ fn digit(number: usize) -> u8
     b'0' + number as u8
 }
 
-/// Puts an item on the line, or on the next where it does not fit. The bytes of a short one are put at once.
+/// Puts an item on the line, or on the next where it does not fit. The bytes of a short one are put
+/// at once.
 pub fn write_item<O: Sink>(
     sink: &mut O,
     page: &mut Page,

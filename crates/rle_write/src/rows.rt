@@ -1,4 +1,5 @@
-// Rows, run by run: of each run of equal cells the length is kept until it ends, and row ends until a cell follows.
+// Rows, run by run: of each run of equal cells the length is kept until it ends, and row ends until
+// a cell follows.
 ghost use Rattle.std.specs.Prelude.{◌≡◌, ◌≢◌, ◌≤◌, ◌<◌, ◌+◌, ◌^◌, ℕ, List, [], ◌++◌, replicate, IfOk, OnErr, OnOk};
 ghost use Rattle.ww_rule.specs.declared.pattern.State.{State};
 ghost use Rattle.pattern_writing.specs.Writer.{TagRun, tag_of, row_end};
@@ -116,7 +117,8 @@ fn end_run<O: Sink>(sink: &mut O, page: &mut Page, ends: usize, run: Run) -> Res
     write_run(sink, page, ends, run)
 }
 
-/// Writes a row's last run, if its cells are not empty, and answers how many row ends are due then, its own among them.
+/// Writes a row's last run, if its cells are not empty, and answers how many row ends are due then,
+/// its own among them.
 pub fn end_row<O: Sink>(sink: &mut O, page: &mut Page, kept: Kept) -> Result<usize, Failed>
     requires cell { kept.run.tag ≢ row_end }
     requires few { kept.due + 1 < 2 ^ 64 }
@@ -135,8 +137,9 @@ pub fn end_row<O: Sink>(sink: &mut O, page: &mut Page, kept: Kept) -> Result<usi
     Ok(last + 1)
 }
 
-/// Writes the run before cells of another state, with `count` cells of a state to come, whatever follows them in the row,
-/// and answers what is kept then: these cells, with the run before them where it is of the same state.
+/// Writes the run before cells of another state, with `count` cells of a state to come, whatever
+/// follows them in the row, and answers what is kept then: these cells, with the run before them
+/// where it is of the same state.
 pub fn write_same<O: Sink>(
     sink: &mut O,
     page: &mut Page,

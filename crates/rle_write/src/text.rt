@@ -65,9 +65,9 @@ fn write_header<O: Sink>(
     page.put(sink, b", rule = WireWorld\n")
 }
 
-/// Writes the pattern of an admissible plan in extended RLE (`.`, `A`, `B` and `C` for the states, as Golly describes it
-/// for rules of several states), after the lines of its port table. Where a write fails, a front of the text stands
-/// written. It takes no memory, and no pattern is held.
+/// Writes the pattern of an admissible plan in extended RLE (`.`, `A`, `B` and `C` for the states,
+/// as Golly describes it for rules of several states), after the lines of its port table. Where a
+/// write fails, a front of the text stands written. It takes no memory, and no pattern is held.
 pub fn write<O: Sink>(plan: &Plan, ports: &Ports, sink: &mut O) -> Result<(), Failed>
     requires { IsAdmissible plan.now }
     ensures ok { OnOk result (

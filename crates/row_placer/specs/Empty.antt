@@ -5,4 +5,5 @@ use Rattle.cell_core.specs.Loops.{loop_count}
 
 -- the list has no input, no loop, no cell, no output and no net
 abbrev pub IsEmpty : CellList → Type 0
-IsEmpty list = list.inputs + loop_count list + length list.cells + length list.outs + length list.nets ≡ 0
+IsEmpty list =
+    list.inputs + loop_count list + length list.cells + length list.outs + length list.nets ≡ 0

@@ -20,7 +20,8 @@ number list (Made i) = list.inputs + loop_count list + 1 + i
 abbrev pub gate_of : CellList → Cell → NumberedCell
 gate_of list (Or a b) = record { kind = kind.Or; first = number list a; second = number list b }
 gate_of list (Xor a b) = record { kind = kind.Xor; first = number list a; second = number list b }
-gate_of list (AndNot a b) = record { kind = kind.AndNot; first = number list a; second = number list b }
+gate_of list (AndNot a b) =
+    record { kind = kind.AndNot; first = number list a; second = number list b }
 
 -- a source of a list whose first n cells are there
 abbrev pub IsThere : CellList → ℕ → Src → Type 0

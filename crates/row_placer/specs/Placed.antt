@@ -29,31 +29,44 @@ pub record IsJobOf (list : CellList) (job : Job) : Type 0 where
 
 -- a lane that tells something at the start is the home of its value
 abbrev pub AreAtHome : List ℕ → List Tag → Type 0
-AreAtHome homes start = (lane : ℕ) → 0 < role_code (get_or start lane free_tag).role → (v : ℕ) × (v < length homes) × (get_or homes v 0 ≡ lane) × (get_or start lane free_tag ≡ tag v Kept)
+AreAtHome homes start =
+    (lane : ℕ) → 0 < role_code (get_or start lane free_tag).role
+    → (v : ℕ) × (v < length homes) × (get_or homes v 0 ≡ lane)
+    × (get_or start lane free_tag ≡ tag v Kept)
 
--- the homes: of the inputs, of the loops on the lowest lanes, and perhaps a dark lane for constant 0
+-- the homes: of the inputs, of the loops on the lowest lanes, and perhaps a dark lane for constant
+-- 0
 pub record AreHomes (list : CellList) (lanes : ℕ) (ins homes : List ℕ) : Type 0 where
   pub ins_long : length ins ≡ list.inputs
   pub ins_apart : AreDistinctBelow (lanes - loop_count list) ins
   pub least : list.inputs + loop_count list ≤ length homes
   pub most : length homes ≤ list.inputs + loop_count list + 1
   pub inputs : (i : ℕ) → i < list.inputs → get_or homes i 0 ≡ get_or ins i 0
-  pub loops : (s : ℕ) → s < loop_count list → get_or homes (list.inputs + s) 0 ≡ lanes - loop_count list + s
+  pub loops : (s : ℕ) → s < loop_count list
+    → get_or homes (list.inputs + s) 0 ≡ lanes - loop_count list + s
   pub dark : list.inputs + loop_count list < length homes
-      → (get_or homes (list.inputs + loop_count list) 0 < lanes - loop_count list) × ((i : ℕ) → i < list.inputs → get_or ins i 0 ≢ get_or homes (list.inputs + loop_count list) 0)
+      → (get_or homes (list.inputs + loop_count list) 0 < lanes - loop_count list)
+      × ((i : ℕ) → i < list.inputs → get_or ins i 0 ≢ get_or homes
+        (list.inputs + loop_count list) 0)
 
 abbrev pub net_place_of : CellList → List ℕ → List NetPlace → Src → NetPlace
 net_place_of list homes made (Made i) = get_or made i (record { lane = 0; after = None })
 net_place_of list homes made (Input i) = record { lane = get_or homes i 0; after = None }
-net_place_of list homes made (Latch i) = record { lane = get_or homes (list.inputs + i) 0; after = None }
-net_place_of list homes made One = record { lane = get_or homes (list.inputs + length list.starts) 0; after = None }
-net_place_of list homes made Zero = record { lane = get_or homes (list.inputs + loop_count list) 0; after = None }
+net_place_of list homes made (Latch i) =
+    record { lane = get_or homes (list.inputs + i) 0; after = None }
+net_place_of list homes made One =
+    record { lane = get_or homes (list.inputs + length list.starts) 0; after = None }
+net_place_of list homes made Zero =
+    record { lane = get_or homes (list.inputs + loop_count list) 0; after = None }
 
 -- a home has its value's bit at the start
 abbrev pub HomesHold : CellList → Program → List ℕ → ((List Bool) → (List Bool) → ℕ → Bool) → Type 0
-HomesHold list p homes bit = (inputs state : List Bool) → Fits list inputs state → (v : ℕ) → v < length homes → bit_on (program_bits list p inputs state) (get_or homes v 0) ≡ bit inputs state v
+HomesHold list p homes bit =
+    (inputs state : List Bool) → Fits list inputs state → (v : ℕ) → v < length homes
+    → bit_on (program_bits list p inputs state) (get_or homes v 0) ≡ bit inputs state v
 
-pub record IsPlaced (list : CellList) (job : Job) (p : Program) (homes : List ℕ) (tags : List Tag) (made : List NetPlace) : Type 0 where
+pub record IsPlaced (list : CellList) (job : Job) (p : Program) (homes : List ℕ) (tags : List Tag)
+    (made : List NetPlace) : Type 0 where
   pub job_of : IsJobOf list job
   pub lanes : length tags ≡ p.lanes
   pub start : length job.start ≡ p.lanes
@@ -66,25 +79,33 @@ pub record IsPlaced (list : CellList) (job : Job) (p : Program) (homes : List �
   pub room : loop_count list ≤ p.lanes
   pub settled : AreSettled job (loop_count list) tags
   pub outs_long : length p.outs ≡ length list.outs
-  pub outs : (o : ℕ) → o < length list.outs → get_or tags (get_or p.outs o 0) free_tag ≡ tag (get_or job.ports (loop_count list + o) 0) (Port (loop_count list + o))
+  pub outs : (o : ℕ) → o < length list.outs
+    → get_or tags (get_or p.outs o 0) free_tag
+      ≡ tag (get_or job.ports (loop_count list + o) 0) (Port (loop_count list + o))
   pub nets : p.nets ≡ map (net_place_of list homes made) list.nets
   pub zero_home : All (λ src. src ≡ Zero → list.inputs + loop_count list < length homes) list.nets
   pub known_home : list.inputs + loop_count list ≤ length homes
 
--- each home of a used value has it, and the other lanes are free, the homes of unused values among them
+-- each home of a used value has it, and the other lanes are free, the homes of unused values among
+-- them
 pub record IsStart (homes left : List ℕ) (lanes : ℕ) (start : List Tag) : Type 0 where
   pub long : length start ≡ lanes
   pub home : AreAtHome homes start
-  pub kept : (v : ℕ) → v < length homes → 1 ≤ get_or left v 0 → get_or start (get_or homes v 0) free_tag ≡ tag v Kept
+  pub kept : (v : ℕ) → v < length homes → 1 ≤ get_or left v 0
+    → get_or start (get_or homes v 0) free_tag ≡ tag v Kept
   pub free : lanes + idle left (length homes) ≤ count 0 Free start + length homes
 
 -- the lanes of the outputs
 abbrev pub AreOuts : Job → ℕ → List Tag → List ℕ → Type 0
-AreOuts job loops tags outs = (o : ℕ) → o < length outs → (get_or outs o 0 < length tags) × (get_or tags (get_or outs o 0) free_tag ≡ tag (get_or job.ports (loops + o) 0) (Port (loops + o)))
+AreOuts job loops tags outs =
+    (o : ℕ) → o < length outs → (get_or outs o 0 < length tags)
+    × (get_or tags (get_or outs o 0) free_tag
+      ≡ tag (get_or job.ports (loops + o) 0) (Port (loops + o)))
 
 -- lanes are few, with so many to spare, and no more than these where the list is empty
 pub record AreFewLanes (list : CellList) (spare lanes : ℕ) : Type 0 where
-  pub most : lanes ≤ list.inputs + 2 * loop_count list + length list.outs + length list.cells + 2 + spare
+  pub most : lanes
+      ≤ list.inputs + 2 * loop_count list + length list.outs + length list.cells + 2 + spare
   pub empty : IsEmpty list → lanes ≤ spare
 
 -- a job that can begin
@@ -103,7 +124,8 @@ pub record IsPrepared (list : CellList) (job : Job) (left homes : List ℕ) : Ty
 abbrev pub HasHomeIfZero : CellList → List ℕ → Src → Type 0
 HasHomeIfZero list homes src = src ≡ Zero → list.inputs + loop_count list < length homes
 
--- sources have places: each that no cell makes has a home, but perhaps constant 0, and each cell is made
+-- sources have places: each that no cell makes has a home, but perhaps constant 0, and each cell is
+-- made
 pub record HavePlaces (list : CellList) (homes : List ℕ) (made : List NetPlace) : Type 0 where
   pub small : list.inputs + loop_count list + 1 + length list.cells < 2 ^ 32
   pub known_home : list.inputs + loop_count list ≤ length homes
@@ -117,15 +139,19 @@ IsPlaceable list = list.inputs + loop_count list + length list.outs + length lis
 pub record IsPlacedOn (list : CellList) (lanes : ℕ) (p : Program) : Type 0 where
   pub wide : p.lanes ≡ lanes
   pub computes : ComputesByProgram list p
-  pub instrs : length p.instrs ≤ (3 * length list.cells + length list.outs + 2 * loop_count list) * p.lanes
+  pub instrs : length p.instrs ≤
+      (3 * length list.cells + length list.outs + 2 * loop_count list) * p.lanes
   pub entries : AreAtEntries list p.lanes p.ins p.nets
   pub made : AreAtCells list p.instrs p.nets
 
--- a program that is placed with no more spare lanes than these, and with these alone where the list is empty
+-- a program that is placed with no more spare lanes than these, and with these alone where the list
+-- is empty
 pub record IsPlacedWithin (list : CellList) (spare : ℕ) (p : Program) : Type 0 where
   pub computes : ComputesByProgram list p
-  pub instrs : length p.instrs ≤ (3 * length list.cells + length list.outs + 2 * loop_count list) * p.lanes
-  pub lanes : p.lanes ≤ list.inputs + 2 * loop_count list + length list.outs + length list.cells + 2 + spare
+  pub instrs : length p.instrs ≤
+      (3 * length list.cells + length list.outs + 2 * loop_count list) * p.lanes
+  pub lanes : p.lanes
+      ≤ list.inputs + 2 * loop_count list + length list.outs + length list.cells + 2 + spare
   pub empty : IsEmpty list → p.lanes ≤ spare
   pub entries : AreAtEntries list p.lanes p.ins p.nets
   pub made : AreAtCells list p.instrs p.nets

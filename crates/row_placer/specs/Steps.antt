@@ -47,18 +47,22 @@ pub record IsNextGate (lanes : Lanes) (gate : NumberedCell) : Type 0 where
 -- the last instruction is that of the next gate, on this lane
 abbrev pub EndsWithNextGate : Lanes → ℕ → Type 0
 EndsWithNextGate lanes lane =
-    (gate : NumberedCell) → slice_get lanes.instrs.items (length lanes.instrs.items - 1) ≡ Some (gate_instr (get_or lanes.job.now.gates (length lanes.made.items) gate).kind lane)
+    (gate : NumberedCell) → slice_get lanes.instrs.items (length lanes.instrs.items - 1) ≡ Some
+      (gate_instr (get_or lanes.job.now.gates (length lanes.made.items) gate).kind lane)
 
 -- the next gate is made: its operands are exchanged for its value
 pub record MakesGate (old new : Lanes) (gate : NumberedCell) : Type 0 where
   pub exchanged : GateExchanged old.tags.items new.tags.items gate (next_value old)
   pub made : length new.made.items ≡ length old.made.items + 1
 
--- lanes place all that a job asks for, by so many instructions at most: its gates, its ports, and of these the loops on the lowest lanes
+-- lanes place all that a job asks for, by so many instructions at most: its gates, its ports, and
+-- of these the loops on the lowest lanes
 pub record PlacesJob (job : Job) (loops : ℕ) (lanes : Lanes) : Type 0 where
   pub job_is : lanes.job.now ≡ job
   pub long : length lanes.tags.items ≡ length job.start
   pub made : length lanes.made.items ≡ length job.gates
   pub held : HoldAllPorts job lanes.tags.items
   pub settled : AreSettled job loops lanes.tags.items
-  pub count : length lanes.instrs.items ≤ length job.gates * (3 * length job.start) + length job.ports * length job.start + loops * length job.start
+  pub count : length lanes.instrs.items
+      ≤ length job.gates *
+      (3 * length job.start) + length job.ports * length job.start + loops * length job.start

@@ -52,7 +52,10 @@ gate_bit AndNot a b = a && not b
 
 -- the bits of values are those that the gates make
 abbrev pub Agrees : Job → (ℕ → Bool) → Type 0
-Agrees job bit = (g : ℕ) (d : NumberedCell) → g < length job.gates → bit (job.base + g) ≡ gate_bit (get_or job.gates g d).kind (bit (get_or job.gates g d).first) (bit (get_or job.gates g d).second)
+Agrees job bit =
+    (g : ℕ) (d : NumberedCell) → g < length job.gates
+    → bit (job.base + g) ≡ gate_bit (get_or job.gates g d).kind (bit (get_or job.gates g d).first)
+      (bit (get_or job.gates g d).second)
 
 -- the instruction of a gate
 abbrev pub gate_instr : CellKind → ℕ → Instr
@@ -60,16 +63,21 @@ gate_instr Or lane = instrs.Or lane
 gate_instr Xor lane = instrs.Xor lane
 gate_instr AndNot lane = instrs.AndNot lane
 
--- whatever bits values have, if the gates make them and the lanes begin with those of their tags, the tags go on to tell the bits
+-- whatever bits values have, if the gates make them and the lanes begin with those of their tags,
+-- the tags go on to tell the bits
 abbrev pub Told : Job → List Tag → List Instr → Type 0
 Told job tags instrs =
-    (bit : ℕ → Bool) → Agrees job bit → (bits : List Bool) → length bits ≡ length job.start → HoldsTags bit job.start bits → HoldsTags bit tags (after_instrs instrs bits)
+    (bit : ℕ → Bool) → Agrees job bit → (bits : List Bool) → length bits ≡ length job.start
+    → HoldsTags bit job.start bits → HoldsTags bit tags (after_instrs instrs bits)
 
 -- and the places of the gates that are made have their values
 abbrev pub MadeTold : Job → List Instr → List NetPlace → Type 0
 MadeTold job instrs made =
-    (bit : ℕ → Bool) → Agrees job bit → (bits : List Bool) → length bits ≡ length job.start → HoldsTags bit job.start bits
-    → (g : ℕ) (d : NetPlace) → g < length made → bit_on (bits_after after_instrs instrs (get_or made g d).after bits) (get_or made g d).lane ≡ bit (job.base + g)
+    (bit : ℕ → Bool) → Agrees job bit → (bits : List Bool) → length bits ≡ length job.start
+    → HoldsTags bit job.start bits
+    → (g : ℕ) (d : NetPlace) → g < length made
+    → bit_on (bits_after after_instrs instrs (get_or made g d).after bits) (get_or made g d).lane
+      ≡ bit (job.base + g)
 
 -- the instruction after which a place is found
 abbrev pub instr_at : List Instr → Option ℕ → Option Instr
@@ -80,12 +88,16 @@ abbrev pub IsGateAt : List Instr → CellKind → NetPlace → Type 0
 IsGateAt instrs kind place = instr_at instrs place.after ≡ Some (gate_instr kind place.lane)
 
 abbrev pub MadeAt : Job → List Instr → List NetPlace → Type 0
-MadeAt job instrs made = (g : ℕ) (gate : NumberedCell) (place : NetPlace) → g < length made → IsGateAt instrs (get_or job.gates g gate).kind (get_or made g place)
+MadeAt job instrs made =
+    (g : ℕ) (gate : NumberedCell) (place : NetPlace) → g < length made
+    → IsGateAt instrs (get_or job.gates g gate).kind (get_or made g place)
 
 -- an instruction puts the bits of these tags on its lanes
 abbrev pub PutsTags : Job → List Tag → Instr → Tag → Tag → Type 0
 PutsTags job tags instr upper lower =
-    (bit : ℕ → Bool) → Agrees job bit → (a b : Bool) → FitsTag bit (get_or tags (lane_of instr) free_tag) a → FitsTag bit (get_or tags (lane_of instr + 1) free_tag) b
+    (bit : ℕ → Bool) → Agrees job bit → (a b : Bool)
+    → FitsTag bit (get_or tags (lane_of instr) free_tag) a
+    → FitsTag bit (get_or tags (lane_of instr + 1) free_tag) b
     → FitsTag bit upper (upper_bit instr a b) × FitsTag bit lower (lower_bit instr a b)
 
 -- so many lanes have this tag
@@ -97,16 +109,19 @@ SameTags old new = (p : Tag → Bool) → count_by p new ≡ count_by p old
 
 -- a lane with one tag has got another
 abbrev pub Exchanged : List Tag → List Tag → Tag → Tag → Type 0
-Exchanged old new gone come = (p : Tag → Bool) → count_by p new + cond (p gone) 1 0 ≡ count_by p old + cond (p come) 1 0
+Exchanged old new gone come =
+    (p : Tag → Bool) → count_by p new + cond (p gone) 1 0 ≡ count_by p old + cond (p come) 1 0
 
 -- two lanes with tags have got others
 abbrev pub BothExchanged : List Tag → List Tag → Tag → Tag → Tag → Tag → Type 0
 BothExchanged old new gone gone' come come' =
-    (p : Tag → Bool) → count_by p new + (cond (p gone) 1 0 + cond (p gone') 1 0) ≡ count_by p old + (cond (p come) 1 0 + cond (p come') 1 0)
+    (p : Tag → Bool) → count_by p new + (cond (p gone) 1 0 + cond (p gone') 1 0) ≡ count_by p old +
+      (cond (p come) 1 0 + cond (p come') 1 0)
 
 -- a gate's operands have been exchanged for its value and a free lane
 abbrev pub GateExchanged : List Tag → List Tag → NumberedCell → ℕ → Type 0
-GateExchanged old new gate value = BothExchanged old new (tag gate.first First) (tag gate.second Second) (tag value Kept) free_tag
+GateExchanged old new gate value =
+    BothExchanged old new (tag gate.first First) (tag gate.second Second) (tag value Kept) free_tag
 
 -- each lane has the tag that another lane had
 abbrev pub Rearranged : List Tag → List Tag → (ℕ → ℕ) → Type 0

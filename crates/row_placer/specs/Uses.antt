@@ -32,15 +32,20 @@ abbrev pub owed_ports : List ℕ → ℕ
 owed_ports [] = 0
 owed_ports (v ∷ vs) = need v vs + owed_ports vs
 
--- and for gates, which make the values from v on, and then these ports: a gate leaves one lane free, and that of its value too where it has no use
+-- and for gates, which make the values from v on, and then these ports: a gate leaves one lane
+-- free, and that of its value too where it has no use
 abbrev pub owed : List ℕ → ℕ → List NumberedCell → ℕ
 owed ports v [] = owed_ports ports
 owed ports v (q ∷ qs) =
-    need q.first (q.second ∷ (uses_of qs ++ ports)) + (need q.second (uses_of qs ++ ports) + (owed ports (v + 1) qs - (1 + unused (times v (uses_of qs ++ ports)))))
+    need q.first (q.second ∷ (uses_of qs ++ ports)) +
+        (need q.second (uses_of qs ++ ports) +
+        (owed ports (v + 1) qs - (1 + unused (times v (uses_of qs ++ ports)))))
 
 -- a gate reads values that are there before it
 abbrev pub AreKnown : ℕ → List NumberedCell → Type 0
-AreKnown base gates = (g : ℕ) (d : NumberedCell) → g < length gates → ((get_or gates g d).first < base + g) × ((get_or gates g d).second < base + g)
+AreKnown base gates =
+    (g : ℕ) (d : NumberedCell) → g < length gates
+    → ((get_or gates g d).first < base + g) × ((get_or gates g d).second < base + g)
 
 -- the table says how often each value is used
 abbrev pub AreCounted : List ℕ → List ℕ → Type 0

@@ -59,7 +59,8 @@ fn count_ports(left: &mut Vec<u32>, ports: &[u32]) -> u32
     owed
 }
 
-/// How often each value is used, and how many free lanes are enough. The gates make the values from `base` on.
+/// How often each value is used, and how many free lanes are enough. The gates make the values from
+/// `base` on.
 pub fn count_uses(
     alloc: Global,
     gates: &[NumberedCell],

@@ -21,7 +21,8 @@ pub struct NumberedCell {
     pub second: u32,
 }
 
-/// Gate g makes value `base + g`; the lanes stand at first as `start` says; the values of `ports` are wanted at the end.
+/// Gate g makes value `base + g`; the lanes stand at first as `start` says; the values of `ports`
+/// are wanted at the end.
 #[derive(Drop)]
 pub struct Job {
     pub gates: List<NumberedCell>,

@@ -14,7 +14,8 @@ use crate::{CellKind, Job, NumberedCell, PlaceError, Role, Tag};
 use lane_core::{Instr, NetPlace};
 use std::alloc::Global;
 
-/// Every tag tells the bit on its lane after the instructions, and every place of a gate has its value.
+/// Every tag tells the bit on its lane after the instructions, and every place of a gate has its
+/// value.
 #[derive(Drop)]
 pub struct Lanes<'a> {
     pub job: &'a Job,
@@ -411,7 +412,8 @@ impl<'a> Lanes<'a> {
         Ok(())
     }
 
-    /// Makes the next gate of two neighbouring lanes; `turned` where the second operand is on the upper one.
+    /// Makes the next gate of two neighbouring lanes; `turned` where the second operand is on the
+    /// upper one.
     fn make(&mut self, lane: u32, gate: NumberedCell, turned: bool) -> Result<(), PlaceError>
         requires lane { lane + 1 < length self.old.tags.items }
         requires next { IsNextGate self.old gate }

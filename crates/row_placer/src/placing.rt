@@ -54,8 +54,8 @@ pub struct Prepared {
     pub homes: Vec<u32>,
 }
 
-/// The job of a list, with some spare lanes. The inputs, and then the dark lane, stand on the wanted lanes, if these are apart and above the
-/// loops.
+/// The job of a list, with some spare lanes. The inputs, and then the dark lane, stand on the
+/// wanted lanes, if these are apart and above the loops.
 pub fn prepare(
     alloc: Global,
     list: &CellList,
@@ -96,7 +96,8 @@ fn one_if(flag: bool) -> u32
     if flag { 1 } else { 0 }
 }
 
-// How many lanes stand above the homes of inputs and loops: as many as must be free, less those homes that are, and `dark` at least.
+// How many lanes stand above the homes of inputs and loops: as many as must be free, less those
+// homes that are, and `dark` at least.
 fn first_home(owed: u32, idle: u32, dark: u32) -> u32
     requires { owed + dark < 2 ^ 32 }
     ensures enough { owed + dark ≤ result + idle }
@@ -154,7 +155,8 @@ fn latest(clocks: &Vec<u64>) -> u64 {
     latest
 }
 
-// The lanes of a program's outputs, the places of its nets, and the bits with which its loops start.
+// The lanes of a program's outputs, the places of its nets, and the bits with which its loops
+// start.
 #[derive(Drop)]
 struct Ends {
     outs: Vec<u32>,
@@ -230,7 +232,8 @@ fn place_job(
     Ok(Placed { program, columns })
 }
 
-// A program with so many spare lanes that computes the list, with inputs on the wanted lanes, if these will do.
+// A program with so many spare lanes that computes the list, with inputs on the wanted lanes, if
+// these will do.
 fn place_with(
     alloc: Global,
     list: &CellList,
@@ -256,7 +259,8 @@ fn most_spare(list: &CellList) -> u32
     list.inputs.max(list.outs.len() as u32)
 }
 
-/// A program that computes the list. It is tried with up to 4 spare lanes; which of the programs is kept is free.
+/// A program that computes the list. It is tried with up to 4 spare lanes; which of the programs is
+/// kept is free.
 pub fn place(alloc: Global, list: &CellList) -> Result<Program, PlaceError>
     requires small { IsPlaceable list.now }
     ensures { IfOk result (IsPlacedWithin list.now (max list.now.inputs (length list.now.outs))) }
@@ -270,9 +274,10 @@ pub fn place(alloc: Global, list: &CellList) -> Result<Program, PlaceError>
     Ok(best.program)
 }
 
-/// A program that computes the list, with so many lanes more than the fewest, but no more than there are inputs or outputs. `wanted` has
-/// lanes of the inputs, and then one that stays dark where constant 0 is read or shown by a net: they are taken if they are apart and above
-/// the loops.
+/// A program that computes the list, with so many lanes more than the fewest, but no more than
+/// there are inputs or outputs. `wanted` has lanes of the inputs, and then one that stays dark
+/// where constant 0 is read or shown by a net: they are taken if they are apart and above the
+/// loops.
 pub fn place_at(
     alloc: Global,
     list: &CellList,

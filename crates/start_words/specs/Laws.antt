@@ -15,7 +15,8 @@ use Rattle.start_words.specs.Flats.{flat_latches, flat_starts}
 use Rattle.start_words.specs.Starts.{latches_of, start_of_words, starts_of_words}
 
 -- a latch of the design, at its position among the flat latches
-pub record IsFlatLatch (design : Design) (flat : Flat) (position : ℕ) (place : Place) (latch : LatchRow) : Type 0 where
+pub record IsFlatLatch (design : Design) (flat : Flat) (position : ℕ) (place : Place)
+    (latch : LatchRow) : Type 0 where
   pub number : ℕ
   pub is_latch : latch_at design place number ≡ Some latch
   pub is_flat : slice_get flat.latches position ≡ Some (flat_latch design place latch)
@@ -28,24 +29,35 @@ pub record HasNamedLatch (design : Design) (flat : Flat) (name : Name) (position
   pub is_net : IsNet design (net_at [] name)
   pub joined : Joined design (net_at place latch.output) (net_at [] name)
 
--- a name names the flat latch whose output is joined with that net of the main model, and none exactly where there is none
+-- a name names the flat latch whose output is joined with that net of the main model, and none
+-- exactly where there is none
 pub record NamesLatches (design : Design) (flat : Flat) (name : Name) : Type 0 where
-  pub named : (position : ℕ) → latch_named flat name ≡ Some position → HasNamedLatch design flat name position
-  pub unnamed : latch_named flat name ≡ None → (position : ℕ) → HasNamedLatch design flat name position → ⊥
+  pub named : (position : ℕ) → latch_named flat name ≡ Some position
+    → HasNamedLatch design flat name position
+  pub unnamed : latch_named flat name ≡ None → (position : ℕ)
+    → HasNamedLatch design flat name position → ⊥
 
 abbrev pub NamedLatchesAreJoined : Type 0
-NamedLatchesAreJoined = (design : Design) (flat : Flat) → AreFaultless design.models → IsFlatOf design flat → (name : Name) → NamesLatches design flat name
+NamedLatchesAreJoined =
+    (design : Design) (flat : Flat) → AreFaultless design.models → IsFlatOf design flat
+    → (name : Name) → NamesLatches design flat name
 
--- names name the same latches in the flat netlist of a design, so the words have the same faults there,
+-- names name the same latches in the flat netlist of a design, so the words have the same faults
+-- there,
 abbrev pub LatchesAreFlat : Type 0
-LatchesAreFlat = (design : Design) (flat : Flat) → AreFaultless design.models → IsFlatOf design flat → (name : Name) → flat_latches flat name ≡ latches_of design name
+LatchesAreFlat =
+    (design : Design) (flat : Flat) → AreFaultless design.models → IsFlatOf design flat
+    → (name : Name) → flat_latches flat name ≡ latches_of design name
 
 -- and the bits of the flat latches in each context, in order, are those of the states
 abbrev pub StartsAreFlat : Type 0
 StartsAreFlat =
-    (design : Design) (flat : Flat) → AreFaultless design.models → IsFlatOf design flat → (words : List (List ℕ)) (contexts : ℕ)
-    → flat_starts flat words contexts ≡ map (state_in_order design) (starts_of_words design words contexts)
+    (design : Design) (flat : Flat) → AreFaultless design.models → IsFlatOf design flat
+    → (words : List (List ℕ)) (contexts : ℕ)
+    → flat_starts flat words contexts ≡ map (state_in_order design)
+      (starts_of_words design words contexts)
 
 -- no words mean the start state, in every context
 abbrev pub NoWordsMeanStart : Type 0
-NoWordsMeanStart = (design : Design) (context : ℕ) → start_of_words design [] context ≡ start_state design
+NoWordsMeanStart =
+    (design : Design) (context : ℕ) → start_of_words design [] context ≡ start_state design

@@ -24,18 +24,24 @@ output_class design place latch = class_of_net design (net_at place latch.output
 abbrev pub latches_of : Design → Latches
 latches_of design name =
     let class = class_of_net design (net_at [] name) in
-    then_some (is_main_name design name && list_any (λ other. other == class) (at_places design (λ model. model.latches) (output_class design))) class
+    then_some (is_main_name design name
+        && list_any (λ other. other == class)
+        (at_places design (λ model. model.latches) (output_class design))) class
 
--- the bit with which a latch starts: the one that the words set in this context, else 1 where its init is 1
+-- the bit with which a latch starts: the one that the words set in this context, else 1 where its
+-- init is 1
 abbrev pub start_by_words : Design → List (List ℕ) → (context : ℕ) → Place → Option LatchRow → Bool
 start_by_words design words context place None = false
 start_by_words design words context place (Some latch) =
-    unwrap_or (bit_set (latches_of design) context (output_class design place latch) words) (latch.init == 1)
+    unwrap_or (bit_set (latches_of design) context (output_class design place latch) words)
+        (latch.init == 1)
 
 -- the state in which the machine of a context starts
 abbrev pub start_of_words : Design → List (List ℕ) → (context : ℕ) → LatchState
-start_of_words design words context place number = start_by_words design words context place (latch_at design place number)
+start_of_words design words context place number =
+    start_by_words design words context place (latch_at design place number)
 
 -- the states of so many contexts, in order
 abbrev pub starts_of_words : Design → List (List ℕ) → (contexts : ℕ) → List LatchState
-starts_of_words design words contexts = map (start_of_words design words) (range_with_len 0 contexts)
+starts_of_words design words contexts =
+    map (start_of_words design words) (range_with_len 0 contexts)

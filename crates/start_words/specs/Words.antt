@@ -1,6 +1,7 @@
--- Start words, as `1:q=0`: the number of a context, a net of the main model, and the bit with which the latch that drives this net starts
--- in that context. They mean something for given `latches`, which tell for each name of the main model the class of its net, where that net
--- is joined with a latch's output.
+-- Start words, as `1:q=0`: the number of a context, a net of the main model, and the bit with which
+-- the latch that drives this net starts in that context. They mean something for given `latches`,
+-- which tell for each name of the main model the class of its net, where that net is joined with a
+-- latch's output.
 use Rattle.std.specs.Prelude.{ℕ, ◌≡◌, ◌==◌, ◌&&◌, ◌||◌, ◌++◌, not, if◌then◌else◌, Bool, false, List, [], ◌∷◌, Some, None, ⊤, codes}
 use Rattle.std.specs.declared.option.Option.{Option}
 use Rattle.std.specs.List.{list_any, find}
@@ -18,7 +19,8 @@ use Rattle.start_words.specs.declared.error.StartError.TheVariants.{NoMemory, Fa
 abbrev pub Latches : Type 0
 Latches = Name → Option ℕ
 
--- what stands before the last `=` of a word is cut at its first `:`, into the number of a context and a name
+-- what stands before the last `=` of a word is cut at its first `:`, into the number of a context
+-- and a name
 abbrev pub context_in : List ℕ → ℕ
 context_in word = context_of (name_in word)
 
@@ -35,15 +37,18 @@ is_one_bit bits = is_char_one bits || bytes_eq bits (codes "0")
 -- whether the word sets the latch whose output is of this class in this context
 abbrev pub sets : Latches → ℕ → ℕ → List ℕ → Bool
 sets latches context class word =
-    context_in word == context && option_map_or (λ named. named == class) (latches (net_of_word word)) false
+    context_in word == context && option_map_or (λ named. named == class)
+        (latches (net_of_word word)) false
 
 -- whether one of these words sets the latch of this name in this context
 abbrev pub is_latch_set : Latches → ℕ → Name → List (List ℕ) → Bool
-is_latch_set latches context name words = option_map_or (λ class. list_any (sets latches context class) words) (latches name) false
+is_latch_set latches context name words =
+    option_map_or (λ class. list_any (sets latches context class) words) (latches name) false
 
--- What is at fault in a word that stands after these others, where there are so many contexts; of several faults the first in this
--- order.
-abbrev pub start_word_fault : Latches → (contexts : ℕ) → (before : List (List ℕ)) → List ℕ → Option StartFaultKind
+-- What is at fault in a word that stands after these others, where there are so many contexts; of
+-- several faults the first in this order.
+abbrev pub start_word_fault : Latches → (contexts : ℕ) → (before : List (List ℕ)) → List ℕ
+    → Option StartFaultKind
 start_word_fault latches contexts before word =
     if not (list_any is_equals_sign word) then Some NoEquals
     else if not (has_context contexts (name_in word)) then Some BadContext
@@ -56,7 +61,8 @@ abbrev pub start_fault : List ℕ → StartFaultKind → StartFault
 start_fault word kind = record { kind = kind; word = word }
 
 -- the first word at fault among the later ones, where others stand before them
-abbrev pub first_fault_after : Latches → (contexts : ℕ) → (before later : List (List ℕ)) → Option StartFault
+abbrev pub first_fault_after : Latches → (contexts : ℕ) → (before later : List (List ℕ))
+    → Option StartFault
 first_fault_after latches contexts before [] = None
 first_fault_after latches contexts before (word ∷ words) =
     option_or (option_map (start_fault word) (start_word_fault latches contexts before word))
@@ -71,6 +77,8 @@ abbrev pub HasStartCause : Latches → (contexts : ℕ) → List (List ℕ) → 
 HasStartCause latches contexts words NoMemory = ⊤
 HasStartCause latches contexts words (Fault fault) = first_fault latches contexts words ≡ Some fault
 
--- the bit that the words give to the latch whose output is of this class, in this context, where one of them does
+-- the bit that the words give to the latch whose output is of this class, in this context, where
+-- one of them does
 abbrev pub bit_set : Latches → (context class : ℕ) → List (List ℕ) → Option Bool
-bit_set latches context class words = option_map (λ word. is_char_one (bits_in word)) (find (sets latches context class) words)
+bit_set latches context class words =
+    option_map (λ word. is_char_one (bits_in word)) (find (sets latches context class) words)

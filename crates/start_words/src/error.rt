@@ -5,8 +5,8 @@ ghost use Rattle.start_words.specs.declared.error.StartError.TheVariants.{NoMemo
 use lists::Bytes;
 use std::alloc::{AllocError, AllocFailed};
 
-/// The faults of start words, by the names that the program prints. The first word at fault is answered, and of one word the
-/// first of these.
+/// The faults of start words, by the names that the program prints. The first word at fault is
+/// answered, and of one word the first of these.
 #[derive(Clone, Copy, Debug, PartialEq, Eq)]
 pub enum StartFaultKind {
     /// The word has no `=`.

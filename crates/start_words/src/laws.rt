@@ -2,12 +2,14 @@
 
 ghost use Rattle.start_words.specs.Laws.{LatchesAreFlat, NamedLatchesAreJoined, NoWordsMeanStart, StartsAreFlat};
 
-/// A name names the flat latch whose output is joined with that net of the main model, and none exactly where there is none.
+/// A name names the flat latch whose output is joined with that net of the main model, and none
+/// exactly where there is none.
 pub fn named_latches_are_joined()
     ensures { NamedLatchesAreJoined }
 {}
 
-/// Names name the same latches in a design and in its flat netlist, so that words have the same faults there.
+/// Names name the same latches in a design and in its flat netlist, so that words have the same
+/// faults there.
 pub fn latches_are_flat()
     ensures { LatchesAreFlat }
 {}

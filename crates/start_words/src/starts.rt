@@ -31,9 +31,9 @@ fn refusal(alloc: Global, kind: StartFaultKind, word: &[u8]) -> StartError
 }
 
 impl Starts {
-    /// The starts that words as `1:q=0` set for the latches of a flat netlist: each names one of so many contexts, from 0, a net
-    /// of the main model that is joined with a latch's output, and a bit. A word is cut at its last `=`, and before that at its
-    /// first `:`.
+    /// The starts that words as `1:q=0` set for the latches of a flat netlist: each names one of so
+    /// many contexts, from 0, a net of the main model that is joined with a latch's output, and a
+    /// bit. A word is cut at its last `=`, and before that at its first `:`.
     pub fn read(
         alloc: Global,
         flat: &Flat,
@@ -92,8 +92,8 @@ impl Starts {
         Ok(List::of(bits))
     }
 
-    /// The bits with which the latches of the flat netlist start in each of so many contexts: one list for each context, with
-    /// one bit for each latch.
+    /// The bits with which the latches of the flat netlist start in each of so many contexts: one
+    /// list for each context, with one bit for each latch.
     pub fn in_contexts(
         &self,
         alloc: Global,

@@ -1,4 +1,5 @@
-// One start word: the context, the class of the latch's output and the bit, or what is at fault in it.
+// One start word: the context, the class of the latch's output and the bit, or what is at fault in
+// it.
 ghost use Rattle.std.specs.Prelude.{◌≡◌, ◌<◌, ◌^◌, ℕ, List, length, false, Some, None, IfOk, IfErr};
 ghost use Rattle.std.specs.Bool.{then_some};
 ghost use Rattle.std.specs.List.{list_any};
@@ -12,7 +13,8 @@ use netlist_core::{Flat, FlatLatch, latch_named};
 use std::collections::BTreeMap;
 use word_cuts::{cut, cut_at_context};
 
-/// What a word without a fault sets: in this context the latch whose output is of this class, to this bit.
+/// What a word without a fault sets: in this context the latch whose output is of this class, to
+/// this bit.
 #[derive(Clone, Copy)]
 pub struct LatchStart {
     pub context: u64,

@@ -1,4 +1,5 @@
--- Stream words whose reading is known, for inputs a and b, or one input `a=b`, and two cycles, in one context or in two.
+-- Stream words whose reading is known, for inputs a and b, or one input `a=b`, and two cycles, in
+-- one context or in two.
 use Rattle.std.specs.Prelude.{ℕ, true, false, List, [], ◌∷◌, codes}
 use Rattle.streams.specs.declared.error.StreamFaultKind.{StreamFaultKind}
 use Rattle.streams.specs.declared.error.StreamFaultKind.TheVariants.{NoEquals, BadContext, UnknownInput, TwiceInput, BadBit, BadLength, MissingInput}
@@ -14,7 +15,8 @@ abbrev pub said : List (List ℕ) → StreamFaultKind → List ℕ → FaultExam
 said words kind at = record { words = words; kind = kind; at = at }
 
 abbrev pub SaysStreamFault : (contexts : ℕ) → FaultExample → Type 0
-SaysStreamFault contexts e = HasStreamFault contexts e.words (codes "a" ∷ codes "b" ∷ []) 2 (stream_fault e.at e.kind)
+SaysStreamFault contexts e =
+    HasStreamFault contexts e.words (codes "a" ∷ codes "b" ∷ []) 2 (stream_fault e.at e.kind)
 
 abbrev pub fault_examples : List FaultExample
 fault_examples =
@@ -61,14 +63,17 @@ fault_examples_in_contexts =
 -- the words in any order
 abbrev pub HasStreamsInAnyOrder : Type 0
 HasStreamsInAnyOrder =
-    HasStreams 1 (codes "b=11" ∷ codes "a=01" ∷ []) (codes "a" ∷ codes "b" ∷ []) 2 ((false ∷ true ∷ []) ∷ (true ∷ true ∷ []) ∷ [])
+    HasStreams 1 (codes "b=11" ∷ codes "a=01" ∷ []) (codes "a" ∷ codes "b" ∷ []) 2
+        ((false ∷ true ∷ []) ∷ (true ∷ true ∷ []) ∷ [])
 
 -- a name with a `=`
 abbrev pub HasStreamOfNameWithEquals : Type 0
-HasStreamOfNameWithEquals = HasStreams 1 (codes "a=b=10" ∷ []) (codes "a=b" ∷ []) 2 ((true ∷ false ∷ []) ∷ [])
+HasStreamOfNameWithEquals =
+    HasStreams 1 (codes "a=b=10" ∷ []) (codes "a=b" ∷ []) 2 ((true ∷ false ∷ []) ∷ [])
 
 -- in two contexts, all inputs of context 0 first, and a name with a `:`
 abbrev pub HasStreamsInContexts : Type 0
 HasStreamsInContexts =
-    HasStreams 2 (codes "1:a=11" ∷ codes "0::=10" ∷ codes "1::=00" ∷ codes "0:a=01" ∷ []) (codes "a" ∷ codes ":" ∷ []) 2
+    HasStreams 2 (codes "1:a=11" ∷ codes "0::=10" ∷ codes "1::=00" ∷ codes "0:a=01" ∷ [])
+        (codes "a" ∷ codes ":" ∷ []) 2
     ((false ∷ true ∷ []) ∷ (true ∷ false ∷ []) ∷ (true ∷ true ∷ []) ∷ (false ∷ false ∷ []) ∷ [])

@@ -29,4 +29,5 @@ in_context streams context = record {
 
 -- the rows of input bits of each context
 abbrev pub contexts_of : Streams → List (List (List Bool))
-contexts_of streams = map (λ context. rows_of (in_context streams context)) (range_with_len 0 streams.c)
+contexts_of streams =
+    map (λ context. rows_of (in_context streams context)) (range_with_len 0 streams.c)

@@ -16,7 +16,8 @@ abbrev pub stream_fault : List ℕ → StreamFaultKind → StreamFault
 stream_fault word kind = record { kind = kind; word = word }
 
 -- the words at fault among the later ones, in order, where others stand before them
-abbrev pub stream_faults_after : (contexts : ℕ) → (names : List (List ℕ)) → (cycles : ℕ) → (before later : List (List ℕ)) → List StreamFault
+abbrev pub stream_faults_after : (contexts : ℕ) → (names : List (List ℕ)) → (cycles : ℕ)
+    → (before later : List (List ℕ)) → List StreamFault
 stream_faults_after contexts names cycles before [] = []
 stream_faults_after contexts names cycles before (word ∷ words) =
     cons_option (option_map (stream_fault word) (fault_of_word contexts names cycles before word))
@@ -32,29 +33,36 @@ inputs_of_context context names = map (λ name. (context, name)) names
 
 -- those of one context after the other
 abbrev pub inputs_of_contexts : (contexts : ℕ) → (names : List (List ℕ)) → List Input
-inputs_of_contexts contexts names = flat_map (λ context. inputs_of_context context names) (range_with_len 0 contexts)
+inputs_of_contexts contexts names =
+    flat_map (λ context. inputs_of_context context names) (range_with_len 0 contexts)
 
 -- those that no word is for, in order
 abbrev pub missing_inputs : (contexts : ℕ) → List (List ℕ) → List Input → List Input
-missing_inputs contexts words inputs = filter (λ input. not (list_any (is_word_for contexts input.0 input.1) words)) inputs
+missing_inputs contexts words inputs =
+    filter (λ input. not (list_any (is_word_for contexts input.0 input.1) words)) inputs
 
 -- the fault where no word is for an input
 abbrev pub missing_fault : (contexts : ℕ) → Input → StreamFault
 missing_fault contexts input = stream_fault (with_context contexts input.0 input.1) MissingInput
 
 -- the faults of the words, from left to right, and then the missing inputs
-abbrev pub stream_faults : (contexts : ℕ) → (words names : List (List ℕ)) → (cycles : ℕ) → List StreamFault
+abbrev pub stream_faults : (contexts : ℕ) → (words names : List (List ℕ)) → (cycles : ℕ)
+    → List StreamFault
 stream_faults contexts words names cycles =
     stream_faults_after contexts names cycles [] words
-    ++ map (missing_fault contexts) (missing_inputs contexts words (inputs_of_contexts contexts names))
+    ++ map (missing_fault contexts) (missing_inputs contexts words
+      (inputs_of_contexts contexts names))
 
 -- This is the first fault.
-abbrev pub HasStreamFault : (contexts : ℕ) → (words names : List (List ℕ)) → (cycles : ℕ) → StreamFault → Type 0
-HasStreamFault contexts words names cycles fault = slice_get (stream_faults contexts words names cycles) 0 ≡ Some fault
+abbrev pub HasStreamFault : (contexts : ℕ) → (words names : List (List ℕ)) → (cycles : ℕ)
+    → StreamFault → Type 0
+HasStreamFault contexts words names cycles fault =
+    slice_get (stream_faults contexts words names cycles) 0 ≡ Some fault
 
 -- the bits that the words say for an input, if one of them is for it
 abbrev pub bits_for : (contexts : ℕ) → List (List ℕ) → Input → Option (List ℕ)
-bits_for contexts words input = option_map bits_in (find (is_word_for contexts input.0 input.1) words)
+bits_for contexts words input =
+    option_map bits_in (find (is_word_for contexts input.0 input.1) words)
 
 -- the stream that bits spell: `1` is 1
 abbrev pub stream_in : List ℕ → List Bool
@@ -62,17 +70,22 @@ stream_in bits = map (λ b. b == byte "1") bits
 
 -- the streams of inputs, in order
 abbrev pub streams_of : (contexts : ℕ) → List (List ℕ) → List Input → List (List Bool)
-streams_of contexts words inputs = map (λ input. stream_in (unwrap_or (bits_for contexts words input) [])) inputs
+streams_of contexts words inputs =
+    map (λ input. stream_in (unwrap_or (bits_for contexts words input) [])) inputs
 
--- There is no fault, and these are the streams: with n names, list k n + i is that of input i in context k.
-pub record HasStreams (contexts : ℕ) (words names : List (List ℕ)) (cycles : ℕ) (bits : List (List Bool)) : Type 0 where
+-- There is no fault, and these are the streams: with n names, list k n + i is that of input i in
+-- context k.
+pub record HasStreams (contexts : ℕ) (words names : List (List ℕ)) (cycles : ℕ)
+    (bits : List (List Bool)) : Type 0 where
   pub no_fault : stream_faults contexts words names cycles ≡ []
   pub bits_is : bits ≡ streams_of contexts words (inputs_of_contexts contexts names)
 
 -- why the words give no streams
-abbrev pub HasStreamCause : (contexts : ℕ) → (words names : List (List ℕ)) → (cycles : ℕ) → StreamError → Type 0
+abbrev pub HasStreamCause : (contexts : ℕ) → (words names : List (List ℕ)) → (cycles : ℕ)
+    → StreamError → Type 0
 HasStreamCause contexts words names cycles NoMemory = ⊤
-HasStreamCause contexts words names cycles (Fault fault) = HasStreamFault contexts words names cycles fault
+HasStreamCause contexts words names cycles (Fault fault) =
+    HasStreamFault contexts words names cycles fault
 
 -- why not each of these inputs has a word
 abbrev pub IsMissing : (contexts : ℕ) → List (List ℕ) → List Input → StreamError → Type 0

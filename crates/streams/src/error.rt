@@ -4,16 +4,17 @@ ghost use Rattle.std.specs.Prelude.{◌≡◌};
 use lists::Bytes;
 use std::alloc::{AllocError, AllocFailed};
 
-/// The faults of stream words, by the names that the program prints. The first word at fault is answered, and of one
-/// word the first of these; `MissingInput` comes where no word is at fault.
+/// The faults of stream words, by the names that the program prints. The first word at fault is
+/// answered, and of one word the first of these; `MissingInput` comes where no word is at fault.
 #[derive(Clone, Copy, Debug, PartialEq, Eq)]
 pub enum StreamFaultKind {
     /// The word has no `=`.
     NoEquals,
-    /// There are several contexts, or none, and the word does not begin with the number of one, in decimal digits without
-    /// leading zeros, and a `:` before its last `=`.
+    /// There are several contexts, or none, and the word does not begin with the number of one, in
+    /// decimal digits without leading zeros, and a `:` before its last `=`.
     BadContext,
-    /// What stands before the last `=`, after the number of a context where there are several, is no input's name.
+    /// What stands before the last `=`, after the number of a context where there are several, is
+    /// no input's name.
     UnknownInput,
     /// An earlier word is for the same input of the same context.
     TwiceInput,
@@ -25,7 +26,8 @@ pub enum StreamFaultKind {
     MissingInput,
 }
 
-/// A fault, and the word at fault, or the name of the input that is missing, with several contexts as `1:a`.
+/// A fault, and the word at fault, or the name of the input that is missing, with several contexts
+/// as `1:a`.
 #[derive(Drop)]
 pub struct StreamFault {
     pub kind: StreamFaultKind,

@@ -34,7 +34,8 @@ fn known_names(alloc: Global, names: &[Bytes]) -> Result<BTreeSet<&[u8]>, AllocE
     Ok(known)
 }
 
-/// The bits that words give to inputs of these names in so many contexts, or the first word at fault.
+/// The bits that words give to inputs of these names in so many contexts, or the first word at
+/// fault.
 pub fn bits_by_input<'a>(
     alloc: Global,
     words: &'a [String],

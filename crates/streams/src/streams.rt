@@ -12,8 +12,8 @@ use std::alloc::{AllocError, Global};
 use std::collections::BTreeMap;
 use word_cuts::with_context;
 
-/// Streams of bits for the inputs in each of `c` contexts, all for as many cycles: with n inputs, list `k n + i` is the
-/// stream of input i in context k, and its bit t is the input's in cycle t.
+/// Streams of bits for the inputs in each of `c` contexts, all for as many cycles: with n inputs,
+/// list `k n + i` is the stream of input i in context k, and its bit t is the input's in cycle t.
 #[derive(Drop)]
 pub struct Streams {
     pub cycles: usize,
@@ -81,7 +81,8 @@ fn push_context<'a>(
     Ok(())
 }
 
-// The streams of the inputs of each context, where each is given its bits. Without inputs it does not count the contexts.
+// The streams of the inputs of each context, where each is given its bits. Without inputs it does
+// not count the contexts.
 fn streams_of<'a>(
     alloc: Global,
     given: &BTreeMap<(u64, &'a [u8]), &'a [u8]>,
@@ -109,11 +110,12 @@ fn streams_of<'a>(
 }
 
 impl Streams {
-    /// The streams that words say for the inputs of these names in each of c contexts: with one context words as `a=0110`,
-    /// with more as `1:a=0110`, with a context's number below c in front, without leading zeros. Each word has one bit for
-    /// each cycle, and there is one word for each input of each context, in any order. A word is cut at its last `=`, and
-    /// before that at its first `:`, so that a name may have both. With a c of 0 there are no streams, and each word is at
-    /// fault.
+    /// The streams that words say for the inputs of these names in each of c contexts: with one
+    /// context words as `a=0110`, with more as `1:a=0110`, with a context's number below c in
+    /// front, without leading zeros. Each word has one bit for each cycle, and there is one word
+    /// for each input of each context, in any order. A word is cut at its last `=`, and before that
+    /// at its first `:`, so that a name may have both. With a c of 0 there are no streams, and each
+    /// word is at fault.
     pub fn read(
         alloc: Global,
         words: &[String],

@@ -42,7 +42,8 @@ fn is_taken<'a>(given: &BTreeMap<(u64, &'a [u8]), &'a [u8]>, context: u64, name:
     given.contains_key(&(context, name))
 }
 
-/// The input and the bits of a word that stands after those that gave their bits, or what is at fault in it.
+/// The input and the bits of a word that stands after those that gave their bits, or what is at
+/// fault in it.
 pub fn cut_sound<'a>(
     known: &BTreeSet<&[u8]>,
     given: &BTreeMap<(u64, &'a [u8]), &'a [u8]>,

@@ -18,7 +18,9 @@ is_cell_of x y (c ∷ cs) = (int_eq x c.x && int_eq y c.y) || is_cell_of x y cs
 abbrev pub Drawing : Type 0
 Drawing = ℤ → ℤ → Bool
 
--- the drawing alone on the plane: at its cells the heads and the tails that are listed, and conductors else
+-- the drawing alone on the plane: at its cells the heads and the tails that are listed, and
+-- conductors else
 abbrev pub picture : Drawing → List Cell → List Cell → Plane
 picture drawing heads tails x y =
-    cond (drawing x y) (cond (is_cell_of x y heads) Head (cond (is_cell_of x y tails) Tail Conductor)) Empty
+    cond (drawing x y) (cond (is_cell_of x y heads) Head
+        (cond (is_cell_of x y tails) Tail Conductor)) Empty

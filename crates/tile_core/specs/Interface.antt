@@ -2,7 +2,8 @@
 use Rattle.std.specs.Prelude.{pos, negsuc, ℤ, ℕ, ◌+◌, ◌*◌, Bool, false, ◌&&◌, ◌||◌, ◌==◌, ltb, cond, List, [], ◌∷◌, map, take, length, get_or, Contains, ◌<◌, ◌≡◌, ◌⊎◌}
 use Rattle.tile_core.specs.Drawing.{Cell}
 
--- a tile has as many entries and exits as it has lanes, and the lists of ports have two places, the upper port first
+-- a tile has as many entries and exits as it has lanes, and the lists of ports have two places, the
+-- upper port first
 pub record Interface : Type 0 where
   pub lanes : ℕ
   pub entries : List (ℕ × ℕ)
@@ -49,14 +50,16 @@ is_on_border tile (negsuc x) y = false
 
 -- a port is the middle of one of the four sides of a lane, the upper lane being lane 0
 abbrev pub side_ports : ℕ → List (ℕ × ℕ)
-side_ports lane = (0, 16 * lane + 8) ∷ (31, 16 * lane + 8) ∷ (16, 16 * lane) ∷ (16, 16 * lane + 15) ∷ []
+side_ports lane =
+    (0, 16 * lane + 8) ∷ (31, 16 * lane + 8) ∷ (16, 16 * lane) ∷ (16, 16 * lane + 15) ∷ []
 
 -- the port of each lane lies in the middle of a side of the lane's box of 32 columns and 16 rows
 abbrev pub AreSidePorts : ℕ → List (ℕ × ℕ) → Type 0
-AreSidePorts lanes ports = (lane : ℕ) → lane < lanes → Contains (side_ports lane) (get_or ports lane (0, 0))
+AreSidePorts lanes ports =
+    (lane : ℕ) → lane < lanes → Contains (side_ports lane) (get_or ports lane (0, 0))
 
--- Two ports and two bits for two lanes. Of one lane the second port is (0, 0), and the second bit false. Each lane's ports lie
--- in the middles of its sides.
+-- Two ports and two bits for two lanes. Of one lane the second port is (0, 0), and the second bit
+-- false. Each lane's ports lie in the middles of its sides.
 pub record IsInterface (tile : Interface) : Type 0 where
   pub height : (tile.lanes ≡ 1) ⊎ (tile.lanes ≡ 2)
   pub two_entries : length tile.entries ≡ 2

@@ -81,7 +81,8 @@ exits NorthEast = one east_side
 exits West = one west_side
 exits WestSwap = west_sides
 
--- which exits are lit, the upper first, where a says whether the upper entry is lit and b whether the lower one is
+-- which exits are lit, the upper first, where a says whether the upper entry is lit and b whether
+-- the lower one is
 abbrev pub answer : Kind → Bool → Bool → List Bool
 answer Swap a b = b ∷ a ∷ []
 answer Xor a b = one_of a b ∷ false ∷ []
@@ -100,4 +101,5 @@ answer WestSwap a b = b ∷ a ∷ []
 
 -- all of it together
 abbrev pub interface : Kind → Interface
-interface kind = record { lanes = lanes kind; entries = entries kind; exits = exits kind; answer = answer kind }
+interface kind =
+    record { lanes = lanes kind; entries = entries kind; exits = exits kind; answer = answer kind }

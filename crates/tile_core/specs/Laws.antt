@@ -6,4 +6,5 @@ use Rattle.tile_core.specs.Interface.{Interface, IsInterface}
 abbrev pub PortsDiffer : Type 0
 PortsDiffer =
     (tile : Interface) → IsInterface tile → tile.lanes ≡ 2
-    → (get_or tile.entries 0 (0, 0) ≢ get_or tile.entries 1 (0, 0)) × (get_or tile.exits 0 (0, 0) ≢ get_or tile.exits 1 (0, 0))
+    → (get_or tile.entries 0 (0, 0) ≢ get_or tile.entries 1 (0, 0))
+    × (get_or tile.exits 0 (0, 0) ≢ get_or tile.exits 1 (0, 0))

@@ -3,8 +3,9 @@ ghost use Rattle.std.specs.Prelude.{◌≡◌};
 ghost use Rattle.lists.specs.Items.{flag_at};
 ghost use Rattle.tile_core.specs.Kinds.{lanes, entries, exits, answer};
 
-/// The kinds of tiles. The first five and `WestSwap` are two lanes high and work on two signals. The others are one lane
-/// high and carry one signal: their names say which way it goes, and where there are two, which way it is turned.
+/// The kinds of tiles. The first five and `WestSwap` are two lanes high and work on two signals.
+/// The others are one lane high and carry one signal: their names say which way it goes, and where
+/// there are two, which way it is turned.
 #[derive(Clone, Copy, Debug, PartialEq, Eq)]
 pub enum Kind {
     Swap,
@@ -41,7 +42,8 @@ impl Kind {
         }
     }
 
-    /// The cells (x, y) where the tile is entered, the upper first; (0, 0) stands for the second of a tile of one lane.
+    /// The cells (x, y) where the tile is entered, the upper first; (0, 0) stands for the second of
+    /// a tile of one lane.
     pub fn entries(self) -> [(u32, u32); 2]
         ensures { result ≡ entries self }
     {
@@ -55,7 +57,8 @@ impl Kind {
         }
     }
 
-    /// The cells (x, y) where the tile is left, the upper first; (0, 0) stands for the second of a tile of one lane.
+    /// The cells (x, y) where the tile is left, the upper first; (0, 0) stands for the second of a
+    /// tile of one lane.
     pub fn exits(self) -> [(u32, u32); 2]
         ensures { result ≡ exits self }
     {
@@ -69,8 +72,8 @@ impl Kind {
         }
     }
 
-    /// Which exits are lit 31 generations after the entries that `lit` names; the second bits of a tile of one lane are
-    /// not looked at, and false.
+    /// Which exits are lit 31 generations after the entries that `lit` names; the second bits of a
+    /// tile of one lane are not looked at, and false.
     pub fn answer(self, lit: [bool; 2]) -> [bool; 2]
         ensures { result ≡ answer self (flag_at lit 0) (flag_at lit 1) }
     {

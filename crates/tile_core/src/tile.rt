@@ -8,8 +8,9 @@ ghost use Rattle.tile_core.specs.TimingLaw.{MeetsTimingLaw};
 
 use crate::Kind;
 
-/// A tile: a drawing of conductors in a box of 32 columns and `16 * LANES` rows that keeps the timing law. A tile of
-/// one lane uses the first entry and the first exit alone; its second ones are (0, 0), and their bits false.
+/// A tile: a drawing of conductors in a box of 32 columns and `16 * LANES` rows that keeps the
+/// timing law. A tile of one lane uses the first entry and the first exit alone; its second ones
+/// are (0, 0), and their bits false.
 pub trait Tile {
     /// The height in lanes, 1 or 2.
     const LANES: u32;
@@ -32,7 +33,8 @@ pub trait Tile {
     fn cell(&self, x: u32, y: u32) -> bool
         ensures { result ≡ drawing (pos x) (pos y) };
 
-    /// Which exits are heads at generation 31, if the entries that `lit` names are heads at generation 0.
+    /// Which exits are heads at generation 31, if the entries that `lit` names are heads at
+    /// generation 0.
     fn answer(&self, lit: [bool; 2]) -> [bool; 2]
         ensures { result ≡ answers (flag_at lit 0) (flag_at lit 1) };
 
@@ -47,7 +49,8 @@ pub trait Library {
 
     ghost drawing: { Self → Kind → Drawing };
 
-    /// Whether the drawing of `kind` has a conductor at column `x` and row `y`; it has none outside its box.
+    /// Whether the drawing of `kind` has a conductor at column `x` and row `y`; it has none outside
+    /// its box.
     fn cell(&self, kind: Kind, x: u32, y: u32) -> bool
         ensures { result ≡ drawing self.now kind (pos x) (pos y) };
 

@@ -1,5 +1,5 @@
--- Rows of text that pass a test keep the timing law. (The laws of the traits cite these proofs, and so they stand in
--- specs; the tests compute in the impls, by `refl`.)
+-- Rows of text that pass a test keep the timing law. (The laws of the traits cite these proofs, and
+-- so they stand in specs; the tests compute in the impls, by `refl`.)
 use Rattle.std.proofs.Common.{◌≡◌, refl, Bool, true, false, ◌&&◌, List, Contains, ℕ, zero, suc, length, get_or, arith, inl, inr}
 use Rattle.std.proofs.lemmas.Bool.{and_parts}
 use Rattle.tile_core.specs.declared.kind.Kind.{Kind}
@@ -15,16 +15,33 @@ use Rattle.tile_library.specs.declared.drawings.TheConstants.{SWAP}
 use Rattle.tile_library.specs.Drawings.{drawn_rows}
 use Rattle.tile_library.specs.InBox.{fits_box, drawn_in_box}
 
-pair_form : (kind : Kind) → (interface kind).lanes ≡ 2 → length (interface kind).entries ≡ 2 → length (interface kind).exits ≡ 2 → ((a b : Bool) → length ((interface kind).answer a b) ≡ 2) → AreSidePorts (interface kind).lanes (interface kind).entries → AreSidePorts (interface kind).lanes (interface kind).exits → IsInterface (interface kind)
+pair_form : (kind : Kind) → (interface kind).lanes ≡ 2 → length (interface kind).entries ≡ 2
+    → length (interface kind).exits ≡ 2 → ((a b : Bool) → length ((interface kind).answer a b) ≡ 2)
+    → AreSidePorts (interface kind).lanes (interface kind).entries
+    → AreSidePorts (interface kind).lanes (interface kind).exits → IsInterface (interface kind)
 pair_form kind height entries exits bits entered left =
-    record { height = inr height; two_entries = entries; two_exits = exits; two_bits = bits; side_entries = entered; side_exits = left; unused_entry = λ single. absurd (omega (arith, single, height)); unused_exit = λ single. absurd (omega (arith, single, height)); unused_bit = λ single. absurd (omega (arith, single, height)) }
+    record { height = inr height; two_entries = entries; two_exits = exits; two_bits = bits;
+        side_entries = entered; side_exits = left;
+      unused_entry = λ single. absurd (omega (arith, single, height));
+      unused_exit = λ single. absurd (omega (arith, single, height));
+      unused_bit = λ single. absurd (omega (arith, single, height)) }
 
-single_form : (kind : Kind) → (interface kind).lanes ≡ 1 → length (interface kind).entries ≡ 2 → length (interface kind).exits ≡ 2 → ((a b : Bool) → length ((interface kind).answer a b) ≡ 2) → AreSidePorts (interface kind).lanes (interface kind).entries → AreSidePorts (interface kind).lanes (interface kind).exits → get_or (interface kind).entries 1 (0, 0) ≡ (0, 0) → get_or (interface kind).exits 1 (0, 0) ≡ (0, 0) → ((a b : Bool) → get_or ((interface kind).answer a b) 1 false ≡ false) → IsInterface (interface kind)
+single_form : (kind : Kind) → (interface kind).lanes ≡ 1 → length (interface kind).entries ≡ 2
+    → length (interface kind).exits ≡ 2 → ((a b : Bool) → length ((interface kind).answer a b) ≡ 2)
+    → AreSidePorts (interface kind).lanes (interface kind).entries
+    → AreSidePorts (interface kind).lanes (interface kind).exits
+    → get_or (interface kind).entries 1 (0, 0) ≡ (0, 0)
+    → get_or (interface kind).exits 1 (0, 0) ≡ (0, 0)
+    → ((a b : Bool) → get_or ((interface kind).answer a b) 1 false ≡ false)
+    → IsInterface (interface kind)
 single_form kind height entries exits bits entered left entry exit bit =
-    record { height = inl height; two_entries = entries; two_exits = exits; two_bits = bits; side_entries = entered; side_exits = left; unused_entry = λ single. entry; unused_exit = λ single. exit; unused_bit = λ single. bit }
+    record { height = inl height; two_entries = entries; two_exits = exits; two_bits = bits;
+        side_entries = entered; side_exits = left; unused_entry = λ single. entry;
+      unused_exit = λ single. exit; unused_bit = λ single. bit }
 
 -- the ports of two lanes, and of one, by the sides in whose middles they lie
-two_sides : (ports : List (ℕ × ℕ)) → Contains (side_ports 0) (get_or ports 0 (0, 0)) → Contains (side_ports 1) (get_or ports 1 (0, 0)) → AreSidePorts 2 ports
+two_sides : (ports : List (ℕ × ℕ)) → Contains (side_ports 0) (get_or ports 0 (0, 0))
+    → Contains (side_ports 1) (get_or ports 1 (0, 0)) → AreSidePorts 2 ports
 two_sides ports upper lower zero lt = upper
 two_sides ports upper lower (suc zero) lt = lower
 two_sides ports upper lower (suc (suc lane)) lt = absurd (omega arith)
@@ -61,14 +78,19 @@ has_form Fork = pair_form Fork refl refl refl (λ a b. refl) wests easts
 has_form East = single_form East refl refl refl (λ a b. refl) west east refl refl (λ a b. refl)
 has_form South = single_form South refl refl refl (λ a b. refl) north south refl refl (λ a b. refl)
 has_form North = single_form North refl refl refl (λ a b. refl) south north refl refl (λ a b. refl)
-has_form EastSouth = single_form EastSouth refl refl refl (λ a b. refl) west south refl refl (λ a b. refl)
-has_form SouthWest = single_form SouthWest refl refl refl (λ a b. refl) north west refl refl (λ a b. refl)
-has_form WestNorth = single_form WestNorth refl refl refl (λ a b. refl) east north refl refl (λ a b. refl)
-has_form NorthEast = single_form NorthEast refl refl refl (λ a b. refl) south east refl refl (λ a b. refl)
+has_form EastSouth =
+    single_form EastSouth refl refl refl (λ a b. refl) west south refl refl (λ a b. refl)
+has_form SouthWest =
+    single_form SouthWest refl refl refl (λ a b. refl) north west refl refl (λ a b. refl)
+has_form WestNorth =
+    single_form WestNorth refl refl refl (λ a b. refl) east north refl refl (λ a b. refl)
+has_form NorthEast =
+    single_form NorthEast refl refl refl (λ a b. refl) south east refl refl (λ a b. refl)
 has_form West = single_form West refl refl refl (λ a b. refl) east west refl refl (λ a b. refl)
 has_form WestSwap = pair_form WestSwap refl refl refl (λ a b. refl) easts wests
 
--- what computes for rows of text that keep the law: a run of 32 generations for each choice of entries, and the ports
+-- what computes for rows of text that keep the law: a run of 32 generations for each choice of
+-- entries, and the ports
 abbrev pub passes : Interface → List (List ℕ) → Bool
 passes tile rows =
     law_test (drawn_rows rows) tile false false
@@ -78,7 +100,8 @@ passes tile rows =
     && fits_box tile rows
     && ports_test tile (drawn_rows rows)
 
-pub meets_law : (tile : Interface) (rows : List (List ℕ)) → passes tile rows ≡ true → MeetsTimingLaw tile (drawn_rows rows)
+pub meets_law : (tile : Interface) (rows : List (List ℕ)) → passes tile rows ≡ true
+    → MeetsTimingLaw tile (drawn_rows rows)
 meets_law tile rows t =
     let p1 = and_parts _ _ t in
     let p2 = and_parts _ _ p1.0 in
@@ -90,13 +113,20 @@ meets_law tile rows t =
       has_ports = has_ports tile (drawn_rows rows) (drawn_in_box tile rows p2.1) p1.1;
     }
   where
-    choices : law_test (drawn_rows rows) tile false false ≡ true → law_test (drawn_rows rows) tile false true ≡ true → law_test (drawn_rows rows) tile true false ≡ true → law_test (drawn_rows rows) tile true true ≡ true → (a b : Bool) → KeepsTime tile (drawn_rows rows) a b
+    choices : law_test (drawn_rows rows) tile false false ≡ true
+      → law_test (drawn_rows rows) tile false true ≡ true
+      → law_test (drawn_rows rows) tile true false ≡ true
+      → law_test (drawn_rows rows) tile true true ≡ true → (a b : Bool)
+      → KeepsTime tile (drawn_rows rows) a b
     choices dark lower upper both false false = keeps_time (drawn_rows rows) tile false false dark
     choices dark lower upper both false true = keeps_time (drawn_rows rows) tile false true lower
     choices dark lower upper both true false = keeps_time (drawn_rows rows) tile true false upper
     choices dark lower upper both true true = keeps_time (drawn_rows rows) tile true true both
 
 -- the West Swap by the law of Swap
-pub west_swap_meets : passes (interface Swap) SWAP ≡ true → MeetsTimingLaw (interface WestSwap) (mirrored_drawing (drawn_rows SWAP))
+pub west_swap_meets : passes (interface Swap) SWAP ≡ true
+    → MeetsTimingLaw (interface WestSwap) (mirrored_drawing (drawn_rows SWAP))
 west_swap_meets t =
-    law_mirrored (interface Swap) (interface WestSwap) (drawn_rows SWAP) (record { lanes = refl; entries = refl; exits = refl; answer = λ a b. refl }) (meets_law (interface Swap) SWAP t)
+    law_mirrored (interface Swap) (interface WestSwap) (drawn_rows SWAP)
+        (record { lanes = refl; entries = refl; exits = refl; answer = λ a b. refl })
+        (meets_law (interface Swap) SWAP t)

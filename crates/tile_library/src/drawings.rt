@@ -1,5 +1,6 @@
-// The drawings, a text for each row from north to south: a `C` is a conductor, and a `.` an empty cell. Lanes are 16
-// rows high, and a signal takes 31 generations from an entry to an exit. The five cells
+// The drawings, a text for each row from north to south: a `C` is a conductor, and a `.` an empty
+// cell. Lanes are 16 rows high, and a signal takes 31 generations from an entry to an exit. The
+// five cells
 //
 //     CC
 //     C.

@@ -19,7 +19,8 @@ pub fn is_drawn_mirrored(rows: &[[u8; 32]], x: u32, y: u32) -> bool
     x <= 31 && is_drawn(rows, 31 - x, y)
 }
 
-/// Whether a cell is a conductor, and for how many cells from it on, up to the eastern side of the box, this is so.
+/// Whether a cell is a conductor, and for how many cells from it on, up to the eastern side of the
+/// box, this is so.
 pub fn run_from(rows: &[[u8; 32]], x: u32, y: u32) -> (bool, u32)
     requires { x < 32 }
     ensures { IsRowRun (λ x. drawn_rows rows.now (pos x) (pos y)) x (32 - x) result }

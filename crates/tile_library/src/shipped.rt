@@ -68,8 +68,8 @@ impl Shipped {
         y < first || last < y
     }
 
-    /// Whether a cell of a tile is a conductor, and for how many cells from it on, up to the eastern side of its box,
-    /// this is so.
+    /// Whether a cell of a tile is a conductor, and for how many cells from it on, up to the
+    /// eastern side of its box, this is so.
     pub fn run_at(self, kind: Kind, x: u32, y: u32) -> (bool, u32)
         requires { x < 32 }
         ensures { IsRowRun (λ x. shipped_drawing kind (pos x) (pos y)) x (32 - x) result }

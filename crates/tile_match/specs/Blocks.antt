@@ -18,20 +18,22 @@ cell_shown rows x y = get_or (get_or rows y []) x Empty
 abbrev pub is_filled_in : List (List State) → ℕ → ℕ → Bool
 is_filled_in rows x y = is_filled (cell_shown rows x y)
 
--- The instruction of which the upper half stands in a block, and none where there is a tile that only goes on, by three cells of the
--- block: `climbs` at (3, 6), `falls` at (5, 9) and `ends` at (23, 8). Of the six drawings that may stand there, no two have the same
--- three; what is shown of other cells means nothing.
+-- The instruction of which the upper half stands in a block, and none where there is a tile that
+-- only goes on, by three cells of the block: `climbs` at (3, 6), `falls` at (5, 9) and `ends` at
+-- (23, 8). Of the six drawings that may stand there, no two have the same three; what is shown of
+-- other cells means nothing.
 abbrev pub instr_of_cells : ℕ → Bool → Bool → Bool → Option Instr
 instr_of_cells lane climbs falls ends =
     cond climbs (cond ends (Some (Fork lane)) (Some (Swap lane)))
-    (cond falls (cond ends (Some (Or lane)) (Some (Xor lane))) (cond ends None (Some (AndNot lane))))
+    (cond falls (cond ends (Some (Or lane)) (Some (Xor lane)))
+        (cond ends None (Some (AndNot lane))))
 
 -- the same of a block by a test of its cells
 abbrev pub instr_shown : ℕ → (ℕ → ℕ → Bool) → Option Instr
 instr_shown lane block = instr_of_cells lane (block 3 6) (block 5 9) (block 23 8)
 
--- The instructions that so many lanes show, from one on, where `shown` says of each what is shown there: the lane below an
--- instruction is taken by it.
+-- The instructions that so many lanes show, from one on, where `shown` says of each what is shown
+-- there: the lane below an instruction is taken by it.
 abbrev pub instrs_from : (ℕ → Option Instr) → ℕ → ℕ → Bool → List Instr
 instrs_from shown zero lane taken = []
 instrs_from shown (suc left) lane taken =
@@ -51,11 +53,13 @@ column_start loops column = 32 * (loops + column)
 
 -- the instructions of each column of the body
 abbrev pub columns_shown : List (List State) → ℕ → ℕ → ℕ → List (List Instr)
-columns_shown rows lanes loops count = map (λ column. column_shown rows lanes (column_start loops column)) (range_with_len 0 count)
+columns_shown rows lanes loops count =
+    map (λ column. column_shown rows lanes (column_start loops column)) (range_with_len 0 count)
 
 -- which loops start with 1: those with a head where they enter the body
 abbrev pub bit_shown : List (List State) → ℕ → ℕ → ℕ → Bool
-bit_shown rows lanes loops number = is_head (cell_shown rows (column_start loops 0) (row_of (first_loop_lane lanes loops + number)))
+bit_shown rows lanes loops number =
+    is_head (cell_shown rows (column_start loops 0) (row_of (first_loop_lane lanes loops + number)))
 
 abbrev pub bits_shown : List (List State) → ℕ → ℕ → List Bool
 bits_shown rows lanes loops = map (bit_shown rows lanes loops) (range_with_len 0 loops)

@@ -8,8 +8,8 @@ use Rattle.grid_assembly.specs.PlanDrawing.{start_grid}
 use Rattle.pattern_reading.specs.declared.ports.Ports.{Ports}
 use Rattle.pattern_reading.specs.Ports.{cells_of}
 
--- the plan has a box of this width and height, and of the table the period, the latency, and the cells of inputs and
--- outputs, in order; the table is that of one context
+-- the plan has a box of this width and height, and of the table the period, the latency, and the
+-- cells of inputs and outputs, in order; the table is that of one context
 pub record HasBoxAndPorts (width height : ℕ) (ports : Ports) (plan : Plan) : Type 0 where
   pub size : size_of plan ≡ (width, height)
   pub period : ports.p ≡ period_of plan
@@ -20,10 +20,11 @@ pub record HasBoxAndPorts (width height : ℕ) (ports : Ports) (plan : Plan) : T
 
 -- some circuit has the pattern's box and the table's ports
 abbrev pub HasSomePlan : Grid → Ports → Type 0
-HasSomePlan grid ports = (plan : Plan) × IsCircuit plan × HasBoxAndPorts grid.width grid.height ports plan
+HasSomePlan grid ports =
+    (plan : Plan) × IsCircuit plan × HasBoxAndPorts grid.width grid.height ports plan
 
--- A pattern with a table is the drawing of a circuit's plan: it has the plan's box and ports, and each of its cells is the
--- plan's at generation 0.
+-- A pattern with a table is the drawing of a circuit's plan: it has the plan's box and ports, and
+-- each of its cells is the plan's at generation 0.
 pub record IsPlanDrawing (grid : Grid) (table : Ports) (plan : Plan) : Type 0 where
   pub circuit : IsCircuit plan
   pub ports : HasBoxAndPorts grid.width grid.height table plan

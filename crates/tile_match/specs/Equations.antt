@@ -37,7 +37,8 @@ pub record IsFilledBox (width height : ℕ) (ports : Ports) (lanes columns loops
   pub ins : ArePortsAt (32 * loops) (lanes - loops) ports.ins
   pub outs : ArePortsAt (32 * (loops + columns)) (lanes - loops) ports.outs
 
--- the table is that of one context, and its box has no cells, or has the size of some lanes, columns and loops
+-- the table is that of one context, and its box has no cells, or has the size of some lanes,
+-- columns and loops
 abbrev pub HasSomeSize : Grid → Ports → Type 0
 HasSomeSize grid ports =
     (ports.c ≡ 1)

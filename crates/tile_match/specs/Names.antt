@@ -5,13 +5,16 @@ use Rattle.std.specs.Str.{byte, bytes_eq}
 use Rattle.pattern_reading.specs.declared.ports.PortLine.{PortLine}
 use Rattle.pattern_reading.specs.declared.ports.Ports.{Ports}
 
--- a byte that no word of such a text has: a blank, the end of a line, or `#`, which begins a comment
+-- a byte that no word of such a text has: a blank, the end of a line, or `#`, which begins a
+-- comment
 abbrev pub is_break : ℕ → Bool
 is_break b = (nat_le 9 b && nat_le b 13) || b == 32 || b == byte "#"
 
--- A name that is no word: it is empty, has such a byte, or ends with `\`, which would join the next line to its own.
+-- A name that is no word: it is empty, has such a byte, or ends with `\`, which would join the next
+-- line to its own.
 abbrev pub is_bad_name : List ℕ → Bool
-is_bad_name name = length name == 0 || list_any is_break name || get_or name (length name - 1) 0 == byte "\\"
+is_bad_name name =
+    length name == 0 || list_any is_break name || get_or name (length name - 1) 0 == byte "\\"
 
 abbrev pub is_bad_port : PortLine → Bool
 is_bad_port port = is_bad_name port.name
@@ -26,4 +29,6 @@ shares_name outs port = is_port_name outs port.name
 
 -- a name is no word, or is that of an input and of an output
 abbrev pub has_bad_name : Ports → Bool
-has_bad_name ports = list_any is_bad_port ports.ins || list_any is_bad_port ports.outs || list_any (shares_name ports.outs) ports.ins
+has_bad_name ports =
+    list_any is_bad_port ports.ins || list_any is_bad_port ports.outs
+    || list_any (shares_name ports.outs) ports.ins

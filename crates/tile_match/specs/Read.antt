@@ -12,21 +12,26 @@ use Rattle.tile_match.specs.Blocks.{columns_shown, bit_shown}
 use Rattle.tile_match.specs.Sizes.{IsSizeOfPlan}
 
 -- a plan of so many lanes, columns and loops has the columns and starts that rows of cells show
-pub record IsBodyRead (rows : List (List State)) (lanes columns loops : ℕ) (plan : Plan) : Type 0 where
+pub record IsBodyRead (rows : List (List State)) (lanes columns loops : ℕ)
+    (plan : Plan) : Type 0 where
   pub lanes_are : plan.lanes ≡ lanes
-  pub columns_are : map (λ column. column.instrs) plan.columns ≡ columns_shown rows lanes loops columns
+  pub columns_are : map (λ column. column.instrs) plan.columns
+      ≡ columns_shown rows lanes loops columns
   pub loops_are : plan.latches ≡ loops
   pub starts_are : plan.starts.list ≡ starts_where lanes loops (bit_shown rows lanes loops)
   pub nets_are : plan.nets ≡ []
   pub no_tape : plan.tape ≡ []
 
--- a plan has the box, the period, the latency and the ports of a pattern with the table of one context, and the columns and
--- starts that the pattern shows
+-- a plan has the box, the period, the latency and the ports of a pattern with the table of one
+-- context, and the columns and starts that the pattern shows
 pub record IsPlanRead (grid : Grid) (ports : Ports) (plan : Plan) : Type 0 where
-  pub size : IsSizeOfPlan grid.width grid.height ports.p ports.l plan.lanes (length plan.columns) plan.latches
+  pub size : IsSizeOfPlan grid.width grid.height ports.p ports.l plan.lanes
+      (length plan.columns) plan.latches
   pub contexts : ports.c ≡ 1
-  pub columns : map (λ column. column.instrs) plan.columns ≡ columns_shown grid.rows plan.lanes plan.latches (length plan.columns)
-  pub starts : plan.starts.list ≡ starts_where plan.lanes plan.latches (bit_shown grid.rows plan.lanes plan.latches)
+  pub columns : map (λ column. column.instrs) plan.columns
+      ≡ columns_shown grid.rows plan.lanes plan.latches (length plan.columns)
+  pub starts : plan.starts.list ≡ starts_where plan.lanes plan.latches
+      (bit_shown grid.rows plan.lanes plan.latches)
   pub ins : AreDistinctBelow (plan.lanes - plan.latches) plan.ins
   pub in_cells : cells_of ports.ins ≡ input_cells plan
   pub outs : AreDistinctBelow (plan.lanes - plan.latches) plan.outs

@@ -19,8 +19,8 @@ use std::alloc::Global;
 use tile_library::Shipped;
 use ww_rule::Pattern;
 
-/// The plan of which a pattern with a port table is the drawing, without the places of nets; or the first reason for which there
-/// is none.
+/// The plan of which a pattern with a port table is the drawing, without the places of nets; or the
+/// first reason for which there is none.
 pub fn audit(alloc: Global, pattern: &Pattern, ports: &Ports) -> Result<Plan, AuditError>
     ensures drawn { IfOk result (λ plan. IsPlanDrawing (grid_of pattern.now) ports.now plan) }
     ensures named { OnOk result (has_bad_name ports.now ≡ false) }

@@ -1,4 +1,5 @@
-// Whether rows of cells are the drawing of a plan: block by block, and in a block row by row, by runs of equal cells.
+// Whether rows of cells are the drawing of a plan: block by block, and in a block row by row, by
+// runs of equal cells.
 ghost use Rattle.std.specs.Prelude.{◌≡◌, ◌↔◌, ◌<◌, ◌≤◌, ◌+◌, ◌-◌, ◌*◌, ◌^◌, ◌/◌, ◌%◌, ◌==◌, [], All, IsTrue, IfOk, IfSome, IfNone, length, take, drop};
 ghost use Rattle.std.specs.List.{list_any};
 ghost use Rattle.lane_core.specs.Plans.{IsAdmissible, size_of};
@@ -42,8 +43,8 @@ fn cells_from(cells: &[State], from: usize, count: usize) -> &[State]
     &cells[from..from + count]
 }
 
-// How many cells from x on are alike in the plan's drawing, where the pattern's cells there are so too, and none where these
-// are not.
+// How many cells from x on are alike in the plan's drawing, where the pattern's cells there are so
+// too, and none where these are not.
 fn drawn_run(plan: &Plan, slot: Slot, cells: &[State], y: u64, x: u64, until: u64) -> Option<u64>
     requires admissible { IsAdmissible plan.now }
     requires slot { slot_of slot ≡ drawn_tiling plan.now (x / 32) (y / 16) }
@@ -65,7 +66,8 @@ fn drawn_run(plan: &Plan, slot: Slot, cells: &[State], y: u64, x: u64, until: u6
     }
 }
 
-// Whether the cells of row y of a block in which `slot` stands, from x on as far as `until`, are the plan's.
+// Whether the cells of row y of a block in which `slot` stands, from x on as far as `until`, are
+// the plan's.
 fn is_span_drawn(plan: &Plan, slot: Slot, cells: &[State], y: u64, from: u64, until: u64) -> bool
     requires admissible { IsAdmissible plan.now }
     requires slot { slot_of slot ≡ drawn_tiling plan.now (from / 32) (y / 16) }

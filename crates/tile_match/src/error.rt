@@ -8,8 +8,8 @@ use thiserror::Error;
 /// Why a pattern with a port table is no circuit: the first that holds.
 #[derive(Clone, Copy, Debug, PartialEq, Eq)]
 pub enum CircuitFault {
-    /// No circuit's plan has the pattern's box, and the table's period, latency and port cells, or the table is that of
-    /// several contexts.
+    /// No circuit's plan has the pattern's box, and the table's period, latency and port cells, or
+    /// the table is that of several contexts.
     Ports,
     /// A name cannot stand in a netlist's text, or is that of an input and of an output.
     Names,

@@ -1,5 +1,5 @@
-// What stands in a block of a plan without a tape, where it is known whether its lane has an output: so the outputs are not
-// gone through for each block.
+// What stands in a block of a plan without a tape, where it is known whether its lane has an
+// output: so the outputs are not gone through for each block.
 ghost use Rattle.std.specs.Prelude.{◌≡◌, ◌==◌, cond, []};
 ghost use Rattle.std.specs.List.{list_any};
 ghost use Rattle.tile_core.specs.declared.kind.Kind.TheVariants as kind;

@@ -36,7 +36,8 @@ is_at port x y = int_eq (pos x) (pos port.0) && int_eq (pos y) (pos port.1)
 
 -- the drawing alone on the plane, with some of its cells in another state than conductor
 abbrev pub marked : Drawing → List Cell → State → Plane
-marked drawing cells mark x y = cond (drawing x y) (cond (is_cell_of x y cells) mark Conductor) Empty
+marked drawing cells mark x y =
+    cond (drawing x y) (cond (is_cell_of x y cells) mark Conductor) Empty
 
 -- none of the cells is a head
 abbrev pub AreDark : List Cell → Plane → Type 0
@@ -44,7 +45,8 @@ AreDark cells p = (x y : ℤ) → is_cell_of x y cells ≡ true → p x y ≢ He
 
 -- of these cells those are heads that are lit
 abbrev pub AreLitAs : List Cell → List Cell → Plane → Type 0
-AreLitAs cells lit p = (x y : ℤ) → is_cell_of x y cells ≡ true → (p x y ≡ Head) ↔ (is_cell_of x y lit ≡ true)
+AreLitAs cells lit p =
+    (x y : ℤ) → is_cell_of x y cells ≡ true → (p x y ≡ Head) ↔ (is_cell_of x y lit ≡ true)
 
 -- what the timing law says of the exits at generation g
 pub record ExitsInTime (tile : Interface) (a b : Bool) (g : ℕ) (p : Plane) : Type 0 where
@@ -63,7 +65,10 @@ AreDrawn cells drawing = (x y : ℤ) → is_cell_of x y cells ≡ true → drawi
 -- a cell that is on the border and not empty is a port
 abbrev pub IsClearAt : Kind → State → ℕ → ℕ → Type 0
 IsClearAt kind cell x y =
-    is_on_border (interface kind) (pos x) (pos y) ≡ true → is_filled cell ≡ true → is_cell_of (pos x) (pos y) (entry_cells (interface kind) ++ exit_cells (interface kind)) ≡ true
+    is_on_border (interface kind) (pos x) (pos y) ≡ true → is_filled cell ≡ true
+      → is_cell_of (pos x) (pos y) (entry_cells (interface kind) ++ exit_cells (interface kind))
+        ≡ true
 
 abbrev pub IsBorderClear : Kind → List State → Type 0
-IsBorderClear kind cells = (k : ℕ) → k < length cells → IsClearAt kind (get_or cells k Empty) (k % 32) (k / 32)
+IsBorderClear kind cells =
+    (k : ℕ) → k < length cells → IsClearAt kind (get_or cells k Empty) (k % 32) (k / 32)

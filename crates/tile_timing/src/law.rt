@@ -126,7 +126,8 @@ fn is_in_time(cells: &[State], kind: Kind, lit: [bool; 2], generation: usize) ->
     generation == 0 || entries_are_dark(cells, kind)
 }
 
-// The cell of that number, of a drawing in which the ports whose bits are true are in the state `mark`.
+// The cell of that number, of a drawing in which the ports whose bits are true are in the state
+// `mark`.
 fn marked_at(base: &[State], ports: &[(u32, u32)], bits: [bool; 2], mark: State, i: usize) -> State
     requires few { length ports.now ≤ 2 }
     requires inside { i < length base.now }
@@ -356,8 +357,9 @@ fn is_unlit(cells: &[State]) -> bool
     cells.iter().all(|cell| is_same(*cell, State::Empty) || is_same(*cell, State::Conductor))
 }
 
-/// Whether `cells` are a drawing of `kind` that keeps the timing law: 16 rows of 32 cells for each of the kind's lanes,
-/// row after row, each cell empty or a conductor. A slice of another length, or with a head or a tail, is none.
+/// Whether `cells` are a drawing of `kind` that keeps the timing law: 16 rows of 32 cells for each
+/// of the kind's lanes, row after row, each cell empty or a conductor. A slice of another length,
+/// or with a head or a tail, is none.
 pub fn law_holds(cells: &[State], kind: Kind) -> bool
     ensures { IsTrue result ↔ HoldsLaw kind cells.now }
 {

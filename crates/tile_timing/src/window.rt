@@ -52,8 +52,8 @@ fn next_at(cells: &[State], width: usize, x: usize, y: usize) -> State
     cells[y * width + x].next(heads_near(cells, width, x, y))
 }
 
-/// One generation of Wireworld in a window: `old` has rows of `width` cells, row after row, all cells outside it are
-/// empty, and `new` is overwritten with the next generation.
+/// One generation of Wireworld in a window: `old` has rows of `width` cells, row after row, all
+/// cells outside it are empty, and `new` is overwritten with the next generation.
 pub fn window_step(old: &[State], new: &mut [State], width: usize)
     requires wide { 0 < width }
     requires whole { length old.now % width ≡ 0 }

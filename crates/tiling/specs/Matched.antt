@@ -30,7 +30,11 @@ pub record HasWholePieces (tiling : Tiling) : Type 0 where
 -- where two blocks meet there is never an entry against an entry, nor an exit against an exit
 pub record IsMatched (tiling : Tiling) : Type 0 where
   pub pieces : HasWholePieces tiling
-  pub entries_beside : (q l : ℕ) → (is_entered (tiling q l) 31 8 && is_entered (tiling (q + 1) l) 0 8) ≡ false
-  pub exits_beside : (q l : ℕ) → (is_left (tiling q l) 31 8 && is_left (tiling (q + 1) l) 0 8) ≡ false
-  pub entries_above : (q l : ℕ) → (is_entered (tiling q l) 16 15 && is_entered (tiling q (l + 1)) 16 0) ≡ false
-  pub exits_above : (q l : ℕ) → (is_left (tiling q l) 16 15 && is_left (tiling q (l + 1)) 16 0) ≡ false
+  pub entries_beside : (q l : ℕ) → (is_entered (tiling q l) 31 8
+      && is_entered (tiling (q + 1) l) 0 8) ≡ false
+  pub exits_beside : (q l : ℕ) → (is_left (tiling q l) 31 8 && is_left (tiling (q + 1) l) 0 8)
+      ≡ false
+  pub entries_above : (q l : ℕ) → (is_entered (tiling q l) 16 15
+      && is_entered (tiling q (l + 1)) 16 0) ≡ false
+  pub exits_above : (q l : ℕ) → (is_left (tiling q l) 16 15 && is_left (tiling q (l + 1)) 16 0)
+      ≡ false

@@ -28,7 +28,8 @@ abbrev pub piece_drawing : (Kind → Drawing) → Piece → Drawing
 piece_drawing library (Tile kind) = library kind
 piece_drawing library Output = output_drawing
 
--- what stands in a block: nothing, a piece of one lane, or the upper or the lower lane of a piece of two
+-- what stands in a block: nothing, a piece of one lane, or the upper or the lower lane of a piece
+-- of two
 pub data Slot : Type 0 where
   Nothing : Slot
   Whole : (piece : Piece) → Slot
@@ -73,12 +74,14 @@ heads_of lit q l tile = lit_entries tile (is_entry_lit lit q l tile 0) (is_entry
 
 -- the tails of a piece: its exit cells at lit edges
 abbrev pub tails_of : Lit → ℕ → ℕ → Interface → List Cell
-tails_of lit q l tile = chosen (exit_cells tile) (is_exit_lit lit q l tile 0 ∷ is_exit_lit lit q l tile 1 ∷ [])
+tails_of lit q l tile =
+    chosen (exit_cells tile) (is_exit_lit lit q l tile 0 ∷ is_exit_lit lit q l tile 1 ∷ [])
 
 -- a cell of a piece whose first block is (q, l), by its place in the piece's box
 abbrev pub drawn_piece : (Kind → Drawing) → Lit → ℕ → ℕ → Piece → ℕ → ℕ → State
 drawn_piece library lit q l piece x y =
-    picture (piece_drawing library piece) (heads_of lit q l (interface_of piece)) (tails_of lit q l (interface_of piece)) (pos x) (pos y)
+    picture (piece_drawing library piece) (heads_of lit q l (interface_of piece))
+        (tails_of lit q l (interface_of piece)) (pos x) (pos y)
 
 -- a cell of the block (q, l), by its place in the block
 abbrev pub drawn_slot : (Kind → Drawing) → Lit → ℕ → ℕ → Slot → ℕ → ℕ → State
@@ -87,9 +90,10 @@ drawn_slot library lit q l (Whole piece) x y = drawn_piece library lit q l piece
 drawn_slot library lit q l (Upper piece) x y = drawn_piece library lit q l piece x y
 drawn_slot library lit q l (Lower piece) x y = drawn_piece library lit q (l - 1) piece x (y + 16)
 
--- the plane of a tiling whose edges are lit so: a lit edge has a head at its entry cell and a tail at its exit cell,
--- where each exists, and all other drawn cells are conductors
+-- the plane of a tiling whose edges are lit so: a lit edge has a head at its entry cell and a tail
+-- at its exit cell, where each exists, and all other drawn cells are conductors
 abbrev pub drawn : (Kind → Drawing) → Tiling → Lit → Plane
-drawn library tiling lit (pos x) (pos y) = drawn_slot library lit (x / 32) (y / 16) (tiling (x / 32) (y / 16)) (x % 32) (y % 16)
+drawn library tiling lit (pos x) (pos y) =
+    drawn_slot library lit (x / 32) (y / 16) (tiling (x / 32) (y / 16)) (x % 32) (y % 16)
 drawn library tiling lit (pos x) (negsuc y) = Empty
 drawn library tiling lit (negsuc x) y = Empty

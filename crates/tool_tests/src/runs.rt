@@ -1,10 +1,11 @@
 // Runs over sources and sinks in memory.
 //
-// A list of cases is one text, since a table costs its proof for each row. A case begins with `>` and a line of commands, each of
+// A list of cases is one text, since a table costs its proof for each row. A case begins with `>`
+// and a line of commands, each of
 // which reads what the one before wrote, with `|` between any two, and ` -- ` before a word on the case. The lines of a text follow,
-// which the first command reads; a case without one reads the text that its list is over. Then come `== ` with the status, and the
-// lines that the last command writes where that is 0, or tells where it is another; it writes and tells no more. Where three full
-// stops stand there, anything may.
+// which the first command reads; a case without one reads the text that its list is over. Then come
+// `== ` with the status, and the lines that the last command writes where that is 0, or tells where
+// it is another; it writes and tells no more. Where three full stops stand there, anything may.
 ghost use Rattle.std.specs.Prelude.{◌≤◌};
 
 mod circuits;
@@ -43,7 +44,8 @@ pub struct Outcome {
 }
 
 impl Outcome {
-    /// Whether the run ended with this status, and wrote and told this, or what begins and ends so where three full stops stand.
+    /// Whether the run ended with this status, and wrote and told this, or what begins and ends so
+    /// where three full stops stand.
     pub fn is(&self, status: u8, out: &str, err: &str) -> bool {
         self.status == status
             && self.err.as_slice() == err.as_bytes()

@@ -16,7 +16,8 @@ fn is_read(got: &Result<Bytes, ReadAllError>, want: Option<ReadAllError>) -> boo
     }
 }
 
-// A read: the bytes that a call takes, the calls that fail, the limit, and the error that it ends with.
+// A read: the bytes that a call takes, the calls that fail, the limit, and the error that it ends
+// with.
 type Read<'a> = (usize, &'a [u64], usize, Option<ReadAllError>);
 
 // Fails where a read of the text ends otherwise.
@@ -62,7 +63,8 @@ fn all_is_read_within_the_limit(rt: HostRuntime) -> Result<(), Fail> {
     Ok(())
 }
 
-// A sink: its room, the bytes that a call takes, the call that fails, and how many bytes of the text it holds at the end.
+// A sink: its room, the bytes that a call takes, the call that fails, and how many bytes of the
+// text it holds at the end.
 const SINKS: &[(usize, usize, u64, usize)] = &[
     (61, 7, 9, 61),
     (61, 7, 8, 56),
@@ -78,7 +80,8 @@ fn has_front(sink: &MemSink, held: usize) -> bool {
     sink.held().len() == held && TEXT.starts_with(sink.held())
 }
 
-// Fails where a sink holds something else at the end, or all is written though it does not hold all, or the other way round.
+// Fails where a sink holds something else at the end, or all is written though it does not hold
+// all, or the other way round.
 fn expect_held(
     alloc: Global,
     (room, chunk, call, held): (usize, usize, u64, usize),

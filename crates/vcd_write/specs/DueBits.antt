@@ -10,13 +10,15 @@ abbrev pub AreDueFrom : ℕ → List DueBit → Type 0
 AreDueFrom g [] = ⊤
 AreDueFrom g (bit ∷ bits) = (g ≤ bit.generation) × AreDueFrom bit.generation bits
 
--- Whether the first of some bits that are due comes no later than the first of others; it does where there are no others.
+-- Whether the first of some bits that are due comes no later than the first of others; it does
+-- where there are no others.
 abbrev pub comes_first : List DueBit → List DueBit → Bool
 comes_first [] others = false
 comes_first (bit ∷ bits) [] = true
 comes_first (bit ∷ bits) (other ∷ others) = nat_le bit.generation other.generation
 
--- Both queues are in order from a generation on, and the bits of variables that have begun come within a period.
+-- Both queues are in order from a generation on, and the bits of variables that have begun come
+-- within a period.
 pub record AreInOrder (g period : ℕ) (due : DueBits) : Type 0 where
   pub unbegun : AreDueFrom g due.unbegun.items
   pub begun : AreDueFrom g due.begun.items
@@ -32,21 +34,25 @@ IsTakenFrom bit old new =
 abbrev pub next_bit : Raster → DueBit → List DueBit
 next_bit raster bit =
     if nat_lt (bit.place + raster.variables) raster.bits
-    then record { generation = bit.generation + raster.period; place = bit.place + raster.variables; x = bit.x; y = bit.y } ∷ []
+    then record { generation = bit.generation + raster.period; place = bit.place + raster.variables;
+        x = bit.x; y = bit.y } ∷ []
     else []
 
--- The place is one of the raster, and the bit and those of its variable after it come up to the raster's last generation.
+-- The place is one of the raster, and the bit and those of its variable after it come up to the
+-- raster's last generation.
 pub record IsWithin (raster : Raster) (bit : DueBit) : Type 0 where
   pub some : raster.variables ≢ 0
   pub place : bit.place < raster.bits
-  pub early : (j : ℕ) → bit.place + j * raster.variables < raster.bits → bit.generation + j * raster.period ≤ raster.last
+  pub early : (j : ℕ) → bit.place + j * raster.variables < raster.bits
+    → bit.generation + j * raster.period ≤ raster.last
 
--- Planes show such bits at the cell of a bit that is due: its own at its generation, and those of the same variable after it, each a
--- period later.
+-- Planes show such bits at the cell of a bit that is due: its own at its generation, and those of
+-- the same variable after it, each a period later.
 abbrev pub ShowsDueBits : (shown : ℕ → Bool) → (ℕ → Plane) → Raster → DueBit → Type 0
 ShowsDueBits shown planes raster bit =
     (j : ℕ) → bit.place + j * raster.variables < raster.bits
-    → shown (bit.place + j * raster.variables) ≡ is_head (planes (bit.generation + j * raster.period) (pos bit.x) (pos bit.y))
+    → shown (bit.place + j * raster.variables)
+      ≡ is_head (planes (bit.generation + j * raster.period) (pos bit.x) (pos bit.y))
 
 -- a place of one of these bits, or of one of the same variable after it
 pub record IsStillDue (raster : Raster) (due : List DueBit) (place : ℕ) : Type 0 where
@@ -55,7 +61,9 @@ pub record IsStillDue (raster : Raster) (due : List DueBit) (place : ℕ) : Type
   pub cycles : ℕ
   pub is_later : place ≡ bit.place + cycles * raster.variables
 
--- These bits are due at first, where planes show so: each of them is shown, and each place of the raster is to come.
-pub record AreFirstBits (shown : ℕ → Bool) (planes : ℕ → Plane) (raster : Raster) (due : List DueBit) : Type 0 where
+-- These bits are due at first, where planes show so: each of them is shown, and each place of the
+-- raster is to come.
+pub record AreFirstBits (shown : ℕ → Bool) (planes : ℕ → Plane) (raster : Raster)
+    (due : List DueBit) : Type 0 where
   pub each : All (ShowsDueBits shown planes raster) due
   pub all : (place : ℕ) → place < raster.bits → IsStillDue raster due place

@@ -15,4 +15,5 @@ first_bit place variable = record {
 -- those of variables, at places from this one on
 abbrev pub first_due_bits : (place : ℕ) → List NetInContext → List DueBit
 first_due_bits place [] = []
-first_due_bits place (variable ∷ variables) = first_bit place variable ∷ first_due_bits (place + 1) variables
+first_due_bits place (variable ∷ variables) =
+    first_bit place variable ∷ first_due_bits (place + 1) variables

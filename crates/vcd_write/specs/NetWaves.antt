@@ -1,5 +1,5 @@
--- What the nets of a driven pattern show, as the variables of a VCD text: a variable for each net in each context, with all nets of
--- context 0 first.
+-- What the nets of a driven pattern show, as the variables of a VCD text: a variable for each net
+-- in each context, with all nets of context 0 first.
 use Rattle.std.specs.Prelude.{◌≡◌, ◌<◌, ℕ, ◌+◌, ◌*◌, max, Bool, false, if◌then◌else◌, List, [], ◌∷◌, ◌++◌, codes, length, map, flat_map, get_or, slice_get, Some, All}
 use Rattle.std.specs.List.{range_with_len}
 use Rattle.std.specs.Str.{bytes_eq}
@@ -33,10 +33,12 @@ IsByteName name = All (λ b. b < 256) name
 abbrev pub path_before : List ℕ → List ℕ
 path_before path = if bytes_eq path (codes "-") then [] else path ++ codes "/"
 
--- the name under which a net is shown: `path/name`, and `context:path/name` where there are several contexts
+-- the name under which a net is shown: `path/name`, and `context:path/name` where there are several
+-- contexts
 abbrev pub reference_of : (contexts : ℕ) → NetInContext → List ℕ
 reference_of contexts variable =
-    with_context contexts variable.context (path_before variable.net.path ++ escaped_reference variable.net.name)
+    with_context contexts variable.context
+        (path_before variable.net.path ++ escaped_reference variable.net.name)
 
 -- its bits, cycle after cycle: 1 where its cell is a head at generation offset + 32 c + t P
 abbrev pub shown_of : Ports → Streams → Plane → NetInContext → List Bool
@@ -47,7 +49,9 @@ abbrev pub net_waves : Ports → Streams → Plane → Waves
 net_waves ports streams plane = record {
   cycles = streams.cycles;
   references = map (reference_of ports.c) (nets_in_contexts ports);
-  bit = λ n cycle. get_or (get_or (map (shown_of ports streams plane) (nets_in_contexts ports)) n []) cycle false;
+  bit =
+      λ n cycle. get_or (get_or (map (shown_of ports streams plane)
+        (nets_in_contexts ports)) n []) cycle false;
 }
 
 -- the greatest of the generations at which nets show their first bits
@@ -63,8 +67,11 @@ last_of_nets (net ∷ nets) ports streams = last_from (greatest_offset (net ∷ 
 abbrev pub last_of_all_nets : Ports → Streams → ℕ
 last_of_all_nets ports streams = last_of_nets ports.nets ports streams
 
--- Net i in context c is variable c n + i, where there are n nets: its bit in a cycle is the one that its cell shows.
+-- Net i in context c is variable c n + i, where there are n nets: its bit in a cycle is the one
+-- that its cell shows.
 abbrev pub NetsHaveTheirBits : Type 0
 NetsHaveTheirBits =
-    (ports : Ports) (streams : Streams) (plane : Plane) (context number : ℕ) (net : NetLine) (cycle : ℕ) → context < ports.c → slice_get ports.nets number ≡ Some net
-    → (net_waves ports streams plane).bit (context * length ports.nets + number) cycle ≡ get_or (probed_at ports streams plane context net) cycle false
+    (ports : Ports) (streams : Streams) (plane : Plane) (context number : ℕ) (net : NetLine)
+    (cycle : ℕ) → context < ports.c → slice_get ports.nets number ≡ Some net
+    → (net_waves ports streams plane).bit (context * length ports.nets + number) cycle
+      ≡ get_or (probed_at ports streams plane context net) cycle false

@@ -1,5 +1,6 @@
--- What a VCD text says: variables of one bit, and the bit of each at each time. A text is a line for each variable, with an id and the
--- reference under which it is shown; a line that ends these; and blocks of a line with a time and lines that give values to ids.
+-- What a VCD text says: variables of one bit, and the bit of each at each time. A text is a line
+-- for each variable, with an id and the reference under which it is shown; a line that ends these;
+-- and blocks of a line with a time and lines that give values to ids.
 use Rattle.std.specs.Prelude.{◌≡◌, ◌≢◌, ◌≤◌, ◌<◌, ◌^◌, ℕ, suc, nat_le, Bool, true, if◌then◌else◌, List, [], ◌∷◌, ◌++◌, map, flat_map, AllPairs, Option, Some, None, codes, decimal}
 use Rattle.std.specs.List.{AllByRecursion, list_any}
 use Rattle.std.specs.Option.{option_or}
@@ -62,15 +63,16 @@ BeginsAtZero (block ∷ blocks) = block.time ≡ 0
 abbrev pub has_id : List VcdVar → List ℕ → Bool
 has_id vars id = list_any (λ var. bytes_eq var.id id) vars
 
--- The form is in order: ids and references are words, no two variables have one id, times rise from 0 and fit 64 bits, and values are
--- given to ids of variables.
+-- The form is in order: ids and references are words, no two variables have one id, times rise from
+-- 0 and fit 64 bits, and values are given to ids of variables.
 pub record IsInOrder (form : VcdForm) : Type 0 where
   pub words : AllByRecursion (λ var. IsWord var.id × IsWord var.reference) form.vars
   pub distinct : AllPairs (λ a b. a.id ≢ b.id) form.vars
   pub rising : AreRising 0 form.blocks
   pub from_zero : BeginsAtZero form.blocks
   pub fit : AllByRecursion (λ block. block.time < 2 ^ 64) form.blocks
-  pub known : AllByRecursion (λ block. AllByRecursion (λ value. has_id form.vars value.id ≡ true) block.values) form.blocks
+  pub known : AllByRecursion (λ block. AllByRecursion
+      (λ value. has_id form.vars value.id ≡ true) block.values) form.blocks
 
 -- The text reads as this.
 pub record ReadsAsVcd (text : List ℕ) (form : VcdForm) : Type 0 where
@@ -80,13 +82,16 @@ pub record ReadsAsVcd (text : List ℕ) (form : VcdForm) : Type 0 where
 -- the last bit that these values give to an id, if they give it one
 abbrev pub last_value : List ℕ → List VcdValue → Option Bool
 last_value id [] = None
-last_value id (value ∷ values) = option_or (last_value id values) (if bytes_eq value.id id then Some value.bit else None)
+last_value id (value ∷ values) =
+    option_or (last_value id values) (if bytes_eq value.id id then Some value.bit else None)
 
--- the bit of an id at a time, where it has this one before: that of its last value in the blocks up to the time
+-- the bit of an id at a time, where it has this one before: that of its last value in the blocks up
+-- to the time
 abbrev pub value_from : Option Bool → List ℕ → ℕ → List VcdBlock → Option Bool
 value_from before id time [] = before
 value_from before id time (block ∷ blocks) =
-    value_from (if nat_le block.time time then option_or (last_value id block.values) before else before) id time blocks
+    value_from (if nat_le block.time time then option_or (last_value id block.values) before
+        else before) id time blocks
 
 abbrev pub value_at : VcdForm → List ℕ → ℕ → Option Bool
 value_at form id time = value_from None id time form.blocks

@@ -10,7 +10,8 @@ pub record Waves : Type 0 where
   pub references : List (List ℕ)
   pub bit : ℕ → ℕ → Bool
 
--- the digits of a number in base 94, the least one first, as the bytes from 33 on; so many at most, and one more
+-- the digits of a number in base 94, the least one first, as the bytes from 33 on; so many at most,
+-- and one more
 abbrev pub digits_94 : ℕ → ℕ → List ℕ
 digits_94 zero n = (33 + n % 94) ∷ []
 digits_94 (suc more) n = (33 + n % 94) ∷ (if n / 94 == 0 then [] else digits_94 more (n / 94))
@@ -26,12 +27,14 @@ var_of w n = record { id = vcd_id n; reference = get_or w.references n [] }
 abbrev pub are_other : Bool → Bool → Bool
 are_other a b = if a then not b else b
 
--- whether a variable's bit is written in a cycle: in the first, and where it differs from that of the cycle before
+-- whether a variable's bit is written in a cycle: in the first, and where it differs from that of
+-- the cycle before
 abbrev pub is_written : Waves → ℕ → ℕ → Bool
 is_written w cycle n = cycle == 0 || are_other (w.bit n cycle) (w.bit n (cycle - 1))
 
 abbrev pub value_of : Waves → ℕ → ℕ → List VcdValue
-value_of w cycle n = if is_written w cycle n then record { id = vcd_id n; bit = w.bit n cycle } ∷ [] else []
+value_of w cycle n =
+    if is_written w cycle n then record { id = vcd_id n; bit = w.bit n cycle } ∷ [] else []
 
 abbrev pub values_at : Waves → ℕ → List VcdValue
 values_at w cycle = flat_map (value_of w cycle) (range_with_len 0 (length w.references))

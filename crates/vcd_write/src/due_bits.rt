@@ -5,7 +5,8 @@ ghost use Rattle.vcd_write.specs.DueBits.{AreInOrder, IsTakenFrom, IsWithin, com
 use std::alloc::{AllocError, Global};
 use std::collections::VecDeque;
 
-/// A bit that is due: at this generation the cell of its variable shows it, and this is its place among all bits.
+/// A bit that is due: at this generation the cell of its variable shows it, and this is its place
+/// among all bits.
 #[derive(Clone, Copy)]
 pub struct DueBit {
     pub generation: u64,
@@ -14,8 +15,8 @@ pub struct DueBit {
     pub y: u64,
 }
 
-/// How all bits stand in rows, one a cycle: how many variables a row has, how many generations a cycle is, how many bits
-/// there are, and a generation up to which all of them are shown.
+/// How all bits stand in rows, one a cycle: how many variables a row has, how many generations a
+/// cycle is, how many bits there are, and a generation up to which all of them are shown.
 #[derive(Clone, Copy)]
 pub struct Raster {
     pub variables: usize,
@@ -24,15 +25,16 @@ pub struct Raster {
     pub last: u64,
 }
 
-/// The next bit of each variable that has one, in two queues: of those variables of which no bit has been taken, and of
-/// those that have begun.
+/// The next bit of each variable that has one, in two queues: of those variables of which no bit
+/// has been taken, and of those that have begun.
 #[derive(Drop)]
 pub struct DueBits {
     unbegun: VecDeque<DueBit>,
     begun: VecDeque<DueBit>,
 }
 
-// Whether the first of some bits that are due comes no later than the first of others; it does where there are no others.
+// Whether the first of some bits that are due comes no later than the first of others; it does
+// where there are no others.
 fn comes_first(bits: &VecDeque<DueBit>, others: &VecDeque<DueBit>) -> bool
     ensures { result ≡ comes_first bits.now.items others.now.items }
 {

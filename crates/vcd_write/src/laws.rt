@@ -1,9 +1,11 @@
-// Laws of VCD texts, and of the waves of nets. The functions do nothing: their clauses are the laws.
+// Laws of VCD texts, and of the waves of nets. The functions do nothing: their clauses are the
+// laws.
 ghost use Rattle.vcd_write.specs.Laws.{IdsAreDistinct, ReadsAsOneForm, SameWavesAreWrittenAlike, TextsSayWaves};
 ghost use Rattle.vcd_write.specs.NetWaves.{NetsHaveTheirBits};
 ghost use Rattle.vcd_write.specs.References.{ReferencesAreWords};
 
-/// The text of variables reads as them, and as nothing else: each has its bit at the time of each cycle.
+/// The text of variables reads as them, and as nothing else: each has its bit at the time of each
+/// cycle.
 pub fn texts_say_waves()
     ensures says { TextsSayWaves }
     ensures alike { SameWavesAreWrittenAlike }
@@ -24,7 +26,8 @@ pub fn references_are_words()
     ensures { ReferencesAreWords }
 {}
 
-/// Net i in context c is variable `c n + i`, where there are n nets, with the bits that its cell shows.
+/// Net i in context c is variable `c n + i`, where there are n nets, with the bits that its cell
+/// shows.
 pub fn nets_have_their_bits()
     ensures { NetsHaveTheirBits }
 {}

@@ -97,7 +97,8 @@ fn push_context(
     Ok(())
 }
 
-/// The references of all nets in each context, those of context 0 first; and each name is one of bytes.
+/// The references of all nets in each context, those of context 0 first; and each name is one of
+/// bytes.
 pub fn references_of(alloc: Global, ports: &Ports) -> Result<List<Bytes>, AllocError>
     requires { 0 < ports.now.c }
     ensures references { IfOk result (λ references.

@@ -131,9 +131,10 @@ fn write_blocks<O: Sink>(sink: &mut O, page: &mut Page, vcd: &Vcd) -> Result<(),
     Ok(())
 }
 
-/// Writes the VCD text of the variables: a line for each, with its id and its reference, then at the time of each cycle the values of
-/// those whose bit is not that of the cycle before, and last the time after the last cycle. Where a write fails, a front of the text
-/// stands written. It takes no memory.
+/// Writes the VCD text of the variables: a line for each, with its id and its reference, then at
+/// the time of each cycle the values of those whose bit is not that of the cycle before, and last
+/// the time after the last cycle. Where a write fails, a front of the text stands written. It takes
+/// no memory.
 pub fn write<O: Sink>(vcd: &Vcd, sink: &mut O) -> Result<(), Failed>
     ensures ok { OnOk result (
         Appends (O.written sink.old) (O.written sink.new) (vcd_text (waves_in vcd.now))

@@ -1,5 +1,5 @@
--- Where a word of the command line is cut: at its last `=`, and what stands before that, where it names a context, at its first `:`, as
--- in `1:a=0110`.
+-- Where a word of the command line is cut: at its last `=`, and what stands before that, where it
+-- names a context, at its first `:`, as in `1:a=0110`.
 use Rattle.std.specs.Prelude.{ℕ, ◌==◌, ◌&&◌, ◌||◌, ◌∷◌, ◌++◌, not, if◌then◌else◌, nat_lt, Bool, List, get_or, length, decimal}
 use Rattle.std.specs.Char.{is_ascii_digit}
 use Rattle.std.specs.List.{list_any, list_all, before_first, after_first, before_last, after_last}
@@ -22,7 +22,8 @@ is_colon b = b == byte ":"
 
 -- whether there are one or more bytes, of which the first is no `0` where others follow
 abbrev pub is_unpadded : List ℕ → Bool
-is_unpadded digits = length digits == 1 || (nat_lt 1 (length digits) && not (get_or digits 0 0 == byte "0"))
+is_unpadded digits =
+    length digits == 1 || (nat_lt 1 (length digits) && not (get_or digits 0 0 == byte "0"))
 
 -- whether these are decimal digits without leading zeros
 abbrev pub is_unpadded_number : List ℕ → Bool
@@ -32,7 +33,8 @@ is_unpadded_number digits = list_all is_ascii_digit digits && is_unpadded digits
 abbrev pub has_context : ℕ → List ℕ → Bool
 has_context contexts name =
     let number = before_first is_colon name in
-    list_any is_colon name && (is_unpadded_number number && nat_lt (digits_value 10 number) contexts)
+    list_any is_colon name && (is_unpadded_number number
+        && nat_lt (digits_value 10 number) contexts)
 
 -- that number, and the name after the `:`
 abbrev pub context_of : List ℕ → ℕ
@@ -41,8 +43,9 @@ context_of name = digits_value 10 (before_first is_colon name)
 abbrev pub name_after : List ℕ → List ℕ
 name_after name = after_first is_colon name
 
--- Where there is one context, names stand alone, and are of context 0; where there are more, a name has the number of its context and a
--- `:` before it. Whether a name is so of one of so many contexts
+-- Where there is one context, names stand alone, and are of context 0; where there are more, a name
+-- has the number of its context and a `:` before it. Whether a name is so of one of so many
+-- contexts
 abbrev pub names_context : (contexts : ℕ) → List ℕ → Bool
 names_context contexts name = contexts == 1 || has_context contexts name
 
@@ -55,4 +58,5 @@ without_context contexts name = if contexts == 1 then name else name_after name
 
 -- a name as it is written for a context
 abbrev pub with_context : (contexts context : ℕ) → List ℕ → List ℕ
-with_context contexts context name = if contexts == 1 then name else decimal context ++ byte ":" ∷ name
+with_context contexts context name =
+    if contexts == 1 then name else decimal context ++ byte ":" ∷ name

@@ -66,8 +66,8 @@ fn context_in(bytes: &[u8], contexts: u64) -> Option<u64>
     }
 }
 
-/// The number of one of so many contexts that stands before the first `:` of a name, and what stands after it; it stands
-/// there also where there is one context.
+/// The number of one of so many contexts that stands before the first `:` of a name, and what
+/// stands after it; it stands there also where there is one context.
 pub fn cut_at_context(name: &[u8], contexts: u64) -> Option<(u64, &[u8])>
     ensures { MatchOption result (has_context contexts name.now ≡ false)
         (λ parts. (has_context contexts name.now ≡ true) × (parts.0 ≡ context_of name.now) ×
@@ -78,9 +78,9 @@ pub fn cut_at_context(name: &[u8], contexts: u64) -> Option<(u64, &[u8])>
     Some((context, rest))
 }
 
-/// The context of a name, and the name without it: with one context a name stands alone, and with more the number of its
-/// context and a `:` before it. `None` comes where there are several contexts, or none, and the name does not begin with the
-/// number of one and a `:`.
+/// The context of a name, and the name without it: with one context a name stands alone, and with
+/// more the number of its context and a `:` before it. `None` comes where there are several
+/// contexts, or none, and the name does not begin with the number of one and a `:`.
 pub fn cut_if_several(name: &[u8], contexts: u64) -> Option<(u64, &[u8])>
     ensures { MatchOption result (names_context contexts name.now ≡ false)
         (λ parts. (names_context contexts name.now ≡ true) ×
@@ -105,7 +105,8 @@ fn numbered(alloc: Global, context: u64, name: &[u8]) -> Result<Vec<u8>, AllocEr
     Ok(text)
 }
 
-/// A name as it is written for one of so many contexts: alone with one, else after the number of the context and a `:`.
+/// A name as it is written for one of so many contexts: alone with one, else after the number of
+/// the context and a `:`.
 pub fn with_context(
     alloc: Global,
     contexts: u64,

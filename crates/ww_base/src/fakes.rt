@@ -20,7 +20,8 @@ pub struct MemSource {
 impl MemSource {
     ghost use Rattle.ww_base.specs.Fakes.{bytes_left, source_call, source_fails, source_chunk, source_faults};
 
-    /// A source of these bytes, which gives at most `chunk` a call and fails the calls whose numbers, from 0, are in `fails`.
+    /// A source of these bytes, which gives at most `chunk` a call and fails the calls whose
+    /// numbers, from 0, are in `fails`.
     pub fn new(alloc: Global, bytes: &[u8], chunk: usize, fails: &[u64]) -> Result<Self, FakeError>
         requires { 1 ≤ chunk }
         ensures bytes { IfOk result (λ s. bytes_left s ≡ bytes.now) }
@@ -104,8 +105,9 @@ pub struct MemSink {
 impl MemSink {
     ghost use Rattle.ww_base.specs.Fakes.{held_of, sink_call, sink_fails, sink_chunk, sink_room, sink_faults};
 
-    /// A sink that reserves `room` bytes, takes at most `chunk` a call, and fails the calls whose numbers, from 0, are
-    /// in `fails`, and each call on a piece that is not empty once `room` bytes are held.
+    /// A sink that reserves `room` bytes, takes at most `chunk` a call, and fails the calls whose
+    /// numbers, from 0, are in `fails`, and each call on a piece that is not empty once `room`
+    /// bytes are held.
     pub fn new(alloc: Global, room: usize, chunk: usize, fails: &[u64]) -> Result<Self, FakeError>
         requires { 1 ≤ chunk }
         ensures empty { IfOk result (λ s. held_of s ≡ []) }

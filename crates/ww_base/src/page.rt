@@ -20,7 +20,8 @@ fn send<O: Sink>(sink: &mut O, piece: &[u8]) -> Result<(), Failed>
 /// The most bytes that a page holds.
 const PAGE: usize = 4096;
 
-/// Bytes that are to be sent, and how many bytes of items the last line has by now, whether sent or not.
+/// Bytes that are to be sent, and how many bytes of items the last line has by now, whether sent or
+/// not.
 #[derive(Drop)]
 pub struct Page {
     bytes: [u8; PAGE],
@@ -115,8 +116,8 @@ impl Page {
         self.flush(sink)
     }
 
-    /// Puts a piece on the page, and sends before it what the page holds where there is no room, and a piece that no page
-    /// has room for at once.
+    /// Puts a piece on the page, and sends before it what the page holds where there is no room,
+    /// and a piece that no page has room for at once.
     pub fn put<O: Sink>(&mut self, sink: &mut O, piece: &[u8]) -> Result<(), Failed>
         ensures column { column_of self.new ≡ column_of self.old }
         ensures ok { OnOk result ((rest : List ℕ) →

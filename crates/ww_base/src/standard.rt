@@ -1,5 +1,6 @@
-// Standard input, output and error as a source and sinks. What a stream of the system gives or keeps no contract can
-// say, so these tell no bytes. Over a stream whose bytes are known they are those bytes.
+// Standard input, output and error as a source and sinks. What a stream of the system gives or
+// keeps no contract can say, so these tell no bytes. Over a stream whose bytes are known they are
+// those bytes.
 ghost use Rattle.std.specs.Prelude.{◌≡◌};
 ghost use Rattle.ww_base.specs.Standard.{source_stream, source_faults, sink_stream, sink_faults};
 

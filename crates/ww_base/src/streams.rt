@@ -17,8 +17,8 @@ pub trait Source {
     /// How often it has failed: a u64 that never falls, and stays at the greatest.
     ghost faults: { Self → ℕ };
 
-    /// Reads some bytes to the front of the buffer, and answers how many. None are read only at the end, or
-    /// where the buffer is empty; a failed call reads none.
+    /// Reads some bytes to the front of the buffer, and answers how many. None are read only at the
+    /// end, or where the buffer is empty; a failed call reads none.
     fn read(&mut self, buf: &mut [u8]) -> Result<usize, Failed>
         ensures bound { ReadsAtMost result buf.new }
         ensures bytes { ReadConsumes (left self.old) (left self.new) result buf.new }
@@ -33,8 +33,8 @@ pub trait Sink {
     /// How often it has failed: a u64 that never falls, and stays at the greatest.
     ghost faults: { Self → ℕ };
 
-    /// Takes a front of the piece, at least one byte of a piece that is not empty, and answers how many.
-    /// A failed call takes none.
+    /// Takes a front of the piece, at least one byte of a piece that is not empty, and answers how
+    /// many. A failed call takes none.
     fn write(&mut self, piece: &[u8]) -> Result<usize, Failed>
         ensures bound { WritesAtMost result piece.now }
         ensures some { IfOk result (λ n. 0 < length piece.now → 0 < n) }

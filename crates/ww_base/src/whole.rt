@@ -34,8 +34,9 @@ impl From<AllocError> for ReadAllError {
     }
 }
 
-/// All bytes up to the end of the source, which are at most `limit`. Where there is an error, the source has given
-/// some front of its bytes; `TooLong` comes only where that front has more than `limit` bytes.
+/// All bytes up to the end of the source, which are at most `limit`. Where there is an error, the
+/// source has given some front of its bytes; `TooLong` comes only where that front has more than
+/// `limit` bytes.
 pub fn read_all<S: Source>(alloc: Global, src: &mut S, limit: usize) -> Result<Bytes, ReadAllError>
     ensures all { IfOk result (λ bytes. Consumes (S.left src.old) (S.left src.new) bytes) }
     ensures end { OnOk result (IsAtEnd (S.left src.new)) }

@@ -1,4 +1,5 @@
--- What driven evolutions keep: on what they depend, and what a list of injections and streams make due.
+-- What driven evolutions keep: on what they depend, and what a list of injections and streams make
+-- due.
 use Rattle.std.specs.Prelude.{ℤ, pos, ◌+ℤ◌, ◌-ℤ◌, ◌≤ℤ◌, ℕ, suc, ◌*◌, ◌<◌, ◌≤◌, ◌≡◌, ◌↔◌, Bool, true, false, List, ◌++◌, length, All, Contains}
 use Rattle.ww_rule.specs.declared.pattern.Injection.{Injection}
 use Rattle.ww_rule.specs.Wireworld.{Plane, Due, next_plane, evolve, injected, driven}
@@ -25,11 +26,15 @@ due_mirrored a due g x y = due g (a -ℤ x) y
 abbrev pub due_upside_down : ℤ → Due → Due
 due_upside_down b due g x y = due g x (b -ℤ y)
 
--- a driven evolution that is moved, or mirrored, with its injections is the one driven, moved or mirrored
+-- a driven evolution that is moved, or mirrored, with its injections is the one driven, moved or
+-- mirrored
 pub record DrivesAnywhere : Type 0 where
-  pub moves : (a b : ℤ) (due : Due) (p : Plane) (g : ℕ) → driven (due_moved a b due) (moved a b p) g ≡ moved a b (driven due p g)
-  pub mirrors : (a : ℤ) (due : Due) (p : Plane) (g : ℕ) → driven (due_mirrored a due) (mirrored a p) g ≡ mirrored a (driven due p g)
-  pub mirrors_down : (b : ℤ) (due : Due) (p : Plane) (g : ℕ) → driven (due_upside_down b due) (upside_down b p) g ≡ upside_down b (driven due p g)
+  pub moves : (a b : ℤ) (due : Due) (p : Plane) (g : ℕ)
+    → driven (due_moved a b due) (moved a b p) g ≡ moved a b (driven due p g)
+  pub mirrors : (a : ℤ) (due : Due) (p : Plane) (g : ℕ)
+    → driven (due_mirrored a due) (mirrored a p) g ≡ mirrored a (driven due p g)
+  pub mirrors_down : (b : ℤ) (due : Due) (p : Plane) (g : ℕ)
+    → driven (due_upside_down b due) (upside_down b p) g ≡ upside_down b (driven due p g)
 
 -- what is due after a generation changes nothing at it
 abbrev pub IsCausal : Type 0
@@ -40,19 +45,23 @@ IsCausal =
 -- the same cells within distance n of x, y are due at each generation up to n
 abbrev pub AgreeDueNear : ℕ → Due → Due → ℤ → ℤ → Type 0
 AgreeDueNear n due other x y =
-    (g : ℕ) (u v : ℤ) → g ≤ n → (x -ℤ pos n) ≤ℤ u → u ≤ℤ (x +ℤ pos n) → (y -ℤ pos n) ≤ℤ v → v ≤ℤ (y +ℤ pos n) → due g u v ≡ other g u v
+    (g : ℕ) (u v : ℤ) → g ≤ n → (x -ℤ pos n) ≤ℤ u → u ≤ℤ (x +ℤ pos n) → (y -ℤ pos n) ≤ℤ v
+    → v ≤ℤ (y +ℤ pos n) → due g u v ≡ other g u v
 
--- a driven cell's state at generation n depends on distance n alone: on the cells, and on what is due there
+-- a driven cell's state at generation n depends on distance n alone: on the cells, and on what is
+-- due there
 abbrev pub IsDrivenLocally : Type 0
 IsDrivenLocally =
-    (n : ℕ) (due other : Due) (p q : Plane) (x y : ℤ) → AgreeDueNear n due other x y → AgreeNear n p q x y
+    (n : ℕ) (due other : Due) (p q : Plane) (x y : ℤ) → AgreeDueNear n due other x y
+    → AgreeNear n p q x y
     → driven due p n x y ≡ driven other q n x y
 
--- driven by a list: at generation 0 the cells of its injections of generation 0 are made heads, and then generation by generation
--- the rule is followed by the injections of the new generation
+-- driven by a list: at generation 0 the cells of its injections of generation 0 are made heads, and
+-- then generation by generation the rule is followed by the injections of the new generation
 pub record StepsWithInjections (injections : List Injection) (p : Plane) : Type 0 where
   pub begins : driven (due_of_list injections) p 0 ≡ injected (has_cell (cells_at 0 injections)) p
-  pub steps : (g : ℕ) → driven (due_of_list injections) p (suc g) ≡ injected (has_cell (cells_at (suc g) injections)) (next_plane (driven (due_of_list injections) p g))
+  pub steps : (g : ℕ) → driven (due_of_list injections) p (suc g) ≡ injected
+      (has_cell (cells_at (suc g) injections)) (next_plane (driven (due_of_list injections) p g))
 
 -- an injection of a list, at a generation and a cell
 pub record IsInjectionOf (injections : List Injection) (g : ℕ) (x y : ℤ) : Type 0 where
@@ -62,12 +71,22 @@ pub record IsInjectionOf (injections : List Injection) (g : ℕ) (x y : ℤ) : T
   pub column : pos injection.x ≡ x
   pub row : pos injection.y ≡ y
 
--- a list makes due exactly its injections; so neither their order nor repetition changes what it drives
+-- a list makes due exactly its injections; so neither their order nor repetition changes what it
+-- drives
 pub record ListsAreInjected : Type 0 where
-  pub exactly : (injections : List Injection) (g : ℕ) (x y : ℤ) → (due_of_list injections g x y ≡ true) ↔ IsInjectionOf injections g x y
-  pub in_any_order : (injections others : List Injection) → ((i : Injection) → Contains injections i ↔ Contains others i) → (p : Plane) (g : ℕ) → driven (due_of_list injections) p g ≡ driven (due_of_list others) p g
+  pub exactly : (injections : List Injection) (g : ℕ) (x y : ℤ)
+    → (due_of_list injections g x y ≡ true) ↔ IsInjectionOf injections g x y
+  pub in_any_order : (injections others : List Injection)
+    → ((i : Injection) → Contains injections i ↔ Contains others i) → (p : Plane) (g : ℕ)
+    → driven (due_of_list injections) p g ≡ driven (due_of_list others) p g
 
--- later rows of streams change nothing before their own cycles, and rows of 0 bits at the end change nothing at all
-pub record StreamsGoOn (period : ℕ) (cells : List (ℕ × ℕ)) (rows later : List (List Bool)) : Type 0 where
-  pub before : (p : Plane) (g : ℕ) → g < length rows * period → driven (due_of_streams period cells (rows ++ later)) p g ≡ driven (due_of_streams period cells rows) p g
-  pub rest : All (λ row. All (λ bit. bit ≡ false) row) later → (p : Plane) (g : ℕ) → driven (due_of_streams period cells (rows ++ later)) p g ≡ driven (due_of_streams period cells rows) p g
+-- later rows of streams change nothing before their own cycles, and rows of 0 bits at the end
+-- change nothing at all
+pub record StreamsGoOn (period : ℕ) (cells : List (ℕ × ℕ))
+    (rows later : List (List Bool)) : Type 0 where
+  pub before : (p : Plane) (g : ℕ) → g < length rows * period
+    → driven (due_of_streams period cells (rows ++ later)) p g
+      ≡ driven (due_of_streams period cells rows) p g
+  pub rest : All (λ row. All (λ bit. bit ≡ false) row) later → (p : Plane) (g : ℕ)
+    → driven (due_of_streams period cells (rows ++ later)) p g
+      ≡ driven (due_of_streams period cells rows) p g

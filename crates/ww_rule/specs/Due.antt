@@ -6,13 +6,15 @@ use Rattle.ww_rule.specs.declared.pattern.Injection.{Injection}
 -- injections in the order of their generations, none of them before a generation
 abbrev pub AreInOrderFrom : ℕ → List Injection → Type 0
 AreInOrderFrom generation [] = ⊤
-AreInOrderFrom generation (injection ∷ later) = (generation ≤ injection.generation) × AreInOrderFrom injection.generation later
+AreInOrderFrom generation (injection ∷ later) =
+    (generation ≤ injection.generation) × AreInOrderFrom injection.generation later
 
 -- how many injections at the front are of a generation
 abbrev pub due_count : ℕ → List Injection → ℕ
 due_count generation injections = prefix_len (λ i. i.generation == generation) injections
 
--- Of a list of injections these are left when a generation comes: all that stand before them are earlier, and they are in order.
+-- Of a list of injections these are left when a generation comes: all that stand before them are
+-- earlier, and they are in order.
 pub record AreLeftAt (generation : ℕ) (injections left : List Injection) : Type 0 where
   pub used : List Injection
   pub parts : injections ≡ used ++ left

@@ -31,8 +31,9 @@ framed look (pos x) (pos y) = look x y
 framed look (pos x) (negsuc y) = Empty
 framed look (negsuc x) y = Empty
 
--- A pattern is the plane with its cells at x from 0 eastward and y from 0 downward; all else is empty. The rows alone are looked at:
--- they are a box of a width and a height, with no cell outside it, where `IsGrid` holds of them.
+-- A pattern is the plane with its cells at x from 0 eastward and y from 0 downward; all else is
+-- empty. The rows alone are looked at: they are a box of a width and a height, with no cell outside
+-- it, where `IsGrid` holds of them.
 abbrev pub plane_of : List (List State) → Plane
 plane_of rows = framed (λ x y. get_or (get_or rows y []) x Empty)
 

@@ -18,12 +18,14 @@ cells_at g injections = map (λ i. (i.x, i.y)) (filter (λ i. i.generation == g)
 abbrev pub due_of_list : List Injection → Due
 due_of_list injections g = has_cell (cells_at g injections)
 
--- the injections of one cycle: at a generation, each cell whose bit is 1; cells without a bit and bits without a cell inject nothing
+-- the injections of one cycle: at a generation, each cell whose bit is 1; cells without a bit and
+-- bits without a cell inject nothing
 abbrev pub injections_of_row : ℕ → List (ℕ × ℕ) → List Bool → List Injection
 injections_of_row g [] bits = []
 injections_of_row g (cell ∷ cells) [] = []
 injections_of_row g (cell ∷ cells) (bit ∷ bits) =
-    cond bit (record { generation = g; x = cell.0; y = cell.1 } ∷ []) [] ++ injections_of_row g cells bits
+    cond bit (record { generation = g; x = cell.0; y = cell.1 } ∷ []) []
+      ++ injections_of_row g cells bits
 
 -- the injections of rows of bits, one row a cycle, where the first cycle is at a generation
 -- and each later one `period` generations after the one before
@@ -43,7 +45,8 @@ before_injections due p (suc g) = next_plane (driven due p g)
 
 -- each injection meets a cell that is a conductor before that generation's injections
 abbrev pub MeetsConductors : Due → Plane → Type 0
-MeetsConductors due p = (g : ℕ) (x y : ℤ) → due g x y ≡ true → before_injections due p g x y ≡ Conductor
+MeetsConductors due p =
+    (g : ℕ) (x y : ℤ) → due g x y ≡ true → before_injections due p g x y ≡ Conductor
 
 -- injections at cells of a box
 abbrev pub AreInside : (width height : ℕ) → List Injection → Type 0

@@ -18,9 +18,11 @@ mirrored a p x y = p (a -ℤ x) y
 -- two planes agree at every cell within distance n of x, y (n columns and n rows each way)
 abbrev pub AgreeNear : ℕ → Plane → Plane → ℤ → ℤ → Type 0
 AgreeNear n p q x y =
-    (u v : ℤ) → (x -ℤ pos n) ≤ℤ u → u ≤ℤ (x +ℤ pos n) → (y -ℤ pos n) ≤ℤ v → v ≤ℤ (y +ℤ pos n) → p u v ≡ q u v
+    (u v : ℤ) → (x -ℤ pos n) ≤ℤ u → u ≤ℤ (x +ℤ pos n) → (y -ℤ pos n) ≤ℤ v → v ≤ℤ (y +ℤ pos n)
+    → p u v ≡ q u v
 
--- all cells outside some box are empty: the others lie within `reach` columns and rows of the origin
+-- all cells outside some box are empty: the others lie within `reach` columns and rows of the
+-- origin
 pub record HasFinitelyManyCells (p : Plane) : Type 0 where
   pub reach : ℕ
   pub west : (x y : ℤ) → p x y ≢ Empty → (pos 0 -ℤ pos reach) ≤ℤ x
@@ -54,8 +56,10 @@ IsLocal =
 -- under the rule and under injections that lie in the box
 abbrev pub StaysInBox : Type 0
 StaysInBox =
-    ((width height : ℕ) (rows : List (List State)) → IsGrid width height rows → IsEmptyOutside width height (plane_of rows))
-    × ((width height n : ℕ) (p : Plane) → IsEmptyOutside width height p → IsEmptyOutside width height (evolve n p))
+    ((width height : ℕ) (rows : List (List State)) → IsGrid width height rows
+      → IsEmptyOutside width height (plane_of rows))
+    × ((width height n : ℕ) (p : Plane) → IsEmptyOutside width height p
+      → IsEmptyOutside width height (evolve n p))
     × ((width height : ℕ) (due : Due) (p : Plane) → IsEmptyOutside width height p
     → ((g : ℕ) (x y : ℤ) → in_box width height x y ≡ false → due g x y ≡ false)
     → (g : ℕ) → IsEmptyOutside width height (driven due p g))
@@ -65,10 +69,13 @@ abbrev pub StaysFinite : Type 0
 StaysFinite =
     ((rows : List (List State)) → HasFinitelyManyCells (plane_of rows))
     × ((n : ℕ) (p : Plane) → HasFinitelyManyCells p → HasFinitelyManyCells (evolve n p))
-    × ((injections : List Injection) (p : Plane) (g : ℕ) → HasFinitelyManyCells p → HasFinitelyManyCells (driven (due_of_list injections) p g))
+    × ((injections : List Injection) (p : Plane) (g : ℕ) → HasFinitelyManyCells p
+      → HasFinitelyManyCells (driven (due_of_list injections) p g))
 
--- an injection of streams: at generation cycle * period, in a cycle in which the bit of an input is 1, at the input's cell
-pub record IsBitOfStreams (period : ℕ) (cells : List (ℕ × ℕ)) (rows : List (List Bool)) (g : ℕ) (x y : ℤ) : Type 0 where
+-- an injection of streams: at generation cycle * period, in a cycle in which the bit of an input is
+-- 1, at the input's cell
+pub record IsBitOfStreams (period : ℕ) (cells : List (ℕ × ℕ)) (rows : List (List Bool)) (g : ℕ)
+    (x y : ℤ) : Type 0 where
   pub cycle : ℕ
   pub input : ℕ
   pub in_time : cycle * period ≡ g

@@ -21,7 +21,10 @@ KeepsTurns =
     ((p : Plane) → next_plane (turned p) ≡ turned (next_plane p))
     × ((n : ℕ) (p : Plane) → evolve n (turned p) ≡ turned (evolve n p))
 
--- a driven evolution that is turned with its injections is the one driven, turned; a list of injections is turned one by one
+-- a driven evolution that is turned with its injections is the one driven, turned; a list of
+-- injections is turned one by one
 pub record DrivesTurned : Type 0 where
-  pub turns : (due : Due) (p : Plane) (g : ℕ) → driven (due_turned due) (turned p) g ≡ turned (driven due p g)
-  pub lists : (injections : List Injection) → due_of_list (map injection_turned injections) ≡ due_turned (due_of_list injections)
+  pub turns : (due : Due) (p : Plane) (g : ℕ)
+    → driven (due_turned due) (turned p) g ≡ turned (driven due p g)
+  pub lists : (injections : List Injection)
+    → due_of_list (map injection_turned injections) ≡ due_turned (due_of_list injections)

@@ -1,11 +1,13 @@
--- Wireworld, as Brian Silverman defined it: an empty cell stays empty; a head becomes a tail; a tail becomes a
--- conductor; a conductor becomes a head exactly when one or two of its eight neighbours are heads, else it stays one.
+-- Wireworld, as Brian Silverman defined it: an empty cell stays empty; a head becomes a tail; a
+-- tail becomes a conductor; a conductor becomes a head exactly when one or two of its eight
+-- neighbours are heads, else it stays one.
 use Rattle.std.specs.Prelude.{ℤ, pos, ◌+ℤ◌, ◌-ℤ◌, ℕ, zero, suc, ◌+◌, ◌||◌, ◌==◌, cond, Bool, true, false}
 use Rattle.ww_rule.specs.declared.pattern.State.{State}
 use Rattle.ww_rule.specs.declared.pattern.State.TheVariants.{Empty, Head, Tail, Conductor}
 
--- A state for every pair of integers: x goes east, y goes down. It may have infinitely many cells that are not empty; a plane that
--- begins with finitely many keeps finitely many, under the rule and under lists of injections (`StaysFinite`).
+-- A state for every pair of integers: x goes east, y goes down. It may have infinitely many cells
+-- that are not empty; a plane that begins with finitely many keeps finitely many, under the rule
+-- and under lists of injections (`StaysFinite`).
 abbrev pub Plane : Type 0
 Plane = ℤ → ℤ → State
 

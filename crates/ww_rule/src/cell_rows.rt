@@ -15,8 +15,8 @@ use std::marker::Model;
 // The most rows that are kept, of any length.
 const MOST_ROWS: usize = 0x7fff_ffff_ffff_ffff;
 
-/// Rows of cells, all of one length, from north to south. Contracts see them as a list of rows; in memory they are one
-/// vector, with a byte for each cell.
+/// Rows of cells, all of one length, from north to south. Contracts see them as a list of rows; in
+/// memory they are one vector, with a byte for each cell.
 #[derive(Drop)]
 pub struct CellRows {
     width: usize,
@@ -170,8 +170,8 @@ impl CellRows {
         if y < self.len() { self.row(y) } else { &[] }
     }
 
-    /// One more row below the others, as long as they are. Where memory is refused, or there are as many rows as can be
-    /// kept, the rows stay as they were.
+    /// One more row below the others, as long as they are. Where memory is refused, or there are as
+    /// many rows as can be kept, the rows stay as they were.
     pub fn push_row(&mut self, row: &[State]) -> Result<(), AllocError>
         requires { All (λ other. length other ≡ length row.now) self.old }
         ensures pushed { IfOk result (λ _. self.new ≡ self.old ++ row.now ∷ []) }
@@ -204,7 +204,8 @@ impl CellRows {
         put_in(&mut self.cells, self.width, x, y, state);
     }
 
-    /// The columns of the rows, from west to east, as rows. Rows of one cell each are turned with no memory.
+    /// The columns of the rows, from west to east, as rows. Rows of one cell each are turned with
+    /// no memory.
     pub fn turned(self, alloc: Global) -> Result<CellRows, AllocError>
         ensures many { IfOk result (λ made. length made ≡ length (list_at self 0)) }
         ensures long { IfOk result (λ made. All (λ row. length row ≡ length self) made) }

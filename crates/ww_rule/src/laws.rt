@@ -37,13 +37,14 @@ pub fn is_undriven_evolution()
     ensures { IsUndrivenEvolution }
 {}
 
-/// A cell's next state depends on the cells at distance 1 alone, and its state after n generations on those within
-/// distance n.
+/// A cell's next state depends on the cells at distance 1 alone, and its state after n generations
+/// on those within distance n.
 pub fn is_local()
     ensures { IsLocal }
 {}
 
-/// Cells outside a pattern's box stay empty for ever, under the rule and under injections inside the box.
+/// Cells outside a pattern's box stay empty for ever, under the rule and under injections inside
+/// the box.
 pub fn stays_in_box()
     ensures { StaysInBox }
 {}
@@ -53,13 +54,14 @@ pub fn stays_finite()
     ensures { StaysFinite }
 {}
 
-/// Streams inject at generation cycle * period, at the cell of each input whose bit is 1 in that cycle, and
-/// nowhere else.
+/// Streams inject at generation cycle * period, at the cell of each input whose bit is 1 in that
+/// cycle, and nowhere else.
 pub fn streams_are_injected()
     ensures { StreamsAreInjected }
 {}
 
-/// A driven evolution commutes with translations and mirrors, where its injections are moved and mirrored with it.
+/// A driven evolution commutes with translations and mirrors, where its injections are moved and
+/// mirrored with it.
 pub fn drives_anywhere()
     ensures { DrivesAnywhere }
 {}
@@ -69,29 +71,34 @@ pub fn is_causal()
     ensures { IsCausal }
 {}
 
-/// A driven cell's state at generation n depends on the cells and the injections within distance n alone.
+/// A driven cell's state at generation n depends on the cells and the injections within distance n
+/// alone.
 pub fn is_driven_locally()
     ensures { IsDrivenLocally }
 {}
 
-/// `Plane::inject` and then `step_driven`, generation by generation, are the evolution driven by a list.
+/// `Plane::inject` and then `step_driven`, generation by generation, are the evolution driven by a
+/// list.
 pub fn steps_with_injections()
     ensures { (injections : List Injection) (p : Plane) → StepsWithInjections injections p }
 {}
 
-/// A list makes due its injections alone; neither their order nor repetition changes what it drives.
+/// A list makes due its injections alone; neither their order nor repetition changes what it
+/// drives.
 pub fn lists_are_injected()
     ensures { ListsAreInjected }
 {}
 
-/// Contexts inject 32 generations after each other: at generation 32 * context + cycle * period, at the cell of each input
-/// whose bit is 1 in that cycle of that context, and nowhere else. A list with these members injects the same, rows of 0 bits
-/// at the end of each context inject nothing, and one context injects what streams do.
+/// Contexts inject 32 generations after each other: at generation 32 * context + cycle * period, at
+/// the cell of each input whose bit is 1 in that cycle of that context, and nowhere else. A list
+/// with these members injects the same, rows of 0 bits at the end of each context inject nothing,
+/// and one context injects what streams do.
 pub fn contexts_are_injected()
     ensures { ContextsAreInjected }
 {}
 
-/// Rows of bits behind others change nothing before their own cycles, and rows of 0 bits nothing at all.
+/// Rows of bits behind others change nothing before their own cycles, and rows of 0 bits nothing at
+/// all.
 pub fn streams_go_on()
     ensures { (period : ℕ) (cells : List (ℕ × ℕ)) (rows later : List (List Bool))
         → StreamsGoOn period cells rows later }

@@ -12,7 +12,8 @@ pub enum State {
 
 ghost use Rattle.ww_rule.specs.Grid.{IsGrid};
 
-/// A box of cells: `height` rows of `width` cells each, from north to south, and no rows where the box has no cells.
+/// A box of cells: `height` rows of `width` cells each, from north to south, and no rows where the
+/// box has no cells.
 #[derive(Drop)]
 pub struct Pattern {
     pub width: u64,
@@ -21,8 +22,8 @@ pub struct Pattern {
     ghost in_rows: { IsGrid width height rows },
 }
 
-/// A cell that is made a head from outside, at a generation: its column x is counted from the west and its row y from
-/// the north, each from 0.
+/// A cell that is made a head from outside, at a generation: its column x is counted from the west
+/// and its row y from the north, each from 0.
 #[derive(Clone, Copy)]
 pub struct Injection {
     pub generation: u128,

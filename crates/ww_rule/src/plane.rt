@@ -10,8 +10,9 @@ use crate::pattern::{Pattern, State};
 use crate::rows::{next_row, row_before};
 use std::alloc::Global;
 
-/// A plane with finitely many cells: `height` rows of `width` cells each, from north to south, the first cell at x = 0
-/// and y = 0, and no rows where the box has no cells. All cells outside the box are empty.
+/// A plane with finitely many cells: `height` rows of `width` cells each, from north to south, the
+/// first cell at x = 0 and y = 0, and no rows where the box has no cells. All cells outside the box
+/// are empty.
 #[derive(Drop)]
 pub struct Plane {
     pub width: u64,
@@ -35,8 +36,8 @@ impl Plane {
         })
     }
 
-    /// The plane with these cells (x, y) of its box made heads, whatever they held: a pattern's generation 0, when it is
-    /// driven.
+    /// The plane with these cells (x, y) of its box made heads, whatever they held: a pattern's
+    /// generation 0, when it is driven.
     pub fn inject(self, injections: &[(u64, u64)]) -> Plane
         requires in_box { AreInBox self.width self.height injections.now }
         ensures width { result.width ≡ self.width }
@@ -75,8 +76,9 @@ impl From<Pattern> for Plane {
     }
 }
 
-/// The next generation of a plane by Silverman's rule: an empty cell stays empty; a head becomes a tail; a tail becomes
-/// a conductor; a conductor becomes a head exactly when one or two of its eight neighbours are heads.
+/// The next generation of a plane by Silverman's rule: an empty cell stays empty; a head becomes a
+/// tail; a tail becomes a conductor; a conductor becomes a head exactly when one or two of its
+/// eight neighbours are heads.
 pub fn step_plain(alloc: Global, plane: &Plane) -> Result<Plane, RuleError>
     ensures width { IfOk result (λ next. next.width ≡ plane.now.width) }
     ensures height { IfOk result (λ next. next.height ≡ plane.now.height) }
@@ -98,7 +100,8 @@ pub fn step_plain(alloc: Global, plane: &Plane) -> Result<Plane, RuleError>
     })
 }
 
-/// The next generation of a plane, in which these cells (x, y) of its box are then made heads, whatever they hold.
+/// The next generation of a plane, in which these cells (x, y) of its box are then made heads,
+/// whatever they hold.
 pub fn step_driven(
     alloc: Global,
     plane: &Plane,

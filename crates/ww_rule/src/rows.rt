@@ -12,7 +12,8 @@ use lists::List;
 use std::alloc::Global;
 
 impl State {
-    /// What a cell becomes, by its state and the number of its eight neighbours that are heads (Silverman's rule).
+    /// What a cell becomes, by its state and the number of its eight neighbours that are heads
+    /// (Silverman's rule).
     pub fn next(self, heads: usize) -> State
         ensures { result ≡ next_state self heads }
     {

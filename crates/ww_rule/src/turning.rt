@@ -40,7 +40,8 @@ pub fn columns_of(alloc: Global, rows: &CellRows) -> Result<CellRows, AllocError
 }
 
 impl Injection {
-    /// The injection of the same generation at the cell whose column is this one's row, and whose row is its column.
+    /// The injection of the same generation at the cell whose column is this one's row, and whose
+    /// row is its column.
     pub fn turned(self) -> Injection
         ensures { result ≡ injection_turned self }
     {
@@ -53,7 +54,8 @@ impl Injection {
 }
 
 impl Pattern {
-    /// The pattern with its columns, from west to east, as rows. One column is turned with no memory.
+    /// The pattern with its columns, from west to east, as rows. One column is turned with no
+    /// memory.
     pub fn turned(self, alloc: Global) -> Result<Pattern, AllocError>
         ensures width { IfOk result (λ made. made.width ≡ self.height) }
         ensures height { IfOk result (λ made. made.height ≡ self.width) }

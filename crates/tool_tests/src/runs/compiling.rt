@@ -296,7 +296,8 @@ fn these_write_what_compile_writes(rt: HostRuntime) -> Result<(), Fail> {
     expect_same(rt.alloc(), "tape --cycles 4")
 }
 
-// A netlist by its first line and its text, a number of cycles and streams, and nets, each with its path and what is printed of it.
+// A netlist by its first line and its text, a number of cycles and streams, and nets, each with its
+// path and what is printed of it.
 struct NetCase {
     model: &'static str,
     text: &'static str,
@@ -414,7 +415,8 @@ fn cut(row: &'static str) -> Option<((&'static str, &'static str), &'static str)
     Some(((net, path), line))
 }
 
-// Fails where a net shows something else in the netlist's pattern, or `eval` prints something else of it, as far as the main model has it.
+// Fails where a net shows something else in the netlist's pattern, or `eval` prints something else
+// of it, as far as the main model has it.
 fn expect_net(
     alloc: Global,
     case: &NetCase,

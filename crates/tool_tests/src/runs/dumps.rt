@@ -72,7 +72,8 @@ x = 3, y = 1, rule = WireWorld
 H3 CellOutside line 2
 ";
 
-/// Over the gate's pattern. The first line of the block of cycle 1 is that of the input that changes.
+/// Over the gate's pattern. The first line of the block of cycle 1 is that of the input that
+/// changes.
 pub const OF_THE_GATE: &str = "
 > vcd --cycles 2 a=01 b=00 -- all nets are dumped
 == 0

@@ -20,7 +20,8 @@ const MADE: &str =
 const TOLD: &str =
     "weight 22\nlanes ...\nsim g1=1011\neval g1=1011\nsim q0=0111\neval q0=0111\nsim q1=1001\neval q1=1001\n";
 
-// A command, a text, the calls of the source that fail, the rooms of the sinks, the status, and what is written and told.
+// A command, a text, the calls of the source that fail, the rooms of the sinks, the status, and
+// what is written and told.
 type Run = (
     &'static str,
     &'static str,
@@ -161,7 +162,8 @@ fn each_command_tells_what_failed(rt: HostRuntime) -> Result<(), Fail> {
     Ok(())
 }
 
-// Fails where `compile` over the gate, read byte by byte with a call that fails, is not refused, or where it is though no call does.
+// Fails where `compile` over the gate, read byte by byte with a call that fails, is not refused, or
+// where it is though no call does.
 fn expect_read(alloc: Global, call: u64) -> Result<(), Fail> {
     let got = run_over(alloc, "compile", GATE.as_bytes(), (1, &[call]), (321, 99))?;
     // The text has 61 bytes, and one read more finds its end.
@@ -216,7 +218,8 @@ const CALLS: &[u64] = &[0, 1, 2, 3, 4, 5, 6, 7, 8, 9, 10, 11, 12];
 // The status, how often `out` and `err` failed, and the lengths of what they hold.
 type Counts = (u8, u64, u64, usize, usize);
 
-// What a run comes to over a source. Each call of `out` from a number on fails, and so does each one of `err` from another.
+// What a run comes to over a source. Each call of `out` from a number on fails, and so does each
+// one of `err` from another.
 fn counts_of(
     alloc: Global,
     words: &[String],

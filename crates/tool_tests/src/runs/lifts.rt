@@ -176,7 +176,8 @@ x = 33, y = 32, rule = WireWorld
 5C26.C!
 ";
 
-// Lines of it, what stands in the place of each, and what is lifted: of no drawing nothing, and ports keep their names.
+// Lines of it, what stands in the place of each, and what is lifted: of no drawing nothing, and
+// ports keep their names.
 const GATE_CHANGES: &str = "
 > #C BLIFWW 2 P 32 L 32 C 1
 #C BLIFWW 2 P 32 L 33 C 1

@@ -1,10 +1,12 @@
-// Texts that say the same again and again: models inside models, and weights near the limit and far beyond it.
+// Texts that say the same again and again: models inside models, and weights near the limit and far
+// beyond it.
 use crate::runs::run_over;
 use itoa::Buffer;
 use std::alloc::{AllocError, Global};
 use std::test::Fail;
 
-// What a text says: how it begins, what it repeats, parts each with its number, counted from 0, and the rest, and how it ends.
+// What a text says: how it begins, what it repeats, parts each with its number, counted from 0, and
+// the rest, and how it ends.
 struct Repeating {
     begin: &'static [u8],
     numbered: &'static [&'static [u8]],
