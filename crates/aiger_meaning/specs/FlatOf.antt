@@ -36,7 +36,7 @@ buffer lit = lit ∷ []
 abbrev pub node_reads : Aig → List (List ℕ)
 node_reads aig =
     map sides_of aig.ands ++ map buffer
-      (map (λ (latch : AigLatch). latch.next) aig.latches ++ aig.outputs)
+    (map (λ (latch : AigLatch). latch.next) aig.latches ++ aig.outputs)
 
 -- the character of a row under which a literal's net stands
 abbrev pub row_character : ℕ → ℕ
@@ -45,8 +45,13 @@ row_character lit = cond (lit % 2 == 0) 49 48
 -- a node that is 1 where all these literals are
 abbrev pub node_of : Aig → List ℕ → ℕ → Node
 node_of aig lits out =
-    record { line = 0; ins = map (λ lit. net_id (net_of_literal aig lit)) lits; out = net_id out;
-      rows = map row_character lits ∷ []; on = true }
+    record {
+      line = 0;
+      ins = map (λ lit. net_id (net_of_literal aig lit)) lits;
+      out = net_id out;
+      rows = map row_character lits ∷ [];
+      on = true;
+    }
 
 abbrev pub nodes_from : Aig → ℕ → List (List ℕ) → List Node
 nodes_from aig n [] = []
@@ -91,7 +96,7 @@ ports_from net count = map port_at (range_with_len net count)
 abbrev pub net_names : Aig → List Name
 net_names aig =
     [] ∷ (input_names aig ++ (replicate
-      (length aig.latches + length aig.ands + length aig.latches) [] ++ output_names aig))
+    (length aig.latches + length aig.ands + length aig.latches) [] ++ output_names aig))
 
 abbrev pub nets_from : ℕ → List Name → List FlatNet
 nets_from n [] = []

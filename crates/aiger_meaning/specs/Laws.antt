@@ -20,9 +20,9 @@ literal_of_net aig net = get_or (own_literals aig) net 0
 
 pub record HasSameLoops (aig : Aig) (flat : Flat) : Type 0 where
   pub of_flat : (classes : List ℕ) → IsFlatLoop flat classes
-    → IsAigLoop aig (map (literal_of_net aig) classes)
+      → IsAigLoop aig (map (literal_of_net aig) classes)
   pub is_flat : (lits : List ℕ) → IsAigLoop aig lits
-    → IsFlatLoop flat (map (net_of_literal aig) lits)
+      → IsFlatLoop flat (map (net_of_literal aig) lits)
 
 abbrev pub LoopsOfAigsAreFlat : Type 0
 LoopsOfAigsAreFlat =

@@ -29,6 +29,6 @@ pub record IsLowered (aig : Aig) (flat : Flat) : Type 0 where
       → (class_bits : ℕ → Bool) × IsFlatValuation flat inputs state class_bits
       × AreSameCycle aig flat bits class_bits
   pub of_flat : (inputs state : List Bool) (class_bits : ℕ → Bool)
-    → IsFlatValuation flat inputs state class_bits
+      → IsFlatValuation flat inputs state class_bits
       → (bits : ℕ → Bool) × IsAigValuation aig inputs state bits
       × AreSameCycle aig flat bits class_bits

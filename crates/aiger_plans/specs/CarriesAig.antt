@@ -21,11 +21,11 @@ pub record NamesAig (ports : Ports) (aig : Aig) : Type 0 where
 -- them, and in every such run each output cell shows the output's bits
 pub record ShowsAigRuns (plane : Plane) (ports : Ports) (aig : Aig) : Type 0 where
   pub conductors : (rows : List (List Bool)) → AreAigRows aig rows
-    → MeetsConductors (drive ports rows) plane
+      → MeetsConductors (drive ports rows) plane
   pub runs : (rows : List (List Bool)) → AreAigRows aig rows
-    → (run : ℕ → ℕ → Bool) × IsAigRun aig rows run
+      → (run : ℕ → ℕ → Bool) × IsAigRun aig rows run
   pub heads : (rows : List (List Bool)) → AreAigRows aig rows → (run : ℕ → ℕ → Bool)
-    → IsAigRun aig rows run
+      → IsAigRun aig rows run
       → ShowsOutputs plane ports rows (λ t. aig_output_bit aig (run t))
 
 -- A text carries a circuit: it spells a pattern and a port table of one context, the table's names

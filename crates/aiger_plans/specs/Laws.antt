@@ -24,12 +24,12 @@ pub record ShowsAigCycles {text : List ℕ} {aig : Aig} (c : CarriesAig text aig
   -- the cell of an output is a head at generation L + t P, for each cycle t, exactly when the
   -- output's bit is 1 in the cycle
   pub bits : (output : ℕ) (cell : PortLine) → slice_get c.ports.outs output ≡ Some cell → (t : ℕ)
-    → t < length rows
+      → t < length rows
       → (driven (drive c.ports rows) (plane_of c.grid.rows) (c.ports.l + t * c.ports.p) (pos cell.x)
-        (pos cell.y) ≡ Head) ↔ (aig_output_bit aig (run t) output ≡ true)
+      (pos cell.y) ≡ Head) ↔ (aig_output_bit aig (run t) output ≡ true)
   -- and it is no head below generation L
   pub dark : (output : ℕ) (cell : PortLine) → slice_get c.ports.outs output ≡ Some cell → (g : ℕ)
-    → g < c.ports.l
+      → g < c.ports.l
       → driven (drive c.ports rows) (plane_of c.grid.rows) g (pos cell.x) (pos cell.y) ≢ Head
 
 -- a text that carries a circuit shows each cycle of each run

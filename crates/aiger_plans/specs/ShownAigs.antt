@@ -21,7 +21,7 @@ pub record ShowsEachAigRun {text : List ℕ} {aig : Aig} (c : CarriesAig text ai
   pub run : ℕ → ℕ → Bool
   pub is_run : IsAigRun aig (rows_of streams) run
   pub shown : (other : ℕ → ℕ → Bool) → IsAigRun aig (rows_of streams) other
-    → shown_bits c.ports streams (plane_of c.grid.rows)
+      → shown_bits c.ports streams (plane_of c.grid.rows)
       ≡ map (aig_bits_in_run other streams.cycles) aig.outputs
 
 abbrev pub CarriersShowAigRuns : Type 0

@@ -19,4 +19,4 @@ is_earlier names i name (Some k) = nat_lt k i && bytes_eq (get_or names k []) na
 abbrev pub KnowsEarlier : List (List ℕ) → ℕ → BTreeSet (Bor (List ℕ)) → Type 0
 KnowsEarlier names i seen =
     (name : List ℕ) → is_among name (take i names)
-      ≡ (holds_name seen name || is_earlier names i name (number_of_name name))
+    ≡ (holds_name seen name || is_earlier names i name (number_of_name name))

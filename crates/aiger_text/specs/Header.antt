@@ -46,7 +46,7 @@ abbrev pub is_unsupported : List ℕ → Bool
 is_unsupported bytes =
     bytes_eq (leading_field bytes) (codes "aig")
     || (bytes_eq (leading_field bytes) (codes "aag") && nat_lt 5 (length (later_fields bytes))
-        && list_all is_number (later_fields bytes))
+    && list_all is_number (later_fields bytes))
 
 -- what is wrong in bytes that are no header
 abbrev pub header_fault : List ℕ → AigFaultKind

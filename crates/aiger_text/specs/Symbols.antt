@@ -87,4 +87,4 @@ abbrev pub symbol_faults_after : Counts → List Symbol → List SymbolLine → 
 symbol_faults_after c before [] = []
 symbol_faults_after c before (line ∷ lines) =
     cons_option (option_map (aig_fault_on line.number) (symbol_fault c before line.symbol))
-        (symbol_faults_after c (before ++ option_to_list line.symbol) lines)
+    (symbol_faults_after c (before ++ option_to_list line.symbol) lines)

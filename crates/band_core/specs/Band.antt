@@ -45,7 +45,7 @@ pub record IsBand (words y many : ℕ) (band : Band) : Type 0 where
 abbrev pub AreDueIn : List Injection → Due → (y many : ℕ) → Type 0
 AreDueIn injections due y many =
     (g x k : ℕ) → k < many → due_of_list injections g (pos x) (pos y +ℤ pos k) ≡ due g (pos x)
-      (pos y +ℤ pos k)
+    (pos y +ℤ pos k)
 
 -- It shows an evolution from row y on: its rows the cells at its generation, and the kept rows the
 -- heads of the top and the bottom row one generation ago; the injections that are left are those of
@@ -54,7 +54,7 @@ pub record ShowsBand (e : ℕ → Plane) (due : Due) (y many : ℕ) (band : Band
   pub rows : ShowRows band.rows.items (e band.generation) (pos y)
   pub top : (g : ℕ) → band.generation ≡ g + 1 → ShowsHeads band.top.heads.items (e g) (pos y)
   pub bottom : (g : ℕ) → band.generation ≡ g + 1
-    → ShowsHeads band.bottom.heads.items (e g) (pos y +ℤ pos (many - 1))
+      → ShowsHeads band.bottom.heads.items (e g) (pos y +ℤ pos (many - 1))
   pub own : AreDueIn band.injections.items due y many
   pub left : AreLeftAt (band.generation + 1) band.injections.items
       (drop band.done band.injections.items)
@@ -72,7 +72,7 @@ top_at g band = if band.generation == g then row_heads band.rows.items 0 else ba
 pub record AreBands (words height rows : ℕ) (bands : List Band) : Type 0 where
   pub many : length bands ≡ bands_in rows height
   pub each : (b : ℕ) (d : Band) → b < length bands
-    → IsBand words (b * height) (min height (rows - b * height)) (get_or bands b d)
+      → IsBand words (b * height) (min height (rows - b * height)) (get_or bands b d)
 
 -- which show an evolution, each at its own generation
 abbrev pub AllShow : (e : ℕ → Plane) (due : Due) (height rows : ℕ) → List Band → Type 0
@@ -94,9 +94,9 @@ rows_in_band height rows b = min height (rows - b * height)
 -- a head or a tail of rows from row y on
 pub data IsLitIn (rows : List Row) (y x z : ℕ) : Type 0 where
   head : (k : ℕ) → k < length rows → z ≡ y + k → is_set (row_heads rows k) x ≡ true
-    → IsLitIn rows y x z
+      → IsLitIn rows y x z
   tail : (k : ℕ) → k < length rows → z ≡ y + k → is_set (row_tails rows k) x ≡ true
-    → IsLitIn rows y x z
+      → IsLitIn rows y x z
 
 -- no bit is set in any of them; above the first row of all there is none to be asked for
 pub record AreUnlit (rows : List Row) (y : ℕ) (up down : List ℕ) : Type 0 where
@@ -118,7 +118,7 @@ pub record IsNextDue (band : Band) (x y : ℕ) : Type 0 where
 abbrev pub AreShown : List (List State) → List Row → Type 0
 AreShown cells rows =
     (k x : ℕ) → k < length rows → row_state (row_heads rows k) (row_tails rows k)
-      (row_wires rows k) x ≡ get_or (get_or cells k []) x Empty
+    (row_wires rows k) x ≡ get_or (get_or cells k []) x Empty
 
 -- In rows from row y on nothing can change: they have no head and follow the rule as they are, no
 -- head lies beside them, and no injection is due in them next.

@@ -36,8 +36,12 @@ pub record IsBandedPattern (pattern : BandedPattern) : Type 0 where
 -- all bands at generation 0
 abbrev pub begun : Grid → List Injection → ℕ → BandedPattern
 begun grid injections height =
-    record { grid = grid; injections = injections; height = height;
-        generations = replicate (bands_in (length grid.rows) height) 0 }
+    record {
+      grid = grid;
+      injections = injections;
+      height = height;
+      generations = replicate (bands_in (length grid.rows) height) 0;
+    }
 
 -- how many generations a band has come
 abbrev pub generation_of : BandedPattern → ℕ → ℕ
@@ -47,7 +51,7 @@ generation_of pattern b = get_or pattern.generations b 0
 abbrev pub band_at : BandedPattern → ℕ → ℕ → ℕ → State
 band_at pattern b x y =
     driven (due_of_list pattern.injections) (plane_of pattern.grid.rows) (generation_of pattern b)
-      (pos x) (pos y)
+    (pos x) (pos y)
 
 -- one band has moved on by one generation
 abbrev pub moved_on : ℕ → BandedPattern → BandedPattern
@@ -81,7 +85,7 @@ not_ready generations b neighbour =
     let own = get_or generations b 0 in
     let other = get_or generations neighbour 0 in
     if other == own || other == own + 1 then None
-      else Some (record { neighbour = neighbour; generation = other })
+    else Some (record { neighbour = neighbour; generation = other })
 
 abbrev pub upper_not_ready : List ℕ → ℕ → Option NotReady
 upper_not_ready generations zero = None

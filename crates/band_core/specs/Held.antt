@@ -12,8 +12,12 @@ use Rattle.band_core.specs.Band.{AreBands, AllShow, generations_of}
 
 abbrev pub held_pattern : Inside → BandedPattern
 held_pattern held =
-    record { grid = grid_of held.pattern; injections = held.injections.items; height = held.height;
-      generations = generations_of held.bands.items }
+    record {
+      grid = grid_of held.pattern;
+      injections = held.injections.items;
+      height = held.height;
+      generations = generations_of held.bands.items;
+    }
 
 pub record IsHeld (held : Inside) : Type 0 where
   pub inside : AreInside held.pattern.width held.pattern.height held.injections.items

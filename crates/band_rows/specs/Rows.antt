@@ -37,7 +37,7 @@ IsEmptyWest p = (x : ℕ) (y : ℤ) → p (negsuc x) y ≡ Empty
 abbrev pub ShowRows : List Row → Plane → ℤ → Type 0
 ShowRows rows p y =
     (k : ℕ) → k < length rows → Shows (row_heads rows k) (row_tails rows k) (row_wires rows k) p
-      (y +ℤ pos k)
+    (y +ℤ pos k)
 
 -- all rows are of a length
 abbrev pub AreLong : ℕ → List Row → Type 0

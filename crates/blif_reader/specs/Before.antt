@@ -63,7 +63,7 @@ inputs_of_cover directive = option_map_or number_of_inputs directive 0
 abbrev pub bad_row_word : Option Logical → Logical → Option (List ℕ)
 bad_row_word directive l =
     then_some (is_row l && is_cover directive
-      && not (is_row_of (inputs_of_cover directive) l.words)) (first_word l)
+    && not (is_row_of (inputs_of_cover directive) l.words)) (first_word l)
 
 abbrev pub differs_from_first : Option Logical → Logical → Bool
 differs_from_first row l = option_map_or (differs_from l) row false

@@ -26,11 +26,11 @@ pub record HasModels (lines : List Logical) (models : List Model) : Type 0 where
 -- is that of the earliest line that breaks a rule, or that of their models.
 pub data HasFault : List Logical → Fault → Type 0 where
   of_no_line : {lines : List Logical} {fault : Fault} → fault_if_empty lines ≡ Some fault
-    → HasFault lines fault
+      → HasFault lines fault
   of_line : {lines : List Logical} {fault : Fault} → line_fault lines ≡ Some fault
-    → HasFault lines fault
+      → HasFault lines fault
   of_models : {lines : List Logical} {models : List Model} {fault : Fault} → HasModels lines models
-    → HasModelFault models fault → HasFault lines fault
+      → HasModelFault models fault → HasFault lines fault
 
 -- The design of a text: its lines break no rule on lines, their models none on models, and the
 -- models are the design's. Whether it breaks a rule on clocks is another question.

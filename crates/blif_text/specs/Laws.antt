@@ -29,9 +29,9 @@ pub record IsFirstLineFault (lines : List Logical) (fault : Fault) : Type 0 wher
   pub at_its_line : fault.line ≡ line.line
   pub breaks : word_at_fault fault.kind (reverse before) line ≡ Some fault.word
   pub is_lowest : (kind : FaultKind) → number_of kind < number_of fault.kind
-    → word_at_fault kind (reverse before) line ≡ None
+      → word_at_fault kind (reverse before) line ≡ None
   pub is_earliest : (front : List Logical) (earlier : Logical) (back : List Logical)
-    → before ≡ front ++ earlier ∷ back → BreaksNone (reverse front) earlier
+      → before ≡ front ++ earlier ∷ back → BreaksNone (reverse front) earlier
 
 -- The fault of the lines by a rule on lines is that of the earliest line which breaks one over the
 -- lines before it, by the rule of the lowest number.
@@ -45,7 +45,7 @@ abbrev pub NoLineFault : Type 0
 NoLineFault =
     (lines : List Logical) → (line_fault lines ≡ None)
     ↔ ((before : List Logical) (line : Logical) (after : List Logical)
-      → lines ≡ before ++ line ∷ after → BreaksNone (reverse before) line)
+    → lines ≡ before ++ line ∷ after → BreaksNone (reverse before) line)
 
 -- Two faults of the same lines are of one kind, at one line, and the same, but that one line may
 -- lie on several circles.
@@ -85,37 +85,37 @@ LinesAreKnown = (text : List ℕ) → physical_lines text ≡ lines text
 pub record LinesAreJoined : Type 0 where
   pub of_nothing : physical_lines [] ≡ []
   pub at_the_end : (line : List ℕ) → line ≢ [] → list_any is_newline line ≡ false
-    → physical_lines line ≡ line ∷ []
+      → physical_lines line ≡ line ∷ []
   pub before_newline : (line rest : List ℕ) → list_any is_newline line ≡ false
-    → get_or line (length line - 1) 0 ≢ 13
-    → physical_lines (line ++ 10 ∷ rest) ≡ line ∷ physical_lines rest
+      → get_or line (length line - 1) 0 ≢ 13
+      → physical_lines (line ++ 10 ∷ rest) ≡ line ∷ physical_lines rest
   pub before_return : (line rest : List ℕ) → list_any is_newline line ≡ false
-    → physical_lines (line ++ 13 ∷ 10 ∷ rest) ≡ line ∷ physical_lines rest
+      → physical_lines (line ++ 13 ∷ 10 ∷ rest) ≡ line ∷ physical_lines rest
   pub before_comment : (front comment : List ℕ) → list_any is_hash front ≡ false
-    → without_comment (front ++ 35 ∷ comment) ≡ front
+      → without_comment (front ++ 35 ∷ comment) ≡ front
   pub no_comment : (line : List ℕ) → list_any is_hash line ≡ false → without_comment line ≡ line
   pub continued : (front blanks : List ℕ) → list_all is_space blanks ≡ true
-    → before_backslash (front ++ 92 ∷ blanks) ≡ Some front
+      → before_backslash (front ++ 92 ∷ blanks) ≡ Some front
   pub ended : (front : List ℕ) (byte : ℕ) (blanks : List ℕ) → byte ≢ 92 → is_space byte ≡ false
-    → list_all is_space blanks ≡ true → before_backslash (front ++ byte ∷ blanks) ≡ None
+      → list_all is_space blanks ≡ true → before_backslash (front ++ byte ∷ blanks) ≡ None
   pub blank : (blanks : List ℕ) → list_all is_space blanks ≡ true → before_backslash blanks ≡ None
   pub alone : (n : ℕ) (line : List ℕ) (later : List (List ℕ))
-    → before_backslash (without_comment line) ≡ None
-    → joined_lines n (line ∷ later) ≡ joined_line n (without_comment line)
-    ∷ joined_lines (n + 1) later
+      → before_backslash (without_comment line) ≡ None
+      → joined_lines n (line ∷ later) ≡ joined_line n (without_comment line)
+      ∷ joined_lines (n + 1) later
   pub joined : (n : ℕ) (line front next : List ℕ) (later : List (List ℕ)) (m : ℕ) (bytes : List ℕ)
-    (others : List JoinedLine) → before_backslash (without_comment line) ≡ Some front
-    → joined_lines (n + 1) (next ∷ later) ≡ joined_line m bytes ∷ others
-    → joined_lines n (line ∷ next ∷ later) ≡ joined_line n (front ++ bytes) ∷ others
+      (others : List JoinedLine) → before_backslash (without_comment line) ≡ Some front
+      → joined_lines (n + 1) (next ∷ later) ≡ joined_line m bytes ∷ others
+      → joined_lines n (line ∷ next ∷ later) ≡ joined_line n (front ++ bytes) ∷ others
   pub joined_to_nothing : (n : ℕ) (line front : List ℕ)
-    → before_backslash (without_comment line) ≡ Some front
-    → joined_lines n (line ∷ []) ≡ joined_line n front ∷ []
+      → before_backslash (without_comment line) ≡ Some front
+      → joined_lines n (line ∷ []) ≡ joined_line n front ∷ []
 
 -- Each logical line has a word, and each word has a byte and no blank.
 abbrev pub HasWords : Logical → Type 0
 HasWords l =
     (l.words ≢ []) × AllByRecursion (λ (word : List ℕ). (word ≢ [])
-      × (list_any is_space word ≡ false)) l.words
+    × (list_any is_space word ≡ false)) l.words
 
 -- The numbers of the lines rise, from at least this one on.
 abbrev pub Rises : ℕ → List Logical → Type 0
@@ -126,7 +126,7 @@ Rises least (l ∷ lines) = (least ≤ l.line) × Rises (l.line + 1) lines
 abbrev pub NumbersAreBounded : Type 0
 NumbersAreBounded =
     (text : List ℕ) → AllByRecursion (λ (l : Logical). l.line ≤ length (physical_lines text))
-      (logical_lines text)
+    (logical_lines text)
 
 -- Each logical line has a word, each word has a byte and no blank, and the numbers of the lines
 -- rise from 1 on.
@@ -138,12 +138,12 @@ LinesHaveWords =
 -- one word, and a blank belongs to none.
 pub record WordsAreRuns : Type 0 where
   pub before_blank : (word : List ℕ) (blank : ℕ) (rest : List ℕ) → word ≢ []
-    → list_any is_space word ≡ false → is_space blank ≡ true
-    → words_of (word ++ blank ∷ rest) ≡ word ∷ words_of rest
+      → list_any is_space word ≡ false → is_space blank ≡ true
+      → words_of (word ++ blank ∷ rest) ≡ word ∷ words_of rest
   pub at_the_end : (word : List ℕ) → word ≢ [] → list_any is_space word ≡ false
-    → words_of word ≡ word ∷ []
+      → words_of word ≡ word ∷ []
   pub after_blank : (blank : ℕ) (rest : List ℕ) → is_space blank ≡ true
-    → words_of (blank ∷ rest) ≡ words_of rest
+      → words_of (blank ∷ rest) ≡ words_of rest
   pub of_nothing : words_of [] ≡ []
 
 -- What a design without a fault has: models of distinct names, pins of distinct formals, no model

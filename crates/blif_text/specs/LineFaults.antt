@@ -67,7 +67,7 @@ left_out_type _ = None
 abbrev pub unsupported : Logical → Option (List ℕ)
 unsupported l =
     option_or (then_some (is_among (first_word l) left_out) (first_word l))
-      (cond (has_directive (codes ".latch") l) (left_out_type (operands l)) None)
+    (cond (has_directive (codes ".latch") l) (left_out_type (operands l)) None)
 
 -- 4: `.model` has not one operand, `.end` has any, `.names` or `.subckt` has none
 abbrev pub has_bad_count : Logical → Bool
@@ -75,7 +75,7 @@ has_bad_count l =
     (begins_model l && not (length (operands l) == 1))
     || (has_directive (codes ".end") l && not (length (operands l) == 0))
     || ((has_directive (codes ".names") l || has_directive (codes ".subckt") l)
-      && length (operands l) == 0)
+    && length (operands l) == 0)
 
 -- 5: a row where the last directive is not `.names`
 abbrev pub last_directive : List Logical → Option Logical
@@ -138,7 +138,7 @@ is_end_or_model l = has_directive (codes ".end") l || begins_model l
 abbrev pub follows_end : List Logical → Logical → Bool
 follows_end before l =
     not (begins_model l) && option_map_or (has_directive (codes ".end"))
-      (find is_end_or_model before) false
+    (find is_end_or_model before) false
 
 -- 11: an earlier model has the name
 abbrev pub names_same_model : Logical → Logical → Bool
@@ -160,18 +160,18 @@ word_at_fault RowOutside before l =
     inside before l (then_some (is_row l && not (is_in_cover before)) (first_word l))
 word_at_fault BadRow before l =
     inside before l (then_some (is_row l && is_in_cover before
-      && not (is_row_of (cover_inputs before) l.words)) (first_word l))
+    && not (is_row_of (cover_inputs before) l.words)) (first_word l))
 word_at_fault MixedCover before l =
     inside before l (then_some (is_row l && is_in_cover before && is_mixed before l) (first_word l))
 word_at_fault BadLatch before l =
     inside before l (then_some (has_directive (codes ".latch") l && not (is_latch (operands l)))
-      (first_word l))
+    (first_word l))
 word_at_fault BadPin before l =
     inside before l (cond (has_directive (codes ".subckt") l) (find is_bad_pin (pin_words l)) None)
 word_at_fault AfterEnd before l = then_some (follows_end before l) (first_word l)
 word_at_fault DuplicateModel before l =
     inside before l (then_some (begins_model l && list_any (names_same_model l) before)
-      (first_operand l))
+    (first_operand l))
 word_at_fault _ before l = None
 
 -- the rules on lines, in the order of their numbers
@@ -185,7 +185,7 @@ abbrev pub first_broken : List FaultKind → List Logical → Logical → Option
 first_broken [] before l = None
 first_broken (kind ∷ kinds) before l =
     option_or (option_map (fault_on kind l.line) (word_at_fault kind before l))
-      (first_broken kinds before l)
+    (first_broken kinds before l)
 
 -- The fault of the earliest line that breaks a rule over the lines before it, by the rule of the
 -- lowest number.

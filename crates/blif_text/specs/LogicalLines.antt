@@ -65,7 +65,7 @@ abbrev pub joined_lines : ℕ → List (List ℕ) → List JoinedLine
 joined_lines n [] = []
 joined_lines n (line ∷ lines) =
     continued_by n (without_comment line) (before_backslash (without_comment line))
-      (joined_lines (n + 1) lines)
+    (joined_lines (n + 1) lines)
 
 -- Words are the longest runs of bytes that are no blanks.
 abbrev pub words_of : List ℕ → List (List ℕ)

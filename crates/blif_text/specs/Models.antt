@@ -103,8 +103,14 @@ digit word = get_or word 0 48 - 48
 
 abbrev pub latch_row : ℕ → List ℕ → List ℕ → Option Trigger → Option (List ℕ) → ℕ → LatchRow
 latch_row line input output kind control init =
-    record { line = line; input = input; output = output; kind = kind; control = control;
-      init = init }
+    record {
+      line = line;
+      input = input;
+      output = output;
+      kind = kind;
+      control = control;
+      init = init;
+    }
 
 -- `.latch input output [type control] [init]`: an init that is left out is 3, and without a control
 -- the type is ignored
@@ -114,10 +120,10 @@ latch_with line (input ∷ output ∷ init ∷ []) =
     latch_row line input output None None (digit init) ∷ []
 latch_with line (input ∷ output ∷ type ∷ control ∷ []) =
     latch_row line input output (then_some (is_control control) (trigger_of type))
-      (then_some (is_control control) control) 3 ∷ []
+    (then_some (is_control control) control) 3 ∷ []
 latch_with line (input ∷ output ∷ type ∷ control ∷ init ∷ []) =
     latch_row line input output (then_some (is_control control) (trigger_of type))
-      (then_some (is_control control) control) (digit init) ∷ []
+    (then_some (is_control control) control) (digit init) ∷ []
 latch_with line _ = []
 
 abbrev pub latch_on : Logical → List LatchRow

@@ -47,7 +47,7 @@ pub record IsCarriedBy (design : Design) (plan : Plan) (ports : Ports) : Type 0 
   pub size : (flat : Flat) → IsFlatOf design flat → HasLanes flat plan
   pub places : (flat : Flat) → IsFlatOf design flat → HasNetPlaces flat plan
   pub period : (flat : Flat) → IsFlatOf design flat → length flat.latches ≡ 0
-    → any_needs_one flat ≡ false → ports.p ≡ 32
+      → any_needs_one flat ≡ false → ports.p ≡ 32
   pub drawing : IsWrittenDrawing plan ports
 
 -- the text is the netlist of this design, in which the words say starts for so many contexts

@@ -30,9 +30,9 @@ pub record DumpsNets (cycles : ℕ) (words : List (List ℕ)) (design : Design)
   pub nets : (number : ℕ) (line : NetLine) → slice_get lines number ≡ Some line
       → (net : Net) × IsLineOf design line net
       × ((context : ℕ) → context < length starts → (others : ℕ → ℕ → Valuation)
-        → AreRunsOn design starts fed others → (cycle : ℕ) → cycle < cycles
+      → AreRunsOn design starts fed others → (cycle : ℕ) → cycle < cycles
       → value_at form (vcd_id (context * length lines + number)) cycle
-        ≡ Some (others context cycle net.place net.name))
+      ≡ Some (others context cycle net.place net.name))
 
 -- whoever made the text
 abbrev pub CarriersDumpNets : Type 0

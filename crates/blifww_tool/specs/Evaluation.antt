@@ -58,7 +58,7 @@ pub record PrintsRun (design : Design) (fed : Streams) (output : List ℕ) : Typ
 abbrev pub evaluation_text : Evaluation → (ℕ → Valuation) → List ℕ
 evaluation_text e run =
     flat_map (λ name. bits_line name (bits_in_run run e.streams.cycles name))
-      (main_outputs e.design)
+    (main_outputs e.design)
 
 -- the lines are those of a run of the netlist on the streams
 pub record Evaluates (cycles : ℕ) (words : List (List ℕ)) (text output : List ℕ) : Type 0 where

@@ -49,7 +49,7 @@ AreRunsOn design starts fed runs = AreRunsFrom (IsRunFrom design) starts (contex
 abbrev pub lines_of_runs : (contexts : ℕ) → Design → (cycles : ℕ) → (ℕ → ℕ → Valuation) → List ℕ
 lines_of_runs contexts design cycles runs =
     flat_map (λ context. flat_map (λ name. context_line contexts context name
-        (bits_in_run (runs context) cycles name)) (main_outputs design))
+    (bits_in_run (runs context) cycles name)) (main_outputs design))
     (range_with_len 0 contexts)
 
 -- The words say streams for the IN names of the design in each context, and it has runs on them,
@@ -61,7 +61,7 @@ pub record PrintsRuns (cycles : ℕ) (words : List (List ℕ)) (design : Design)
   pub runs : ℕ → ℕ → Valuation
   pub are_runs : AreRunsOn design starts fed runs
   pub lines : (others : ℕ → ℕ → Valuation) → AreRunsOn design starts fed others
-    → output ≡ lines_of_runs (length starts) design cycles others
+      → output ≡ lines_of_runs (length starts) design cycles others
 
 -- what `simulate` prints of a text that carries a design in contexts, whoever made the text
 abbrev pub CarriersPrintRuns : Type 0
@@ -78,7 +78,7 @@ CompiledPrintRuns =
     → Prints (compile contexts starts) netlist text
     → (design : Design) × IsNetlist netlist design
     × ((cycles : ℕ) (words : List (List ℕ)) (output : List ℕ)
-      → Prints (simulate cycles words) text output
+    → Prints (simulate cycles words) text output
     → PrintsRuns cycles words design (starts_of_words design starts contexts) output)
 
 -- The words say streams for the IN names of the design, which has a run on them. The design has a
@@ -96,7 +96,7 @@ pub record PrintsNet (cycles : ℕ) (name path : List ℕ) (words : List (List �
   pub named : net.name ≡ name
   pub placed : path_of net.place ≡ path
   pub line : (other : ℕ → Valuation) → IsRun design (rows_of fed) other
-    → output ≡ bits_line name (net_bits_in_run other fed.cycles net)
+      → output ≡ bits_line name (net_bits_in_run other fed.cycles net)
 
 -- what `probe` prints of a text that carries the nets of a design, whoever made the text
 abbrev pub CarriersPrintNets : Type 0
@@ -111,7 +111,7 @@ abbrev pub lines_of_net : (contexts : ℕ) → (name : List ℕ) → Net → (cy
     → (ℕ → ℕ → Valuation) → List ℕ
 lines_of_net contexts name net cycles runs =
     flat_map (λ context. context_line contexts context name
-        (net_bits_in_run (runs context) cycles net)) (range_with_len 0 contexts)
+    (net_bits_in_run (runs context) cycles net)) (range_with_len 0 contexts)
 
 -- In each context likewise: the design has runs on the streams, one from each start on, and the
 -- output is the lines of the net in all such runs.
@@ -127,7 +127,7 @@ pub record PrintsNetInContexts (cycles : ℕ) (name path : List ℕ) (words : Li
   pub named : net.name ≡ name
   pub placed : path_of net.place ≡ path
   pub lines : (others : ℕ → ℕ → Valuation) → AreRunsOn design starts fed others
-    → output ≡ lines_of_net (length starts) name net cycles others
+      → output ≡ lines_of_net (length starts) name net cycles others
 
 -- what `probe` prints of a text that carries the nets of a design in contexts, whoever made the
 -- text
@@ -146,9 +146,9 @@ CompiledPrintNets =
     → Prints (compile contexts starts) netlist text
     → (design : Design) × IsNetlist netlist design
     × ((cycles : ℕ) (name path : List ℕ) (words : List (List ℕ)) (output : List ℕ)
-      → Prints (probe cycles name path words) text output
+    → Prints (probe cycles name path words) text output
     → PrintsNetInContexts cycles name path words design
-      (starts_of_words design starts contexts) output)
+    (starts_of_words design starts contexts) output)
 
 -- no command finds that an injection meets no conductor in a text that carries a design in
 -- contexts, whoever made the text

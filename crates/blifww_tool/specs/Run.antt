@@ -43,8 +43,12 @@ pub record Reading : Type 0 where
 
 abbrev pub reading : {A : Type 0} → (A → Option (List ℕ)) → (A → ℕ) → A → A → Reading
 reading left faults old new =
-    record { left = left old; left_after = left new; faults = faults old;
-      faults_after = faults new }
+    record {
+      left = left old;
+      left_after = left new;
+      faults = faults old;
+      faults_after = faults new;
+    }
 
 -- what a run did to a sink: the bytes that it took, where it tells them, and its count of faults,
 -- before and after
@@ -56,8 +60,12 @@ pub record Writing : Type 0 where
 
 abbrev pub writing : {A : Type 0} → (A → Option (List ℕ)) → (A → ℕ) → A → A → Writing
 writing written faults old new =
-    record { written = written old; written_after = written new; faults = faults old;
-      faults_after = faults new }
+    record {
+      written = written old;
+      written_after = written new;
+      faults = faults old;
+      faults_after = faults new;
+    }
 
 -- a run: its words, and what it did to its source, its output and its errors
 pub record Call : Type 0 where
@@ -187,7 +195,7 @@ pub record CutsOutput (c : Call) : Type 0 where
   pub front : Does c.words c.src c.out (take size)
   pub failed : WriteFailed c.out
   pub line : Gained c.err (refusal_line WriteFault)
-    ⊎ (WriteFailed c.err × ((k : ℕ) × Gained c.err (take k (refusal_line WriteFault))))
+      ⊎ (WriteFailed c.err × ((k : ℕ) × Gained c.err (take k (refusal_line WriteFault))))
 
 -- where the source is read, it has this text and no read failed; else the text is the empty one
 abbrev pub HoldsIfRead : Bool → Reading → List ℕ → Type 0
@@ -231,18 +239,18 @@ pub record Ends (c : Call) (status : ℕ) : Type 0 where
   -- cause is told; one that the command accepts is printed, one that it must refuse is refused for
   -- its cause or one like it,
   pub answered : (command : CommandValues) (text : List ℕ) → IsCalm c command text
-    → length text ≤ text_limit
+      → length text ≤ text_limit
       → (status ≡ 0) ⊎ (TellsCause c status command text ⊎ (status ≡ 7))
   pub accepted : (command : CommandValues) (text : List ℕ) → IsCalm c command text
-    → length text ≤ text_limit → Accepts command text
+      → length text ≤ text_limit → Accepts command text
       → (status ≡ 0) ⊎ (status ≡ 7)
   pub caused : (command : CommandValues) (text : List ℕ) → IsCalm c command text
-    → length text ≤ text_limit
+      → length text ≤ text_limit
       → (cause : Cause) → MustRefuse command text cause
       → TellsLike c status command text cause ⊎ (status ≡ 7)
   -- one that is too long is told so, and words that ask for nothing are
   pub too_long : (command : CommandValues) (text : List ℕ) → IsCalm c command text
-    → text_limit < length text
+      → text_limit < length text
       → TellsOr7 c status TooLong
   pub nothing_asked : AsksNothing c.words
-    → TellsOr7 c status Usage ⊎ ((status ≡ 6) × WriteFailed c.err × GainedNothing c.out)
+      → TellsOr7 c status Usage ⊎ ((status ≡ 6) × WriteFailed c.err × GainedNothing c.out)

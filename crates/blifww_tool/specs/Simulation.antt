@@ -28,7 +28,7 @@ pub record Simulation : Type 0 where
 abbrev pub shown_line : Simulation → (context : ℕ) → PortLine → List ℕ
 shown_line s context out =
     context_line s.ports.c context out.name
-      (shown_at s.ports s.streams (plane_of s.grid.rows) context out)
+    (shown_at s.ports s.streams (plane_of s.grid.rows) context out)
 
 -- the lines of the outputs in each context, in the table's order: all outputs of context 0 first
 abbrev pub simulation_text : Simulation → List ℕ

@@ -33,7 +33,7 @@ IsTooLarge c contexts starts =
     GaveTooMany c.words c.src
     ⊎ (((text : List ℕ) × (weight : ℕ) × GaveAll c.src text × IsTooHeavy text weight)
     ⊎ ((text : List ℕ) × (limit : ℕ) × GaveAll c.src text × (1 < contexts)
-      × HasNoRoom contexts starts text limit))
+    × HasNoRoom contexts starts text limit))
 
 -- the command refuses the text as no pattern's, or for its port table
 abbrev pub HasNoPattern : Call → Type 0
@@ -47,7 +47,7 @@ abbrev pub WordsDoNotFit : Call → Type 0
 WordsDoNotFit c =
     ((fault : StreamFault) × RefusesText c.words c.src (Streams fault))
     ⊎ (((fault : StartFault) × RefusesText c.words c.src (StartWord fault))
-      ⊎ ((name : Name) × RefusesText c.words c.src (NoSuchNet name)))
+    ⊎ ((name : Name) × RefusesText c.words c.src (NoSuchNet name)))
 
 -- the command refuses the text, for an injection that meets no conductor
 abbrev pub IsFirstMiss : Call → Type 0
@@ -60,18 +60,18 @@ IsNotCircuit c = (fault : CircuitFault) × RefusesText c.words c.src (NotCircuit
 -- Each status but 7 comes only where its cause is; of 0 a command was asked.
 pub record HaveCauses (c : Call) (status : ℕ) : Type 0 where
   pub at_fault : status ≡ 1 → ¬ Asks c.words aiger
-    → (text : List ℕ) × (fault : Fault) × GaveAll c.src text × IsAtFault text fault
+      → (text : List ℕ) × (fault : Fault) × GaveAll c.src text × IsAtFault text fault
   pub aig_at_fault : status ≡ 1 → Asks c.words aiger
-    → (text : List ℕ) × (fault : AigFault) × GaveAll c.src text × HasAigFault text fault
+      → (text : List ℕ) × (fault : AigFault) × GaveAll c.src text × HasAigFault text fault
   pub usage : status ≡ 2 → IsCommand c.words → ⊥
   pub asked : status ≢ 2 → status ≢ 6 → status ≢ 7
-    → (command : CommandValues) × IsAsked c.words command
+      → (command : CommandValues) × IsAsked c.words command
   pub a_loop : status ≡ 3 → ¬ Asks c.words aiger
-    → (text : List ℕ) × (names : List Name) × GaveAll c.src text × HasLoop text names
+      → (text : List ℕ) × (names : List Name) × GaveAll c.src text × HasLoop text names
   pub aig_loop : status ≡ 3 → Asks c.words aiger
-    → (text : List ℕ) × (literals : List ℕ) × GaveAll c.src text × HasNoAig text (AigLoop literals)
+      → (text : List ℕ) × (literals : List ℕ) × GaveAll c.src text × HasNoAig text (AigLoop literals)
   pub too_large : status ≡ 4 → (contexts : ℕ) (starts : List (List ℕ))
-    → Asks c.words (compile contexts starts) → IsTooLarge c contexts starts
+      → Asks c.words (compile contexts starts) → IsTooLarge c contexts starts
   pub over_a_limit : status ≡ 4 → IsOverALimit c
   pub read_fault : status ≡ 5 → ReadFailed c.src
   pub write_fault : status ≡ 6 → WriteFailed c.out ⊎ WriteFailed c.err

@@ -13,15 +13,15 @@ number_line name number = name ++ (codes " " ++ (decimal number ++ codes "\n"))
 abbrev pub output_lines : OutputBits → List ℕ
 output_lines output =
     codes "sim " ++ (bits_line output.name output.simulated
-      ++ (codes "eval " ++ bits_line output.name output.evaluated))
+    ++ (codes "eval " ++ bits_line output.name output.evaluated))
 
 -- the weight, the lanes and columns, the period and latency, and the outputs
 abbrev pub summary_text : Summary → List ℕ
 summary_text s =
     number_line (codes "weight") s.weight
-      ++ (number_line (codes "lanes") s.lanes ++ (number_line (codes "columns") s.columns
+    ++ (number_line (codes "lanes") s.lanes ++ (number_line (codes "columns") s.columns
     ++ (number_line (codes "P") s.p ++ (number_line (codes "L") s.l
-      ++ flat_map output_lines s.outputs))))
+    ++ flat_map output_lines s.outputs))))
 
 -- the lines of a summary of the netlist of this seed and number of gates under so many cycles
 abbrev pub TellsSummary : (seed size cycles : ℕ) → List ℕ → Type 0

@@ -18,9 +18,9 @@ pub record PrintsOnward (design : Design) (rows : List (List Bool)) (cycles : �
     (shown : List ℕ) : Type 0 where
   pub run : (run : ℕ → Valuation) × IsRunOnward design rows run
   pub lines : (all : List (List Bool)) → ThenZeros rows all → AreInputRows design all
-    → cycles ≤ length all → (run : ℕ → Valuation) → IsRun design all run
+      → cycles ≤ length all → (run : ℕ → Valuation) → IsRun design all run
       → shown ≡ flat_map (λ name. bits_line name (bits_in_run run cycles name))
-        (main_outputs design)
+      (main_outputs design)
 
 -- for any number of cycles, also for more than the tape has
 abbrev pub TapesPrintRuns : Type 0
@@ -29,7 +29,7 @@ TapesPrintRuns =
     → Prints (tape cycles words) netlist text
     → (e : Evaluation) × IsEvaluation cycles words netlist e
     × ((many : ℕ) (given : List (List ℕ)) (shown : List ℕ) → Prints (simulate many given) text shown
-      → PrintsOnward e.design (rows_of e.streams) many shown)
+    → PrintsOnward e.design (rows_of e.streams) many shown)
 
 -- and so for as many as it has what `eval` prints of the netlist under the words of the tape
 abbrev pub TapesPrintAlike : Type 0

@@ -55,10 +55,10 @@ pub record ShowsRunsByItself (plane : Plane) (ports : Ports) (design : Design) (
     (rows : List (List Bool)) : Type 0 where
   pub run : (run : ℕ → Valuation) × IsRunOnward design rows run
   pub heads : (all : List (List Bool)) → ThenZeros rows all → AreInputRows design all
-    → (run : ℕ → Valuation) → IsRun design all run
+      → (run : ℕ → Valuation) → IsRun design all run
       → ShowsOutputsByItself plane ports (length all) (λ t. output_bit design (run t))
   pub nets : (all : List (List Bool)) → ThenZeros rows all → AreInputRows design all
-    → (run : ℕ → Valuation) → IsRun design all run
+      → (run : ℕ → Valuation) → IsRun design all run
       → ShowsNetLinesByItself plane ports (length all) seen (λ t net. run t net.place net.name)
 
 -- A text runs by itself as a design does on rows of input bits: it spells a pattern, and a port
@@ -87,10 +87,10 @@ pub record ShowsFlatRunsByItself (plane : Plane) (ports : Ports) (flat : Flat)
     (rows : List (List Bool)) : Type 0 where
   pub run : (run : ℕ → ℕ → Bool) × IsFlatRunOnward flat rows run
   pub heads : (all : List (List Bool)) → ThenZeros rows all → AreFlatRows flat all
-    → (run : ℕ → ℕ → Bool) → IsFlatRun flat (start_bits flat) all run
+      → (run : ℕ → ℕ → Bool) → IsFlatRun flat (start_bits flat) all run
       → ShowsOutputsByItself plane ports (length all) (λ t. flat_output_bit flat (run t))
   pub nets : (all : List (List Bool)) → ThenZeros rows all → AreFlatRows flat all
-    → (run : ℕ → ℕ → Bool) → IsFlatRun flat (start_bits flat) all run
+      → (run : ℕ → ℕ → Bool) → IsFlatRun flat (start_bits flat) all run
       → ShowsNetLinesByItself plane ports (length all) (listed_nets flat) (λ t net. run t net.class)
 
 pub record RunsByItselfFlat (text : List ℕ) (flat : Flat) (rows : List (List Bool)) : Type 0 where

@@ -32,11 +32,11 @@ pub record RunsWithoutEnd {text : List ℕ} {design : Design} {rows : List (List
     (k : RunsByItself text design rows) (run : ℕ → Valuation) : Type 0 where
   pub outs : (output : ℕ) (cell : PortLine) → slice_get k.ports.outs output ≡ Some cell
       → (g : ℕ) → ShowsBitsForever k.ports.l k.ports.p (λ t. output_bit design (run t) output) g
-        (evolve g (plane_of k.grid.rows)) cell.x cell.y
+      (evolve g (plane_of k.grid.rows)) cell.x cell.y
   pub nets : (number : ℕ) (net : Net) (line : NetLine) → slice_get k.seen number ≡ Some net
-    → slice_get k.ports.nets number ≡ Some line
+      → slice_get k.ports.nets number ≡ Some line
       → (g : ℕ) → ShowsBitsForever line.offset k.ports.p (λ t. run t net.place net.name) g
-        (evolve g (plane_of k.grid.rows)) line.x line.y
+      (evolve g (plane_of k.grid.rows)) line.x line.y
 
 abbrev pub RunnersGoOn : Type 0
 RunnersGoOn =
@@ -47,6 +47,6 @@ RunnersGoOn =
 abbrev pub ZerosChangeNothing : Type 0
 ZerosChangeNothing =
     ((text : List ℕ) (design : Design) (rows all : List (List Bool)) → RunsByItself text design rows
-      → ThenZeros rows all → AreInputRows design all → RunsByItself text design all)
+    → ThenZeros rows all → AreInputRows design all → RunsByItself text design all)
     × ((text : List ℕ) (flat : Flat) (rows all : List (List Bool)) → RunsByItselfFlat text flat rows
-      → ThenZeros rows all → AreFlatRows flat all → RunsByItselfFlat text flat all)
+    → ThenZeros rows all → AreFlatRows flat all → RunsByItselfFlat text flat all)

@@ -21,11 +21,11 @@ pub record NamesPorts (ports : Ports) (design : Design) : Type 0 where
 -- and in every such run each output cell shows the output's bits
 pub record ShowsRuns (plane : Plane) (ports : Ports) (design : Design) : Type 0 where
   pub conductors : (rows : List (List Bool)) → AreInputRows design rows
-    → MeetsConductors (drive ports rows) plane
+      → MeetsConductors (drive ports rows) plane
   pub runs : (rows : List (List Bool)) → AreInputRows design rows
-    → (run : ℕ → Valuation) × IsRun design rows run
+      → (run : ℕ → Valuation) × IsRun design rows run
   pub heads : (rows : List (List Bool)) → AreInputRows design rows → (run : ℕ → Valuation)
-    → IsRun design rows run
+      → IsRun design rows run
       → ShowsOutputs plane ports rows (λ t. output_bit design (run t))
 
 -- A text carries a design: it spells a pattern and a port table of one context, the table's names

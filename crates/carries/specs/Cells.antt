@@ -30,7 +30,7 @@ abbrev pub ShowsBitsFrom : (first period cycles : ℕ) → (ℕ → Bool) → (g
     → Type 0
 ShowsBitsFrom first period cycles bit g plane x y =
     (plane (pos x) (pos y) ≡ Head) ↔ ((t : ℕ) × (t < cycles) × (g ≡ first + t * period)
-      × (bit t ≡ true))
+    × (bit t ≡ true))
 
 -- the cell of an output, with the first cycle at the latency
 abbrev pub ShowsOutput : Ports → (cycles : ℕ) → (ℕ → Bool) → (g : ℕ) → Plane → PortLine → Type 0
@@ -55,4 +55,4 @@ ShowsNetLines {X} plane ports rows nets bit =
     → slice_get ports.nets number ≡ Some line
     → (g : ℕ) → g < line.offset + length rows * ports.p
     → ShowsBitsFrom line.offset ports.p (length rows) (λ t. bit t net) g
-      (driven (drive ports rows) plane g) line.x line.y
+    (driven (drive ports rows) plane g) line.x line.y

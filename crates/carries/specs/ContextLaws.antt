@@ -42,21 +42,21 @@ pub record ShowsContextCycles {text : List ℕ} {design : Design} {starts : List
   -- the cell of an output is a head at generation L + 32 c + t P, for each cycle t, exactly when
   -- the output's bit is 1 in the cycle
   pub bits : (output : ℕ) (cell : PortLine) → slice_get k.ports.outs output ≡ Some cell → (t : ℕ)
-    → t < cycles
+      → t < cycles
       → (driven (context_drive k.ports contexts) (plane_of k.grid.rows)
-        (k.ports.l + 32 * c + t * k.ports.p) (pos cell.x) (pos cell.y) ≡ Head)
-        ↔ (output_bit design (run t) output ≡ true)
+      (k.ports.l + 32 * c + t * k.ports.p) (pos cell.x) (pos cell.y) ≡ Head)
+      ↔ (output_bit design (run t) output ≡ true)
   -- and it is no head below generation L
   pub dark : (output : ℕ) (cell : PortLine) → slice_get k.ports.outs output ≡ Some cell → (g : ℕ)
-    → g < k.ports.l
+      → g < k.ports.l
       → driven (context_drive k.ports contexts) (plane_of k.grid.rows) g (pos cell.x) (pos cell.y)
-        ≢ Head
+      ≢ Head
 
 -- a text that carries a design in contexts shows each cycle of each run from a context's start on
 abbrev pub CarriesEachContext : Type 0
 CarriesEachContext =
     (text : List ℕ) (design : Design) (starts : List LatchState)
-      (k : CarriesContexts text design starts)
+    (k : CarriesContexts text design starts)
     (cycles : ℕ) (contexts : List (List (List Bool)))
     → AreInputContexts design (length starts) cycles contexts
     → (c : ℕ) (start : LatchState) → slice_get starts c ≡ Some start → (run : ℕ → Valuation)
@@ -68,7 +68,7 @@ CarriesEachContext =
 abbrev pub CarriesNetsOfEachContext : Type 0
 CarriesNetsOfEachContext =
     (text : List ℕ) (design : Design) (starts : List LatchState)
-      (k : CarriesNetsInContexts text design starts)
+    (k : CarriesNetsInContexts text design starts)
     (cycles : ℕ) (contexts : List (List (List Bool)))
     → AreInputContexts design (length starts) cycles contexts
     → (c : ℕ) (start : LatchState) → slice_get starts c ≡ Some start → (run : ℕ → Valuation)
@@ -77,30 +77,30 @@ CarriesNetsOfEachContext =
     → slice_get k.carried.ports.nets number ≡ Some line
     → (t : ℕ) → t < cycles
     → (driven (context_drive k.carried.ports contexts) (plane_of k.carried.grid.rows)
-      (line.offset + 32 * c + t * k.carried.ports.p) (pos line.x) (pos line.y) ≡ Head)
-      ↔ (run t net.place net.name ≡ true)
+    (line.offset + 32 * c + t * k.carried.ports.p) (pos line.x) (pos line.y) ≡ Head)
+    ↔ (run t net.place net.name ≡ true)
 
 -- Two drives that agree on context c: each output cell shows the same of it, at every generation L
 -- + 32 c + t P, whatever the rows of the other contexts are
 abbrev pub OutputsAreIsolated : Type 0
 OutputsAreIsolated =
     (text : List ℕ) (design : Design) (starts : List LatchState)
-      (k : CarriesContexts text design starts)
+    (k : CarriesContexts text design starts)
     (cycles : ℕ) (contexts others : List (List (List Bool)))
     → AreInputContexts design (length starts) cycles contexts
     → AreInputContexts design (length starts) cycles others
     → (c : ℕ) → c < length starts → get_or contexts c [] ≡ get_or others c []
     → (output : ℕ) (cell : PortLine) → slice_get k.ports.outs output ≡ Some cell → (t : ℕ)
     → (driven (context_drive k.ports contexts) (plane_of k.grid.rows)
-      (k.ports.l + 32 * c + t * k.ports.p) (pos cell.x) (pos cell.y) ≡ Head)
+    (k.ports.l + 32 * c + t * k.ports.p) (pos cell.x) (pos cell.y) ≡ Head)
     ↔ (driven (context_drive k.ports others) (plane_of k.grid.rows)
-      (k.ports.l + 32 * c + t * k.ports.p) (pos cell.x) (pos cell.y) ≡ Head)
+    (k.ports.l + 32 * c + t * k.ports.p) (pos cell.x) (pos cell.y) ≡ Head)
 
 -- and so does the cell of each net's line, at every generation offset + 32 c + t P
 abbrev pub NetsAreIsolated : Type 0
 NetsAreIsolated =
     (text : List ℕ) (design : Design) (starts : List LatchState)
-      (k : CarriesNetsInContexts text design starts)
+    (k : CarriesNetsInContexts text design starts)
     (cycles : ℕ) (contexts others : List (List (List Bool)))
     → AreInputContexts design (length starts) cycles contexts
     → AreInputContexts design (length starts) cycles others
@@ -108,6 +108,6 @@ NetsAreIsolated =
     → (number : ℕ) (net : Net) (line : NetLine) → slice_get k.nets number ≡ Some net
     → slice_get k.carried.ports.nets number ≡ Some line → (t : ℕ)
     → (driven (context_drive k.carried.ports contexts) (plane_of k.carried.grid.rows)
-      (line.offset + 32 * c + t * k.carried.ports.p) (pos line.x) (pos line.y) ≡ Head)
+    (line.offset + 32 * c + t * k.carried.ports.p) (pos line.x) (pos line.y) ≡ Head)
     ↔ (driven (context_drive k.carried.ports others) (plane_of k.carried.grid.rows)
-      (line.offset + 32 * c + t * k.carried.ports.p) (pos line.x) (pos line.y) ≡ Head)
+    (line.offset + 32 * c + t * k.carried.ports.p) (pos line.x) (pos line.y) ≡ Head)

@@ -35,7 +35,7 @@ abbrev pub ShowsBitsInContexts : (first period count cycles : ℕ)
     → (bit : (context cycle : ℕ) → Bool) → (g : ℕ) → Plane → (x y : ℕ) → Type 0
 ShowsBitsInContexts first period count cycles bit g plane x y =
     (plane (pos x) (pos y) ≡ Head) ↔ ((c : ℕ) × (t : ℕ) × (c < count) × (t < cycles)
-      × (g ≡ first + 32 * c + t * period) × (bit c t ≡ true))
+    × (g ≡ first + 32 * c + t * period) × (bit c t ≡ true))
 
 -- driven by these rows, for their number N of cycles, the cell of each output shows its bits in
 -- each context, at every generation below L + N P
@@ -45,7 +45,7 @@ ShowsOutputsInContexts plane ports cycles contexts bit =
     (output : ℕ) (cell : PortLine) → slice_get ports.outs output ≡ Some cell
     → (g : ℕ) → g < ports.l + cycles * ports.p
     → ShowsBitsInContexts ports.l ports.p (length contexts) cycles (λ c t. bit c t output) g
-      (driven (context_drive ports contexts) plane g) cell.x cell.y
+    (driven (context_drive ports contexts) plane g) cell.x cell.y
 
 -- and the cell of each net, which has the line of its number, shows the net's bits, from the line's
 -- offset on, at every generation below offset + N P
@@ -56,4 +56,4 @@ ShowsNetLinesInContexts {X} plane ports cycles contexts nets bit =
     → slice_get ports.nets number ≡ Some line
     → (g : ℕ) → g < line.offset + cycles * ports.p
     → ShowsBitsInContexts line.offset ports.p (length contexts) cycles (λ c t. bit c t net) g
-      (driven (context_drive ports contexts) plane g) line.x line.y
+    (driven (context_drive ports contexts) plane g) line.x line.y

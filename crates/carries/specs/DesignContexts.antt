@@ -24,14 +24,14 @@ AreInputContexts design count cycles contexts =
 pub record ShowsContexts (plane : Plane) (ports : Ports) (design : Design)
     (starts : List LatchState) : Type 0 where
   pub conductors : (cycles : ℕ) (contexts : List (List (List Bool)))
-    → AreInputContexts design (length starts) cycles contexts
-    → MeetsConductors (context_drive ports contexts) plane
+      → AreInputContexts design (length starts) cycles contexts
+      → MeetsConductors (context_drive ports contexts) plane
   pub runs : (cycles : ℕ) (contexts : List (List (List Bool)))
-    → AreInputContexts design (length starts) cycles contexts
-    → (runs : ℕ → ℕ → Valuation) × AreRunsFrom (IsRunFrom design) starts contexts runs
+      → AreInputContexts design (length starts) cycles contexts
+      → (runs : ℕ → ℕ → Valuation) × AreRunsFrom (IsRunFrom design) starts contexts runs
   pub heads : (cycles : ℕ) (contexts : List (List (List Bool)))
-    → AreInputContexts design (length starts) cycles contexts → (runs : ℕ → ℕ → Valuation)
-    → AreRunsFrom (IsRunFrom design) starts contexts runs
+      → AreInputContexts design (length starts) cycles contexts → (runs : ℕ → ℕ → Valuation)
+      → AreRunsFrom (IsRunFrom design) starts contexts runs
       → ShowsOutputsInContexts plane ports cycles contexts (λ c t. output_bit design (runs c t))
 
 -- and the cell of each net's line shows the net's bits
@@ -41,7 +41,7 @@ ShowsNetsInContexts plane ports design starts nets =
     → AreInputContexts design (length starts) cycles contexts → (runs : ℕ → ℕ → Valuation)
     → AreRunsFrom (IsRunFrom design) starts contexts runs
     → ShowsNetLinesInContexts plane ports cycles contexts nets
-      (λ c t net. runs c t net.place net.name)
+    (λ c t net. runs c t net.place net.name)
 
 -- A text carries a design in contexts with these starts, each a state of the design's latches: it
 -- spells a pattern and a port table of so many contexts, the table's names are the design's, and

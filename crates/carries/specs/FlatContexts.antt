@@ -24,20 +24,20 @@ AreFlatContexts flat count cycles contexts = AreContextRows (AreFlatRows flat) c
 pub record ShowsFlatContexts (plane : Plane) (ports : Ports) (flat : Flat)
     (starts : List (List Bool)) : Type 0 where
   pub conductors : (cycles : ℕ) (contexts : List (List (List Bool)))
-    → AreFlatContexts flat (length starts) cycles contexts
-    → MeetsConductors (context_drive ports contexts) plane
+      → AreFlatContexts flat (length starts) cycles contexts
+      → MeetsConductors (context_drive ports contexts) plane
   pub runs : (cycles : ℕ) (contexts : List (List (List Bool)))
-    → AreFlatContexts flat (length starts) cycles contexts
-    → (runs : ℕ → ℕ → ℕ → Bool) × AreRunsFrom (IsFlatRun flat) starts contexts runs
+      → AreFlatContexts flat (length starts) cycles contexts
+      → (runs : ℕ → ℕ → ℕ → Bool) × AreRunsFrom (IsFlatRun flat) starts contexts runs
   pub heads : (cycles : ℕ) (contexts : List (List (List Bool)))
-    → AreFlatContexts flat (length starts) cycles contexts → (runs : ℕ → ℕ → ℕ → Bool)
-    → AreRunsFrom (IsFlatRun flat) starts contexts runs
+      → AreFlatContexts flat (length starts) cycles contexts → (runs : ℕ → ℕ → ℕ → Bool)
+      → AreRunsFrom (IsFlatRun flat) starts contexts runs
       → ShowsOutputsInContexts plane ports cycles contexts (λ c t. flat_output_bit flat (runs c t))
   pub nets : (cycles : ℕ) (contexts : List (List (List Bool)))
-    → AreFlatContexts flat (length starts) cycles contexts → (runs : ℕ → ℕ → ℕ → Bool)
-    → AreRunsFrom (IsFlatRun flat) starts contexts runs
+      → AreFlatContexts flat (length starts) cycles contexts → (runs : ℕ → ℕ → ℕ → Bool)
+      → AreRunsFrom (IsFlatRun flat) starts contexts runs
       → ShowsNetLinesInContexts plane ports cycles contexts (listed_nets flat)
-        (λ c t net. runs c t net.class)
+      (λ c t net. runs c t net.class)
 
 -- A text carries a flat netlist in contexts with these starts: it spells a pattern and a port table
 -- of so many contexts, the table's names are the netlist's, and the pattern shows the netlist's

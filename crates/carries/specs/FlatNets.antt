@@ -26,14 +26,14 @@ pub record NamesFlat (ports : Ports) (flat : Flat) : Type 0 where
 -- cell of each listed net those of its class
 pub record ShowsFlatRuns (plane : Plane) (ports : Ports) (flat : Flat) : Type 0 where
   pub conductors : (rows : List (List Bool)) → AreFlatRows flat rows
-    → MeetsConductors (drive ports rows) plane
+      → MeetsConductors (drive ports rows) plane
   pub runs : (rows : List (List Bool)) → AreFlatRows flat rows
-    → (run : ℕ → ℕ → Bool) × IsFlatRun flat (start_bits flat) rows run
+      → (run : ℕ → ℕ → Bool) × IsFlatRun flat (start_bits flat) rows run
   pub heads : (rows : List (List Bool)) → AreFlatRows flat rows → (run : ℕ → ℕ → Bool)
-    → IsFlatRun flat (start_bits flat) rows run
+      → IsFlatRun flat (start_bits flat) rows run
       → ShowsOutputs plane ports rows (λ t. flat_output_bit flat (run t))
   pub nets : (rows : List (List Bool)) → AreFlatRows flat rows → (run : ℕ → ℕ → Bool)
-    → IsFlatRun flat (start_bits flat) rows run
+      → IsFlatRun flat (start_bits flat) rows run
       → ShowsNetLines plane ports rows (listed_nets flat) (λ t net. run t net.class)
 
 -- A text carries a flat netlist: it spells a pattern and a port table of one context, the table's

@@ -16,9 +16,9 @@ use Rattle.carries.specs.Carries.{Carries}
 pub data WithoutClocks (design : Design) : List Net → List Net → Type 0 where
   none : WithoutClocks design [] []
   kept : {net : Net} {nets rest : List Net} → ¬ IsClockNet design net
-    → WithoutClocks design nets rest → WithoutClocks design (net ∷ nets) (net ∷ rest)
+      → WithoutClocks design nets rest → WithoutClocks design (net ∷ nets) (net ∷ rest)
   left_out : {net : Net} {nets rest : List Net} → IsClockNet design net
-    → WithoutClocks design nets rest → WithoutClocks design (net ∷ nets) rest
+      → WithoutClocks design nets rest → WithoutClocks design (net ∷ nets) rest
 
 -- the nets of a design but the clock nets: by place, and at a place by where the name first stands
 -- in the model's text

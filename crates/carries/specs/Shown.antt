@@ -26,12 +26,12 @@ pub record ShowsCycles {text : List ℕ} {design : Design} (c : Carries text des
   -- the cell of an output is a head at generation L + t P, for each cycle t, exactly when the
   -- output's bit is 1 in the cycle
   pub bits : (output : ℕ) (cell : PortLine) → slice_get c.ports.outs output ≡ Some cell → (t : ℕ)
-    → t < length rows
+      → t < length rows
       → (driven (drive c.ports rows) (plane_of c.grid.rows) (c.ports.l + t * c.ports.p) (pos cell.x)
-        (pos cell.y) ≡ Head) ↔ (output_bit design (run t) output ≡ true)
+      (pos cell.y) ≡ Head) ↔ (output_bit design (run t) output ≡ true)
   -- and it is no head below generation L
   pub dark : (output : ℕ) (cell : PortLine) → slice_get c.ports.outs output ≡ Some cell → (g : ℕ)
-    → g < c.ports.l
+      → g < c.ports.l
       → driven (drive c.ports rows) (plane_of c.grid.rows) g (pos cell.x) (pos cell.y) ≢ Head
 
 -- a text that carries a design shows each cycle of each run
@@ -51,7 +51,7 @@ CarriesOnward =
     → (output : ℕ) (cell : PortLine) → slice_get c.ports.outs output ≡ Some cell
     → (g : ℕ) → g < c.ports.l + length (rows ++ zeros) * c.ports.p
     → ShowsOutput c.ports (length (rows ++ zeros)) (λ t. output_bit design (run t) output) g
-      (driven (drive c.ports rows) (plane_of c.grid.rows) g) cell
+    (driven (drive c.ports rows) (plane_of c.grid.rows) g) cell
 
 -- the first cycles of a longer run are shown whatever the later input bits are
 abbrev pub CarriesEachFront : Type 0
@@ -59,7 +59,7 @@ CarriesEachFront =
     (text : List ℕ) (design : Design) (c : Carries text design) (rows later : List (List Bool))
     (g : ℕ) → g < length rows * c.ports.p
     → driven (drive c.ports (rows ++ later)) (plane_of c.grid.rows) g
-      ≡ driven (drive c.ports rows) (plane_of c.grid.rows) g
+    ≡ driven (drive c.ports rows) (plane_of c.grid.rows) g
 
 -- Of a text that carries the nets of a design: in a run on rows that drive the pattern, the cell of
 -- a net's line is a head at generation offset + t P, for each cycle t, exactly when the net's bit
@@ -73,5 +73,5 @@ CarriesNetCycles =
     → slice_get c.carried.ports.nets number ≡ Some line
     → (t : ℕ) → t < length rows
     → (driven (drive c.carried.ports rows) (plane_of c.carried.grid.rows)
-      (line.offset + t * c.carried.ports.p) (pos line.x) (pos line.y) ≡ Head)
-      ↔ (run t net.place net.name ≡ true)
+    (line.offset + t * c.carried.ports.p) (pos line.x) (pos line.y) ≡ Head)
+    ↔ (run t net.place net.name ≡ true)

@@ -20,7 +20,7 @@ cell_bit inputs state made (Or a b) =
     source_bit inputs state made a || source_bit inputs state made b
 cell_bit inputs state made (Xor a b) =
     (source_bit inputs state made a || source_bit inputs state made b)
-      && not (source_bit inputs state made a && source_bit inputs state made b)
+    && not (source_bit inputs state made a && source_bit inputs state made b)
 cell_bit inputs state made (AndNot a b) =
     source_bit inputs state made a && not (source_bit inputs state made b)
 

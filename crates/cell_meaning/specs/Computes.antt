@@ -17,14 +17,14 @@ pub record ComputeOnLanes (list : CellList) (free : ℕ) (ins outs : List ℕ) (
     (after : Option ℕ → List Bool → List Bool) (end : List Bool → List Bool) : Type 0 where
   pub outs_have : (inputs state : List Bool) → Fits list inputs state
       → map (bit_on (end (entry_bits free ins inputs (loop_state list state)))) outs
-        ≡ map (bit_of list inputs state) list.outs
+      ≡ map (bit_of list inputs state) list.outs
   pub loops_leave : (inputs state : List Bool) → Fits list inputs state
       → leaving free (end (entry_bits free ins inputs (loop_state list state)))
-        ≡ loop_state list (map (bit_of list inputs state) list.latches)
+      ≡ loop_state list (map (bit_of list inputs state) list.latches)
   pub nets_have : (inputs state : List Bool) → Fits list inputs state
       → map (λ place. bit_on (after place.after
-        (entry_bits free ins inputs (loop_state list state))) place.lane) nets
-        ≡ map (bit_of list inputs state) list.nets
+      (entry_bits free ins inputs (loop_state list state))) place.lane) nets
+      ≡ map (bit_of list inputs state) list.nets
 
 -- a program computes the list: it has a lane for each input and a loop for each latch, and for
 -- constant 1 where it is named

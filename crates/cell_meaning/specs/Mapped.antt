@@ -49,14 +49,14 @@ pub record IsMapped (flat : Flat) (list : CellList) : Type 0 where
   pub nets : list.nets ≡ map sources (listed_classes flat)
   pub own : (class : ℕ) (d : FlatDriver) → FlatDrives flat d class → IsOwn d (sources class)
   pub bits : flat.listed ≡ true → (inputs state : List Bool) (bits : ℕ → Bool)
-    → IsFlatValuation flat inputs state bits
+      → IsFlatValuation flat inputs state bits
       → (class : ℕ) (d : FlatDriver) → FlatDrives flat d class
       → bit_of list inputs state (sources class) ≡ bits class
   pub single : flat.listed ≡ true → (n : ℕ) (cell : Cell) → n < length flat.nodes
-    → single_cell (map sources (in_classes flat n)) (node_at flat n).rows (node_at flat n).on
+      → single_cell (map sources (in_classes flat n)) (node_at flat n).rows (node_at flat n).on
       ≡ Some cell → IsCell list (sources (out_class flat n)) cell
   pub constant : (n : ℕ) (src : Src) → n < length flat.nodes → constant_of flat n ≡ Some src
-    → sources (out_class flat n) ≡ src
+      → sources (out_class flat n) ≡ src
   pub few : length list.cells ≤ 2 * covers_weight flat
   pub one : names_one list ≡ true → any_needs_one flat ≡ true
 
@@ -64,8 +64,8 @@ pub record IsMapped (flat : Flat) (list : CellList) : Type 0 where
 abbrev pub AreSinglesAmong : Flat → (ℕ → Src) → List Src → Type 0
 AreSinglesAmong flat sources singles =
     flat.listed ≡ true → (n : ℕ) (cell : Cell) → n < length flat.nodes
-      → single_cell (map sources (in_classes flat n)) (node_at flat n).rows (node_at flat n).on
-        ≡ Some cell
+    → single_cell (map sources (in_classes flat n)) (node_at flat n).rows (node_at flat n).on
+    ≡ Some cell
     → Contains singles (sources (out_class flat n))
 
 -- the list is mapped from the netlist, and where the nets are listed, the source of each cover that

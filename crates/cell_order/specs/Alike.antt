@@ -16,11 +16,11 @@ pub record ComputeAlike (a b : CellList) : Type 0 where
   pub cells : length b.cells ≡ length a.cells
   pub one : names_one b ≡ names_one a
   pub outs : (inputs state : List Bool)
-    → map (bit_of b inputs state) b.outs ≡ map (bit_of a inputs state) a.outs
+      → map (bit_of b inputs state) b.outs ≡ map (bit_of a inputs state) a.outs
   pub latches : (inputs state : List Bool)
-    → map (bit_of b inputs state) b.latches ≡ map (bit_of a inputs state) a.latches
+      → map (bit_of b inputs state) b.latches ≡ map (bit_of a inputs state) a.latches
   pub nets : (inputs state : List Bool)
-    → map (bit_of b inputs state) b.nets ≡ map (bit_of a inputs state) a.nets
+      → map (bit_of b inputs state) b.nets ≡ map (bit_of a inputs state) a.nets
   pub entries : map entry_source b.nets ≡ map entry_source a.nets
   pub makers : (lane : ℕ) → map (maker_on b.cells lane) b.nets ≡ map (maker_on a.cells lane) a.nets
 

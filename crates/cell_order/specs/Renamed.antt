@@ -36,6 +36,6 @@ pub record AreRenamed (list : CellList) (cells : List Cell) (numbers : Numbers) 
   pub in_order : are_in_order list.inputs (length list.starts) 0 cells ≡ true
   pub there : (i m : ℕ) → get_or numbers i None ≡ Some m → m < length cells
   pub bits : (i m : ℕ) → get_or numbers i None ≡ Some m → (inputs state : List Bool)
-    → bit_in cells inputs state (Made m) ≡ bit_in list.cells inputs state (Made i)
+      → bit_in cells inputs state (Made m) ≡ bit_in list.cells inputs state (Made i)
   pub makers : (i m : ℕ) → get_or numbers i None ≡ Some m → (lane : ℕ)
-    → maker_on cells lane (Made m) ≡ maker_on list.cells lane (Made i)
+      → maker_on cells lane (Made m) ≡ maker_on list.cells lane (Made i)

@@ -39,9 +39,9 @@ goes_to news src = unwrap_or (new_source news src) src
 pub record AreMoved (list : CellList) (cells : List Cell) (news : NewSources) : Type 0 where
   pub in_order : are_in_order list.inputs (length list.starts) 0 cells ≡ true
   pub there : (i : ℕ) (src : Src) → get_or news i None ≡ Some src
-    → is_there list.inputs (length list.starts) (length cells) src ≡ true
+      → is_there list.inputs (length list.starts) (length cells) src ≡ true
   pub bits : (i : ℕ) (src : Src) → get_or news i None ≡ Some src → (inputs state : List Bool)
-    → bit_in cells inputs state src ≡ bit_of list inputs state (Made i)
+      → bit_in cells inputs state src ≡ bit_of list inputs state (Made i)
 
 -- the new list is that of the cells that have moved
 pub record IsRebuilt (list : CellList) (news : NewSources) (new : CellList) : Type 0 where

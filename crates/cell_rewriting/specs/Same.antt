@@ -46,11 +46,11 @@ pub record MovesBy (old : CellList) (to : Src → Src) (new : CellList) : Type 0
   pub latches_go : new.latches ≡ map to old.latches
   pub nets_go : new.nets ≡ map to old.nets
   pub outs : (inputs state : List Bool)
-    → map (bit_of new inputs state) new.outs ≡ map (bit_of old inputs state) old.outs
+      → map (bit_of new inputs state) new.outs ≡ map (bit_of old inputs state) old.outs
   pub latches : (inputs state : List Bool)
-    → map (bit_of new inputs state) new.latches ≡ map (bit_of old inputs state) old.latches
+      → map (bit_of new inputs state) new.latches ≡ map (bit_of old inputs state) old.latches
   pub nets : (inputs state : List Bool)
-    → map (bit_of new inputs state) new.nets ≡ map (bit_of old inputs state) old.nets
+      → map (bit_of new inputs state) new.nets ≡ map (bit_of old inputs state) old.nets
 
 -- The new list computes the same: sources move, those that are kept stay the cells that they are
 -- and have the bits that they had, there are not more cells, and constant 1 is named only if it

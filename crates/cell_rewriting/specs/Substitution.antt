@@ -17,7 +17,7 @@ AreEquivalent list a b =
 pub record AreEqual (list : CellList) (instead : List (Option Src)) : Type 0 where
   pub within : (i : ℕ) (src : Src) → get_or instead i None ≡ Some src → i < length list.cells
   pub there : (i : ℕ) (src : Src) → get_or instead i None ≡ Some src
-    → is_there list.inputs (length list.starts) (length list.cells) src ≡ true
+      → is_there list.inputs (length list.starts) (length list.cells) src ≡ true
   pub bit : (i : ℕ) (src : Src) → get_or instead i None ≡ Some src → AreEquivalent list (Made i) src
 
 -- the source may be read in place of the cell

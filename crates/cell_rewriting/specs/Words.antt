@@ -16,13 +16,13 @@ word_says list leaves word inputs state = table_bit (map (bit_of list inputs sta
 abbrev pub IsWordOf : CellList → List Src → Src → ℕ → Type 0
 IsWordOf list leaves src word =
     (inputs state : List Bool) → word_says list leaves word inputs state
-      ≡ bit_of list inputs state src
+    ≡ bit_of list inputs state src
 
 -- it says what the cell makes
 abbrev pub IsWordOfCell : CellList → List Src → Cell → ℕ → Type 0
 IsWordOfCell list leaves cell word =
     (inputs state : List Bool) → word_says list leaves word inputs state ≡ cell_bit inputs state
-      (cell_bits inputs state list.cells) cell
+    (cell_bits inputs state list.cells) cell
 
 -- these are words of their cells
 abbrev pub AreWords : CellList → List Src → List CellWord → Type 0

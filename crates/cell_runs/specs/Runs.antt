@@ -26,7 +26,7 @@ bit_in_cycle list rows cycle source =
 abbrev pub shown_by : CellList → List (List Bool) → ℕ → List (List Bool)
 shown_by list rows cycles =
     map (λ source. map (λ cycle. bit_in_cycle list rows cycle source)
-      (range_with_len 0 cycles)) list.outs
+    (range_with_len 0 cycles)) list.outs
 
 -- A list that computes a design, with a source for each of its main outputs, gives the bits that
 -- these have in a run of the design on the rows.

@@ -32,4 +32,4 @@ pub record Brings (lanes from to : ℕ) (instrs : List Instr) : Type 0 where
   pub on_lanes : All (IsOnLanes lanes) instrs
   pub long : (bits : List Bool) → length (after_instrs instrs bits) ≡ length bits
   pub bits : (bits : List Bool) → length bits ≡ lanes → (lane : ℕ)
-    → bit_on (after_instrs instrs bits) lane ≡ bit_on bits (brought from to lane)
+      → bit_on (after_instrs instrs bits) lane ≡ bit_on bits (brought from to lane)

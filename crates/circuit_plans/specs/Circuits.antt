@@ -51,7 +51,7 @@ abbrev pub starts_from : (lanes loops : ℕ) → (ℕ → Bool) → (left loop :
 starts_from lanes loops holds zero loop = []
 starts_from lanes loops holds (suc left) loop =
     cond (holds loop) (loop_start lanes loops loop ∷ []) []
-      ++ starts_from lanes loops holds left (loop + 1)
+    ++ starts_from lanes loops holds left (loop + 1)
 
 -- the starts of all loops for which a test holds
 abbrev pub starts_where : (lanes loops : ℕ) → (ℕ → Bool) → List Start

@@ -8,5 +8,5 @@ abbrev pub StartsAreOfLoops : Type 0
 StartsAreOfLoops =
     (plan : Plan) → IsCircuit plan → (holds : ℕ → Bool)
     → ((loop : ℕ) → loop < plan.latches
-      → holds loop ≡ starts_with_one plan.starts.list plan.lanes plan.latches loop)
+    → holds loop ≡ starts_with_one plan.starts.list plan.lanes plan.latches loop)
     → starts_where plan.lanes plan.latches holds ≡ plan.starts.list

@@ -54,8 +54,8 @@ lift_instr lanes instr =
       cells = lanes.cells ++ cells_made instr a b;
       sources =
           slice_set (slice_set lanes.sources (lane_of instr)
-            (upper_source instr (length lanes.cells) a b)) (lane_of instr + 1)
-            (lower_source instr a b);
+          (upper_source instr (length lanes.cells) a b)) (lane_of instr + 1)
+          (lower_source instr a b);
     }
 
 abbrev pub lift_instrs : Lanes → List Instr → Lanes
@@ -78,7 +78,7 @@ sources_with_inputs i (lane ∷ lanes) sources =
 abbrev pub entry_sources : Plan → List Src
 entry_sources plan =
     sources_with_inputs 0 plan.ins (replicate (first_loop_lane plan.lanes plan.latches) Zero)
-      ++ map Latch (range_with_len 0 plan.latches)
+    ++ map Latch (range_with_len 0 plan.latches)
 
 abbrev pub entry_lanes : Plan → Lanes
 entry_lanes plan = record { cells = []; sources = entry_sources plan }

@@ -18,9 +18,10 @@ required_option name =
 -- zero or more words, last
 abbrev pub stream_words : Rule
 stream_words =
-    record (new_rule (codes "streams"))
-      { range = Some record { start_inclusive = 0; end_inclusive = usize_max };
-      action = Some Append }
+    record (new_rule (codes "streams")) {
+      range = Some record { start_inclusive = 0; end_inclusive = usize_max };
+      action = Some Append;
+    }
 
 -- the command with these options too, which are required
 abbrev pub with_required : App → List Text → App
@@ -38,13 +39,13 @@ driven_app name = with_rule (with_required (new_app name) (codes "cycles" ∷ []
 abbrev pub probe_app : App
 probe_app =
     with_rule (with_rule (with_required (new_app (codes "probe"))
-        (codes "cycles" ∷ codes "net" ∷ []))
+    (codes "cycles" ∷ codes "net" ∷ []))
     (free_option (codes "path"))) stream_words
 
 abbrev pub window_app : App
 window_app =
     with_rule (with_required (new_app (codes "window"))
-        (codes "gen" ∷ codes "x" ∷ codes "y" ∷ codes "width" ∷ codes "height" ∷ []))
+    (codes "gen" ∷ codes "x" ∷ codes "y" ∷ codes "width" ∷ codes "height" ∷ []))
     stream_words
 
 abbrev pub make_app : App
@@ -80,5 +81,5 @@ abbrev pub blifww_app : App
 blifww_app =
     with_subcommands bare_app
     (compile_app ∷ driven_app (codes "simulate") ∷ driven_app (codes "eval") ∷ probe_app
-        ∷ window_app ∷ make_app ∷ self_app ∷ driven_app (codes "tape")
+    ∷ window_app ∷ make_app ∷ self_app ∷ driven_app (codes "tape")
     ∷ aiger_app ∷ driven_app (codes "vcd") ∷ lift_app ∷ [])

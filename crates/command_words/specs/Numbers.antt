@@ -14,7 +14,7 @@ are_digits (b ∷ bs) = list_all is_ascii_digit (b ∷ bs)
 abbrev pub number_between : ℕ → ℕ → List ℕ → Option ℕ
 number_between least most text =
     if are_digits text && (nat_le least (digits_value 10 text)
-        && nat_le (digits_value 10 text) most)
+    && nat_le (digits_value 10 text) most)
     then Some (digits_value 10 text)
     else None
 
@@ -63,7 +63,7 @@ contexts_range = record { name = codes "contexts"; least = 1; most = 4294967295 
 abbrev pub number_ranges : List NumberRange
 number_ranges =
     cycles_range ∷ generation_range ∷ x_range ∷ y_range ∷ width_range ∷ height_range ∷ seed_range
-      ∷ size_range ∷ contexts_range ∷ []
+    ∷ size_range ∷ contexts_range ∷ []
 
 -- the options of a command of this name that take numbers
 abbrev pub ranges_of : List ℕ → List NumberRange

@@ -45,7 +45,7 @@ values_of Lift = lift
 abbrev pub HasViewInRange : View → Type 0
 HasViewInRange view =
     TakesNumber generation_range view.generation × TakesNumber x_range view.x
-      × TakesNumber y_range view.y
+    × TakesNumber y_range view.y
     × TakesNumber width_range view.width × TakesNumber height_range view.height
 
 -- each number of the command is one that its option takes
@@ -93,17 +93,17 @@ driven_command_by range command rows =
 abbrev pub probe_by : List Row → Option CommandValues
 probe_by rows =
     option_and_then (λ cycles. option_map
-        (λ net. probe cycles net (unwrap_or (first_of (codes "path") rows) (codes "-"))
-        (streams_met rows))
+    (λ net. probe cycles net (unwrap_or (first_of (codes "path") rows) (codes "-"))
+    (streams_met rows))
     (first_of (codes "net") rows)) (number_met cycles_range rows)
 
 abbrev pub view_met : List Row → Option View
 view_met rows =
     option_and_then (λ generation. option_and_then
-        (λ x. option_and_then (λ y. option_and_then (λ width. option_map (λ height.
+    (λ x. option_and_then (λ y. option_and_then (λ width. option_map (λ height.
     record { generation = generation; x = x; y = y; width = width; height = height })
     (number_met height_range rows)) (number_met width_range rows)) (number_met y_range rows))
-        (number_met x_range rows)) (number_met generation_range rows)
+    (number_met x_range rows)) (number_met generation_range rows)
 
 abbrev pub window_by : List Row → Option CommandValues
 window_by rows = option_map (λ view. window view (streams_met rows)) (view_met rows)
@@ -111,7 +111,7 @@ window_by rows = option_map (λ view. window view (streams_met rows)) (view_met 
 abbrev pub make_by : List Row → Option CommandValues
 make_by rows =
     option_and_then (λ seed. option_map (λ size. make seed size) (number_met size_range rows))
-      (number_met seed_range rows)
+    (number_met seed_range rows)
 
 abbrev pub self_by : List Row → Option CommandValues
 self_by rows =
@@ -146,7 +146,7 @@ command_values words = values_met (subcommand_of blifww_app words)
 abbrev pub AreInRanges : List NumberRange → List Row → Type 0
 AreInRanges ranges rows =
     AllByRecursion (λ range. IfSome (first_of range.name rows)
-      (λ text. is_some (number_taken range text) ≡ true)) ranges
+    (λ text. is_some (number_taken range text) ≡ true)) ranges
 
 -- each number that the matches give the command is in its range
 abbrev pub MeetsRanges : Option (Text × List Row) → Type 0
@@ -156,7 +156,7 @@ MeetsRanges met = IfSome met (λ met. AreInRanges (ranges_of met.0) met.1)
 abbrev pub MeetsContexts : Option (Text × List Row) → Type 0
 MeetsContexts met =
     IfSome met (λ met. bytes_eq met.0 (codes "compile") ≡ true
-      → is_some (first_of (codes "contexts") met.1) ≡ false → streams_met met.1 ≡ [])
+    → is_some (first_of (codes "contexts") met.1) ≡ false → streams_met met.1 ≡ [])
 
 -- The words are a command: a parse of them by clap can fail for want of memory alone, each number
 -- lies in its range, and `compile` has words with `--contexts` alone.
@@ -228,7 +228,7 @@ IsWritten (probe cycles net path streams) words =
 IsWritten (window view streams) words =
     (g x y w h : Text)
     × IsPlain (codes "window") ((codes "gen", g) ∷ (codes "x", x) ∷ (codes "y", y)
-      ∷ (codes "width", w) ∷ (codes "height", h) ∷ []) streams words
+    ∷ (codes "width", w) ∷ (codes "height", h) ∷ []) streams words
     × Writes generation_range g view.generation × Writes x_range x view.x × Writes y_range y view.y
     × Writes width_range w view.width × Writes height_range h view.height
 IsWritten (make seed size) words =
@@ -236,7 +236,7 @@ IsWritten (make seed size) words =
     × Writes seed_range s seed × Writes size_range k size
 IsWritten (self_ seed size cycles) words =
     (s k n : Text) × IsPlain (codes "self")
-      ((codes "seed", s) ∷ (codes "size", k) ∷ (codes "cycles", n) ∷ []) [] words
+    ((codes "seed", s) ∷ (codes "size", k) ∷ (codes "cycles", n) ∷ []) [] words
     × Writes seed_range s seed × Writes size_range k size × Writes cycles_range n cycles
 IsWritten (tape cycles streams) words =
     IsDrivenCommand (codes "tape") tape_cycles_range cycles streams words

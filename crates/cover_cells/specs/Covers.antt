@@ -33,16 +33,16 @@ CoverNeedsOne sources rows on = RowsNeedOne sources rows ⊎ ((on ≡ false) × 
 abbrev pub AnswersRow : CellList → CellList → List Src → List ℕ → Src → Type 0
 AnswersRow old new sources row src =
     Answers old new (2 * literals row) (RowNeedsOne sources row) src
-        (λ inputs state. product_holds row (bits_of old sources inputs state))
+    (λ inputs state. product_holds row (bits_of old sources inputs state))
 
 -- the value of some of the rows, with a cell more for each row
 abbrev pub AnswersRows : CellList → CellList → List Src → List (List ℕ) → Src → Type 0
 AnswersRows old new sources rows src =
     Answers old new (length rows + 2 * sum_by literals rows) (RowsNeedOne sources rows) src
-        (λ inputs state. any_holds rows (bits_of old sources inputs state))
+    (λ inputs state. any_holds rows (bits_of old sources inputs state))
 
 -- the value of the cover, with no more cells than twice its weight
 abbrev pub AnswersCover : CellList → CellList → List Src → List (List ℕ) → Bool → Src → Type 0
 AnswersCover old new sources rows on src =
     Answers old new (2 * rows_weight rows) (CoverNeedsOne sources rows on) src
-        (λ inputs state. cover_value rows on (bits_of old sources inputs state))
+    (λ inputs state. cover_value rows on (bits_of old sources inputs state))

@@ -36,5 +36,5 @@ pub record ArePlaced (old new : CellList) (sources : List Src) (cells : List Cel
   pub there : HasSources new made
   pub one : list_any is_one made ≡ true → ReadsOne sources cells
   pub bits : (inputs state : List Bool)
-    → bits_of new made inputs state ≡ cell_bits (bits_of old sources inputs state) []
+      → bits_of new made inputs state ≡ cell_bits (bits_of old sources inputs state) []
       (take count cells)

@@ -9,9 +9,9 @@ use Rattle.cell_core.specs.Meaning.{source_bit, cell_bit}
 -- are, and is constant 1 only where one of them is
 pub record StandsFor (cell : Cell) (src : Src) : Type 0 where
   pub bit : (inputs state made : List Bool)
-    → source_bit inputs state made src ≡ cell_bit inputs state made cell
+      → source_bit inputs state made src ≡ cell_bit inputs state made cell
   pub there : (inputs latches made : ℕ) → IsTrue (reads_there inputs latches made cell)
-    → IsTrue (is_there inputs latches made src)
+      → IsTrue (is_there inputs latches made src)
   pub one : is_one src ≡ true → reads_one cell ≡ true
 
 -- two cells have the same bit, whatever bits there are

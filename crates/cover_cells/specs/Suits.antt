@@ -24,4 +24,4 @@ pub record Suits (sources : List Src) (rows : List (List ℕ)) (on : Bool)
   pub few : length found.cells ≤ 2 * rows_weight rows
   pub one : ReadsOneRoot found → CoverNeedsOne sources rows on
   pub bits : (bits : List Bool) → length bits ≡ length sources
-    → bit_in found.cells bits [] found.root ≡ cover_value rows on bits
+      → bit_in found.cells bits [] found.root ≡ cover_value rows on bits

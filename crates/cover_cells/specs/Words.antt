@@ -25,4 +25,4 @@ pub record HasTable (cells : List Cell) (root : Src) (nets table : ℕ) : Type 0
   pub in_order : are_in_order nets 0 0 cells ≡ true
   pub there : is_there nets 0 (length cells) root ≡ true
   pub bits : (bits : List Bool) → length bits ≡ nets
-    → bit_in cells bits [] root ≡ table_bit bits table
+      → bit_in cells bits [] root ≡ table_bit bits table

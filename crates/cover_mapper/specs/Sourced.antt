@@ -41,14 +41,14 @@ pub record AreSourced (flat : Flat) (made : FlatDriver → Type 0) (list : CellL
     (sources : ClassSources) : Type 0 where
   pub long : length sources ≡ length flat.nets
   pub all : (class : ℕ) (d : FlatDriver) → FlatDrives flat d class → made d
-    → (src : Src) × (get_or sources class None ≡ Some src)
+      → (src : Src) × (get_or sources class None ≡ Some src)
   pub only : (class : ℕ) (src : Src) → get_or sources class None ≡ Some src
-    → (d : FlatDriver) × FlatDrives flat d class × made d
+      → (d : FlatDriver) × FlatDrives flat d class × made d
   pub own : (class : ℕ) (d : FlatDriver) (src : Src) → FlatDrives flat d class → made d
-    → get_or sources class None ≡ Some src → IsOwn d src
+      → get_or sources class None ≡ Some src → IsOwn d src
   pub there : (class : ℕ) (src : Src) → get_or sources class None ≡ Some src → HasSource list src
   pub one : (class : ℕ) (src : Src) → get_or sources class None ≡ Some src → is_one src ≡ true
-    → any_needs_one flat ≡ true
+      → any_needs_one flat ≡ true
   pub bits : (inputs state : List Bool) (bits : ℕ → Bool) → IsFlatValuation flat inputs state bits
       → (class : ℕ) (src : Src) → get_or sources class None ≡ Some src
       → bit_in list.cells inputs state src ≡ bits class
@@ -57,7 +57,7 @@ pub record AreSourced (flat : Flat) (made : FlatDriver → Type 0) (list : CellL
 abbrev pub HasSingle : Flat → CellList → ClassSources → ℕ → Type 0
 HasSingle flat list sources n =
     (cell : Cell) → single_cell (map (source_at sources) (in_classes flat n)) (node_at flat n).rows
-      (node_at flat n).on ≡ Some cell → IsCell list (source_at sources (out_class flat n)) cell
+    (node_at flat n).on ≡ Some cell → IsCell list (source_at sources (out_class flat n)) cell
 
 -- the cover of a node that is a constant by its text has it as its source
 abbrev pub HasConstant : Flat → ClassSources → ℕ → Type 0

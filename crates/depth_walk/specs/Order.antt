@@ -9,7 +9,7 @@ pub record IsOrderOf (links : Links) (order : List ℕ) : Type 0 where
   pub all : (n : ℕ) → n < length links → Contains order n
   pub few : length order ≤ length links
   pub after : (i k other : ℕ) → i < length order → LeadsTo links (get_or order i 0) k other
-    → (j : ℕ) × (j < i) × (get_or order j 0 ≡ other)
+      → (j : ℕ) × (j < i) × (get_or order j 0 ≡ other)
 
 -- a circle: at least one number, none twice, of which each leads to the next, and the last to the
 -- first
@@ -18,5 +18,5 @@ pub record IsCircleOf (links : Links) (circle : List ℕ) : Type 0 where
   pub numbers : All (λ n. n < length links) circle
   pub once : AllPairs (λ a b. a ≢ b) circle
   pub steps : (i : ℕ) → i + 1 < length circle
-    → LeadsOnTo links (get_or circle i 0) (get_or circle (i + 1) 0)
+      → LeadsOnTo links (get_or circle i 0) (get_or circle (i + 1) 0)
   pub closes : LeadsOnTo links (get_or circle (length circle - 1) 0) (get_or circle 0 0)

@@ -29,11 +29,11 @@ pub record IsWalk (links : Links) (marks : List Mark) (next stack order : List �
   pub done_at : (i : ℕ) → i < length order → mark_of marks (get_or order i 0) ≡ Done i
   pub at_done : (n i : ℕ) → mark_of marks n ≡ Done i → (i < length order) × (get_or order i 0 ≡ n)
   pub passed : (n k b : ℕ) → k < get_or next n 0 → LeadsTo links n k b
-    → IsMarkedDone (mark_of marks b)
+      → IsMarkedDone (mark_of marks b)
   pub before : (n i k b : ℕ) → mark_of marks n ≡ Done i → LeadsTo links n k b
-    → (j : ℕ) × (j < i) × (mark_of marks b ≡ Done j)
+      → (j : ℕ) × (j < i) × (mark_of marks b ≡ Done j)
   pub path : (i : ℕ) → i + 1 < length stack
-    → LeadsTo links (get_or stack i 0) (get_or next (get_or stack i 0) 0) (get_or stack (i + 1) 0)
+      → LeadsTo links (get_or stack i 0) (get_or next (get_or stack i 0) 0) (get_or stack (i + 1) 0)
 
 -- what falls with each step of the walk: a number is opened once and closed once
 abbrev pub work : List Mark → List ℕ → ℕ

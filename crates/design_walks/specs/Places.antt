@@ -23,6 +23,6 @@ pub record IsModelAt (design : Design) (placed : PlacedModel) : Type 0 where
 pub record ArePlaces (design : Design) (places : List PlacedModel) : Type 0 where
   pub in_order : map (λ placed. placed.place) places ≡ places_in_order design
   pub models : (k : ℕ) (placed : PlacedModel) → slice_get places k ≡ Some placed
-    → IsModelAt design placed
+      → IsModelAt design placed
   pub parents : (k : ℕ) (placed : PlacedModel) → slice_get places k ≡ Some placed
-    → MatchOption placed.parent (placed.place ≡ []) (HasParent places k placed.place)
+      → MatchOption placed.parent (placed.place ≡ []) (HasParent places k placed.place)

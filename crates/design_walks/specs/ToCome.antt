@@ -16,14 +16,17 @@ main_placed = record { place = []; model = 0; parent = None }
 -- the model of that number, at the place of a line inside the place of that number
 abbrev pub inner_at : PlacedModel → ℕ → ℕ → ℕ → PlacedModel
 inner_at outer number line model =
-    record { place = outer.place ++ line ∷ []; model = model;
-      parent = Some (record { number = number; line = line }) }
+    record {
+      place = outer.place ++ line ∷ [];
+      model = model;
+      parent = Some (record { number = number; line = line });
+    }
 
 -- the place of a line, if the model that it names is there
 abbrev pub placed_by : List Model → PlacedModel → ℕ → ℕ → Subckt → List PlacedModel
 placed_by models outer number line subckt =
     option_to_list (option_map (inner_at outer number line)
-      (position (is_model_named subckt.model) models))
+    (position (is_model_named subckt.model) models))
 
 -- those of some lines, of which the first has that number, the last line's first
 abbrev pub placed_by_lines : List Model → PlacedModel → ℕ → ℕ → List Subckt → List PlacedModel
@@ -37,14 +40,14 @@ placed_by_lines models outer number first (line ∷ lines) =
 abbrev pub places_of_lines : Design → Place → ℕ → List Subckt → List Place
 places_of_lines design place first lines =
     map (λ inner. place ++ inner) (places_in_lines (λ line. of_some
-      (places_below design (length design.models - suc (length place)))
-      (model_named design.models line.model)) first lines)
+    (places_below design (length design.models - suc (length place)))
+    (model_named design.models line.model)) first lines)
 
 -- the places inside a place
 abbrev pub places_inside : Design → PlacedModel → List Place
 places_inside design placed =
     of_some (λ (model : Model). places_of_lines design placed.place 0 model.subckts)
-      (slice_get design.models placed.model)
+    (slice_get design.models placed.model)
 
 -- those on a stack, from its top, each with those inside it
 abbrev pub places_to_come : Design → List PlacedModel → List Place

@@ -22,5 +22,5 @@ pub record AreWeights (design : Design) (order : List ℕ) (count : ℕ)
     (weights : List ℕ) : Type 0 where
   pub fit : length weights ≡ length design.models
   pub weighs : (i : ℕ) (model : Model) → i < count
-    → slice_get design.models (get_or order i 0) ≡ Some model
-    → WeighsBeyond design i model (get_or weights (get_or order i 0) 0)
+      → slice_get design.models (get_or order i 0) ≡ Some model
+      → WeighsBeyond design i model (get_or weights (get_or order i 0) 0)

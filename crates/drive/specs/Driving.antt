@@ -35,7 +35,7 @@ cycle_rows streams cycle = map (λ rows. get_or rows cycle []) (contexts_of stre
 abbrev pub injections_of : Ports → Streams → List Injection
 injections_of ports streams =
     flat_map (λ cycle. injections_from (cycle * ports.p) 32 (cells_of ports.ins)
-        (cycle_rows streams cycle)) (range_with_len 0 streams.cycles)
+    (cycle_rows streams cycle)) (range_with_len 0 streams.cycles)
 
 -- the cells that are so made heads
 abbrev pub due_by : Ports → Streams → Due
@@ -70,7 +70,7 @@ shown_at ports streams plane context out =
 abbrev pub shown_bits : Ports → Streams → Plane → List (List Bool)
 shown_bits ports streams plane =
     flat_map (λ context. map (shown_at ports streams plane context) ports.outs)
-      (range_with_len 0 ports.c)
+    (range_with_len 0 ports.c)
 
 -- the most generations that a run may need
 abbrev pub greatest_generation : ℕ
@@ -98,4 +98,4 @@ HasSimulateCause ports streams plane needed (TooFar generations) =
     (generations ≡ needed) × (greatest_generation < needed)
 HasSimulateCause ports streams plane needed (NotQuiet generation x y) =
     (needed ≤ greatest_generation) × HasRunCause (first_miss ports streams plane needed)
-      (NotQuiet generation x y)
+    (NotQuiet generation x y)

@@ -30,7 +30,7 @@ injection_misses pattern = misses (due_of_list pattern.injections) (plane_of pat
 abbrev pub first_miss_in : BandedPattern → ℕ → Option Injection
 first_miss_in pattern g =
     first_of_misses pattern.injections (due_of_list pattern.injections)
-      (plane_of pattern.grid.rows) g
+    (plane_of pattern.grid.rows) g
 
 -- the planes of a pattern that lies in its bands in an orientation, and an injection of it
 abbrev pub laid : Orientation → (ℕ → Plane) → ℕ → Plane
@@ -63,9 +63,9 @@ pub record IsBandRun (run : Run) : Type 0 where
       (drop run.next_injection run.bands.injections)
   pub missed : run.missed ≡ first_miss_in run.bands run.generation
   pub still : run.is_still ≡ true → (g : ℕ) → run.generation ≤ g
-    → evolution run.bands g ≡ evolution run.bands run.generation
+      → evolution run.bands g ≡ evolution run.bands run.generation
   pub no_more : run.is_still ≡ true → (g : ℕ) → run.generation ≤ g
-    → first_miss_in run.bands g ≡ first_miss_in run.bands run.generation
+      → first_miss_in run.bands g ≡ first_miss_in run.bands run.generation
 
 -- A run has gone on, to a generation at most.
 pub record HasGoneOn (last : ℕ) (old new : Run) : Type 0 where

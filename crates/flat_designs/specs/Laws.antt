@@ -60,7 +60,7 @@ append_unless false names name = names ++ name ∷ []
 abbrev pub NamesComeWhereFirst : Type 0
 NamesComeWhereFirst =
     (names : List Name) (name : Name) → first_names (names ++ name ∷ []) ≡ append_unless
-      (list_any (bytes_eq name) names) (first_names names) name
+    (list_any (bytes_eq name) names) (first_names names) name
 
 -- the list of nets has each net once
 pub record ListsNets (design : Design) : Type 0 where
@@ -74,12 +74,12 @@ NetsAreListed = (design : Design) → IsNotRecursive design → ListsNets design
 -- nets are one class exactly where they are joined
 pub record HasClasses (design : Design) (flat : Flat) : Type 0 where
   pub is_there : (net : Net) → IsNet design net
-    → slice_get (nets_in_order design) (id_of design net.place net.name).0 ≡ Some net
+      → slice_get (nets_in_order design) (id_of design net.place net.name).0 ≡ Some net
   pub is_class : (net : Net) → IsNet design net
-    → class_of flat (id_of design net.place net.name) ≡ class_of_net design net
+      → class_of flat (id_of design net.place net.name) ≡ class_of_net design net
   pub joined : (a b : Net) → IsNet design a → IsNet design b
-    → (class_of flat (id_of design a.place a.name) ≡ class_of flat (id_of design b.place b.name))
-    ↔ Joined design a b
+      → (class_of flat (id_of design a.place a.name) ≡ class_of flat (id_of design b.place b.name))
+      ↔ Joined design a b
 
 -- Nets are of one class exactly where they are joined.
 abbrev pub ClassesAreJoined : Type 0
@@ -103,7 +103,7 @@ latch_bits_from state number (latch ∷ latches) =
 abbrev pub state_in_order : Design → LatchState → List Bool
 state_in_order design state =
     flat_map (λ place. latch_bits_from (state place) 0
-      (of_some (λ (model : Model). model.latches) (model_at design place))) (places_in_order design)
+    (of_some (λ (model : Model). model.latches) (model_at design place))) (places_in_order design)
 
 -- bits by class, from those of nets; and the other way round
 abbrev pub bit_of_net : Valuation → Net → Bool
@@ -119,15 +119,15 @@ net_bits design flat bits place name = bits (class_of flat (id_of design place n
 -- a valuation of the design is one of the flat netlist, with the same bits, outputs and next state
 pub record HasValuations (design : Design) (flat : Flat) : Type 0 where
   pub is_flat : (inputs : List Bool) (state : LatchState) (bits : Valuation)
-    → IsValuation design inputs state bits
-    → IsFlatValuation flat inputs (state_in_order design state) (class_bits design bits)
+      → IsValuation design inputs state bits
+      → IsFlatValuation flat inputs (state_in_order design state) (class_bits design bits)
   pub same_bits : (inputs : List Bool) (state : LatchState) (bits : Valuation)
-    → IsValuation design inputs state bits → (net : Net) → IsNet design net
-    → ¬ IsClockNet design net → net_bits design flat (class_bits design bits) net.place net.name
+      → IsValuation design inputs state bits → (net : Net) → IsNet design net
+      → ¬ IsClockNet design net → net_bits design flat (class_bits design bits) net.place net.name
       ≡ bits net.place net.name
   pub of_flat : (inputs : List Bool) (state : LatchState) (bits : ℕ → Bool)
-    → IsFlatValuation flat inputs (state_in_order design state) bits
-    → IsValuation design inputs state (net_bits design flat bits)
+      → IsFlatValuation flat inputs (state_in_order design state) bits
+      → IsValuation design inputs state (net_bits design flat bits)
   pub outputs : (bits : ℕ → Bool) → map (λ port. bits (class_of flat port.net)) flat.outs
       ≡ output_bits design (net_bits design flat bits)
   pub starts : map (λ latch. latch.init == 1) flat.latches
@@ -160,9 +160,9 @@ class_of_listed design flat net = class_of flat (id_of design net.place net.name
 
 pub record HasLoops (design : Design) (flat : Flat) : Type 0 where
   pub of_flat : (classes : List ℕ) → IsFlatLoop flat classes
-    → IsCombinationalLoop design (map (net_of_class design) classes)
+      → IsCombinationalLoop design (map (net_of_class design) classes)
   pub is_flat : (nets : List Net) → IsCombinationalLoop design nets
-    → IsFlatLoop flat (map (class_of_listed design flat) nets)
+      → IsFlatLoop flat (map (class_of_listed design flat) nets)
 
 abbrev pub LoopsAreFlat : Type 0
 LoopsAreFlat =
@@ -212,7 +212,7 @@ DesignsHaveOneValuation =
     → length inputs ≡ length names → (state : LatchState)
     → (bits : Valuation) × IsValuation design inputs state bits
     × ((others : Valuation) → IsValuation design inputs state others
-      → AgreeOnNets design bits others)
+    → AgreeOnNets design bits others)
 
 -- a cycle of the flat netlist is one of the design
 abbrev pub CyclesAreFlat : Type 0
@@ -229,7 +229,7 @@ abbrev pub PartsAreFew : Type 0
 PartsAreFew =
     (design : Design) (flat : Flat) → IsFlatOf design flat
     → length flat.ins + length flat.outs + 2 * length flat.latches + sum_by
-      (λ node. rows_weight node.rows) flat.nodes ≤ weight design
+    (λ node. rows_weight node.rows) flat.nodes ≤ weight design
 
 -- so the weight bounds the nets and the parts
 abbrev pub FlatIsWeighed : Type 0
@@ -248,10 +248,10 @@ FlatIsNamed =
 pub record HasRootsByPins (design : Design) : Type 0 where
   pub main : (name : Name) → root design (net_at [] name) ≡ net_at [] name
   pub pinned : (outer inner : Net) → IsPinned design outer inner
-    → root design inner ≡ root design outer
+      → root design inner ≡ root design outer
   pub unpinned : (outer : Place) (number : ℕ) (name : Name)
-    → ((net : Net) → ¬ IsPinned design net (net_at (outer ++ number ∷ []) name))
-    → root design (net_at (outer ++ number ∷ []) name) ≡ net_at (outer ++ number ∷ []) name
+      → ((net : Net) → ¬ IsPinned design net (net_at (outer ++ number ∷ []) name))
+      → root design (net_at (outer ++ number ∷ []) name) ≡ net_at (outer ++ number ∷ []) name
 
 -- The root of a formal is that of its actual, and one that no pin names is its own root.
 abbrev pub RootsAreByPins : Type 0

@@ -19,14 +19,14 @@ pub data Driver : Type 0 where
 -- the net that it drives by itself
 pub data Drives (design : Design) : Driver → Net → Type 0 where
   of_port : {main : Model} {name : Name} → main_model design ≡ Some main
-    → Contains (port_names (main.ins ++ main.clocks)) name
-    → Drives design (port name) (net_at [] name)
+      → Contains (port_names (main.ins ++ main.clocks)) name
+      → Drives design (port name) (net_at [] name)
   of_cover : {place : Place} {model : Model} {number : ℕ} {c : Cover}
-    → model_at design place ≡ Some model → slice_get model.covers number ≡ Some c
-    → Drives design (cover place number) (net_at place c.out)
+      → model_at design place ≡ Some model → slice_get model.covers number ≡ Some c
+      → Drives design (cover place number) (net_at place c.out)
   of_latch : {place : Place} {model : Model} {number : ℕ} {l : LatchRow}
-    → model_at design place ≡ Some model → slice_get model.latches number ≡ Some l
-    → Drives design (latch place number) (net_at place l.output)
+      → model_at design place ≡ Some model → slice_get model.latches number ≡ Some l
+      → Drives design (latch place number) (net_at place l.output)
 
 -- of all nets that are joined with a net exactly one has a driver of its own, and that is one
 abbrev pub AtMostOneDriver : Design → Type 0

@@ -24,11 +24,11 @@ pub record IsCoverAt (design : Design) (at : CoverAt) (cover : Cover) : Type 0 w
 pub record IsCoverOrder (design : Design) (order : List CoverAt) : Type 0 where
   pub all : (at : CoverAt) (cover : Cover) → IsCoverAt design at cover → Contains order at
   pub once : (front back : List CoverAt) (at : CoverAt) → order ≡ front ++ at ∷ back
-    → ¬ Contains front at
+      → ¬ Contains front at
   pub after : (front back : List CoverAt) (at other : CoverAt) (cover read : Cover) (input : Name)
-    → order ≡ front ++ at ∷ back → IsCoverAt design at cover → Contains cover.ins input
+      → order ≡ front ++ at ∷ back → IsCoverAt design at cover → Contains cover.ins input
       → IsCoverAt design other read → Joined design (net_at other.place read.out)
-        (net_at at.place input) → Contains front other
+      (net_at at.place input) → Contains front other
 
 -- where there is such an order there is at most one valuation
 abbrev pub OrderedHaveAtMostOneValuation : Type 0

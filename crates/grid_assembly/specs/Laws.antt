@@ -17,4 +17,4 @@ StepsByEdges =
 abbrev pub PatternsArePlanes : Type 0
 PatternsArePlanes =
     (plan : Plan) → IsAdmissible plan → IsPatternOf (start_grid plan)
-      (drawn_plane shipped_drawing plan)
+    (drawn_plane shipped_drawing plan)

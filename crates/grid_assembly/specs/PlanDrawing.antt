@@ -15,7 +15,7 @@ use Rattle.plan_layout.specs.Tape.{drawn_plane}
 abbrev pub AreCellsOfRow : Plan → ℕ → ℕ → List State → Type 0
 AreCellsOfRow plan y x cells =
     (i : ℕ) → i < length cells → get_or cells i Empty ≡ drawn_plane shipped_drawing plan
-      (pos (x + i)) (pos y)
+    (pos (x + i)) (pos y)
 
 -- row y of that plane, as wide as the drawing
 abbrev pub start_row : Plan → ℕ → List State
@@ -25,8 +25,11 @@ start_row plan y =
 -- the plan's pattern: the rows of the drawing
 abbrev pub start_grid : Plan → Grid
 start_grid plan =
-    record { width = (size_of plan).0; height = (size_of plan).1;
-        rows = map (start_row plan) (range_with_len 0 (size_of plan).1) }
+    record {
+      width = (size_of plan).0;
+      height = (size_of plan).1;
+      rows = map (start_row plan) (range_with_len 0 (size_of plan).1);
+    }
 
 -- the pattern is a box of cells, and all of that plane: outside it the plane is empty
 pub record IsPatternOf (grid : Grid) (p : Plane) : Type 0 where

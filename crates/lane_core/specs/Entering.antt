@@ -42,4 +42,4 @@ abbrev pub entering_bits : ℕ → List Column → (ℕ → List Bool) → List 
 entering_bits free columns inputs starts zero = inputs zero ++ starts
 entering_bits free columns inputs starts (suc t) =
     inputs (suc t) ++ leaving free (after_columns columns
-        (entering_bits free columns inputs starts t))
+    (entering_bits free columns inputs starts t))

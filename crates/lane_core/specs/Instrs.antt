@@ -38,7 +38,7 @@ after_instr bits instr =
     let a = bit_on bits (lane_of instr) in
     let b = bit_on bits (lane_of instr + 1) in
     slice_set (slice_set bits (lane_of instr) (upper_bit instr a b)) (lane_of instr + 1)
-        (lower_bit instr a b)
+    (lower_bit instr a b)
 
 -- the bits after instructions that are done in order
 abbrev pub after_instrs : List Instr → List Bool → List Bool

@@ -79,5 +79,7 @@ net_cells plan = map (λ place. cell_after plan place.lane place.after) plan.net
 abbrev pub size_of : Plan → ℕ × ℕ
 size_of plan =
     if plan.lanes == 0 then (0, 0)
-    else (32 * (tape_shift plan + (length plan.columns + 2 * plan.latches)) + 1,
-        16 * (plan.lanes + plan.latches))
+    else (
+      32 * (tape_shift plan + (length plan.columns + 2 * plan.latches)) + 1,
+      16 * (plan.lanes + plan.latches),
+    )

@@ -54,4 +54,4 @@ moved_east columns cell = (32 * columns + cell.0, cell.1, cell.2)
 abbrev pub tape_bit : Plan → (tiles lane : ℕ) → Bool
 tape_bit plan tiles lane =
     tiles % cycle_tiles plan == 0 && lane_bit plan.ins
-        (tape_row plan (tiles / cycle_tiles plan)) lane
+    (tape_row plan (tiles / cycle_tiles plan)) lane

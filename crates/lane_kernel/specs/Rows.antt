@@ -42,7 +42,7 @@ next_in_rows above heads below tails wires x =
 abbrev pub AreDisjoint : List ℕ → List ℕ → List ℕ → Type 0
 AreDisjoint heads tails wires =
     (x : ℕ) → ((is_set heads x && is_set tails x) || (is_set heads x && is_set wires x)
-      || (is_set tails x && is_set wires x)) ≡ false
+    || (is_set tails x && is_set wires x)) ≡ false
 
 -- by so many heads around it a conductor becomes a head
 abbrev pub is_one_or_two : ℕ → Bool

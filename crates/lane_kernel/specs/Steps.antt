@@ -24,8 +24,8 @@ pub record AreWordsStepped (lo hi : ℕ)
   pub long_tails : length new_tails ≡ length heads
   pub long_wires : length new_wires ≡ length heads
   pub heads_are : (j : ℕ) → lo ≤ j → j < hi
-    → get_or new_tails j 0 ≡ heads_word above heads below wires j
+      → get_or new_tails j 0 ≡ heads_word above heads below wires j
   pub wires_are : (j : ℕ) → lo ≤ j → j < hi
-    → get_or new_wires j 0 ≡ wires_word above heads below tails wires j
+      → get_or new_wires j 0 ≡ wires_word above heads below tails wires j
   pub other_tails : (j : ℕ) → IsBeyond lo hi j → get_or new_tails j 0 ≡ get_or tails j 0
   pub other_wires : (j : ℕ) → IsBeyond lo hi j → get_or new_wires j 0 ≡ get_or wires j 0

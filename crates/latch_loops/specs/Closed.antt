@@ -27,7 +27,7 @@ contexts_size loops contexts = cond (loops == 0) 0 (contexts - 4 * loops)
 abbrev pub least_size : Program → ℕ → ℕ
 least_size program contexts =
     max (max (length program.latches) (min program.lanes 1))
-      (contexts_size (length program.latches) contexts)
+    (contexts_size (length program.latches) contexts)
 
 -- The plan has the program's lanes, loops, ports and nets, no tape, and these columns, which are at
 -- least as many as loops, at least 1 where there are lanes, and enough for the starts of so many
@@ -46,16 +46,16 @@ pub record IsClosed (program : Program) (columns : List Column) (contexts : ℕ)
 abbrev pub contexts_limit : List Column → Program → ℕ
 contexts_limit columns program =
     cond (length program.latches == 0) 1
-        (2 * max (length columns) (length program.latches) + 4 * length program.latches)
+    (2 * max (length columns) (length program.latches) + 4 * length program.latches)
 
 -- the plan does what the program does: at the end, and at each place of a net
 pub record DoesAsProgram (program : Program) (plan : Plan) : Type 0 where
   pub end : (bits : List Bool) → after_columns plan.columns bits ≡ after_instrs program.instrs bits
   pub nets : (bits : List Bool)
       → map (λ place. bit_on
-        (bits_after after_columns plan.columns place.after bits) place.lane) plan.nets
+      (bits_after after_columns plan.columns place.after bits) place.lane) plan.nets
       ≡ map (λ place. bit_on
-          (bits_after after_instrs program.instrs place.after bits) place.lane) program.nets
+      (bits_after after_instrs program.instrs place.after bits) place.lane) program.nets
 
 -- so it computes what the program computes
 abbrev pub ClosingKeepsCells : Type 0

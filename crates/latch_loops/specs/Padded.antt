@@ -23,9 +23,9 @@ pub record DoesAsPlan (plan padded : Plan) : Type 0 where
   pub end : (bits : List Bool) → after_columns padded.columns bits ≡ after_columns plan.columns bits
   pub nets : (bits : List Bool)
       → map (λ place. bit_on
-        (bits_after after_columns padded.columns place.after bits) place.lane) padded.nets
+      (bits_after after_columns padded.columns place.after bits) place.lane) padded.nets
       ≡ map (λ place. bit_on
-          (bits_after after_columns plan.columns place.after bits) place.lane) plan.nets
+      (bits_after after_columns plan.columns place.after bits) place.lane) plan.nets
 
 -- so it computes what the plan computes
 abbrev pub PaddingKeepsCells : Type 0

@@ -36,5 +36,5 @@ abbrev pub PlacesAreLastUses : Type 0
 PlacesAreLastUses =
     (instrs : List Instr) (lane n : ℕ) (d : Instr) → n < length instrs
     → ((m : ℕ) × IsLastUse instrs lane n m d
-      × (column_of_place instrs lane (Some n) ≡ Some (slice_index_or (column_numbers instrs) m 0)))
-      ⊎ (NoUse instrs lane n d × (column_of_place instrs lane (Some n) ≡ None))
+    × (column_of_place instrs lane (Some n) ≡ Some (slice_index_or (column_numbers instrs) m 0)))
+    ⊎ (NoUse instrs lane n d × (column_of_place instrs lane (Some n) ≡ None))

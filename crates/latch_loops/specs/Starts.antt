@@ -11,7 +11,7 @@ use Rattle.plan_waves.specs.WaysBack.{before_entry}
 abbrev pub start_in : Plan → List (List Bool) → ℕ → ℕ → List Start
 start_in plan starts loop c =
     cond (bit_on (get_or starts c []) loop)
-      (edge_name (tiling_of plan) (before_entry plan loop c) ∷ []) []
+    (edge_name (tiling_of plan) (before_entry plan loop c) ∷ []) []
 
 -- those of a loop in the first contexts, and of the first loops in all contexts
 abbrev pub starts_of_loop : Plan → List (List Bool) → ℕ → ℕ → List Start

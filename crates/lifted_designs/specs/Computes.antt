@@ -16,12 +16,12 @@ pub record ComputesDesign (list : CellList) (design : Design) : Type 0 where
   pub starts : list.starts ≡ state_in_order design (start_state design)
   pub state : (state : LatchState) → length (state_in_order design state) ≡ length list.starts
   pub outs : (inputs : List Bool) (state : LatchState) (bits : Valuation)
-    → IsValuation design inputs state bits
+      → IsValuation design inputs state bits
       → map (bit_of list inputs (state_in_order design state)) list.outs ≡ output_bits design bits
   pub latch_data : (inputs : List Bool) (state : LatchState) (bits : Valuation)
-    → IsValuation design inputs state bits
+      → IsValuation design inputs state bits
       → map (bit_of list inputs (state_in_order design state)) list.latches
-        ≡ state_in_order design (latches_after design bits)
+      ≡ state_in_order design (latches_after design bits)
 
 -- a list that names no constant 1 computes the netlist that is lifted of it, with a name for each
 -- input and each output

@@ -9,13 +9,13 @@ use Rattle.netlist_meaning.specs.FlatOrder.{IsFirstOfClass}
 abbrev pub IsDriverBefore : Flat → ℕ → ℕ → Option ℕ → Type 0
 IsDriverBefore flat count class found =
     MatchOption found ((b : ℕ) → b < count → out_class flat b ≢ class)
-      (λ b. (b < count) × (out_class flat b ≡ class))
+    (λ b. (b < count) × (out_class flat b ≡ class))
 
 -- the node that drives each class, where one does
 abbrev pub IsTableBefore : Flat → ℕ → List (Option ℕ) → Type 0
 IsTableBefore flat count table =
     (length table ≡ length flat.nets) × ((class : ℕ) → class < length flat.nets
-      → IsDriverBefore flat count class (get_or table class None))
+    → IsDriverBefore flat count class (get_or table class None))
 
 abbrev pub IsTable : Flat → List (Option ℕ) → Type 0
 IsTable flat table = IsTableBefore flat (length flat.nodes) table
@@ -25,12 +25,12 @@ abbrev pub IsFirstBefore : Flat → ℕ → ℕ → Option ℕ → Type 0
 IsFirstBefore flat count class found =
     MatchOption found ((k : ℕ) → k < count → (get_or flat.nets k no_net).class ≢ class)
     (λ n. (n < count) × ((get_or flat.nets n no_net).class ≡ class)
-      × ((k : ℕ) → k < n → (get_or flat.nets k no_net).class ≢ class))
+    × ((k : ℕ) → k < n → (get_or flat.nets k no_net).class ≢ class))
 
 abbrev pub AreFirstsBefore : Flat → ℕ → List (Option ℕ) → Type 0
 AreFirstsBefore flat count table =
     (length table ≡ length flat.nets) × ((class : ℕ) → class < length flat.nets
-      → IsFirstBefore flat count class (get_or table class None))
+    → IsFirstBefore flat count class (get_or table class None))
 
 abbrev pub AreFirsts : Flat → List (Option ℕ) → Type 0
 AreFirsts flat table = AreFirstsBefore flat (length flat.nets) table
@@ -44,4 +44,4 @@ IsFirstFor flat net first =
 pub record AreFirstsFor (flat : Flat) (nets firsts : List NetId) : Type 0 where
   pub long : length firsts ≡ length nets
   pub each : (k : ℕ) (d : NetId) → k < length nets
-    → IsFirstFor flat (get_or nets k d) (get_or firsts k d)
+      → IsFirstFor flat (get_or nets k d) (get_or firsts k d)

@@ -28,7 +28,11 @@ impl Model for Edges {
 
     ghost Value = { EdgeBits };
 
-    ghost view = { λ e. record { lanes = e.lanes; beside = e.beside.items; above = e.above.items } };
+    ghost view = { λ e. record {
+      lanes = e.lanes;
+      beside = e.beside.items;
+      above = e.above.items;
+    } };
 }
 
 impl Edges {

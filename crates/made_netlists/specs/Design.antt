@@ -16,11 +16,21 @@ abbrev pub gate_cover : GateKind → ℕ → List ℕ → List ℕ → List ℕ 
 gate_cover And line a b out =
     record { line = line; ins = a ∷ b ∷ []; out = out; rows = codes "11" ∷ []; on = true }
 gate_cover Or line a b out =
-    record { line = line; ins = a ∷ b ∷ []; out = out; rows = codes "1-" ∷ codes "-1" ∷ [];
-      on = true }
+    record {
+      line = line;
+      ins = a ∷ b ∷ [];
+      out = out;
+      rows = codes "1-" ∷ codes "-1" ∷ [];
+      on = true;
+    }
 gate_cover Xor line a b out =
-    record { line = line; ins = a ∷ b ∷ []; out = out; rows = codes "10" ∷ codes "01" ∷ [];
-      on = true }
+    record {
+      line = line;
+      ins = a ∷ b ∷ [];
+      out = out;
+      rows = codes "10" ∷ codes "01" ∷ [];
+      on = true;
+    }
 gate_cover Nand line a b out =
     record { line = line; ins = a ∷ b ∷ []; out = out; rows = codes "11" ∷ []; on = false }
 
@@ -40,8 +50,14 @@ covers_from line (gate ∷ gates) =
 
 abbrev pub made_latch : ℕ → ℕ → ℕ → ℕ → LatchRow
 made_latch line input output init =
-    record { line = line; input = net_name input; output = net_name output; kind = None;
-      control = None; init = init }
+    record {
+      line = line;
+      input = net_name input;
+      output = net_name output;
+      kind = None;
+      control = None;
+      init = init;
+    }
 
 -- four inputs, the last gate and the two latches as outputs, and the gates
 abbrev pub model_from : ℕ → ℕ → ℕ → List Gate → Model
@@ -61,7 +77,7 @@ model_from last data0 data1 gates = record {
 abbrev pub made_model : ℕ → ℕ → Model
 made_model seed size =
     model_from (net_of_gate (size - 1)) (latch_data seed size 0) (latch_data seed size 1)
-      (drawn_gates seed size)
+    (drawn_gates seed size)
 
 abbrev pub made_design : ℕ → ℕ → Design
 made_design seed size = record { models = made_model seed size ∷ [] }

@@ -13,7 +13,7 @@ net_of_gate j = 6 + j
 abbrev pub net_name : ℕ → List ℕ
 net_name n =
     cond (nat_lt n 4) (codes "i" ++ decimal n)
-      (cond (nat_lt n 6) (codes "q" ++ decimal (n - 4)) (codes "g" ++ decimal (n - 6)))
+    (cond (nat_lt n 6) (codes "q" ++ decimal (n - 4)) (codes "g" ++ decimal (n - 6)))
 
 -- the kinds by their numbers, and the rows of each
 abbrev pub drawn_kind : ℕ → GateKind
@@ -46,7 +46,7 @@ latch_data seed size l = draw_after seed (3 * size + l) (net_of_gate size)
 abbrev pub names_text : ℕ → ℕ → ℕ → List ℕ
 names_text first second out =
     codes ".names " ++ (net_name first
-      ++ (codes " " ++ (net_name second ++ (codes " " ++ (net_name out ++ codes "\n")))))
+    ++ (codes " " ++ (net_name second ++ (codes " " ++ (net_name out ++ codes "\n")))))
 
 abbrev pub drawn_gate_text : Gate → List ℕ
 drawn_gate_text gate = names_text gate.first gate.second gate.out ++ kind_rows gate.kind
@@ -57,7 +57,7 @@ abbrev pub head_text : ℕ → ℕ → ℕ → List ℕ
 head_text last data0 data1 =
     codes ".model made\n.inputs i0 i1 i2 i3\n.outputs "
     ++ (net_name last ++ (codes " q0 q1\n.latch "
-      ++ (net_name data0 ++ (codes " q0 0\n.latch " ++ (net_name data1 ++ codes " q1 1\n")))))
+    ++ (net_name data0 ++ (codes " q0 0\n.latch " ++ (net_name data1 ++ codes " q1 1\n")))))
 
 -- the text of a seed and a number of gates, of at least one
 abbrev pub made_text : ℕ → ℕ → List ℕ

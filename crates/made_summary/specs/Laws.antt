@@ -46,7 +46,7 @@ abbrev pub RunsAreBounded : Type 0
 RunsAreBounded =
     (seed size cycles : ℕ) (plan : Plan) (ports : Ports) → IsMadePlan seed size plan ports
     → last_generation ports (drawn_streams seed size cycles)
-      ≤ most_generations (weight (made_design seed size)) cycles
+    ≤ most_generations (weight (made_design seed size)) cycles
 
 -- where these are within the limit, no cause says that a run goes too far
 abbrev pub FewCyclesAreInTime : Type 0

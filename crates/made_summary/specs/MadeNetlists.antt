@@ -41,7 +41,7 @@ MadeHaveWeights = (seed size : ℕ) → weight (made_design seed size) ≤ 11 + 
 pub record HasMadeNames (seed size : ℕ) : Type 0 where
   pub ins : IsInNames (made_design seed size) made_in_names
   pub no_other_ins : (names : List Name) → IsInNames (made_design seed size) names
-    → names ≡ made_in_names
+      → names ≡ made_in_names
   pub outs : main_outputs (made_design seed size) ≡ made_out_names size
 
 abbrev pub MadeHaveNames : Type 0

@@ -38,7 +38,7 @@ pub record IsToldOf (netlist : Netlist) (planned : Planned) (streams : Streams)
 abbrev pub IsQuietUnder : Planned → Streams → Type 0
 IsQuietUnder planned streams =
     first_miss planned.ports streams (plane_of (start_grid planned.plan).rows)
-      (last_generation planned.ports streams) ≡ None
+    (last_generation planned.ports streams) ≡ None
 
 -- why a run up to this generation is not told
 abbrev pub HasTooFarCause : ℕ → SummaryError → Type 0

@@ -14,8 +14,12 @@ stream_after state before cycles =
 -- From a state come the bits of i0, and then as many of i1, of i2 and of i3.
 abbrev pub streams_after : (state cycles : ℕ) → Streams
 streams_after state cycles =
-    record { cycles = cycles; c = 1; bits = map
-      (λ input. stream_after state (input * cycles) cycles) (range_with_len 0 4) }
+    record {
+      cycles = cycles;
+      c = 1;
+      bits = map
+          (λ input. stream_after state (input * cycles) cycles) (range_with_len 0 4);
+    }
 
 -- those that come after the text of a seed and a number of gates
 abbrev pub drawn_streams : (seed size cycles : ℕ) → Streams

@@ -39,8 +39,11 @@ pub record IsMadePlan (seed size : ℕ) (plan : Plan) (ports : Ports) : Type 0 w
 abbrev pub output_at : (names : List Name) → (simulated evaluated : List (List Bool)) → ℕ
     → OutputBits
 output_at names simulated evaluated k =
-    record { name = get_or names k []; simulated = get_or simulated k [];
-      evaluated = get_or evaluated k [] }
+    record {
+      name = get_or names k [];
+      simulated = get_or simulated k [];
+      evaluated = get_or evaluated k [];
+    }
 
 abbrev pub outputs_by_name : (names : List Name) → (simulated evaluated : List (List Bool))
     → List OutputBits
@@ -51,8 +54,11 @@ outputs_by_name names simulated evaluated =
 -- netlist gives
 abbrev pub output_in_run : (ℕ → Valuation) → ℕ → Name → OutputBits
 output_in_run run cycles name =
-    record { name = name; simulated = bits_in_run run cycles name;
-      evaluated = bits_in_run run cycles name }
+    record {
+      name = name;
+      simulated = bits_in_run run cycles name;
+      evaluated = bits_in_run run cycles name;
+    }
 
 -- the weight of the made design, the numbers of such a plan, which shows the last bits within the
 -- limit of generations, and the outputs in a run of the design on the drawn streams

@@ -20,9 +20,9 @@ pub record IsSearch (models : List Model) (first : ℕ) (places : List (Option �
   pub numbers : (i : ℕ) → i < length found → get_or found i 0 < length models
   pub at_place : (i : ℕ) → i < length found → get_or places (get_or found i 0) None ≡ Some i
   pub place_of : (n i : ℕ) → get_or places n None ≡ Some i
-    → (i < length found) × (get_or found i 0 ≡ n)
+      → (i < length found) × (get_or found i 0 ≡ n)
   pub before : (i : ℕ) → 0 < i → i < length found
-    → (get_or parents i 0 < i) × PlacesSomewhere models (get_or found (get_or parents i 0) 0)
+      → (get_or parents i 0 < i) × PlacesSomewhere models (get_or found (get_or parents i 0) 0)
       (get_or found i 0)
 
 abbrev pub IsSearchOf : List Model → ℕ → Search → Type 0

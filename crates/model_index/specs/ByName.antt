@@ -14,7 +14,7 @@ pub record IsNumberOf (models : List Model) (name : Name) (number : ℕ) : Type 
   pub is_there : slice_get models number ≡ Some model
   pub is_named : model_named models name ≡ Some model
   pub is_first : (k : ℕ) (earlier : Model) → k < number → slice_get models k ≡ Some earlier
-    → is_model_named name earlier ≡ false
+      → is_model_named name earlier ≡ false
 
 -- what a map keeps for a name
 abbrev pub number_kept : BTreeMap (Bor (List ℕ)) ℕ → Name → Option ℕ

@@ -10,4 +10,4 @@ pub record IsModelOrder (models : List Model) (order : List ℕ) : Type 0 where
   pub all : (n : ℕ) → n < length models → Contains order n
   pub few : length order ≤ length models
   pub after : (i k inner : ℕ) → i < length order → Places models (get_or order i 0) k inner
-    → (j : ℕ) × (j < i) × (get_or order j 0 ≡ inner)
+      → (j : ℕ) × (j < i) × (get_or order j 0 ≡ inner)

@@ -26,9 +26,9 @@ has_line test lines number = option_map_or test (line_in lines number) false
 pub record AreFirstLines (names : Numbering) (lines : FirstLines) (ports : List Port) : Type 0 where
   pub room : length lines.lines.items ≡ count_of names
   pub before : (p : Port) (number : ℕ) → name_number names p.name ≡ Some number
-    → has_line (λ line. nat_lt line p.line) lines number ≡ list_any (same_name_before p) ports
+      → has_line (λ line. nat_lt line p.line) lines number ≡ list_any (same_name_before p) ports
   pub up_to : (p : Port) (number : ℕ) → name_number names p.name ≡ Some number
-    → has_line (λ line. nat_le line p.line) lines number ≡ list_any (same_name_up_to p) ports
+      → has_line (λ line. nat_le line p.line) lines number ≡ list_any (same_name_up_to p) ports
   pub named : (name : Name) (number : ℕ) → name_number names name ≡ Some number
-    → has_line (λ line. true) lines number ≡ is_named ports name
+      → has_line (λ line. true) lines number ≡ is_named ports name
   pub unnumbered : (name : Name) → name_number names name ≡ None → is_named ports name ≡ false

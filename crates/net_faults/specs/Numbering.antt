@@ -36,7 +36,7 @@ IsNumbering names =
 abbrev pub GivesNumber : Numbering → Numbering → Name → ℕ → Type 0
 GivesNumber old new name number =
     (other : Name) → name_number new other ≡ cond (bytes_eq name other) (Some number)
-      (name_number old other)
+    (name_number old other)
 
 -- each name keeps its number
 abbrev pub KeepsNumbers : Numbering → Numbering → Type 0

@@ -24,4 +24,4 @@ drives_class nets class latch =
 abbrev pub latch_named : Flat → Name → Option ℕ
 latch_named flat name =
     option_and_then (λ class. position (drives_class flat.nets class) flat.latches)
-        (class_named flat.nets name)
+    (class_named flat.nets name)

@@ -9,7 +9,7 @@ use Rattle.netlist_core.specs.Names.{is_named}
 abbrev pub port_weight : Model → ℕ
 port_weight model =
     length model.ins + length model.outs + count_by
-      (λ clock. not (is_named model.ins clock.name)) model.clocks
+    (λ clock. not (is_named model.ins clock.name)) model.clocks
 
 -- the characters `0` and `1` of a row
 abbrev pub literals : List ℕ → ℕ

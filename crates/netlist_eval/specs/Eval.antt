@@ -15,7 +15,7 @@ OrderedHaveOneValuation =
     → length state ≡ length flat.latches
     → (bits : ℕ → Bool) × IsFlatValuation flat inputs state bits
     × ((others : ℕ → Bool) → IsFlatValuation flat inputs state others
-      → AgreeWhereDriven flat bits others)
+    → AgreeWhereDriven flat bits others)
 
 -- bits by class, as they are computed
 abbrev pub class_bit : List Bool → ℕ → Bool

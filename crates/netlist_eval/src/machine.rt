@@ -30,7 +30,9 @@ impl<'a> Model for Machine<'a> {
 
     ghost view = { λ m. record { flat = m.flat.now; state = m.state.items } };
 
-    ghost invariant = { λ m. IsSound m.flat.now × IsOrder m.flat.now m.order.nodes × (length m.bits.items ≡ length m.flat.now.nets) × (length m.state.items ≡ length m.flat.now.latches) };
+    ghost invariant = { λ m. IsSound m.flat.now × IsOrder m.flat.now m.order.nodes
+        × (length m.bits.items ≡ length m.flat.now.nets)
+        × (length m.state.items ≡ length m.flat.now.latches) };
 }
 
 impl<'a> Machine<'a> {

@@ -8,8 +8,16 @@ use Rattle.carries.specs.Carries.{Carries}
 -- .model m / .end
 abbrev pub bare_model : Model
 bare_model =
-    record { line = 1; name = codes "m"; ins = []; outs = []; clocks = []; covers = [];
-      latches = []; subckts = [] }
+    record {
+      line = 1;
+      name = codes "m";
+      ins = [];
+      outs = [];
+      clocks = [];
+      covers = [];
+      latches = [];
+      subckts = [];
+    }
 
 abbrev pub bare_design : Design
 bare_design = record { models = bare_model ∷ [] }

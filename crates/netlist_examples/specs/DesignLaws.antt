@@ -20,18 +20,18 @@ HoldsUnder row bits =
 -- exactly when one holds; no rows: it is 0
 pub record CoversSay : Type 0 where
   pub on : (rows : List (List ℕ)) (bits : List Bool) → (cover_value rows true bits ≡ true)
-    ↔ Any (λ row. HoldsUnder row bits) rows
+      ↔ Any (λ row. HoldsUnder row bits) rows
   pub no_rows : (on : Bool) (bits : List Bool) → cover_value [] on bits ≡ false
   pub off : (rows : List (List ℕ)) (bits : List Bool) → rows ≢ []
-    → (cover_value rows false bits ≡ false) ↔ Any (λ row. HoldsUnder row bits) rows
+      → (cover_value rows false bits ≡ false) ↔ Any (λ row. HoldsUnder row bits) rows
 
 -- a valuation is one by its bits at the design's nets alone, and so are the outputs
 pub record OnlyNetsMatter (design : Design) : Type 0 where
   pub solves : (inputs : List Bool) (state : LatchState) (bits others : Valuation)
-    → AgreeOnNets design bits others → IsValuation design inputs state bits
-    → IsValuation design inputs state others
+      → AgreeOnNets design bits others → IsValuation design inputs state bits
+      → IsValuation design inputs state others
   pub outputs : (bits others : Valuation) → AgreeOnNets design bits others
-    → output_bits design bits ≡ output_bits design others
+      → output_bits design bits ≡ output_bits design others
 
 -- so it is where each formal is a name of its model, no line names one with two actuals, and no
 -- clock net is read or driven
@@ -49,9 +49,9 @@ pub data IsSublist : List Port → List Port → Type 0 where
 pub record WordsKeepOrder : Type 0 where
   pub ports : (m : Model) → IsSublist (duplicate_ports m) (m.ins ++ m.clocks ++ m.outs)
   pub drivers : (models : List Model) (m : Model)
-    → IsSublist (second_drivers models m) (drivers_of models m)
+      → IsSublist (second_drivers models m) (drivers_of models m)
   pub readings : (models : List Model) (m : Model)
-    → IsSublist (undriven_readings models m) (readings_of models m)
+      → IsSublist (undriven_readings models m) (readings_of models m)
   pub formals : (models : List Model) (s : Subckt)
-    → IsSublist (unknown_formals models s) (formals_of s)
+      → IsSublist (unknown_formals models s) (formals_of s)
   pub formals_twice : (s : Subckt) → IsSublist (repeats (formals_of s)) (formals_of s)

@@ -46,12 +46,12 @@ loop_design = design_with (loop_main ∷ [])
 abbrev pub sum_cover : Cover
 sum_cover =
     cover_with 10 (codes "a" ∷ codes "b" ∷ codes "c" ∷ []) (codes "s")
-      (codes "100" ∷ codes "010" ∷ codes "001" ∷ codes "111" ∷ [])
+    (codes "100" ∷ codes "010" ∷ codes "001" ∷ codes "111" ∷ [])
 
 abbrev pub carry_cover : Cover
 carry_cover =
     cover_with 15 (codes "a" ∷ codes "b" ∷ codes "c" ∷ []) (codes "co")
-      (codes "11-" ∷ codes "1-1" ∷ codes "-11" ∷ [])
+    (codes "11-" ∷ codes "1-1" ∷ codes "-11" ∷ [])
 
 -- .model fa / .inputs a b c / .outputs s co / .names a b c s / 100 1 / 010 1 / 001 1 / 111 1
 -- / .names a b c co / 11- 1 / 1-1 1 / -11 1 / .end
@@ -72,13 +72,13 @@ full_adder =
 abbrev pub first_line : Subckt
 first_line =
     subckt_with 4 (codes "fa") (pin_with (codes "a") (codes "a0")
-      ∷ pin_with (codes "b") (codes "b0") ∷ pin_with (codes "c") (codes "ci")
+    ∷ pin_with (codes "b") (codes "b0") ∷ pin_with (codes "c") (codes "ci")
     ∷ pin_with (codes "s") (codes "s0") ∷ pin_with (codes "co") (codes "k") ∷ [])
 
 abbrev pub second_line : Subckt
 second_line =
     subckt_with 5 (codes "fa") (pin_with (codes "a") (codes "a1")
-      ∷ pin_with (codes "b") (codes "b1") ∷ pin_with (codes "c") (codes "k")
+    ∷ pin_with (codes "b") (codes "b1") ∷ pin_with (codes "c") (codes "k")
     ∷ pin_with (codes "s") (codes "s1") ∷ pin_with (codes "co") (codes "c") ∷ [])
 
 -- .model add / .inputs a0 a1 b0 b1 ci / .outputs s0 s1 c / .subckt fa a=a0 b=b0 c=ci s=s0 co=k
@@ -172,8 +172,14 @@ clocked_main =
       clocks = [];
       covers = [];
       latches =
-          record { line = 5; input = codes "d"; output = codes "q"; kind = Some Rise;
-            control = Some (codes "clk"); init = 2 } ∷ [];
+          record {
+            line = 5;
+            input = codes "d";
+            output = codes "q";
+            kind = Some Rise;
+            control = Some (codes "clk");
+            init = 2;
+          } ∷ [];
       subckts = [];
     }
 
@@ -191,8 +197,14 @@ read_clock_main =
       clocks = [];
       covers = cover_with 5 (codes "clk" ∷ []) (codes "y") (codes "1" ∷ []) ∷ [];
       latches =
-          record { line = 4; input = codes "d"; output = codes "q"; kind = Some Rise;
-            control = Some (codes "clk"); init = 2 } ∷ [];
+          record {
+            line = 4;
+            input = codes "d";
+            output = codes "q";
+            kind = Some Rise;
+            control = Some (codes "clk");
+            init = 2;
+          } ∷ [];
       subckts = [];
     }
 
@@ -211,10 +223,22 @@ two_clocks_main =
       clocks = ports_with 3 (codes "c" ∷ codes "e" ∷ []);
       covers = [];
       latches =
-          record { line = 5; input = codes "d"; output = codes "p"; kind = Some Rise;
-              control = Some (codes "c"); init = 3 }
-          ∷ record { line = 6; input = codes "d"; output = codes "q"; kind = Some Rise;
-            control = Some (codes "e"); init = 3 }
+          record {
+            line = 5;
+            input = codes "d";
+            output = codes "p";
+            kind = Some Rise;
+            control = Some (codes "c");
+            init = 3;
+          }
+          ∷ record {
+            line = 6;
+            input = codes "d";
+            output = codes "q";
+            kind = Some Rise;
+            control = Some (codes "e");
+            init = 3;
+          }
           ∷ [];
       subckts = [];
     }
@@ -243,7 +267,7 @@ latch_design init = design_with (latch_main init ∷ [])
 abbrev pub circle_line : Subckt
 circle_line =
     subckt_with 3 (codes "b") (pin_with (codes "i") (codes "x") ∷ pin_with (codes "o") (codes "x")
-      ∷ [])
+    ∷ [])
 
 abbrev pub circle_main : Model
 circle_main =
@@ -279,7 +303,7 @@ circle_design = design_with (circle_main ∷ buffer_model ∷ [])
 abbrev pub shared_line : Subckt
 shared_line =
     subckt_with 5 (codes "s") (pin_with (codes "x") (codes "d") ∷ pin_with (codes "k") (codes "clk")
-      ∷ pin_with (codes "z") (codes "r") ∷ [])
+    ∷ pin_with (codes "z") (codes "r") ∷ [])
 
 -- .model m / .inputs d clk / .outputs q r / .latch d q re clk / .subckt s x=d k=clk z=r / .end
 abbrev pub shared_main : Model
@@ -292,8 +316,14 @@ shared_main =
       clocks = [];
       covers = [];
       latches =
-          record { line = 4; input = codes "d"; output = codes "q"; kind = Some Rise;
-            control = Some (codes "clk"); init = 3 } ∷ [];
+          record {
+            line = 4;
+            input = codes "d";
+            output = codes "q";
+            kind = Some Rise;
+            control = Some (codes "clk");
+            init = 3;
+          } ∷ [];
       subckts = shared_line ∷ [];
     }
 
@@ -308,8 +338,14 @@ shared_inner =
       clocks = [];
       covers = [];
       latches =
-          record { line = 10; input = codes "x"; output = codes "z"; kind = Some Rise;
-            control = Some (codes "k"); init = 3 } ∷ [];
+          record {
+            line = 10;
+            input = codes "x";
+            output = codes "z";
+            kind = Some Rise;
+            control = Some (codes "k");
+            init = 3;
+          } ∷ [];
       subckts = [];
     }
 
@@ -327,8 +363,14 @@ half_clocked_main =
       clocks = [];
       covers = [];
       latches =
-          record { line = 4; input = codes "d"; output = codes "p"; kind = Some Rise;
-              control = Some (codes "c"); init = 3 }
+          record {
+            line = 4;
+            input = codes "d";
+            output = codes "p";
+            kind = Some Rise;
+            control = Some (codes "c");
+            init = 3;
+          }
           ∷ plain_latch 5 (codes "d") (codes "q") 3
           ∷ [];
       subckts = [];

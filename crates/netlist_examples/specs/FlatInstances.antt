@@ -19,8 +19,14 @@ small_port n = record { line = 0; net = net_numbered n }
 
 abbrev pub data_latch : FlatLatch
 data_latch =
-    record { line = 0; input = net_numbered 2; output = net_numbered 1; kind = Some Rise;
-      control = Some (net_numbered 4); init = 0 }
+    record {
+      line = 0;
+      input = net_numbered 2;
+      output = net_numbered 1;
+      kind = Some Rise;
+      control = Some (net_numbered 4);
+      init = 0;
+    }
 
 abbrev pub small_node : List NetId → ℕ → Node
 small_node ins out = record { line = 0; ins = ins; out = net_numbered out; rows = []; on = true }

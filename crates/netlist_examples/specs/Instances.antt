@@ -20,9 +20,9 @@ is_odd_cycle (suc n) = not (is_odd_cycle n)
 -- turn
 pub record IsToggle (design : Design) : Type 0 where
   pub runs : (rows : List (List Bool)) → All (λ row. length row ≡ 0) rows
-    → (run : ℕ → Valuation) × IsRun design rows run
+      → (run : ℕ → Valuation) × IsRun design rows run
   pub gives : (rows : List (List Bool)) (run : ℕ → Valuation) → IsRun design rows run → (cycle : ℕ)
-    → cycle < length rows → output_bits design (run cycle) ≡ is_odd_cycle cycle ∷ []
+      → cycle < length rows → output_bits design (run cycle) ≡ is_odd_cycle cycle ∷ []
 
 -- a latch that starts as 0 and takes the inverse of its output is a toggle
 abbrev pub LatchToggles : Type 0
@@ -69,12 +69,12 @@ number_spelled (bit ∷ bits) = cond bit 1 0 + 2 * number_spelled bits
 -- each cycle are the sum
 pub record IsAdder (design : Design) : Type 0 where
   pub runs : (rows : List (List Bool)) → All (λ row. length row ≡ 5) rows
-    → (run : ℕ → Valuation) × IsRun design rows run
+      → (run : ℕ → Valuation) × IsRun design rows run
   pub adds : (rows : List (List Bool)) (run : ℕ → Valuation) → IsRun design rows run
-    → (cycle : ℕ) (a0 a1 b0 b1 ci : Bool)
-    → slice_get rows cycle ≡ Some (a0 ∷ a1 ∷ b0 ∷ b1 ∷ ci ∷ [])
+      → (cycle : ℕ) (a0 a1 b0 b1 ci : Bool)
+      → slice_get rows cycle ≡ Some (a0 ∷ a1 ∷ b0 ∷ b1 ∷ ci ∷ [])
       → number_spelled (output_bits design (run cycle))
-        ≡ number_spelled (a0 ∷ a1 ∷ []) + number_spelled (b0 ∷ b1 ∷ []) + number_spelled (ci ∷ [])
+      ≡ number_spelled (a0 ∷ a1 ∷ []) + number_spelled (b0 ∷ b1 ∷ []) + number_spelled (ci ∷ [])
 
 abbrev pub AdderAdds : Type 0
 AdderAdds = IsAdder adder_design
@@ -88,9 +88,9 @@ delayed first rows (suc cycle) = get_or rows cycle []
 -- then the input of the cycle before
 pub record IsDelay (first : Bool) (design : Design) : Type 0 where
   pub runs : (rows : List (List Bool)) → All (λ row. length row ≡ 1) rows
-    → (run : ℕ → Valuation) × IsRun design rows run
+      → (run : ℕ → Valuation) × IsRun design rows run
   pub gives : (rows : List (List Bool)) (run : ℕ → Valuation) → IsRun design rows run → (cycle : ℕ)
-    → cycle < length rows → output_bits design (run cycle) ≡ delayed first rows cycle
+      → cycle < length rows → output_bits design (run cycle) ≡ delayed first rows cycle
 
 -- a latch delays its input, and starts as 1 where its init is 1, and as 0 for any other
 abbrev pub LatchDelays : Type 0

@@ -51,10 +51,10 @@ or_cover_rows = codes "1-" ∷ codes "-1" ∷ []
 -- is the function of its two bits
 pub record Computes (design : Design) (function : Bool → Bool → Bool) : Type 0 where
   pub runs : (rows : List (List Bool)) → All (λ row. length row ≡ 2) rows
-    → (run : ℕ → Valuation) × IsRun design rows run
+      → (run : ℕ → Valuation) × IsRun design rows run
   pub gives : (rows : List (List Bool)) (run : ℕ → Valuation) → IsRun design rows run
-    → (cycle : ℕ) (p q : Bool) → slice_get rows cycle ≡ Some (p ∷ q ∷ [])
-    → output_bits design (run cycle) ≡ function p q ∷ []
+      → (cycle : ℕ) (p q : Bool) → slice_get rows cycle ≡ Some (p ∷ q ∷ [])
+      → output_bits design (run cycle) ≡ function p q ∷ []
 
 -- one cover of two inputs computes its cover's value
 abbrev pub OneCoverComputes : Type 0

@@ -44,8 +44,14 @@ free_latch line input output init =
 
 abbrev pub clocked_latch : ℕ → List ℕ → List ℕ → Trigger → List ℕ → ℕ → LatchRow
 clocked_latch line input output kind control init =
-    record { line = line; input = input; output = output; kind = Some kind; control = Some control;
-      init = init }
+    record {
+      line = line;
+      input = input;
+      output = output;
+      kind = Some kind;
+      control = Some control;
+      init = init;
+    }
 
 abbrev pub pin : List ℕ → List ℕ → Pin
 pin formal actual = record { formal = formal; actual = actual }
@@ -55,13 +61,29 @@ subckt line model pins = record { line = line; model = model; pins = pins }
 
 abbrev pub flat_model : ℕ → List ℕ → List Port → List Port → List Cover → List LatchRow → Model
 flat_model line name ins outs covers latches =
-    record { line = line; name = name; ins = ins; outs = outs; clocks = []; covers = covers;
-      latches = latches; subckts = [] }
+    record {
+      line = line;
+      name = name;
+      ins = ins;
+      outs = outs;
+      clocks = [];
+      covers = covers;
+      latches = latches;
+      subckts = [];
+    }
 
 abbrev pub deep_model : ℕ → List ℕ → List Port → List Port → List Subckt → Model
 deep_model line name ins outs subckts =
-    record { line = line; name = name; ins = ins; outs = outs; clocks = []; covers = [];
-      latches = []; subckts = subckts }
+    record {
+      line = line;
+      name = name;
+      ins = ins;
+      outs = outs;
+      clocks = [];
+      covers = [];
+      latches = [];
+      subckts = subckts;
+    }
 
 -- Logical lines.
 pub record LineExamples : Type 0 where
@@ -71,11 +93,11 @@ pub record LineExamples : Type 0 where
   -- a `\` joins the next line on, with nothing between
   pub continued : logical_lines (codes ".inputs a b\\\nc \\\n\td\n.end\n")
       ≡ (logical 1 ((codes ".inputs") ∷ (codes "a") ∷ (codes "bc") ∷ (codes "d") ∷ []))
-    ∷ (logical 4 ((codes ".end") ∷ [])) ∷ []
+      ∷ (logical 4 ((codes ".end") ∷ [])) ∷ []
   -- a comment is cut first, so a `\` before it joins
   pub comment_after_backslash : logical_lines (codes ".inputs d \\ # one\nclk # two\n.end")
       ≡ (logical 1 ((codes ".inputs") ∷ (codes "d") ∷ (codes "clk") ∷ []))
-    ∷ (logical 3 ((codes ".end") ∷ [])) ∷ []
+      ∷ (logical 3 ((codes ".end") ∷ [])) ∷ []
   -- a `\` in a comment joins nothing
   pub backslash_in_comment : logical_lines (codes ".inputs a # b \\\n.end\n")
       ≡ (logical 1 ((codes ".inputs") ∷ (codes "a") ∷ [])) ∷ (logical 2 ((codes ".end") ∷ [])) ∷ []
@@ -88,7 +110,7 @@ pub record LineExamples : Type 0 where
   -- lines may end with bytes 13 and 10
   pub carriage_returns : logical_lines (codes ".inputs a \\\r\n b\r\n.end\r\n")
       ≡ (logical 1 ((codes ".inputs") ∷ (codes "a") ∷ (codes "b") ∷ []))
-    ∷ (logical 3 ((codes ".end") ∷ [])) ∷ []
+      ∷ (logical 3 ((codes ".end") ∷ [])) ∷ []
   -- a line without a word is skipped, also one that is joined
   pub skipped : logical_lines (codes "\\\n \t\\\n\n.end\n") ≡ (logical 4 ((codes ".end") ∷ [])) ∷ []
   -- a line has the number of its first physical line
@@ -97,7 +119,7 @@ pub record LineExamples : Type 0 where
   pub two_returns : logical_lines (codes "a\\\r\r\nb\n") ≡ (logical 1 ((codes "ab") ∷ [])) ∷ []
   -- a byte 13 within a line is a blank
   pub return_within : logical_lines (codes "a\rb\n") ≡ (logical 1 ((codes "a") ∷ (codes "b") ∷ []))
-    ∷ []
+      ∷ []
   -- `#` cuts a word
   pub hash_within : logical_lines (codes "a#b c\n") ≡ (logical 1 ((codes "a") ∷ [])) ∷ []
   -- of two `\` at the end one is dropped

@@ -20,4 +20,4 @@ pub record IsLineTo (design : Design) (outer inner : ℕ) (line : Subckt) : Type
 abbrev pub own_numbers : Design → ℕ → List ℕ
 own_numbers design k =
     map (λ j. length (nets_before design k) + j)
-      (range_with_len 0 (length (nets_at design (place_at design k))))
+    (range_with_len 0 (length (nets_at design (place_at design k))))

@@ -34,4 +34,4 @@ pub record AreTables (design : Design) (placed : List PlacedModel)
   pub are_places : ArePlaces design placed
   pub are_names : AreNames design placed names
   pub are_firsts : (k : ℕ) → k < length placed
-    → slice_get firsts k ≡ Some (length (nets_before design k))
+      → slice_get firsts k ≡ Some (length (nets_before design k))

@@ -62,14 +62,14 @@ abbrev pub IsClockClass : Flat → ℕ → Type 0
 IsClockClass flat class =
     MatchOption flat.control ⊥ (λ id. class_of flat id ≡ class)
     ⊎ (Contains (port_classes flat flat.clocks) class
-      × ¬ Contains (port_classes flat flat.ins) class)
+    × ¬ Contains (port_classes flat flat.ins) class)
 
 -- the same as a test (`is_clock_class-Decides`), and the nets but the clock nets, in order
 abbrev pub is_clock_class : Flat → ℕ → Bool
 is_clock_class flat class =
     option_map_or (λ id. class_of flat id == class) flat.control false
     || (list_any (λ clock. clock == class) (port_classes flat flat.clocks)
-        && not (list_any (λ input. input == class) (port_classes flat flat.ins)))
+    && not (list_any (λ input. input == class) (port_classes flat flat.ins)))
 
 abbrev pub nets_but_clocks : Flat → List FlatNet
 nets_but_clocks flat = filter (λ net. not (is_clock_class flat net.class)) flat.nets
@@ -97,11 +97,11 @@ pub record IsInRange (flat : Flat) : Type 0 where
 pub record IsSound (flat : Flat) : Type 0 where
   pub in_range : IsInRange flat
   pub one_driver : (class : ℕ) (d e : FlatDriver) → FlatDrives flat d class
-    → FlatDrives flat e class → d ≡ e
+      → FlatDrives flat e class → d ≡ e
   pub driven : (id : NetId) → IsNetId flat id → ¬ IsClockClass flat (class_of flat id)
-    → (d : FlatDriver) × FlatDrives flat d (class_of flat id)
+      → (d : FlatDriver) × FlatDrives flat d (class_of flat id)
   pub clocks_undriven : (class : ℕ) (d : FlatDriver) → FlatDrives flat d class
-    → ¬ IsClockClass flat class
+      → ¬ IsClockClass flat class
   pub clocks_unread : (n class : ℕ) → Contains (in_classes flat n) class → ¬ IsClockClass flat class
   pub clocks_no_outs : All (λ port. ¬ IsClockClass flat (class_of flat port.net)) flat.outs
   pub clocks_no_data : All (λ latch. ¬ IsClockClass flat (class_of flat latch.input)) flat.latches

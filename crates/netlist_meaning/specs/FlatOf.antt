@@ -73,16 +73,16 @@ flat_port design port = record { line = port.line; net = id_of design [] port.na
 abbrev pub at_places : {X Y : Type 0} → Design → (Model → List X) → (Place → X → Y) → List Y
 at_places design items f =
     flat_map (λ place. map (f place) (of_some items (model_at design place)))
-      (places_in_order design)
+    (places_in_order design)
 
 -- the ports of a list that are not the control at the main model, in order
 pub data PortsWithoutControl (design : Design) : List Port → List Port → Type 0 where
   none : PortsWithoutControl design [] []
   kept : {port : Port} {ports rest : List Port} → ¬ IsControl design (net_at [] port.name)
-    → PortsWithoutControl design ports rest
-    → PortsWithoutControl design (port ∷ ports) (port ∷ rest)
+      → PortsWithoutControl design ports rest
+      → PortsWithoutControl design (port ∷ ports) (port ∷ rest)
   left_out : {port : Port} {ports rest : List Port} → IsControl design (net_at [] port.name)
-    → PortsWithoutControl design ports rest → PortsWithoutControl design (port ∷ ports) rest
+      → PortsWithoutControl design ports rest → PortsWithoutControl design (port ∷ ports) rest
 
 -- the control of the first latch
 abbrev pub first_control : List FlatLatch → Option NetId

@@ -35,7 +35,7 @@ pub record IsOrder (flat : Flat) (order : List ℕ) : Type 0 where
   pub once : AllPairs (λ a b. a ≢ b) order
   pub all : (n : ℕ) → n < length flat.nodes → Contains order n
   pub after : (i k b : ℕ) → i < length order → IsDrivenBy flat (get_or order i 0) k b
-    → (j : ℕ) × (j < i) × (get_or order j 0 ≡ b)
+      → (j : ℕ) × (j < i) × (get_or order j 0 ≡ b)
 
 -- no net before it is of its class. In the nets of a design, which stand by place, that is the one
 -- nearest the main model

@@ -9,7 +9,7 @@ use Rattle.netlist_meaning.specs.Flat.{class_of, node_at, out_class, FlatDriver,
 abbrev pub node_value : Flat → (ℕ → Bool) → ℕ → Bool
 node_value flat bits n =
     cover_value (node_at flat n).rows (node_at flat n).on
-      (map (λ id. bits (class_of flat id)) (node_at flat n).ins)
+    (map (λ id. bits (class_of flat id)) (node_at flat n).ins)
 
 -- inputs have the input bits, latches' outputs the state's, in order, and each node's output its
 -- value
@@ -17,7 +17,7 @@ pub record IsFlatValuation (flat : Flat) (inputs state : List Bool) (bits : ℕ 
   pub inputs_given : map (λ port. bits (class_of flat port.net)) flat.ins ≡ inputs
   pub latches_hold : map (λ latch. bits (class_of flat latch.output)) flat.latches ≡ state
   pub nodes_hold : (n : ℕ) → n < length flat.nodes
-    → bits (out_class flat n) ≡ node_value flat bits n
+      → bits (out_class flat n) ≡ node_value flat bits n
 
 -- two such valuations are one and the same where they agree on each class that is driven
 abbrev pub AgreeWhereDriven : Flat → (ℕ → Bool) → (ℕ → Bool) → Type 0

@@ -27,7 +27,7 @@ abbrev pub places_below : Design → ℕ → Model → List Place
 places_below design zero model = []
 places_below design (suc depth) model =
     [] ∷ places_in_lines (λ line. of_some (places_below design depth)
-      (model_named design.models line.model)) 0 model.subckts
+    (model_named design.models line.model)) 0 model.subckts
 
 -- the places in order. Where no model stands inside a place of itself, none is as deep as there are
 -- models

@@ -21,8 +21,8 @@ pub record IsLeastEquivalence (design : Design) : Type 0 where
   pub reversed : (a b : Net) → Joined design a b → Joined design b a
   pub followed : (a b c : Net) → Joined design a b → Joined design b c → Joined design a c
   pub is_least : (test : Net → Net → Bool) → IsEquivalence test
-    → ((outer inner : Net) → IsPinned design outer inner → IsTrue (test outer inner)) → (a b : Net)
-    → Joined design a b → IsTrue (test a b)
+      → ((outer inner : Net) → IsPinned design outer inner → IsTrue (test outer inner)) → (a b : Net)
+      → Joined design a b → IsTrue (test a b)
 
 -- the bits of each pin's actual and formal agree, where these are no clock nets
 abbrev pub AgreeAtPins : Design → Valuation → Type 0
@@ -51,7 +51,7 @@ InNamesAreOne =
 abbrev pub ListsPlaces : Design → ℕ → List Place → Type 0
 ListsPlaces design depth places =
     (place : Place) → count_by (bytes_eq place) places ≡ cond
-      (is_some (model_at design place) && nat_lt (length place) depth) 1 0
+    (is_some (model_at design place) && nat_lt (length place) depth) 1 0
 
 -- the weight is the sum of the own weights of the models at the places that are fewer lines deep
 -- than there are models
@@ -78,7 +78,7 @@ abbrev pub WeightIsSumOverAll : Type 0
 WeightIsSumOverAll =
     (design : Design) → IsNotRecursive design → (places : List Place)
     × ((place : Place) → count_by (bytes_eq place) places ≡ cond
-      (is_some (model_at design place)) 1 0)
+    (is_some (model_at design place)) 1 0)
     × (weight design ≡ sum_by (λ place. of_model own_weight (model_at design place)) places)
 
 -- of two places exactly one is true: the first is before the other, they are one, or it is after it

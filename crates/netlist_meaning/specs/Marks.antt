@@ -6,4 +6,4 @@ use Rattle.netlist_meaning.specs.Flat.{is_clock_class}
 pub record MarksClocks (flat : Flat) (marks : List Bool) : Type 0 where
   pub all : length marks ≡ length flat.nets
   pub each : (class : ℕ) → class < length flat.nets
-    → get_or marks class false ≡ is_clock_class flat class
+      → get_or marks class false ≡ is_clock_class flat class

@@ -82,9 +82,9 @@ IsClockNet design net =
 pub data WithoutControl (design : Design) : List Name → List Name → Type 0 where
   none : WithoutControl design [] []
   kept : {name : Name} {names rest : List Name} → ¬ IsControl design (net_at [] name)
-    → WithoutControl design names rest → WithoutControl design (name ∷ names) (name ∷ rest)
+      → WithoutControl design names rest → WithoutControl design (name ∷ names) (name ∷ rest)
   left_out : {name : Name} {names rest : List Name} → IsControl design (net_at [] name)
-    → WithoutControl design names rest → WithoutControl design (name ∷ names) rest
+      → WithoutControl design names rest → WithoutControl design (name ∷ names) rest
 
 -- the IN names: those of the main model's `.inputs`, in order, but the control. The OUT names are
 -- `main_outputs`

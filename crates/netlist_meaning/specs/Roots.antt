@@ -55,7 +55,7 @@ JoinedIsSameRoot =
 pub record RootIsNearest (design : Design) : Type 0 where
   pub joined : (net : Net) → Joined design net (root design net)
   pub nearest : (a b : Net) → Joined design a b
-    → (b ≡ root design a) ⊎ (length (root design a).place < length b.place)
+      → (b ≡ root design a) ⊎ (length (root design a).place < length b.place)
 
 -- There the root of a net is joined with it, and any other net that is joined with it lies deeper
 -- than the root.

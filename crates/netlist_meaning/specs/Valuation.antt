@@ -29,14 +29,14 @@ pub record IsValuation (design : Design) (inputs : List Bool) (state : LatchStat
   -- joined nets agree, but for clock nets, of which no equation speaks in a design whose clock nets
   -- are not read or driven
   pub joined_agree : (a b : Net) → Joined design a b → ¬ IsClockNet design a
-    → bits a.place a.name ≡ bits b.place b.name
+      → bits a.place a.name ≡ bits b.place b.name
   -- the output of each cover, in each place, is the cover's value
   pub covers_hold : (place : Place) (model : Model) (cover : Cover)
-    → model_at design place ≡ Some model → Contains model.covers cover
-    → bits place cover.out ≡ cover_value cover.rows cover.on (map (bits place) cover.ins)
+      → model_at design place ≡ Some model → Contains model.covers cover
+      → bits place cover.out ≡ cover_value cover.rows cover.on (map (bits place) cover.ins)
   -- each latch output is its state bit
   pub latches_hold : (place : Place) (number : ℕ) (latch : LatchRow)
-    → latch_at design place number ≡ Some latch → bits place latch.output ≡ state place number
+      → latch_at design place number ≡ Some latch → bits place latch.output ≡ state place number
 
 -- two valuations are one and the same where they agree on each net of the design that is no clock
 -- net

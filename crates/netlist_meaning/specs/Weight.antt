@@ -15,7 +15,7 @@ abbrev pub weight_below : Design → ℕ → Model → ℕ
 weight_below design zero model = 0
 weight_below design (suc depth) model =
     own_weight model + sum_by (λ line. of_model (weight_below design depth)
-        (model_named design.models line.model)) model.subckts
+    (model_named design.models line.model)) model.subckts
 
 -- the weight: the sum of the own weights over all places. Where no model lies on a circle of subckt
 -- lines, no place is as many lines deep as there are models

@@ -25,7 +25,8 @@ impl<'a> std::marker::Model for ClockClasses<'a> {
 
     ghost view = { λ clocks. clocks.flat.now };
 
-    ghost invariant = { λ clocks. IsInRange clocks.flat.now × MarksClocks clocks.flat.now clocks.marks.items };
+    ghost invariant = { λ clocks. IsInRange clocks.flat.now
+        × MarksClocks clocks.flat.now clocks.marks.items };
 }
 
 // Marks the classes of ports.

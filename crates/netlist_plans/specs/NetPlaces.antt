@@ -36,21 +36,21 @@ DrivesNet flat driver k net =
 pub record HasNetPlaces (flat : Flat) (plan : Plan) : Type 0 where
   pub many : length plan.nets ≡ length (listed_nets flat)
   pub inputs : (k i : ℕ) (net : FlatNet) (place : NetPlace)
-    → DrivesNet flat (FlatDriver.input i) k net
-    → IsEntry (get_or plan.ins i 0) (get_or plan.nets k place)
+      → DrivesNet flat (FlatDriver.input i) k net
+      → IsEntry (get_or plan.ins i 0) (get_or plan.nets k place)
   pub latches : (k i : ℕ) (net : FlatNet) (place : NetPlace)
-    → DrivesNet flat (FlatDriver.latch i) k net
-    → IsEntry (plan.lanes - plan.latches + i) (get_or plan.nets k place)
+      → DrivesNet flat (FlatDriver.latch i) k net
+      → IsEntry (plan.lanes - plan.latches + i) (get_or plan.nets k place)
   pub covers : (k n : ℕ) (net : FlatNet) (place : NetPlace)
-    → DrivesNet flat (FlatDriver.node n) k net
-    → ((get_or plan.nets k place).after ≡ None) ⊎ IsCellExit plan (get_or plan.nets k place)
+      → DrivesNet flat (FlatDriver.node n) k net
+      → ((get_or plan.nets k place).after ≡ None) ⊎ IsCellExit plan (get_or plan.nets k place)
   pub constants : (k n : ℕ) (net : FlatNet) (place : NetPlace)
-    → DrivesNet flat (FlatDriver.node n) k net
+      → DrivesNet flat (FlatDriver.node n) k net
       → (constant_of flat n ≡ Some Zero → (get_or plan.nets k place).after ≡ None)
       × (constant_of flat n ≡ Some One → IsEntry (plan.lanes - plan.latches + length flat.latches)
-        (get_or plan.nets k place))
+      (get_or plan.nets k place))
   pub singles : (k n : ℕ) (net : FlatNet) (place : NetPlace) (a b : Src) (cell : Cell)
-    → DrivesNet flat (FlatDriver.node n) k net → length (node_at flat n).ins ≡ 2
+      → DrivesNet flat (FlatDriver.node n) k net → length (node_at flat n).ins ≡ 2
       → single_cell (a ∷ b ∷ []) (node_at flat n).rows (node_at flat n).on ≡ Some cell
       → IsExitOf plan.columns (cell_instr (get_or plan.nets k place).lane cell)
-        (get_or plan.nets k place).after
+      (get_or plan.nets k place).after

@@ -46,4 +46,4 @@ pub record IsCircleFault (models : List Model) (fault : Fault) : Type 0 where
   pub circle : IsOnCircle models fault.line names
   pub word : fault.word ≡ join_with_byte 32 names
   pub is_earliest : (line : ℕ) (others : List (List ℕ)) → IsOnCircle models line others
-    → fault.line ≤ line
+      → fault.line ≤ line

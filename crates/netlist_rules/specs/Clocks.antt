@@ -55,7 +55,7 @@ pub record IsTwoClocks (design : Design) (line : ℕ) (word : Name) : Type 0 whe
   pub has_found : IsPlacedLatch design found
   pub differs : ¬ HasSameClock design first found
   pub agree_before : (other : PlacedLatch) → IsPlacedLatch design other → ComesBefore other found
-    → HasSameClock design first other
+      → HasSameClock design first other
   pub is_line : line ≡ found.latch.line
   pub is_word : word ≡ control_word found.latch.control
 
@@ -63,16 +63,16 @@ pub record IsTwoClocks (design : Design) (line : ℕ) (word : Name) : Type 0 whe
 -- does: the line's number, a position that rises along the line's words, and the net
 pub data IsUse (design : Design) : ℕ → ℕ → Net → Type 0 where
   by_cover : {place : Place} {model : Model} {cover : Cover} {position : ℕ} {name : Name}
-    → model_at design place ≡ Some model → Contains model.covers cover
-    → slice_get (cover.ins ++ cover.out ∷ []) position ≡ Some name
-    → IsUse design cover.line position (net_at place name)
+      → model_at design place ≡ Some model → Contains model.covers cover
+      → slice_get (cover.ins ++ cover.out ∷ []) position ≡ Some name
+      → IsUse design cover.line position (net_at place name)
   by_latch : {place : Place} {model : Model} {latch : LatchRow} {position : ℕ} {name : Name}
-    → model_at design place ≡ Some model → Contains model.latches latch
-    → slice_get (latch.input ∷ latch.output ∷ []) position ≡ Some name
-    → IsUse design latch.line position (net_at place name)
+      → model_at design place ≡ Some model → Contains model.latches latch
+      → slice_get (latch.input ∷ latch.output ∷ []) position ≡ Some name
+      → IsUse design latch.line position (net_at place name)
   by_main_output : {port : Port} {position : ℕ}
-    → slice_get (main_ports (λ model. model.outs) design) position ≡ Some port
-    → IsUse design port.line position (net_at [] port.name)
+      → slice_get (main_ports (λ model. model.outs) design) position ≡ Some port
+      → IsUse design port.line position (net_at [] port.name)
 
 -- a clock net is so used, by that word of the line
 abbrev pub IsClockUse : Design → ℕ → ℕ → Net → Type 0
@@ -85,8 +85,8 @@ pub record IsClockRead (design : Design) (line : ℕ) (word : Name) : Type 0 whe
   pub net : Net
   pub is_use : IsClockUse design line position net
   pub is_earliest : (other_line other_position : ℕ) (other : Net)
-    → IsClockUse design other_line other_position other
-    → (line < other_line) ⊎ ((line ≡ other_line) × (position ≤ other_position))
+      → IsClockUse design other_line other_position other
+      → (line < other_line) ⊎ ((line ≡ other_line) × (position ≤ other_position))
   pub is_word : word ≡ net.name
 
 -- no latch differs in type or control from the first
@@ -96,9 +96,9 @@ HasOneClock design = (line : ℕ) (word : Name) → ¬ IsTwoClocks design line w
 -- the clock fault of a design, with its line and word: B20, or where there is none B21
 pub data IsClockFault (design : Design) : Fault → Type 0 where
   two_clocks : {line : ℕ} {word : Name} → IsTwoClocks design line word
-    → IsClockFault design (fault_on TwoClocks line word)
+      → IsClockFault design (fault_on TwoClocks line word)
   clock_read : {line : ℕ} {word : Name} → HasOneClock design → IsClockRead design line word
-    → IsClockFault design (fault_on ClockRead line word)
+      → IsClockFault design (fault_on ClockRead line word)
 
 -- there is no clock fault
 abbrev pub HasNoClockFault : Design → Type 0

@@ -34,20 +34,20 @@ pub record IsFlatTwoClocks (flat : Flat) (line : ℕ) (word : Name) : Type 0 whe
   pub is_found : slice_get flat.latches number ≡ Some found
   pub differs : ¬ HasSameFlatClock flat first found
   pub agree_before : (k : ℕ) (latch : FlatLatch) → k < number
-    → slice_get flat.latches k ≡ Some latch → HasSameFlatClock flat first latch
+      → slice_get flat.latches k ≡ Some latch → HasSameFlatClock flat first latch
   pub is_line : line ≡ found.line
   pub is_word : word ≡ flat_control_word flat found.control
 
 -- a word on a line that reads or drives a net as a node, a latch's data or an output does
 pub data IsFlatUse (flat : Flat) : ℕ → ℕ → NetId → Type 0 where
   by_node : {node : Node} {position : ℕ} {id : NetId} → Contains flat.nodes node
-    → slice_get (node.ins ++ node.out ∷ []) position ≡ Some id
-    → IsFlatUse flat node.line position id
+      → slice_get (node.ins ++ node.out ∷ []) position ≡ Some id
+      → IsFlatUse flat node.line position id
   by_data : {latch : FlatLatch} {position : ℕ} {id : NetId} → Contains flat.latches latch
-    → slice_get (latch.input ∷ latch.output ∷ []) position ≡ Some id
-    → IsFlatUse flat latch.line position id
+      → slice_get (latch.input ∷ latch.output ∷ []) position ≡ Some id
+      → IsFlatUse flat latch.line position id
   by_output : {port : FlatPort} {position : ℕ} → slice_get flat.outs position ≡ Some port
-    → IsFlatUse flat port.line position port.net
+      → IsFlatUse flat port.line position port.net
 
 abbrev pub IsFlatClockUse : Flat → ℕ → ℕ → NetId → Type 0
 IsFlatClockUse flat line position id =
@@ -59,8 +59,8 @@ pub record IsFlatClockRead (flat : Flat) (line : ℕ) (word : Name) : Type 0 whe
   pub id : NetId
   pub is_use : IsFlatClockUse flat line position id
   pub is_earliest : (other_line other_position : ℕ) (other : NetId)
-    → IsFlatClockUse flat other_line other_position other
-    → (line < other_line) ⊎ ((line ≡ other_line) × (position ≤ other_position))
+      → IsFlatClockUse flat other_line other_position other
+      → (line < other_line) ⊎ ((line ≡ other_line) × (position ≤ other_position))
   pub is_word : word ≡ name_of_net flat id
 
 -- no flat latch differs in type or control from the first
@@ -70,6 +70,6 @@ HasOneFlatClock flat = (line : ℕ) (word : Name) → ¬ IsFlatTwoClocks flat li
 -- the clock fault of a flat netlist, with its line and word: B20, or where there is none B21
 pub data IsFlatClockFault (flat : Flat) : Fault → Type 0 where
   two_clocks : {line : ℕ} {word : Name} → IsFlatTwoClocks flat line word
-    → IsFlatClockFault flat (fault_on TwoClocks line word)
+      → IsFlatClockFault flat (fault_on TwoClocks line word)
   clock_read : {line : ℕ} {word : Name} → HasOneFlatClock flat → IsFlatClockRead flat line word
-    → IsFlatClockFault flat (fault_on ClockRead line word)
+      → IsFlatClockFault flat (fault_on ClockRead line word)

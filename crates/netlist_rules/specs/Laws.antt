@@ -33,7 +33,7 @@ pub record IsFirstModelFault (models : List Model) (fault : Fault) : Type 0 wher
   pub is_earliest : IsEarliest (all_words_at_fault fault.kind models)
       (at_line fault.line fault.word)
   pub is_lowest : (kind : FaultKind) → number_of kind < number_of fault.kind
-    → all_words_at_fault kind models ≡ []
+      → all_words_at_fault kind models ≡ []
 
 -- Some models have no such fault where they break no rule at any word.
 abbrev pub NoModelFault : Type 0

@@ -49,7 +49,7 @@ unless_named drivers p = then_some (not (is_named drivers p.name)) p
 abbrev pub undriven_readings : List Model → Model → List Port
 undriven_readings models m =
     filter_map (unless_named (drivers_of models m ++ actuals models is_unknown_pin m))
-      (readings_of models m)
+    (readings_of models m)
 
 -- 15: a subckt line names no model
 abbrev pub unplaced : Option Model → Subckt → List Port
@@ -97,8 +97,8 @@ on_line line p = at_line line p.name
 abbrev pub missing_pin : List Model → Subckt → List Port
 missing_pin models s =
     map (on_line s.line) (option_to_list
-      (option_map_or (λ (placed : Model). earliest (unpinned_inputs s placed))
-      (model_named models s.model) None))
+    (option_map_or (λ (placed : Model). earliest (unpinned_inputs s placed))
+    (model_named models s.model) None))
 
 -- the words at which a model breaks this rule, with their lines; those of one line stand in its
 -- order, since each list of a model does
@@ -125,7 +125,7 @@ abbrev pub first_broken_by : List FaultKind → List Model → Option Fault
 first_broken_by [] models = None
 first_broken_by (kind ∷ kinds) models =
     option_or (option_map (fault_of_port kind)
-      (earliest (flat_map (words_at_fault kind models) models))) (first_broken_by kinds models)
+    (earliest (flat_map (words_at_fault kind models) models))) (first_broken_by kinds models)
 
 -- 22: there is no model, so the text has no logical line
 abbrev pub no_model : List Model → Option Fault

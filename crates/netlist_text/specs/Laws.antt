@@ -18,15 +18,15 @@ pub record AreAlikeFaults (a b : Fault) : Type 0 where
 pub record IsDecided (text : List ℕ) : Type 0 where
   pub one_design : (a b : Design) → IsNetlist text a → IsNetlist text b → a ≡ b
   pub not_at_fault : (design : Design) (fault : Fault) → IsNetlist text design
-    → IsAtFault text fault → ⊥
+      → IsAtFault text fault → ⊥
   pub not_heavy : (design : Design) (told : ℕ) → IsNetlist text design → IsTooHeavy text told → ⊥
   pub not_a_loop : (design : Design) (names : List Name) → IsNetlist text design
-    → HasLoop text names → ⊥
+      → HasLoop text names → ⊥
   pub one_fault : (a b : Fault) → IsAtFault text a → IsAtFault text b → AreAlikeFaults a b
   pub one_weight : (a b : ℕ) → IsTooHeavy text a → IsTooHeavy text b → a ≡ b
   pub fault_or_heavy : (fault : Fault) (told : ℕ) → IsAtFault text fault → IsTooHeavy text told → ⊥
   pub fault_or_loop : (fault : Fault) (names : List Name) → IsAtFault text fault
-    → HasLoop text names → ⊥
+      → HasLoop text names → ⊥
   pub heavy_or_loop : (told : ℕ) (names : List Name) → IsTooHeavy text told → HasLoop text names → ⊥
 
 abbrev pub TextsAreDecided : Type 0

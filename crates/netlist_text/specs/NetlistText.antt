@@ -28,7 +28,7 @@ pub record IsNetlist (text : List ℕ) (design : Design) : Type 0 where
 pub data IsAtFault (text : List ℕ) (fault : Fault) : Type 0 where
   of_text : HasFault (logical_lines text) fault → IsAtFault text fault
   of_clocks : {design : Design} → IsLight text design → IsClockFault design fault
-    → IsAtFault text fault
+      → IsAtFault text fault
 
 -- its design is over the limit; the number that is told is its weight, or the greatest u64
 pub record IsTooHeavy (text : List ℕ) (told : ℕ) : Type 0 where

@@ -95,8 +95,14 @@ wire_text p = wire_version p ++ wire_in ++ wire_out ++ wire_cells
 
 abbrev pub wire_ports : ℕ → Ports
 wire_ports p =
-    record { p = p; l = 2; c = 1; ins = port_line_at 0 0 (codes "a") ∷ [];
-      outs = port_line_at 2 0 (codes "y") ∷ []; nets = [] }
+    record {
+      p = p;
+      l = 2;
+      c = 1;
+      ins = port_line_at 0 0 (codes "a") ∷ [];
+      outs = port_line_at 2 0 (codes "y") ∷ [];
+      nets = [];
+    }
 
 abbrev pub three : List (List ℕ)
 three = codes "CCC" ∷ []
@@ -153,7 +159,7 @@ item_examples =
     spells (codes "x = 3, y = 2, rule = WireWorld\n3A$.C!") 3 2 (codes "AAA" ∷ codes ".C." ∷ [])
     ∷ spells (codes "x = 3, y = 2, rule = WireWorld\n2A$.C!") 3 2 (codes "AA." ∷ codes ".C." ∷ [])
     ∷ spells (codes "x = 4, y = 3, rule = WireWorld\n.ABC$$bo!") 4 3
-      (codes ".ABC" ∷ codes "...." ∷ codes ".A.." ∷ [])
+    (codes ".ABC" ∷ codes "...." ∷ codes ".A.." ∷ [])
     -- leading zeros, blanks and line ends between items, lines with `#`, and what follows the `!`
     ∷ spells (with_items (codes "003C!")) 3 1 three
     ∷ spells (with_items (codes "0000000000000000000000000000003C!")) 3 1 three
@@ -161,7 +167,7 @@ item_examples =
     -- empty cells and row ends may pass the box, and so may their sums pass the greatest number
     ∷ spells (with_items (codes "C99.$7$9b!")) 3 1 (codes "C.." ∷ [])
     ∷ spells (with_items
-      (codes "C18446744073709551615.18446744073709551615.18446744073709551615$18446744073709551615$.!")) 3 1 (codes "C.." ∷ [])
+    (codes "C18446744073709551615.18446744073709551615.18446744073709551615$18446744073709551615$.!")) 3 1 (codes "C.." ∷ [])
     ∷ spells (with_items (codes "!")) 3 1 (codes "..." ∷ [])
     ∷ []
 
@@ -226,13 +232,13 @@ end_fault_examples =
 abbrev pub too_large_texts : List (List ℕ)
 too_large_texts =
     codes "x = 16385, y = 16384, rule = WireWorld\n!"
-      ∷ codes "x = 18446744073709551615, y = 18446744073709551615, rule = WireWorld\n0C" ∷ []
+    ∷ codes "x = 18446744073709551615, y = 18446744073709551615, rule = WireWorld\n0C" ∷ []
 
 abbrev pub large_texts : List (List ℕ)
 large_texts =
     codes "x = 16384, y = 16384, rule = WireWorld\n!"
-      ∷ codes "x = 18446744073709551615, y = 0, rule = WireWorld\n0C"
-      ∷ codes "x = 16385, y = 16384\n!" ∷ []
+    ∷ codes "x = 18446744073709551615, y = 0, rule = WireWorld\n0C"
+    ∷ codes "x = 16385, y = 16384\n!" ∷ []
 
 -- the version line of a period of 4 and a latency of 2
 abbrev pub version_four : List ℕ
@@ -281,22 +287,30 @@ ports_examples =
     ∷ record { text = wire_cells; width = 3; height = 1; ports = bare_ports }
     ∷ record { text = []; width = 0; height = 0; ports = bare_ports }
     -- other comments, and lines after the header, are no lines of the table
-    ∷ record { text = codes "#C BLIFWW\n#C BLIFWWW 2\n #C BLIFWW 2\n"; width = 0; height = 0;
-      ports = bare_ports }
+    ∷ record {
+      text = codes "#C BLIFWW\n#C BLIFWWW 2\n #C BLIFWW 2\n";
+      width = 0;
+      height = 0;
+      ports = bare_ports;
+    }
     ∷ record { text = wire_cells ++ wire_in; width = 3; height = 1; ports = bare_ports }
     -- a text without a header
     ∷ reads_as_ports (codes "\n#\n" ++ wire_in) (port_line_at 0 0 (codes "a") ∷ []) [] []
     -- the first line that is neither a comment nor blank ends the table, also where it is no good
     -- header
     ∷ reads_as_ports (wire_in ++ codes "x = 3\n" ++ wire_out)
-      (port_line_at 0 0 (codes "a") ∷ []) [] []
-    ∷ record { text = codes "3C!\n#C BLIFWW 1 P 0 L 0\n"; width = 3; height = 1;
-      ports = bare_ports }
+    (port_line_at 0 0 (codes "a") ∷ []) [] []
+    ∷ record {
+      text = codes "3C!\n#C BLIFWW 1 P 0 L 0\n";
+      width = 3;
+      height = 1;
+      ports = bare_ports;
+    }
     -- names with a tab and with a carriage return, which a line end alone takes away
     ∷ reads_as_ports
     (codes "#C BLIFWW IN 0 0 a\tb\n#C BLIFWW IN 1 0 a\rb\r\n#C BLIFWW IN 2 0 a\r")
     (port_line_at 0 0 (codes "a\tb") ∷ port_line_at 1 0 (codes "a\rb")
-        ∷ port_line_at 2 0 (codes "a\r") ∷ [])
+    ∷ port_line_at 2 0 (codes "a\r") ∷ [])
     []
     []
     -- one context in any period, and more where each has 32 generations of it
@@ -304,25 +318,29 @@ ports_examples =
     ∷ reads_as_contexts (codes "4") (codes "001") 4 1
     ∷ reads_as_contexts (codes "64") (codes "2") 64 2
     ∷ reads_as_contexts (codes "18446744073709551615")
-      (codes "576460752303423487") 18446744073709551615 576460752303423487
+    (codes "576460752303423487") 18446744073709551615 576460752303423487
     -- version 2: escapes with digits of both cases, which may be of a byte that needs none, and
     -- bytes as they stand
     ∷ reads_as_escapes
     (codes "#C BLIFWW IN 0 0 %61\n#C BLIFWW IN 1 0 a%25\n#C BLIFWW IN 2 0 %2561\n#C BLIFWW OUT 2 0 %c3%A9\n#C BLIFWW NET 1 0 9 a%20b%0D 0.1\n" ++ wire_cells)
     (port_line_at 0 0 (codes "a") ∷ port_line_at 1 0 (codes "a%") ∷ port_line_at 2 0 (codes "%61")
-        ∷ [])
+    ∷ [])
     (port_line_at 2 0 (195 ∷ 169 ∷ []) ∷ [])
     (net_line_at 1 0 9 (codes "a b\r") (codes "0.1") ∷ [])
     ∷ reads_as_escapes (codes "#C BLIFWW IN 0 0 a\tb\n")
-      (port_line_at 0 0 (codes "a\tb") ∷ []) [] []
+    (port_line_at 0 0 (codes "a\tb") ∷ []) [] []
     ∷ reads_as_escapes
     (codes "#C BLIFWW IN 0 0 %2541\n#C BLIFWW IN 1 0 %00%FF\n#C BLIFWW OUT 2 0 %0D%20\n"
-        ++ wire_cells)
+    ++ wire_cells)
     (port_line_at 0 0 (codes "%41") ∷ port_line_at 1 0 (0 ∷ 255 ∷ []) ∷ [])
     (port_line_at 2 0 (codes "\r ") ∷ [])
     []
-    ∷ record { text = codes "#C BLIFWW 2 P 64 L 0 C 2\n"; width = 0; height = 0;
-      ports = record bare_ports { p = 64; c = 2 } }
+    ∷ record {
+      text = codes "#C BLIFWW 2 P 64 L 0 C 2\n";
+      width = 0;
+      height = 0;
+      ports = record bare_ports { p = 64; c = 2 };
+    }
     -- version 1: names as they stand
     ∷ reads_as_ports
     (codes "#C BLIFWW IN 0 0 a\n#C BLIFWW IN 1 0 %61\n#C BLIFWW OUT 2 0 %4\n#C BLIFWW NET 1 0 9 %0A -\n" ++ wire_cells)
@@ -337,14 +355,14 @@ ports_examples =
     (net_line_at 1 0 9 (codes "a") (codes "0") ∷ net_line_at 1 0 9 (codes "a") (codes "0.0") ∷ [])
     -- both line ends, and leading zeros
     ∷ reads_as_ports (codes "#C BLIFWW IN 002 0 a\r\n#C BLIFWW OUT 0 000 y\r\n" ++ wire_cells)
-      (port_line_at 2 0 (codes "a") ∷ []) (port_line_at 0 0 (codes "y") ∷ []) []
+    (port_line_at 2 0 (codes "a") ∷ []) (port_line_at 0 0 (codes "y") ∷ []) []
     -- one name may stand in two kinds of lines, and a net's name under two paths
     ∷ reads_as_ports
     (codes "#C BLIFWW NET 1 0 9 a -\n#C BLIFWW OUT 0 0 a\n#C BLIFWW IN 2 0 a\n#C BLIFWW NET 1 0 18446744073709551615 a 0.12.3\n" ++ wire_cells)
     (port_line_at 2 0 (codes "a") ∷ [])
     (port_line_at 0 0 (codes "a") ∷ [])
     (net_line_at 1 0 9 (codes "a") (codes "-")
-        ∷ net_line_at 1 0 18446744073709551615 (codes "a") (codes "0.12.3") ∷ [])
+    ∷ net_line_at 1 0 18446744073709551615 (codes "a") (codes "0.12.3") ∷ [])
     ∷ []
 
 -- a text whose table has a fault, in the box of the wire
@@ -356,13 +374,13 @@ has_port_fault text kind line =
 abbrev pub is_no_port_line : List ℕ → PortFaultExample
 is_no_port_line entry =
     has_port_fault (version_four ++ codes "#C BLIFWW " ++ entry ++ codes "\n"
-      ++ wire_cells) port.BadLine 2
+    ++ wire_cells) port.BadLine 2
 
 -- the same in version 2
 abbrev pub is_no_escaped_line : List ℕ → PortFaultExample
 is_no_escaped_line entry =
     has_port_fault (version_two ++ codes "#C BLIFWW " ++ entry ++ codes "\n"
-      ++ wire_cells) port.BadLine 2
+    ++ wire_cells) port.BadLine 2
 
 abbrev pub bad_line_examples : List PortFaultExample
 bad_line_examples =
@@ -379,9 +397,9 @@ bad_line_examples =
     ∷ has_port_fault (counted_version (codes "32") (codes "2") ++ wire_cells) port.BadLine 1
     ∷ has_port_fault (counted_version (codes "63") (codes "2") ++ wire_cells) port.BadLine 1
     ∷ has_port_fault (counted_version (codes "18446744073709551615") (codes "576460752303423488")
-      ++ wire_cells) port.BadLine 1
+    ++ wire_cells) port.BadLine 1
     ∷ has_port_fault (counted_version (codes "32") (codes "18446744073709551616")
-      ++ wire_cells) port.BadLine 1
+    ++ wire_cells) port.BadLine 1
     ∷ has_port_fault (codes "#C BLIFWW 1 P 64 L 2 C\n" ++ wire_cells) port.BadLine 1
     ∷ has_port_fault (codes "#C BLIFWW 1 P 64 L 2 c 2\n" ++ wire_cells) port.BadLine 1
     ∷ has_port_fault (codes "#C BLIFWW 1 P 64 L 2 C 2 \n" ++ wire_cells) port.BadLine 1
@@ -444,30 +462,30 @@ bad_order_examples =
 abbrev pub outside_port_examples : List PortFaultExample
 outside_port_examples =
     has_port_fault (version_four ++ codes "#C BLIFWW IN 3 0 a\n" ++ wire_out
-        ++ wire_cells) port.CellOutside 2
+    ++ wire_cells) port.CellOutside 2
     ∷ has_port_fault (version_four ++ wire_in ++ codes "#C BLIFWW OUT 0 1 y\n"
-      ++ wire_cells) port.CellOutside 3
+    ++ wire_cells) port.CellOutside 3
     ∷ has_port_fault (version_four ++ codes "#C BLIFWW NET 3 0 0 a -\n"
-      ++ wire_cells) port.CellOutside 2
+    ++ wire_cells) port.CellOutside 2
     -- also where the line's name stands in an earlier one
     ∷ has_port_fault (version_four ++ wire_in ++ codes "#C BLIFWW IN 3 0 a\n"
-      ++ wire_cells) port.CellOutside 3
+    ++ wire_cells) port.CellOutside 3
     ∷ []
 
 abbrev pub twice_examples : List PortFaultExample
 twice_examples =
     has_port_fault (version_four ++ wire_in ++ wire_in ++ wire_out ++ wire_cells) port.Twice 3
     ∷ has_port_fault (version_four ++ wire_out ++ wire_in ++ codes "#C BLIFWW OUT 0 0 y\n"
-      ++ wire_cells) port.Twice 4
+    ++ wire_cells) port.Twice 4
     ∷ has_port_fault (version_four ++ codes "#C BLIFWW NET 0 0 0 a 1\n#C BLIFWW NET 1 0 7 a 1\n"
-      ++ wire_cells) port.Twice 3
+    ++ wire_cells) port.Twice 3
     -- names are compared as they are meant
     ∷ has_port_fault (version_two ++ wire_in ++ codes "#C BLIFWW IN 1 0 %61\n"
-      ++ wire_cells) port.Twice 3
+    ++ wire_cells) port.Twice 3
     ∷ has_port_fault (version_two ++ codes "#C BLIFWW OUT 0 0 \t\n#C BLIFWW OUT 1 0 %09\n"
-      ++ wire_cells) port.Twice 3
+    ++ wire_cells) port.Twice 3
     ∷ has_port_fault (version_two ++ codes "#C BLIFWW NET 0 0 0 %4a 1\n#C BLIFWW NET 1 0 7 %4A 1\n"
-      ++ wire_cells) port.Twice 3
+    ++ wire_cells) port.Twice 3
     -- the earlier line of two comes first
     ∷ has_port_fault (version_four ++ wire_in ++ wire_in ++ version_four ++ wire_cells) port.Twice 3
     ∷ []

@@ -26,7 +26,7 @@ pieces_of [] = []
 pieces_of (b ∷ bs) =
     let of_rest = pieces_of bs in
     if is_ascii_digit b then onto_first_piece b of_rest
-      else record { digits = []; tag = Some b } ∷ of_rest
+    else record { digits = []; tag = Some b } ∷ of_rest
 
 -- what a piece of a line stands for: one of the three items, or one of three things that are none
 pub data Item : Type 0 where
@@ -80,8 +80,10 @@ pub record LineItem : Type 0 where
 abbrev pub items_of_line : Line → List LineItem
 items_of_line line =
     if is_comment line then [] else map
-        (λ piece. record { line = line.number;
-        item = item_in line.is_ended piece.digits piece.tag }) (pieces_of line.bytes)
+    (λ piece. record {
+      line = line.number;
+      item = item_in line.is_ended piece.digits piece.tag;
+    }) (pieces_of line.bytes)
 
 abbrev pub items_of_lines : List Line → List LineItem
 items_of_lines lines = flat_map items_of_line lines
@@ -123,7 +125,7 @@ abbrev pub placed_after : List Item → List LineItem → List Placed
 placed_after before [] = []
 placed_after before (i ∷ is) =
     record { line = i.line; x = column_after before; y = row_after before; item = i.item }
-      ∷ placed_after (i.item ∷ before) is
+    ∷ placed_after (i.item ∷ before) is
 
 -- a count is at least 1
 abbrev pub IsCounted : Item → Type 0

@@ -47,13 +47,13 @@ HasReaderAnswer text =
 -- No two of them are possible, and a box has one width and one height.
 pub record HasOneReaderAnswer (text : List ℕ) : Type 0 where
   pub reads_or_fault : (grid : Grid) (kind : RleFaultKind) (line : ℕ) → ReadsWithinLimit text grid
-    → HasReaderFault text kind line → ⊥
+      → HasReaderFault text kind line → ⊥
   pub reads_or_large : (grid : Grid) (width height : ℕ) → ReadsWithinLimit text grid
-    → HasLargeBox text width height → ⊥
+      → HasLargeBox text width height → ⊥
   pub fault_or_large : (kind : RleFaultKind) (line width height : ℕ) → HasReaderFault text kind line
-    → HasLargeBox text width height → ⊥
+      → HasLargeBox text width height → ⊥
   pub one_box : (width height width' height' : ℕ) → HasBox text width height
-    → HasBox text width' height' → (width ≡ width') × (height ≡ height')
+      → HasBox text width' height' → (width ≡ width') × (height ≡ height')
 
 -- The same of the port table of a text, in a box of this width and height.
 abbrev pub HasOneTable : List ℕ → ℕ → ℕ → Type 0
@@ -127,8 +127,8 @@ HasNextPlace item before =
 abbrev pub HasLineThenRest : List ℕ → List ℕ → Type 0
 HasLineThenRest bytes rest =
     All (λ b. b ≢ 10) bytes → lines_of (bytes ++ 10 ∷ rest) ≡ record
-        { number = 1; bytes = strip_carriage_return bytes; is_ended = true }
-      ∷ map (later_by 1) (lines_of rest)
+    { number = 1; bytes = strip_carriage_return bytes; is_ended = true }
+    ∷ map (later_by 1) (lines_of rest)
 
 abbrev pub HasLoneLine : List ℕ → Type 0
 HasLoneLine bytes =

@@ -35,7 +35,7 @@ lines_from n (b ∷ bs) =
     let after_end = lines_from (n + 1) bs in
     let of_rest = lines_from n bs in
     if b == 10 then record { number = n; bytes = []; is_ended = true } ∷ after_end
-      else onto_first_line n b of_rest
+    else onto_first_line n b of_rest
 
 -- the lines of a text
 abbrev pub lines_of : List ℕ → List Line

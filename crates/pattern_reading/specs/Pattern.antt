@@ -79,7 +79,7 @@ pub record ReadsAsPattern (text : List ℕ) (grid : Grid) : Type 0 where
   pub ends : has_end text ≡ true
   pub in_rows : IsGrid grid.width grid.height grid.rows
   pub cells : (x y : ℕ) → x < grid.width → y < grid.height
-    → get_or (get_or grid.rows y []) x Empty ≡ state_at (placed_items text) x y
+      → get_or (get_or grid.rows y []) x Empty ≡ state_at (placed_items text) x y
 
 -- This fault comes first in the text, and it is on this line. What is at fault in the header comes
 -- first, and then the items, in the text's order. That a box is too large is no fault of the text,
@@ -89,7 +89,7 @@ abbrev pub HasRleFault : List ℕ → RleFaultKind → ℕ → Type 0
 HasRleFault text NoHeader line =
     ((header_line text ≡ None) × (line ≡ last_line text))
     ⊎ ((header : Line) × (header_line text ≡ Some header)
-      × (after_word (codes "x") header.bytes ≡ None) × (line ≡ header.number))
+    × (after_word (codes "x") header.bytes ≡ None) × (line ≡ header.number))
 -- it has another form
 HasRleFault text BadHeader line =
     (header : Line) × (header_line text ≡ Some header)
@@ -107,7 +107,7 @@ HasRleFault text BadItem line =
 HasRleFault text CellOutside line =
     (width height : ℕ) × HasBox text width height
     × (slice_get (item_faults text width height) 0
-      ≡ Some (record { kind = CellOutside; line = line }))
+    ≡ Some (record { kind = CellOutside; line = line }))
 -- no item is at fault, and there is no `!`
 HasRleFault text NoEnd line =
     (width height : ℕ) × HasBox text width height × (item_faults text width height ≡ [])

@@ -34,7 +34,7 @@ is_path_number digits =
 abbrev pub path_in : List ℕ → Option (List ℕ)
 path_in field =
     if bytes_eq field (codes "-") || list_all is_path_number
-        (slice_split (λ b. b == byte ".") field) then Some field else None
+    (slice_split (λ b. b == byte ".") field) then Some field else None
 
 -- whether a period has room for so many contexts: for one, and for more where each has 32
 -- generations of it
@@ -66,7 +66,7 @@ version_in p_word p l_word l contexts =
       latency ← number_in l
       count ← contexts
       if period == 0 || not (has_room period count) then None
-        else Some (Version period latency count))
+          else Some (Version period latency count))
     else None
 
 -- The name that a field says, of one or more bytes: in version 1 the field as it stands, and in
@@ -103,7 +103,7 @@ form_of_fields version (number ∷ p_word ∷ p ∷ l_word ∷ l ∷ c_word ∷ 
     version_named number >>= λ named. version_in p_word p l_word l (count_in c_word c)
 form_of_fields version (kind ∷ x ∷ y ∷ offset ∷ name ∷ path ∷ []) =
     if bytes_eq kind (codes "NET") then
-        (net_in version x y offset name path >>= λ net. Some (Net net)) else None
+    (net_in version x y offset name path >>= λ net. Some (Net net)) else None
 form_of_fields version _ = None
 
 -- what follows `#C BLIFWW ` in a line that begins so: such lines before the header are the table
@@ -130,8 +130,10 @@ pub record TableLine : Type 0 where
 abbrev pub table_line : TableVersion → Line → Option TableLine
 table_line version line = do
   entry ← table_entry line
-  Some (record { number = line.number;
-      form = form_of_fields version (slice_split (λ b. b == byte " ") entry) })
+  Some (record {
+    number = line.number;
+    form = form_of_fields version (slice_split (λ b. b == byte " ") entry);
+  })
 
 abbrev pub table_version : List ℕ → TableVersion
 table_version text = version_of_entries (filter_map table_entry (lines_before_header text))

@@ -54,7 +54,7 @@ abbrev pub faults_after : ℕ → ℕ → List (Option PortForm) → List TableL
 faults_after width height before [] = []
 faults_after width height before (line ∷ lines) =
     cons_option (fault_of_form width height before line.form >>= λ kind. Some
-        (record { kind = kind; line = line.number }))
+    (record { kind = kind; line = line.number }))
     (faults_after width height (before ++ line.form ∷ []) lines)
 
 -- the faults of a text's table in a box of this width and height, in order

@@ -42,7 +42,7 @@ items_of_text lines =
 abbrev pub places_of : List Item → List Placed
 places_of items =
     placed_after [] (map (λ item. record { line = 0; item = item })
-      (take_while (λ item. not (is_end item)) items))
+    (take_while (λ item. not (is_end item)) items))
 
 -- The items spell the cells of a grid: none of them is at fault in its box, they are ended by `!`,
 -- and each cell is as they say.
@@ -51,14 +51,14 @@ pub record SpellsGrid (items : List Item) (grid : Grid) : Type 0 where
   pub ends : list_any is_end items ≡ true
   pub in_rows : IsGrid grid.width grid.height grid.rows
   pub cells : (x y : ℕ) → x < grid.width → y < grid.height
-    → get_or (get_or grid.rows y []) x Empty ≡ state_at (places_of items) x y
+      → get_or (get_or grid.rows y []) x Empty ≡ state_at (places_of items) x y
 
 -- the bytes are a header of the grid's box
 abbrev pub IsHeaderOf : List ℕ → Grid → Type 0
 IsHeaderOf bytes grid =
     (name : List ℕ) × (header_in bytes
-      ≡ Some (record { width = grid.width; height = grid.height; rule = Some name }))
-      × (is_wireworld (Some name) ≡ true)
+    ≡ Some (record { width = grid.width; height = grid.height; rule = Some name }))
+    × (is_wireworld (Some name) ≡ true)
 
 -- A header and lines of items that spell a grid read as that grid, whatever follows, and however
 -- the items are cut into lines.
@@ -72,17 +72,17 @@ HasSpelledPattern header lines rest =
 abbrev pub spelled_header : ℕ → ℕ → List ℕ
 spelled_header width height =
     codes "x = " ++ (decimal width ++ (codes ", y = "
-      ++ (decimal height ++ codes ", rule = WireWorld")))
+    ++ (decimal height ++ codes ", rule = WireWorld")))
 
 -- It is a header of the box, and it can stand in a line.
 abbrev pub HasSpelledHeader : Grid → Type 0
 HasSpelledHeader grid =
     grid.width < 2 ^ 64 → grid.height < 2 ^ 64
-      → IsLineText (spelled_header grid.width grid.height)
-      × IsHeaderOf (spelled_header grid.width grid.height) grid
+    → IsLineText (spelled_header grid.width grid.height)
+    × IsHeaderOf (spelled_header grid.width grid.height) grid
 
 -- A count of at least 1 that is written without leading zeros is read as that count.
 abbrev pub HasSpelledCount : ℕ → ℕ → Type 0
 HasSpelledCount count tag =
     count ≢ 0 → count < 2 ^ 64 → (list_all is_ascii_digit (decimal count) ≡ true)
-      × (item_in true (decimal count) (Some tag) ≡ counted_item count tag)
+    × (item_in true (decimal count) (Some tag) ≡ counted_item count tag)

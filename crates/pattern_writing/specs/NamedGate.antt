@@ -21,4 +21,4 @@ named_or_text a b y = spelled_table (named_or_forms a b y) ++ or_items_text
 abbrev pub HasNamedGate : List ℕ → List ℕ → List ℕ → Type 0
 HasNamedGate a b y =
     ReadsAsPattern (named_or_text a b y) or_grid
-      × (a ≢ b → ReadsAsPorts (named_or_text a b y) 33 32 (ports_of (named_or_forms a b y)))
+    × (a ≢ b → ReadsAsPorts (named_or_text a b y) 33 32 (ports_of (named_or_forms a b y)))

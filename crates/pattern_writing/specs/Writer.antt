@@ -85,7 +85,7 @@ wrapped used (item ∷ items) = line_break used item ++ item ++ wrapped (used_af
 abbrev pub header_text : ℕ → ℕ → List ℕ
 header_text width height =
     codes "x = " ++ decimal width ++ codes ", y = " ++ decimal height
-      ++ codes ", rule = WireWorld\n"
+    ++ codes ", rule = WireWorld\n"
 
 -- lines, each with its line end
 abbrev pub ended_lines : List (List ℕ) → List ℕ
@@ -95,4 +95,4 @@ ended_lines lines = flat_map (λ line. line ++ 10 ∷ []) lines
 abbrev pub writer_text : Grid → List (List ℕ) → List ℕ
 writer_text grid lines =
     ended_lines lines ++ header_text grid.width grid.height ++ wrapped 0 (item_texts grid.rows)
-      ++ 10 ∷ []
+    ++ 10 ∷ []

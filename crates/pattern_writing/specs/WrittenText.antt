@@ -34,13 +34,13 @@ HasWrittenPattern grid forms =
 abbrev pub HasWrittenPorts : Grid → List PortForm → Type 0
 HasWrittenPorts grid forms =
     IsWritable grid → AllByRecursion IsSpellable forms
-      → IsSoundAfter grid.width grid.height [] forms
-      → ReadsAsPorts (written grid forms) grid.width grid.height (ports_of forms)
+    → IsSoundAfter grid.width grid.height [] forms
+    → ReadsAsPorts (written grid forms) grid.width grid.height (ports_of forms)
 
 -- The writer's text of a pattern and its ports reads as both, where the ports' cells lie in the
 -- pattern's box, and their names can stand in a table, each of one port.
 abbrev pub HasWrittenText : Grid → Ports → Type 0
 HasWrittenText grid ports =
     IsWritable grid → IsSoundTable ports → HasCellsInside grid.width grid.height ports
-      → ReadsAsPattern (pattern_text grid ports) grid
-      × ReadsAsPorts (pattern_text grid ports) grid.width grid.height ports
+    → ReadsAsPattern (pattern_text grid ports) grid
+    × ReadsAsPorts (pattern_text grid ports) grid.width grid.height ports

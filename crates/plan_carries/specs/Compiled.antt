@@ -17,7 +17,7 @@ use Rattle.plan_ports.specs.Tables.{IsTableOf, HasPortNames, HasTablePlaces}
 pub record ComputesFlat (flat : Flat) (list : CellList) : Type 0 where
   pub mapped : IsMapped flat list
   pub bits : (inputs state : List Bool) (bits : ℕ → Bool) → IsFlatValuation flat inputs state bits
-    → HasBits flat list inputs state bits
+      → HasBits flat list inputs state bits
 
 -- The flat netlist is sound and has an order, and its names and places can stand in a port table.
 -- The list computes it, the plan computes the list and has no tape, and the table is the plan's, of

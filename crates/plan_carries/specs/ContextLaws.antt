@@ -66,4 +66,4 @@ DesignsAreCarriedInContexts =
     (text : List ℕ) (design : Design) (flat : Flat) → AreFaultless design.models
     → HasNoClockFault design → IsFlatOf design flat
     → (starts : List LatchState) → CarriesFlatContexts text flat
-      (map (state_in_order design) starts) → CarriesNetsInContexts text design starts
+    (map (state_in_order design) starts) → CarriesNetsInContexts text design starts

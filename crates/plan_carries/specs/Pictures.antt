@@ -13,10 +13,13 @@ use Rattle.plan_layout.specs.Planes.{plane_with}
 abbrev pub picture_row : Plan → Lit → ℕ → List State
 picture_row plan lit y =
     map (λ x. plane_with shipped_drawing plan lit (pos x) (pos y))
-      (range_with_len 0 (size_of plan).0)
+    (range_with_len 0 (size_of plan).0)
 
 -- the rows of the drawing; of the plan's start edges it is the plan's pattern
 abbrev pub grid_with : Plan → Lit → Grid
 grid_with plan lit =
-    record { width = (size_of plan).0; height = (size_of plan).1;
-        rows = map (picture_row plan lit) (range_with_len 0 (size_of plan).1) }
+    record {
+      width = (size_of plan).0;
+      height = (size_of plan).1;
+      rows = map (picture_row plan lit) (range_with_len 0 (size_of plan).1);
+    }

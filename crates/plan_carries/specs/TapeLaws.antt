@@ -28,7 +28,7 @@ TapesRunByThemselves =
     → (bits : List (List Bool)) → length bits ≡ length plan.ins → AreTapeLists bits
     → (table : Ports) → IsTableOf flat (with_tape bits plan) 1 table
     → RunsByItselfFlat (pattern_text (start_grid (with_tape bits plan)) table) flat
-      (tape_rows (with_tape bits plan))
+    (tape_rows (with_tape bits plan))
 
 -- a text that runs by itself as the flat netlist of a design does so as the design, whoever wrote
 -- the text

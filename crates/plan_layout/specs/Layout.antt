@@ -55,9 +55,9 @@ turn_slot loops away off along corner across =
 abbrev pub return_slot : ℕ → ℕ → ℕ → Slot
 return_slot loops back off =
     if nat_lt back loops && off % 2 == back % 2 && nat_lt (off + 1) loops
-      then Upper (Tile kind.WestSwap)
+    then Upper (Tile kind.WestSwap)
     else if nat_lt back loops && (off + 1) % 2 == back % 2 && nat_lt 0 off
-      then Lower (Tile kind.WestSwap)
+    then Lower (Tile kind.WestSwap)
     else Whole (Tile kind.West)
 
 -- the tile column right of the body
@@ -68,7 +68,7 @@ end_of_body plan = plan.latches + length plan.columns
 abbrev pub upper_left : Plan → ℕ → ℕ → Slot
 upper_left plan column lane =
     turn_slot plan.latches (plan.latches - 1 - column)
-        (plan.lanes - 1 - lane) kind.East kind.NorthEast kind.North
+    (plan.lanes - 1 - lane) kind.East kind.NorthEast kind.North
 
 -- in the body
 abbrev pub in_body : Plan → ℕ → ℕ → Slot
@@ -80,13 +80,13 @@ upper_right plan column lane =
     if column == end_of_body plan && list_any (λ out. out == lane) plan.outs
     then Whole Output
     else turn_slot plan.latches (column - end_of_body plan)
-        (plan.lanes - 1 - lane) kind.East kind.EastSouth kind.South
+    (plan.lanes - 1 - lane) kind.East kind.EastSouth kind.South
 
 -- on a lane below those of the body, left of it
 abbrev pub lower_left : Plan → ℕ → ℕ → Slot
 lower_left plan column lane =
     turn_slot plan.latches (plan.latches - 1 - column)
-        (lane - plan.lanes) kind.West kind.WestNorth kind.North
+    (lane - plan.lanes) kind.West kind.WestNorth kind.North
 
 -- below the body
 abbrev pub on_return : Plan → ℕ → ℕ → Slot
@@ -97,24 +97,24 @@ on_return plan column lane =
 abbrev pub lower_right : Plan → ℕ → ℕ → Slot
 lower_right plan column lane =
     turn_slot plan.latches (column - end_of_body plan)
-        (lane - plan.lanes) kind.West kind.SouthWest kind.South
+    (lane - plan.lanes) kind.West kind.SouthWest kind.South
 
 -- one of three, by whether a tile column lies left of the body, in line with it, or right of it
 abbrev pub by_column : Plan → ℕ → Slot → Slot → Slot → Slot
 by_column plan column left middle right =
     if nat_lt column plan.latches then left else if nat_lt column (end_of_body plan) then middle
-      else right
+    else right
 
 -- what stands on a lane of the body, and on a lane below
 abbrev pub upper_part : Plan → ℕ → ℕ → Slot
 upper_part plan column lane =
     by_column plan column (upper_left plan column lane) (in_body plan column lane)
-        (upper_right plan column lane)
+    (upper_right plan column lane)
 
 abbrev pub lower_part : Plan → ℕ → ℕ → Slot
 lower_part plan column lane =
     by_column plan column (lower_left plan column lane) (on_return plan column lane)
-        (lower_right plan column lane)
+    (lower_right plan column lane)
 
 -- the tiles of a plan
 abbrev pub tiling_of : Plan → Tiling

@@ -39,14 +39,14 @@ drawn_tiling plan = taped_tiling plan (tape_shift plan) (tape_tiles plan)
 abbrev pub is_taped : Plan → (column lane : ℕ) → Bool
 is_taped plan column lane =
     nat_le column (tape_shift plan + plan.latches)
-      && tape_bit plan (tape_shift plan + plan.latches - column) lane
+    && tape_bit plan (tape_shift plan + plan.latches - column) lane
 
 -- the edges of the drawing that are lit at generation 0: those of the tape, and those that the
 -- starts name
 abbrev pub drawn_edges : Plan → Lit
 drawn_edges plan (Beside column lane) =
     is_taped plan column lane || (nat_le (tape_shift plan) column
-        && start_edges plan (Beside (column - tape_shift plan) lane))
+    && start_edges plan (Beside (column - tape_shift plan) lane))
 drawn_edges plan (Above column lane) =
     nat_le (tape_shift plan) column && start_edges plan (Above (column - tape_shift plan) lane)
 

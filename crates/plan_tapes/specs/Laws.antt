@@ -23,7 +23,7 @@ use Rattle.plan_tapes.specs.Tape.{drive_of_rows, is_due_on, taped_edges}
 pub record FitsTape (plan : Plan) (shift tiles : ℕ) (due : Due) : Type 0 where
   pub room : tiles ≤ shift + plan.latches
   pub on_inputs : (g lane : ℕ) → list_any (λ input. input == lane) plan.ins ≡ false
-    → is_due_on plan due g lane ≡ false
+      → is_due_on plan due g lane ≡ false
   pub within : (m lane : ℕ) → tiles < m → is_due_on plan due (32 * m) lane ≡ false
 
 -- Of every admissible plan with a tape: a macro step is one of the plan that is driven, with the
@@ -34,7 +34,7 @@ TapesRunIn =
     → FitsTape plan shift tiles due
     → (lit : Lit) (m : ℕ) (edge : Edge)
     → macro_step (taped_tiling plan shift tiles)
-      (taped_edges plan shift due (driven_edges (tiling_of plan) due lit) m) edge
+    (taped_edges plan shift due (driven_edges (tiling_of plan) due lit) m) edge
     ≡ taped_edges plan shift due (driven_edges (tiling_of plan) due lit) (suc m) edge
 
 -- The edges that are lit at the beginning, those of the tape and the starts, are those from which
@@ -43,18 +43,18 @@ abbrev pub TapesBegin : Type 0
 TapesBegin =
     (plan : Plan) → IsAdmissible plan → HasStartEdges plan → (edge : Edge)
     → drawn_edges plan edge ≡ taped_edges plan (tape_shift plan)
-      (drive_of_rows plan (tape_rows plan))
-      (driven_edges (tiling_of plan) (drive_of_rows plan (tape_rows plan))
-      (start_edges plan)) 0 edge
+    (drive_of_rows plan (tape_rows plan))
+    (driven_edges (tiling_of plan) (drive_of_rows plan (tape_rows plan))
+    (start_edges plan)) 0 edge
 
 -- A cell, given by x, y and an offset, is a head in the drawing with the tape, which nothing
 -- drives, at the same generations as in the plan without one, which the rows of the tape drive.
 abbrev pub ShowsWithoutDrive : (Kind → Drawing) → Plan → ℕ × ℕ × ℕ → Type 0
 ShowsWithoutDrive library plan cell =
     (g : ℕ) → (evolve g (drawn_plane library plan) (pos (moved_east (tape_shift plan) cell).0)
-      (pos (moved_east (tape_shift plan) cell).1) ≡ Head)
+    (pos (moved_east (tape_shift plan) cell).1) ≡ Head)
     ↔ (driven (drive_of_rows plan (tape_rows plan)) (start_plane library plan) g (pos cell.0)
-      (pos cell.1) ≡ Head)
+    (pos cell.1) ≡ Head)
 
 -- so do the cells of all outputs and nets, of every library that keeps the timing law and every
 -- admissible plan whose starts are edges

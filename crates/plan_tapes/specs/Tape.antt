@@ -31,7 +31,7 @@ is_before_body plan shift column lane =
 abbrev pub taped_edges : Plan → (shift : ℕ) → Due → (ℕ → Lit) → ℕ → Lit
 taped_edges plan shift due edges m (Beside column lane) =
     if is_before_body plan shift column lane
-      then is_due_on plan due (32 * (m + (shift + plan.latches - column))) lane
+    then is_due_on plan due (32 * (m + (shift + plan.latches - column))) lane
     else if nat_lt column shift then false
     else edges m (Beside (column - shift) lane)
 taped_edges plan shift due edges m (Above column lane) =

@@ -17,9 +17,9 @@ IsRowOf lane y = (16 * lane ≤ y) × (y < 16 * lane + 16)
 -- east of the output's
 pub record HasFreePorts (plan : Plan) (p : Plane) : Type 0 where
   pub west : (i x y : ℕ) → i < length plan.ins → IsRowOf (slice_index plan.ins i) y
-    → x < (in_cell_of plan i).0 → p (pos x) (pos y) ≡ Empty
+      → x < (in_cell_of plan i).0 → p (pos x) (pos y) ≡ Empty
   pub east : (i x y : ℕ) → i < length plan.outs → IsRowOf (slice_index plan.outs i) y
-    → (out_cell_of plan i).0 < x → p (pos x) (pos y) ≡ Empty
+      → (out_cell_of plan i).0 < x → p (pos x) (pos y) ≡ Empty
 
 -- every admissible plan's plane is so, whichever library it is drawn with and whichever edges are
 -- lit

@@ -28,7 +28,7 @@ row_bits_in plan contexts c t =
 pub record AreInjectedInContexts (plan : Plan) (contexts : List (List (List Bool))) : Type 0 where
   pub drive : DrivesContexts plan (length contexts) (drive_of_contexts plan contexts)
   pub bits : (c t : ℕ) → c < length contexts
-    → injected_in plan (drive_of_contexts plan contexts) c t ≡ row_bits_in plan contexts c t
+      → injected_in plan (drive_of_contexts plan contexts) c t ≡ row_bits_in plan contexts c t
 
 -- so do those of as many contexts as can be started
 abbrev pub ContextRowsAreInjected : Type 0
@@ -44,7 +44,7 @@ abbrev pub bits_of_context_rows : Plan → List (List Bool) → List (List (List
     → List Bool
 bits_of_context_rows plan starts contexts c t =
     entering_bits (first_loop_lane plan.lanes plan.latches) plan.columns
-        (row_bits_in plan contexts c) (get_or starts c []) t
+    (row_bits_in plan contexts c) (get_or starts c []) t
 
 -- of every library, every admissible plan, all edges that start contexts, and rows for each context
 abbrev pub PlansShowContextRows : Type 0
@@ -53,4 +53,4 @@ PlansShowContextRows =
     → (starts : List (List Bool)) (lit : Lit) → StartsContexts plan starts lit
     → (contexts : List (List (List Bool))) → length contexts ≡ length starts
     → ShowsContextBits library plan lit (drive_of_contexts plan contexts) (length starts)
-      (bits_of_context_rows plan starts contexts)
+    (bits_of_context_rows plan starts contexts)

@@ -26,31 +26,31 @@ pub record StartsContexts (plan : Plan) (starts : List (List Bool)) (lit : Lit) 
   pub fit : length starts ≤ contexts_on_ways plan
   pub long : All (λ bits. length bits ≡ plan.latches) starts
   pub on_ways : (c loop : ℕ) → c < length starts → loop < plan.latches
-    → lit (before_entry plan loop c) ≡ bit_on (get_or starts c []) loop
+      → lit (before_entry plan loop c) ≡ bit_on (get_or starts c []) loop
   pub only : (edge : Edge) → lit edge ≡ true
-    → (c : ℕ) × (loop : ℕ) × (c < length starts) × (loop < plan.latches)
-    × (edge ≡ before_entry plan loop c)
+      → (c : ℕ) × (loop : ℕ) × (c < length starts) × (loop < plan.latches)
+      × (edge ≡ before_entry plan loop c)
 
 -- heads are injected 32 c generations after a multiple of the period, for a context c, and in the
 -- cells of free entries alone
 pub record DrivesContexts (plan : Plan) (contexts : ℕ) (due : Due) : Type 0 where
   pub on_time : (g : ℕ) (x y : ℤ) → due g x y ≡ true
-    → (c : ℕ) × (t : ℕ) × (c < contexts) × (g ≡ 32 * c + t * period_of plan)
+      → (c : ℕ) × (t : ℕ) × (c < contexts) × (g ≡ 32 * c + t * period_of plan)
   pub at_free_entries : (g : ℕ) (x y : ℤ) → due g x y ≡ true
-    → (lane : ℕ) × (lane < first_loop_lane plan.lanes plan.latches) × (x ≡ pos (left_of plan 0))
-    × (y ≡ pos (row_of lane))
+      → (lane : ℕ) × (lane < first_loop_lane plan.lanes plan.latches) × (x ≡ pos (left_of plan 0))
+      × (y ≡ pos (row_of lane))
 
 -- the bits that are injected in a cycle of a context, on the lanes that no loop enters
 abbrev pub injected_in : Plan → Due → ℕ → ℕ → List Bool
 injected_in plan due c t =
     map (λ lane. due (32 * c + t * period_of plan) (pos (left_of plan 0)) (pos (row_of lane)))
-        (range_with_len 0 (first_loop_lane plan.lanes plan.latches))
+    (range_with_len 0 (first_loop_lane plan.lanes plan.latches))
 
 -- the bits that enter the body in a cycle of a context, which is a machine of its own
 abbrev pub context_bits : Plan → Due → List (List Bool) → ℕ → ℕ → List Bool
 context_bits plan due starts c t =
     entering_bits (first_loop_lane plan.lanes plan.latches) plan.columns (injected_in plan due c)
-      (get_or starts c []) t
+    (get_or starts c []) t
 
 -- The entries of a column, or with the number of columns the outputs, have the bits of cycle t of
 -- context c as many macro steps after that cycle's beginning as columns stand before; and they are
@@ -59,9 +59,9 @@ pub record RunsByContexts (plan : Plan) (due : Due) (starts : List (List Bool))
     (edges : ℕ → Lit) : Type 0 where
   pub lit : (c t column : ℕ) → c < length starts → column ≤ length plan.columns
       → bits_at plan column (edges (c + t * cycle_tiles plan + column))
-        ≡ after_columns (take column plan.columns) (context_bits plan due starts c t)
+      ≡ after_columns (take column plan.columns) (context_bits plan due starts c t)
   pub dark : (m column : ℕ) → column ≤ length plan.columns
-    → ((c t : ℕ) → c < length starts → m ≢ c + t * cycle_tiles plan + column)
+      → ((c t : ℕ) → c < length starts → m ≢ c + t * cycle_tiles plan + column)
       → bits_at plan column (edges m) ≡ replicate plan.lanes false
 
 -- so it is of every admissible plan, from all edges on that start the contexts

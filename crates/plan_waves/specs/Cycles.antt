@@ -15,7 +15,7 @@ use Rattle.plan_waves.specs.Waves.{GoesOn, bits_at, loop_entry}
 abbrev pub free_bits : Plan → Lit → List Bool
 free_bits plan lit =
     map (λ lane. lit (Beside plan.latches lane))
-      (range_with_len 0 (first_loop_lane plan.lanes plan.latches))
+    (range_with_len 0 (first_loop_lane plan.lanes plan.latches))
 
 abbrev pub loop_bits : Plan → Lit → List Bool
 loop_bits plan lit = map (λ loop. lit (loop_entry plan loop)) (range_with_len 0 plan.latches)
@@ -29,6 +29,6 @@ EdgesRunByCycles =
     → c ≤ length plan.columns
     → bits_at plan c (edges (first + t * cycle_tiles plan + c))
     ≡ after_columns (take c plan.columns)
-        (entering_bits (first_loop_lane plan.lanes plan.latches) plan.columns
-        (λ i. free_bits plan (edges (first + i * cycle_tiles plan)))
-        (loop_bits plan (edges first)) t)
+    (entering_bits (first_loop_lane plan.lanes plan.latches) plan.columns
+    (λ i. free_bits plan (edges (first + i * cycle_tiles plan)))
+    (loop_bits plan (edges first)) t)

@@ -41,7 +41,7 @@ InputsEnter =
     (plan : Plan) → IsAdmissible plan → (due : Due) (lit : Lit) (m lane : ℕ)
     → lane < first_loop_lane plan.lanes plan.latches
     → driven_edges (tiling_of plan) due lit (suc m) (Beside plan.latches lane)
-      ≡ due (32 * suc m) (pos (left_of plan 0)) (pos (row_of lane))
+    ≡ due (32 * suc m) (pos (left_of plan 0)) (pos (row_of lane))
 
 -- each macro time starts a wave: what enters the body goes through its columns, one column a macro
 -- step
@@ -50,7 +50,7 @@ ColumnsPass =
     (plan : Plan) → IsAdmissible plan → (edges : ℕ → Lit) → GoesOn plan edges → (m c : ℕ)
     → c ≤ length plan.columns
     → bits_at plan c (edges (m + c)) ≡ after_columns (take c plan.columns)
-      (bits_at plan 0 (edges m))
+    (bits_at plan 0 (edges m))
 
 -- what leaves the body on a loop's lane enters it again, one macro step later for each tile of its
 -- way back

@@ -32,13 +32,13 @@ pub record ShowsContextBits (library : Kind → Drawing) (plan : Plan) (lit : Li
   pub conductors : MeetsConductors due (plane_with library plan lit)
   pub outs : (i : ℕ) → i < length plan.outs
       → ShowsEachContext contexts (period_of plan) (driven due (plane_with library plan lit))
-        (out_cell_of plan i)
+      (out_cell_of plan i)
       (λ c t. bit_on (after_columns plan.columns (entering c t)) (slice_index plan.outs i))
   pub nets : (i : ℕ) → i < length plan.nets
       → ShowsEachContext contexts (period_of plan) (driven due (plane_with library plan lit))
-        (net_cell_of plan i)
+      (net_cell_of plan i)
       (λ c t. bit_on (bits_after after_columns plan.columns (net_place plan i).after (entering c t))
-          (net_place plan i).lane)
+      (net_place plan i).lane)
 
 -- of every library, every admissible plan, all edges that start contexts, and every drive of so
 -- many contexts
@@ -61,10 +61,10 @@ pub record IsIsolated (library : Kind → Drawing) (plan : Plan) (lit : Lit) (du
     (c : ℕ) : Type 0 where
   pub outs : (i : ℕ) → i < length plan.outs
       → ShowsAlike (period_of plan) (driven due (plane_with library plan lit))
-        (driven other (plane_with library plan lit)) c (out_cell_of plan i)
+      (driven other (plane_with library plan lit)) c (out_cell_of plan i)
   pub nets : (i : ℕ) → i < length plan.nets
       → ShowsAlike (period_of plan) (driven due (plane_with library plan lit))
-        (driven other (plane_with library plan lit)) c (net_cell_of plan i)
+      (driven other (plane_with library plan lit)) c (net_cell_of plan i)
 
 abbrev pub ContextsAreIsolated : Type 0
 ContextsAreIsolated =
@@ -73,5 +73,5 @@ ContextsAreIsolated =
     → (due other : Due) → DrivesContexts plan (length starts) due
     → DrivesContexts plan (length starts) other
     → (c : ℕ) → c < length starts → ((t : ℕ)
-      → injected_in plan due c t ≡ injected_in plan other c t)
+    → injected_in plan due c t ≡ injected_in plan other c t)
     → IsIsolated library plan lit due other c

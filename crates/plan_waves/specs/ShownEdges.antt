@@ -28,22 +28,22 @@ ShowsEachStep plane cell late bit =
 pub record ShowsDrivenEdges (library : Kind → Drawing) (plan : Plan) (due : Due)
     (lit : Lit) : Type 0 where
   pub first_conductors : (lane : ℕ) → due 0 (pos (left_of plan 0)) (pos (row_of lane)) ≡ true
-    → lit (Beside plan.latches lane) ≡ false
+      → lit (Beside plan.latches lane) ≡ false
       → plane_with library plan lit (pos (left_of plan 0)) (pos (row_of lane)) ≡ Conductor
   pub conductors : (g : ℕ) (x y : ℤ) → due (suc g) x y ≡ true
-    → next_plane (driven due (plane_with library plan lit) g) x y ≡ Conductor
+      → next_plane (driven due (plane_with library plan lit) g) x y ≡ Conductor
   pub entries : (c lane : ℕ) → c < length plan.columns → lane < plan.lanes
       → ShowsEachStep (driven due (plane_with library plan lit)) (left_of plan c, row_of lane) 0
       (λ m. driven_edges (tiling_of plan) due lit m (Beside (plan.latches + c) lane))
   pub exits : (c lane : ℕ) → c < length plan.columns → lane < plan.lanes
       → ShowsEachStep (driven due (plane_with library plan lit))
-        (left_of plan c + 31, row_of lane) 31
+      (left_of plan c + 31, row_of lane) 31
       (λ m. driven_edges (tiling_of plan) due lit (suc m) (Beside (plan.latches + (c + 1)) lane))
   pub outs : (i : ℕ) → i < length plan.outs
       → ShowsEachStep (driven due (plane_with library plan lit))
-        (left_of plan (length plan.columns), row_of (slice_index plan.outs i)) 0
+      (left_of plan (length plan.columns), row_of (slice_index plan.outs i)) 0
       (λ m. driven_edges (tiling_of plan) due lit m
-          (Beside (end_of_body plan) (slice_index plan.outs i)))
+      (Beside (end_of_body plan) (slice_index plan.outs i)))
 
 -- of every library, every admissible plan, every drive of its inputs at multiples of 32, and all
 -- edges at the beginning

@@ -22,7 +22,7 @@ is_free_entry plan (Above column lane) = false
 -- macro steps.
 pub record GoesOn (plan : Plan) (edges : ℕ → Lit) : Type 0 where
   pub next : (m : ℕ) (edge : Edge) → is_free_entry plan edge ≡ false
-    → edges (suc m) edge ≡ macro_step (tiling_of plan) (edges m) edge
+      → edges (suc m) edge ≡ macro_step (tiling_of plan) (edges m) edge
 
 -- the entries of the body's first column: free entries, and those of loops
 abbrev pub is_body_entry : Plan → Edge → Bool
@@ -61,5 +61,5 @@ tiles_back plan = length plan.columns + 4 * plan.latches
 pub record DrivesInputs (plan : Plan) (due : Due) : Type 0 where
   pub on_time : (g : ℕ) (x y : ℤ) → due g x y ≡ true → g % 32 ≡ 0
   pub at_free_entries : (g : ℕ) (x y : ℤ) → due g x y ≡ true
-    → (lane : ℕ) × (lane < first_loop_lane plan.lanes plan.latches) × (x ≡ pos (left_of plan 0))
-    × (y ≡ pos (row_of lane))
+      → (lane : ℕ) × (lane < first_loop_lane plan.lanes plan.latches) × (x ≡ pos (left_of plan 0))
+      × (y ≡ pos (row_of lane))

@@ -42,10 +42,10 @@ before_entry plan loop j = tiles_before (tiling_of plan) j (loop_entry plan loop
 pub record HasWayBack (plan : Plan) (loop : ℕ) : Type 0 where
   pub begins : before_entry plan loop (tiles_back plan) ≡ loop_exit plan loop
   pub outside : (j : ℕ) → 0 < j → j ≤ tiles_back plan
-    → is_body_entry plan (before_entry plan loop j) ≡ false
+      → is_body_entry plan (before_entry plan loop j) ≡ false
   pub apart : (j : ℕ) → j < tiles_back plan → is_inside plan (before_entry plan loop j) ≡ false
   pub enters : (edges : ℕ → Lit) → GoesOn plan edges → (m j : ℕ) → j ≤ tiles_back plan
-    → edges (m + j) (loop_entry plan loop) ≡ edges m (before_entry plan loop j)
+      → edges (m + j) (loop_entry plan loop) ≡ edges m (before_entry plan loop j)
 
 -- each loop of an admissible plan has its way back
 abbrev pub LoopsHaveWaysBack : Type 0

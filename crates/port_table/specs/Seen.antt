@@ -28,5 +28,5 @@ pub record HasSeen (seen : Seen) (forms : List PortForm) : Type 0 where
   pub has_ins : (name : List ℕ) → holds_name seen.ins name ≡ list_any (is_input name) forms
   pub has_outs : (name : List ℕ) → holds_name seen.outs name ≡ list_any (is_output name) forms
   pub has_nets : (name path : List ℕ)
-    → contains_by (λ k. ordering_then (slice_cmp nat_cmp name k.0.now)
+      → contains_by (λ k. ordering_then (slice_cmp nat_cmp name k.0.now)
       (slice_cmp nat_cmp path k.1.now)) seen.nets ≡ list_any (is_net name path) forms

@@ -14,13 +14,13 @@ spaced fields = flat_map (λ field. 32 ∷ field.now) fields
 abbrev pub named_line : List (Bor (List ℕ)) → List ℕ → List (Bor (List ℕ)) → List ℕ → List ℕ
 named_line before name after rest =
     codes "#C BLIFWW" ++ (spaced before
-      ++ (32 ∷ (escaped_name name ++ (spaced after ++ (10 ∷ rest)))))
+    ++ (32 ∷ (escaped_name name ++ (spaced after ++ (10 ∷ rest)))))
 
 -- the line of an input or an output, with this word for its kind
 abbrev pub port_text : List ℕ → PortLine → List ℕ
 port_text kind port =
     codes "#C BLIFWW " ++ join_with_byte 32
-      (kind ∷ decimal port.x ∷ decimal port.y ∷ escaped_name port.name ∷ [])
+    (kind ∷ decimal port.x ∷ decimal port.y ∷ escaped_name port.name ∷ [])
 
 -- a line of a table, by its number from 0, with its line end
 abbrev pub ended_line : Ports → ℕ → List ℕ

@@ -132,7 +132,7 @@ stream_line name word = codes "stream: " ++ (name ++ (codes " " ++ (word ++ code
 abbrev pub fault_text : (number name line word : List ℕ) → List ℕ
 fault_text number name line word =
     codes "B" ++ (number ++ (codes " "
-        ++ (name ++ (codes " line " ++ (line ++ (codes ": " ++ (word ++ codes "\n")))))))
+    ++ (name ++ (codes " line " ++ (line ++ (codes ": " ++ (word ++ codes "\n")))))))
 
 abbrev pub netlist_line : Fault → List ℕ
 netlist_line fault =
@@ -154,7 +154,7 @@ aig_fault_text number name line =
 abbrev pub aig_fault_line : AigFault → List ℕ
 aig_fault_line fault =
     aig_fault_text (decimal (aig_fault_number fault.kind)) (aig_fault_name fault.kind)
-      (decimal fault.line)
+    (decimal fault.line)
 
 -- each number after a blank
 abbrev pub spaced_numbers : List ℕ → List ℕ
@@ -173,7 +173,7 @@ abbrev pub cause_line : Cause → List ℕ
 cause_line (NetlistFault fault) = netlist_line fault
 cause_line (WeightTooLarge weight) =
     codes "too large: weight " ++ (decimal weight
-      ++ (codes " limit " ++ (decimal weight_limit ++ codes "\n")))
+    ++ (codes " limit " ++ (decimal weight_limit ++ codes "\n")))
 cause_line (Loop names) = loop_line names
 cause_line (AigAtFault fault) = aig_fault_line fault
 cause_line (AigLoop literals) = aig_loop_line literals
@@ -188,10 +188,10 @@ cause_line (TooFar generations) =
     codes "too large: generations " ++ (decimal generations ++ codes "\n")
 cause_line (TooManyContexts contexts limit) =
     codes "too large: contexts " ++ (decimal contexts
-        ++ (codes " limit " ++ (decimal limit ++ codes "\n")))
+    ++ (codes " limit " ++ (decimal limit ++ codes "\n")))
 cause_line (NotQuiet generation x y) =
     codes "not quiet: generation " ++ (decimal generation
-        ++ (codes " cell " ++ (decimal x ++ (codes " " ++ (decimal y ++ codes "\n")))))
+    ++ (codes " cell " ++ (decimal x ++ (codes " " ++ (decimal y ++ codes "\n")))))
 cause_line (NotCircuit fault) = circuit_line (circuit_fault_name fault)
 
 -- the one line that tells a refusal

@@ -30,8 +30,13 @@ kept n = min n (2 ^ 64 - 1)
 -- the box with empty cells
 abbrev pub blank_drawing : ℕ → ℕ → Drawn
 blank_drawing width height =
-    record { width = width; height = height;
-        rows = (if width == 0 then [] else replicate height (replicate width Empty)); x = 0; y = 0 }
+    record {
+      width = width;
+      height = height;
+      rows = (if width == 0 then [] else replicate height (replicate width Empty));
+      x = 0;
+      y = 0;
+    }
 
 -- the rows with a run of cells; empty cells change nothing
 abbrev pub rows_with : Drawn → ℕ → State → List (List State)
@@ -65,7 +70,7 @@ abbrev pub drawn_with : Drawn → List LineItem → Reached
 drawn_with d [] = Open d
 drawn_with d (i ∷ is) =
     reached_by (is_end i.item) (fault_at d.width d.height (place_of i.line d i.item)) d i.item
-        (λ after. drawn_with after is)
+    (λ after. drawn_with after is)
 
 abbrev pub rle_fault_of : RleFault → RleFaultAt
 rle_fault_of fault = record { kind = fault.kind; line = fault.line }

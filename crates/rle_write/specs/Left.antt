@@ -12,7 +12,7 @@ rows_left ends rows = without_end row_end (replicate ends row_end ++ flat_map ro
 abbrev pub row_left : ℕ → List ℕ → List (List State) → List ℕ
 row_left ends tags rows =
     without_end row_end (replicate ends row_end
-        ++ (without_end (tag_of Empty) tags ++ row_end ∷ flat_map row_tags rows))
+    ++ (without_end (tag_of Empty) tags ++ row_end ∷ flat_map row_tags rows))
 
 -- the item of the row ends that are due
 abbrev pub end_items : ℕ → List TagRun
@@ -41,4 +41,4 @@ BeginsOther t (z ∷ zs) = t ≢ z
 pub record IsRunBefore (count tag : ℕ) (tags : List ℕ) : Type 0 where
   pub other : BeginsOther tag tags
   pub inside : without_end (tag_of Empty) (replicate count tag ++ tags) ≡ replicate count tag
-    ++ without_end (tag_of Empty) tags
+      ++ without_end (tag_of Empty) tags

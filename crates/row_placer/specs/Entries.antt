@@ -25,7 +25,7 @@ pub record AreAtEntries (list : CellList) (lanes : ℕ) (ins : List ℕ)
     (nets : List NetPlace) : Type 0 where
   pub long : length nets ≡ length list.nets
   pub each : (k : ℕ) (src : Src) (place : NetPlace) → k < length list.nets
-    → IsEntryOf list lanes ins (get_or list.nets k src) (get_or nets k place)
+      → IsEntryOf list lanes ins (get_or list.nets k src) (get_or nets k place)
 
 -- each net that a cell makes is found after the cell's instruction, on the upper one of its lanes
 abbrev pub AreAtCells : CellList → List Instr → List NetPlace → Type 0

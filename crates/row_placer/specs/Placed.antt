@@ -43,11 +43,11 @@ pub record AreHomes (list : CellList) (lanes : ℕ) (ins homes : List ℕ) : Typ
   pub most : length homes ≤ list.inputs + loop_count list + 1
   pub inputs : (i : ℕ) → i < list.inputs → get_or homes i 0 ≡ get_or ins i 0
   pub loops : (s : ℕ) → s < loop_count list
-    → get_or homes (list.inputs + s) 0 ≡ lanes - loop_count list + s
+      → get_or homes (list.inputs + s) 0 ≡ lanes - loop_count list + s
   pub dark : list.inputs + loop_count list < length homes
       → (get_or homes (list.inputs + loop_count list) 0 < lanes - loop_count list)
       × ((i : ℕ) → i < list.inputs → get_or ins i 0 ≢ get_or homes
-        (list.inputs + loop_count list) 0)
+      (list.inputs + loop_count list) 0)
 
 abbrev pub net_place_of : CellList → List ℕ → List NetPlace → Src → NetPlace
 net_place_of list homes made (Made i) = get_or made i (record { lane = 0; after = None })
@@ -80,7 +80,7 @@ pub record IsPlaced (list : CellList) (job : Job) (p : Program) (homes : List �
   pub settled : AreSettled job (loop_count list) tags
   pub outs_long : length p.outs ≡ length list.outs
   pub outs : (o : ℕ) → o < length list.outs
-    → get_or tags (get_or p.outs o 0) free_tag
+      → get_or tags (get_or p.outs o 0) free_tag
       ≡ tag (get_or job.ports (loop_count list + o) 0) (Port (loop_count list + o))
   pub nets : p.nets ≡ map (net_place_of list homes made) list.nets
   pub zero_home : All (λ src. src ≡ Zero → list.inputs + loop_count list < length homes) list.nets
@@ -92,7 +92,7 @@ pub record IsStart (homes left : List ℕ) (lanes : ℕ) (start : List Tag) : Ty
   pub long : length start ≡ lanes
   pub home : AreAtHome homes start
   pub kept : (v : ℕ) → v < length homes → 1 ≤ get_or left v 0
-    → get_or start (get_or homes v 0) free_tag ≡ tag v Kept
+      → get_or start (get_or homes v 0) free_tag ≡ tag v Kept
   pub free : lanes + idle left (length homes) ≤ count 0 Free start + length homes
 
 -- the lanes of the outputs
@@ -100,7 +100,7 @@ abbrev pub AreOuts : Job → ℕ → List Tag → List ℕ → Type 0
 AreOuts job loops tags outs =
     (o : ℕ) → o < length outs → (get_or outs o 0 < length tags)
     × (get_or tags (get_or outs o 0) free_tag
-      ≡ tag (get_or job.ports (loops + o) 0) (Port (loops + o)))
+    ≡ tag (get_or job.ports (loops + o) 0) (Port (loops + o)))
 
 -- lanes are few, with so many to spare, and no more than these where the list is empty
 pub record AreFewLanes (list : CellList) (spare lanes : ℕ) : Type 0 where

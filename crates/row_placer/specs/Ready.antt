@@ -18,7 +18,7 @@ pub record Ready (us : List ℕ) (limit least : ℕ) (tags : List Tag) (table : 
 abbrev pub ReadyForGate : Job → ℕ → List Tag → List ℕ → Type 0
 ReadyForGate job g tags left =
     Ready (uses_of (drop g job.gates) ++ job.ports) (job.base + g)
-      (owed job.ports (job.base + g) (drop g job.gates)) tags left
+    (owed job.ports (job.base + g) (drop g job.gates)) tags left
 
 abbrev pub ReadyForPort : Job → ℕ → List Tag → List ℕ → Type 0
 ReadyForPort job i tags left =
@@ -36,7 +36,7 @@ HoldAllPorts job tags = HoldPorts job (length job.ports) tags
 abbrev pub AreSettled : Job → ℕ → List Tag → Type 0
 AreSettled job n tags =
     (s : ℕ) → s < n → get_or tags (length tags - 1 - s) free_tag ≡ tag (get_or job.ports s 0)
-      (Port s)
+    (Port s)
 
 -- a value can be used: it is kept on a lane, uses of it are left, and a lane is free for a copy
 -- where this is not the last

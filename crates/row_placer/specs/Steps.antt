@@ -48,7 +48,7 @@ pub record IsNextGate (lanes : Lanes) (gate : NumberedCell) : Type 0 where
 abbrev pub EndsWithNextGate : Lanes → ℕ → Type 0
 EndsWithNextGate lanes lane =
     (gate : NumberedCell) → slice_get lanes.instrs.items (length lanes.instrs.items - 1) ≡ Some
-      (gate_instr (get_or lanes.job.now.gates (length lanes.made.items) gate).kind lane)
+    (gate_instr (get_or lanes.job.now.gates (length lanes.made.items) gate).kind lane)
 
 -- the next gate is made: its operands are exchanged for its value
 pub record MakesGate (old new : Lanes) (gate : NumberedCell) : Type 0 where

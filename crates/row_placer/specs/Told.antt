@@ -55,7 +55,7 @@ abbrev pub Agrees : Job → (ℕ → Bool) → Type 0
 Agrees job bit =
     (g : ℕ) (d : NumberedCell) → g < length job.gates
     → bit (job.base + g) ≡ gate_bit (get_or job.gates g d).kind (bit (get_or job.gates g d).first)
-      (bit (get_or job.gates g d).second)
+    (bit (get_or job.gates g d).second)
 
 -- the instruction of a gate
 abbrev pub gate_instr : CellKind → ℕ → Instr
@@ -77,7 +77,7 @@ MadeTold job instrs made =
     → HoldsTags bit job.start bits
     → (g : ℕ) (d : NetPlace) → g < length made
     → bit_on (bits_after after_instrs instrs (get_or made g d).after bits) (get_or made g d).lane
-      ≡ bit (job.base + g)
+    ≡ bit (job.base + g)
 
 -- the instruction after which a place is found
 abbrev pub instr_at : List Instr → Option ℕ → Option Instr
@@ -116,7 +116,7 @@ Exchanged old new gone come =
 abbrev pub BothExchanged : List Tag → List Tag → Tag → Tag → Tag → Tag → Type 0
 BothExchanged old new gone gone' come come' =
     (p : Tag → Bool) → count_by p new + (cond (p gone) 1 0 + cond (p gone') 1 0) ≡ count_by p old +
-      (cond (p come) 1 0 + cond (p come') 1 0)
+    (cond (p come) 1 0 + cond (p come') 1 0)
 
 -- a gate's operands have been exchanged for its value and a free lane
 abbrev pub GateExchanged : List Tag → List Tag → NumberedCell → ℕ → Type 0

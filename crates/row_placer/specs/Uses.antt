@@ -38,8 +38,8 @@ abbrev pub owed : List ℕ → ℕ → List NumberedCell → ℕ
 owed ports v [] = owed_ports ports
 owed ports v (q ∷ qs) =
     need q.first (q.second ∷ (uses_of qs ++ ports)) +
-        (need q.second (uses_of qs ++ ports) +
-        (owed ports (v + 1) qs - (1 + unused (times v (uses_of qs ++ ports)))))
+    (need q.second (uses_of qs ++ ports) +
+    (owed ports (v + 1) qs - (1 + unused (times v (uses_of qs ++ ports)))))
 
 -- a gate reads values that are there before it
 abbrev pub AreKnown : ℕ → List NumberedCell → Type 0

@@ -23,9 +23,9 @@ pub record RunnerShows {text : List ℕ} {design : Design} {rows : List (List Bo
   pub whole : shown_bits k.ports streams (plane_of k.grid.rows)
       ≡ map (bits_in_run run streams.cycles) (main_outputs design)
   pub nets : (number : ℕ) (net : Net) (line : NetLine) → slice_get k.seen number ≡ Some net
-    → slice_get k.ports.nets number ≡ Some line
+      → slice_get k.ports.nets number ≡ Some line
       → probed_at k.ports streams (plane_of k.grid.rows) 0 line
-        ≡ net_bits_in_run run streams.cycles net
+      ≡ net_bits_in_run run streams.cycles net
   pub quiet : (g : ℕ) → first_miss k.ports streams (plane_of k.grid.rows) g ≡ None
 
 abbrev pub RunnersShowRuns : Type 0

@@ -35,7 +35,7 @@ pub record ShowsTheRun (plane : Plane) (ports : Ports) (design : Design) (stream
       ≡ map (bits_in_run run streams.cycles) (main_outputs design)
   pub lines : (line : Name → List Bool → List ℕ)
       → flat_map (λ out. line out.name (shown_at ports streams plane context out)) ports.outs
-        ≡ flat_map (λ name. line name (bits_in_run run streams.cycles name)) (main_outputs design)
+      ≡ flat_map (λ name. line name (bits_in_run run streams.cycles name)) (main_outputs design)
 
 -- Under streams for the table's inputs the design has a run in each context, from its start on, and
 -- whatever the runs are, the pattern shows those of each context.
@@ -44,13 +44,13 @@ pub record ShowsContextsRuns {text : List ℕ} {design : Design} {starts : List 
   pub runs : ℕ → ℕ → Valuation
   pub are_runs : AreRunsFrom (IsRunFrom design) starts (contexts_of streams) runs
   pub shown : (context : ℕ) (start : LatchState) → slice_get starts context ≡ Some start
-    → (run : ℕ → Valuation) → IsRunFrom design start (rows_of (in_context streams context)) run
+      → (run : ℕ → Valuation) → IsRunFrom design start (rows_of (in_context streams context)) run
       → ShowsTheRun (plane_of k.grid.rows) k.ports design streams context run
   pub whole : (others : ℕ → ℕ → Valuation)
-    → AreRunsFrom (IsRunFrom design) starts (contexts_of streams) others
+      → AreRunsFrom (IsRunFrom design) starts (contexts_of streams) others
       → shown_bits k.ports streams (plane_of k.grid.rows)
-        ≡ flat_map (λ context. map (bits_in_run (others context) streams.cycles)
-        (main_outputs design)) (range_with_len 0 (length starts))
+      ≡ flat_map (λ context. map (bits_in_run (others context) streams.cycles)
+      (main_outputs design)) (range_with_len 0 (length starts))
 
 abbrev pub CarriersShowContexts : Type 0
 CarriersShowContexts =
@@ -65,9 +65,9 @@ pub record ShowsEachRun {text : List ℕ} {design : Design} (c : Carries text de
   pub run : ℕ → Valuation
   pub is_run : IsRun design (rows_of streams) run
   pub shown : (other : ℕ → Valuation) → IsRun design (rows_of streams) other
-    → ShowsTheRun (plane_of c.grid.rows) c.ports design streams 0 other
+      → ShowsTheRun (plane_of c.grid.rows) c.ports design streams 0 other
   pub whole : (other : ℕ → Valuation) → IsRun design (rows_of streams) other
-    → shown_bits c.ports streams (plane_of c.grid.rows)
+      → shown_bits c.ports streams (plane_of c.grid.rows)
       ≡ map (bits_in_run other streams.cycles) (main_outputs design)
 
 abbrev pub CarriersShowRuns : Type 0
@@ -94,7 +94,7 @@ abbrev pub StreamsAreFor : Type 0
 StreamsAreFor =
     (ports : Ports) (words : List (List ℕ)) (streams : Streams) → IsSoundTable ports
     → streams.c ≡ ports.c → HasStreams streams.c words
-      (names_of ports.ins) streams.cycles streams.bits → AreFor ports streams
+    (names_of ports.ins) streams.cycles streams.bits → AreFor ports streams
 
 -- What words say for the IN names of the design, in as many contexts as it is carried in, they say
 -- for the inputs of the table, and they are streams for it.
@@ -142,10 +142,10 @@ CarriersShowNetsInContexts =
     → slice_get k.carried.ports.nets number ≡ Some line
     → (net : Net) × IsLineOf design line net
     × ((streams : Streams) → AreFor k.carried.ports streams → (context : ℕ) (start : LatchState)
-      → slice_get starts context ≡ Some start
+    → slice_get starts context ≡ Some start
     → (run : ℕ → Valuation) → IsRunFrom design start (rows_of (in_context streams context)) run
     → probed_at k.carried.ports streams (plane_of k.carried.grid.rows) context line
-      ≡ net_bits_in_run run streams.cycles net)
+    ≡ net_bits_in_run run streams.cycles net)
 
 -- and so in one context, of which all bits are
 abbrev pub CarriersShowNets : Type 0
@@ -154,6 +154,6 @@ CarriersShowNets =
     → slice_get c.carried.ports.nets number ≡ Some line
     → (net : Net) × IsLineOf design line net
     × ((streams : Streams) → AreFor c.carried.ports streams → (run : ℕ → Valuation)
-      → IsRun design (rows_of streams) run
+    → IsRun design (rows_of streams) run
     → probed_bits c.carried.ports streams (plane_of c.carried.grid.rows) line
-      ≡ net_bits_in_run run streams.cycles net ∷ [])
+    ≡ net_bits_in_run run streams.cycles net ∷ [])

@@ -15,13 +15,13 @@ use Rattle.start_words.specs.Words.{Latches, bit_set}
 abbrev pub flat_latches : Flat → Latches
 flat_latches flat name =
     option_and_then (λ class. then_some
-        (list_any (drives_class flat.nets class) flat.latches) class) (class_named flat.nets name)
+    (list_any (drives_class flat.nets class) flat.latches) class) (class_named flat.nets name)
 
 -- the bit with which a flat latch starts in a context
 abbrev pub flat_start_bit : Flat → List (List ℕ) → (context : ℕ) → FlatLatch → Bool
 flat_start_bit flat words context latch =
     unwrap_or (bit_set (flat_latches flat) context (class_of flat latch.output) words)
-        (latch.init == 1)
+    (latch.init == 1)
 
 -- those of all flat latches, in order
 abbrev pub flat_start_bits : Flat → List (List ℕ) → (context : ℕ) → List Bool
@@ -39,4 +39,4 @@ pair_cmp a b = ordering_then (nat_cmp a.0 b.0) (nat_cmp a.1 b.1)
 abbrev pub AreBitsSet : Latches → tree.BTreeMap (ℕ × ℕ) Bool → List (List ℕ) → Type 0
 AreBitsSet latches bits words =
     (context class : ℕ) → tree.get pair_cmp bits (context, class)
-      ≡ bit_set latches context class words
+    ≡ bit_set latches context class words

@@ -33,9 +33,9 @@ pub record HasNamedLatch (design : Design) (flat : Flat) (name : Name) (position
 -- exactly where there is none
 pub record NamesLatches (design : Design) (flat : Flat) (name : Name) : Type 0 where
   pub named : (position : ℕ) → latch_named flat name ≡ Some position
-    → HasNamedLatch design flat name position
+      → HasNamedLatch design flat name position
   pub unnamed : latch_named flat name ≡ None → (position : ℕ)
-    → HasNamedLatch design flat name position → ⊥
+      → HasNamedLatch design flat name position → ⊥
 
 abbrev pub NamedLatchesAreJoined : Type 0
 NamedLatchesAreJoined =
@@ -55,7 +55,7 @@ StartsAreFlat =
     (design : Design) (flat : Flat) → AreFaultless design.models → IsFlatOf design flat
     → (words : List (List ℕ)) (contexts : ℕ)
     → flat_starts flat words contexts ≡ map (state_in_order design)
-      (starts_of_words design words contexts)
+    (starts_of_words design words contexts)
 
 -- no words mean the start state, in every context
 abbrev pub NoWordsMeanStart : Type 0

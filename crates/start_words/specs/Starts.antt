@@ -25,8 +25,8 @@ abbrev pub latches_of : Design → Latches
 latches_of design name =
     let class = class_of_net design (net_at [] name) in
     then_some (is_main_name design name
-        && list_any (λ other. other == class)
-        (at_places design (λ model. model.latches) (output_class design))) class
+    && list_any (λ other. other == class)
+    (at_places design (λ model. model.latches) (output_class design))) class
 
 -- the bit with which a latch starts: the one that the words set in this context, else 1 where its
 -- init is 1
@@ -34,7 +34,7 @@ abbrev pub start_by_words : Design → List (List ℕ) → (context : ℕ) → P
 start_by_words design words context place None = false
 start_by_words design words context place (Some latch) =
     unwrap_or (bit_set (latches_of design) context (output_class design place latch) words)
-        (latch.init == 1)
+    (latch.init == 1)
 
 -- the state in which the machine of a context starts
 abbrev pub start_of_words : Design → List (List ℕ) → (context : ℕ) → LatchState

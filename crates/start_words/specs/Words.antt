@@ -38,7 +38,7 @@ is_one_bit bits = is_char_one bits || bytes_eq bits (codes "0")
 abbrev pub sets : Latches → ℕ → ℕ → List ℕ → Bool
 sets latches context class word =
     context_in word == context && option_map_or (λ named. named == class)
-        (latches (net_of_word word)) false
+    (latches (net_of_word word)) false
 
 -- whether one of these words sets the latch of this name in this context
 abbrev pub is_latch_set : Latches → ℕ → Name → List (List ℕ) → Bool

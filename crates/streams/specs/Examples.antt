@@ -64,7 +64,7 @@ fault_examples_in_contexts =
 abbrev pub HasStreamsInAnyOrder : Type 0
 HasStreamsInAnyOrder =
     HasStreams 1 (codes "b=11" ∷ codes "a=01" ∷ []) (codes "a" ∷ codes "b" ∷ []) 2
-        ((false ∷ true ∷ []) ∷ (true ∷ true ∷ []) ∷ [])
+    ((false ∷ true ∷ []) ∷ (true ∷ true ∷ []) ∷ [])
 
 -- a name with a `=`
 abbrev pub HasStreamOfNameWithEquals : Type 0
@@ -75,5 +75,5 @@ HasStreamOfNameWithEquals =
 abbrev pub HasStreamsInContexts : Type 0
 HasStreamsInContexts =
     HasStreams 2 (codes "1:a=11" ∷ codes "0::=10" ∷ codes "1::=00" ∷ codes "0:a=01" ∷ [])
-        (codes "a" ∷ codes ":" ∷ []) 2
+    (codes "a" ∷ codes ":" ∷ []) 2
     ((false ∷ true ∷ []) ∷ (true ∷ false ∷ []) ∷ (true ∷ true ∷ []) ∷ (false ∷ false ∷ []) ∷ [])

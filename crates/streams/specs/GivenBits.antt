@@ -14,7 +14,7 @@ use Rattle.streams.specs.Streams.{bits_for}
 abbrev pub AreNamesOf : set.BTreeSet (Bor (List ℕ)) → List (List ℕ) → Type 0
 AreNamesOf known names =
     (name : List ℕ) → set.contains_by (λ k. slice_cmp nat_cmp name k.now) known
-      ≡ is_among name names
+    ≡ is_among name names
 
 -- inputs in the order of their contexts, and in a context of their names' bytes
 abbrev pub input_cmp : ℕ × Bor (List ℕ) → ℕ × Bor (List ℕ) → Ordering
@@ -25,4 +25,4 @@ abbrev pub AreBitsOf : (contexts : ℕ) → map.BTreeMap (ℕ × Bor (List ℕ))
     → List (List ℕ) → Type 0
 AreBitsOf contexts bits words =
     (input : ℕ × Bor (List ℕ)) → option_copied (map.get input_cmp bits input)
-      ≡ bits_for contexts words (input.0, input.1.now)
+    ≡ bits_for contexts words (input.0, input.1.now)

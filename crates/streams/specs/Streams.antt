@@ -51,7 +51,7 @@ abbrev pub stream_faults : (contexts : ℕ) → (words names : List (List ℕ)) 
 stream_faults contexts words names cycles =
     stream_faults_after contexts names cycles [] words
     ++ map (missing_fault contexts) (missing_inputs contexts words
-      (inputs_of_contexts contexts names))
+    (inputs_of_contexts contexts names))
 
 -- This is the first fault.
 abbrev pub HasStreamFault : (contexts : ℕ) → (words names : List (List ℕ)) → (cycles : ℕ)

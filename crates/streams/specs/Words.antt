@@ -34,7 +34,7 @@ fault_of_word contexts names cycles before word =
     else if not (names_context contexts (name_in word)) then Some BadContext
     else if not (list_any (bytes_eq (input_of_word contexts word)) names) then Some UnknownInput
     else if list_any (is_word_for contexts (context_of_word contexts word)
-        (input_of_word contexts word)) before then Some TwiceInput
+    (input_of_word contexts word)) before then Some TwiceInput
     else if not (list_all is_bit (bits_in word)) then Some BadBit
     else if not (length (bits_in word) == cycles) then Some BadLength
     else None

@@ -23,4 +23,4 @@ Drawing = ℤ → ℤ → Bool
 abbrev pub picture : Drawing → List Cell → List Cell → Plane
 picture drawing heads tails x y =
     cond (drawing x y) (cond (is_cell_of x y heads) Head
-        (cond (is_cell_of x y tails) Tail Conductor)) Empty
+    (cond (is_cell_of x y tails) Tail Conductor)) Empty

@@ -15,14 +15,14 @@ started tile drawing a b = picture drawing (lit_entries tile a b) []
 pub record KeepsTime (tile : Interface) (drawing : Drawing) (a b : Bool) : Type 0 where
   -- no entry cell is a head at generations 1 to 32
   pub entries_stay_dark : (g : ℕ) (x y : ℤ) → 1 ≤ g → g ≤ 32
-    → is_cell_of x y (entry_cells tile) ≡ true → evolve g (started tile drawing a b) x y ≢ Head
+      → is_cell_of x y (entry_cells tile) ≡ true → evolve g (started tile drawing a b) x y ≢ Head
   -- each exit cell is a head at generation 31 exactly when the answer says so
   pub exits_answer : (x y : ℤ) → is_cell_of x y (exit_cells tile) ≡ true
-    → (evolve 31 (started tile drawing a b) x y ≡ Head)
-    ↔ (is_cell_of x y (lit_exits tile a b) ≡ true)
+      → (evolve 31 (started tile drawing a b) x y ≡ Head)
+      ↔ (is_cell_of x y (lit_exits tile a b) ≡ true)
   -- and at no other of the generations 0 to 32
   pub exits_stay_dark : (g : ℕ) (x y : ℤ) → g ≤ 32 → g ≢ 31
-    → is_cell_of x y (exit_cells tile) ≡ true → evolve g (started tile drawing a b) x y ≢ Head
+      → is_cell_of x y (exit_cells tile) ≡ true → evolve g (started tile drawing a b) x y ≢ Head
   -- at generation 32 every cell is a conductor, but the exit cells that were heads at 31, which are
   -- tails
   pub ends_at_rest : (x y : ℤ) → evolve 32 (started tile drawing a b) x y ≡ picture drawing []
@@ -35,7 +35,7 @@ pub record HasPorts (tile : Interface) (drawing : Drawing) : Type 0 where
   pub has_entries : (x y : ℤ) → is_cell_of x y (entry_cells tile) ≡ true → drawing x y ≡ true
   pub has_exits : (x y : ℤ) → is_cell_of x y (exit_cells tile) ≡ true → drawing x y ≡ true
   pub border : (x y : ℤ) → is_on_border tile x y ≡ true → drawing x y ≡ true
-    → is_cell_of x y (entry_cells tile ++ exit_cells tile) ≡ true
+      → is_cell_of x y (entry_cells tile ++ exit_cells tile) ≡ true
 
 -- the timing law, for each choice of entries
 pub record MeetsTimingLaw (tile : Interface) (drawing : Drawing) : Type 0 where

@@ -38,9 +38,11 @@ pub trait Tile {
     fn answer(&self, lit: [bool; 2]) -> [bool; 2]
         ensures { result ≡ answers (flag_at lit 0) (flag_at lit 1) };
 
-    ghost form: { IsInterface (record { lanes = LANES; entries = ENTRIES; exits = EXITS; answer = answers }) };
+    ghost form: { IsInterface
+        (record { lanes = LANES; entries = ENTRIES; exits = EXITS; answer = answers }) };
 
-    ghost law: { MeetsTimingLaw (record { lanes = LANES; entries = ENTRIES; exits = EXITS; answer = answers }) drawing };
+    ghost law: { MeetsTimingLaw
+        (record { lanes = LANES; entries = ENTRIES; exits = EXITS; answer = answers }) drawing };
 }
 
 /// A drawing for each kind of tile.
@@ -54,5 +56,6 @@ pub trait Library {
     fn cell(&self, kind: Kind, x: u32, y: u32) -> bool
         ensures { result ≡ drawing self.now kind (pos x) (pos y) };
 
-    ghost law: { (library : Self) (kind : Kind) → MeetsTimingLaw (interface kind) (drawing library kind) };
+    ghost law: { (library : Self) (kind : Kind)
+        → MeetsTimingLaw (interface kind) (drawing library kind) };
 }

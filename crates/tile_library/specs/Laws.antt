@@ -20,11 +20,17 @@ pair_form : (kind : Kind) → (interface kind).lanes ≡ 2 → length (interface
     → AreSidePorts (interface kind).lanes (interface kind).entries
     → AreSidePorts (interface kind).lanes (interface kind).exits → IsInterface (interface kind)
 pair_form kind height entries exits bits entered left =
-    record { height = inr height; two_entries = entries; two_exits = exits; two_bits = bits;
-        side_entries = entered; side_exits = left;
+    record {
+      height = inr height;
+      two_entries = entries;
+      two_exits = exits;
+      two_bits = bits;
+      side_entries = entered;
+      side_exits = left;
       unused_entry = λ single. absurd (omega (arith, single, height));
       unused_exit = λ single. absurd (omega (arith, single, height));
-      unused_bit = λ single. absurd (omega (arith, single, height)) }
+      unused_bit = λ single. absurd (omega (arith, single, height));
+    }
 
 single_form : (kind : Kind) → (interface kind).lanes ≡ 1 → length (interface kind).entries ≡ 2
     → length (interface kind).exits ≡ 2 → ((a b : Bool) → length ((interface kind).answer a b) ≡ 2)
@@ -35,9 +41,17 @@ single_form : (kind : Kind) → (interface kind).lanes ≡ 1 → length (interfa
     → ((a b : Bool) → get_or ((interface kind).answer a b) 1 false ≡ false)
     → IsInterface (interface kind)
 single_form kind height entries exits bits entered left entry exit bit =
-    record { height = inl height; two_entries = entries; two_exits = exits; two_bits = bits;
-        side_entries = entered; side_exits = left; unused_entry = λ single. entry;
-      unused_exit = λ single. exit; unused_bit = λ single. bit }
+    record {
+      height = inl height;
+      two_entries = entries;
+      two_exits = exits;
+      two_bits = bits;
+      side_entries = entered;
+      side_exits = left;
+      unused_entry = λ single. entry;
+      unused_exit = λ single. exit;
+      unused_bit = λ single. bit;
+    }
 
 -- the ports of two lanes, and of one, by the sides in whose middles they lie
 two_sides : (ports : List (ℕ × ℕ)) → Contains (side_ports 0) (get_or ports 0 (0, 0))
@@ -114,10 +128,10 @@ meets_law tile rows t =
     }
   where
     choices : law_test (drawn_rows rows) tile false false ≡ true
-      → law_test (drawn_rows rows) tile false true ≡ true
-      → law_test (drawn_rows rows) tile true false ≡ true
-      → law_test (drawn_rows rows) tile true true ≡ true → (a b : Bool)
-      → KeepsTime tile (drawn_rows rows) a b
+        → law_test (drawn_rows rows) tile false true ≡ true
+        → law_test (drawn_rows rows) tile true false ≡ true
+        → law_test (drawn_rows rows) tile true true ≡ true → (a b : Bool)
+        → KeepsTime tile (drawn_rows rows) a b
     choices dark lower upper both false false = keeps_time (drawn_rows rows) tile false false dark
     choices dark lower upper both false true = keeps_time (drawn_rows rows) tile false true lower
     choices dark lower upper both true false = keeps_time (drawn_rows rows) tile true false upper
@@ -128,5 +142,5 @@ pub west_swap_meets : passes (interface Swap) SWAP ≡ true
     → MeetsTimingLaw (interface WestSwap) (mirrored_drawing (drawn_rows SWAP))
 west_swap_meets t =
     law_mirrored (interface Swap) (interface WestSwap) (drawn_rows SWAP)
-        (record { lanes = refl; entries = refl; exits = refl; answer = λ a b. refl })
-        (meets_law (interface Swap) SWAP t)
+    (record { lanes = refl; entries = refl; exits = refl; answer = λ a b. refl })
+    (meets_law (interface Swap) SWAP t)

@@ -26,7 +26,7 @@ abbrev pub instr_of_cells : ℕ → Bool → Bool → Bool → Option Instr
 instr_of_cells lane climbs falls ends =
     cond climbs (cond ends (Some (Fork lane)) (Some (Swap lane)))
     (cond falls (cond ends (Some (Or lane)) (Some (Xor lane)))
-        (cond ends None (Some (AndNot lane))))
+    (cond ends None (Some (AndNot lane))))
 
 -- the same of a block by a test of its cells
 abbrev pub instr_shown : ℕ → (ℕ → ℕ → Bool) → Option Instr

@@ -9,7 +9,7 @@ use Rattle.plan_layout.specs.Tape.{drawn_plane}
 -- the cells of a row from one x up to another are those of row y of the drawing
 pub record IsSpanDrawn (plan : Plan) (cells : List State) (y from until : ℕ) : Type 0 where
   pub each : (x : ℕ) → from ≤ x → x < until
-    → get_or cells x Empty ≡ drawn_plane shipped_drawing plan (pos x) (pos y)
+      → get_or cells x Empty ≡ drawn_plane shipped_drawing plan (pos x) (pos y)
 
 -- so are those of the rows from one y up to another
 pub record IsBoxDrawn (plan : Plan) (rows : List (List State))

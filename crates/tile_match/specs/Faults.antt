@@ -16,4 +16,4 @@ HasCircuitFault grid ports fault.Ports = HasSomePlan grid ports → ⊥
 HasCircuitFault grid ports fault.Names = HasSomePlan grid ports × (has_bad_name ports ≡ true)
 HasCircuitFault grid ports fault.Cells =
     HasSomePlan grid ports × (has_bad_name ports ≡ false)
-      × ((plan : Plan) → IsPlanDrawing grid ports plan → ⊥)
+    × ((plan : Plan) → IsPlanDrawing grid ports plan → ⊥)

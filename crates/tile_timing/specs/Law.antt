@@ -66,8 +66,8 @@ AreDrawn cells drawing = (x y : ℤ) → is_cell_of x y cells ≡ true → drawi
 abbrev pub IsClearAt : Kind → State → ℕ → ℕ → Type 0
 IsClearAt kind cell x y =
     is_on_border (interface kind) (pos x) (pos y) ≡ true → is_filled cell ≡ true
-      → is_cell_of (pos x) (pos y) (entry_cells (interface kind) ++ exit_cells (interface kind))
-        ≡ true
+    → is_cell_of (pos x) (pos y) (entry_cells (interface kind) ++ exit_cells (interface kind))
+    ≡ true
 
 abbrev pub IsBorderClear : Kind → List State → Type 0
 IsBorderClear kind cells =

@@ -11,7 +11,7 @@ use Rattle.tiling.specs.Tiling.Edge.{Beside, Above}
 abbrev pub piece_answers : Lit → ℕ → ℕ → Piece → ℕ → ℕ → Bool
 piece_answers lit q l piece x y =
     is_cell_of (pos x) (pos y) (lit_exits (interface_of piece)
-        (is_entry_lit lit q l (interface_of piece) 0) (is_entry_lit lit q l (interface_of piece) 1))
+    (is_entry_lit lit q l (interface_of piece) 0) (is_entry_lit lit q l (interface_of piece) 1))
 
 -- the same of what stands in the block (q, l), by the place in the block
 abbrev pub slot_answers : Lit → ℕ → ℕ → Slot → ℕ → ℕ → Bool

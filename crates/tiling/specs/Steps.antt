@@ -46,7 +46,7 @@ pub record StepsByMacro (library : Kind → Drawing) (tiling : Tiling) (lit : Li
   pub whole : (m : ℕ) → evolve (32 * m) (drawn library tiling lit) ≡ drawn library tiling
       (after_steps tiling lit m)
   pub between : (m g : ℕ) → 0 < g → g < 32
-    → LiesInLitPieces tiling (after_steps tiling lit m)
+      → LiesInLitPieces tiling (after_steps tiling lit m)
       (evolve (32 * m + g) (drawn library tiling lit))
 
 -- thirty-two generations are one macro step, for every library, matched tiling and set of lit edges
@@ -60,10 +60,10 @@ MacroLaw =
 pub record DrivesEntries (tiling : Tiling) (due : Due) : Type 0 where
   pub on_time : (g : ℕ) (x y : ℤ) → due g x y ≡ true → g % 32 ≡ 0
   pub at_entries : (g : ℕ) (x y : ℤ) → due g x y ≡ true
-    → (q : ℕ) × (l : ℕ) × (x ≡ pos (32 * q)) × (y ≡ pos (16 * l + 8))
-    × (is_entered (tiling q l) 0 8 ≡ true)
+      → (q : ℕ) × (l : ℕ) × (x ≡ pos (32 * q)) × (y ≡ pos (16 * l + 8))
+      × (is_entered (tiling q l) 0 8 ≡ true)
   pub nothing_before : (g q l : ℕ) → due g (pos (32 * (q + 1))) (pos (16 * l + 8)) ≡ true
-    → is_left (tiling q l) 31 8 ≡ false
+      → is_left (tiling q l) 31 8 ≡ false
 
 -- the edges at whose entries heads are injected at a generation
 abbrev pub injected_edges : Due → ℕ → Lit
@@ -105,9 +105,9 @@ pub record IsDriven (library : Kind → Drawing) (tiling : Tiling) (due : Due)
   pub whole : (m r : ℕ) → r < 32 → driven due (drawn library tiling lit) (32 * m + r) ≡ evolve r
       (drawn library tiling (driven_edges tiling due lit m))
   pub conductors : (m : ℕ) (x y : ℤ) → due (32 * suc m) x y ≡ true
-    → next_plane (driven due (drawn library tiling lit) (32 * m + 31)) x y ≡ Conductor
+      → next_plane (driven due (drawn library tiling lit) (32 * m + 31)) x y ≡ Conductor
   pub first_conductors : (q l : ℕ) → due 0 (pos (32 * q)) (pos (16 * l + 8)) ≡ true
-    → lit (Beside q l) ≡ false → drawn library tiling lit (pos (32 * q)) (pos (16 * l + 8))
+      → lit (Beside q l) ≡ false → drawn library tiling lit (pos (32 * q)) (pos (16 * l + 8))
       ≡ Conductor
 
 -- for every library, matched tiling, lit edges and injections at its free entries

@@ -81,7 +81,7 @@ tails_of lit q l tile =
 abbrev pub drawn_piece : (Kind → Drawing) → Lit → ℕ → ℕ → Piece → ℕ → ℕ → State
 drawn_piece library lit q l piece x y =
     picture (piece_drawing library piece) (heads_of lit q l (interface_of piece))
-        (tails_of lit q l (interface_of piece)) (pos x) (pos y)
+    (tails_of lit q l (interface_of piece)) (pos x) (pos y)
 
 -- a cell of the block (q, l), by its place in the block
 abbrev pub drawn_slot : (Kind → Drawing) → Lit → ℕ → ℕ → Slot → ℕ → ℕ → State

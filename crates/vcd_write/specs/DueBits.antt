@@ -34,8 +34,12 @@ IsTakenFrom bit old new =
 abbrev pub next_bit : Raster → DueBit → List DueBit
 next_bit raster bit =
     if nat_lt (bit.place + raster.variables) raster.bits
-    then record { generation = bit.generation + raster.period; place = bit.place + raster.variables;
-        x = bit.x; y = bit.y } ∷ []
+    then record {
+      generation = bit.generation + raster.period;
+      place = bit.place + raster.variables;
+      x = bit.x;
+      y = bit.y;
+    } ∷ []
     else []
 
 -- The place is one of the raster, and the bit and those of its variable after it come up to the
@@ -44,7 +48,7 @@ pub record IsWithin (raster : Raster) (bit : DueBit) : Type 0 where
   pub some : raster.variables ≢ 0
   pub place : bit.place < raster.bits
   pub early : (j : ℕ) → bit.place + j * raster.variables < raster.bits
-    → bit.generation + j * raster.period ≤ raster.last
+      → bit.generation + j * raster.period ≤ raster.last
 
 -- Planes show such bits at the cell of a bit that is due: its own at its generation, and those of
 -- the same variable after it, each a period later.
@@ -52,7 +56,7 @@ abbrev pub ShowsDueBits : (shown : ℕ → Bool) → (ℕ → Plane) → Raster 
 ShowsDueBits shown planes raster bit =
     (j : ℕ) → bit.place + j * raster.variables < raster.bits
     → shown (bit.place + j * raster.variables)
-      ≡ is_head (planes (bit.generation + j * raster.period) (pos bit.x) (pos bit.y))
+    ≡ is_head (planes (bit.generation + j * raster.period) (pos bit.x) (pos bit.y))
 
 -- a place of one of these bits, or of one of the same variable after it
 pub record IsStillDue (raster : Raster) (due : List DueBit) (place : ℕ) : Type 0 where

@@ -15,7 +15,7 @@ pub record SaysWaves (w : Waves) : Type 0 where
   pub alone : (form : VcdForm) → ReadsAsVcd (vcd_text w) form → form ≡ vcd_form w
   pub ends : last_time (vcd_form w) ≡ w.cycles
   pub bits : (n cycle : ℕ) → n < length w.references → cycle < w.cycles
-    → value_at (vcd_form w) (vcd_id n) cycle ≡ Some (w.bit n cycle)
+      → value_at (vcd_form w) (vcd_id n) cycle ≡ Some (w.bit n cycle)
 
 -- where the references are words, and the number of cycles fits 64 bits
 abbrev pub TextsSayWaves : Type 0
@@ -30,7 +30,7 @@ pub record AreSameWaves (a b : Waves) : Type 0 where
   pub cycles : a.cycles ≡ b.cycles
   pub references : a.references ≡ b.references
   pub bits : (n cycle : ℕ) → n < length b.references → cycle < b.cycles
-    → a.bit n cycle ≡ b.bit n cycle
+      → a.bit n cycle ≡ b.bit n cycle
 
 abbrev pub SameWavesAreWrittenAlike : Type 0
 SameWavesAreWrittenAlike = (a b : Waves) → AreSameWaves a b → vcd_text a ≡ vcd_text b

@@ -38,7 +38,7 @@ path_before path = if bytes_eq path (codes "-") then [] else path ++ codes "/"
 abbrev pub reference_of : (contexts : ℕ) → NetInContext → List ℕ
 reference_of contexts variable =
     with_context contexts variable.context
-        (path_before variable.net.path ++ escaped_reference variable.net.name)
+    (path_before variable.net.path ++ escaped_reference variable.net.name)
 
 -- its bits, cycle after cycle: 1 where its cell is a head at generation offset + 32 c + t P
 abbrev pub shown_of : Ports → Streams → Plane → NetInContext → List Bool
@@ -51,7 +51,7 @@ net_waves ports streams plane = record {
   references = map (reference_of ports.c) (nets_in_contexts ports);
   bit =
       λ n cycle. get_or (get_or (map (shown_of ports streams plane)
-        (nets_in_contexts ports)) n []) cycle false;
+      (nets_in_contexts ports)) n []) cycle false;
 }
 
 -- the greatest of the generations at which nets show their first bits
@@ -74,4 +74,4 @@ NetsHaveTheirBits =
     (ports : Ports) (streams : Streams) (plane : Plane) (context number : ℕ) (net : NetLine)
     (cycle : ℕ) → context < ports.c → slice_get ports.nets number ≡ Some net
     → (net_waves ports streams plane).bit (context * length ports.nets + number) cycle
-      ≡ get_or (probed_at ports streams plane context net) cycle false
+    ≡ get_or (probed_at ports streams plane context net) cycle false

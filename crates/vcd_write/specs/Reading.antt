@@ -91,7 +91,7 @@ abbrev pub value_from : Option Bool → List ℕ → ℕ → List VcdBlock → O
 value_from before id time [] = before
 value_from before id time (block ∷ blocks) =
     value_from (if nat_le block.time time then option_or (last_value id block.values) before
-        else before) id time blocks
+    else before) id time blocks
 
 abbrev pub value_at : VcdForm → List ℕ → ℕ → Option Bool
 value_at form id time = value_from None id time form.blocks

@@ -10,8 +10,11 @@ use Rattle.vcd_write.specs.declared.vcd.Vcd.{Vcd}
 -- n
 abbrev pub waves_in : Vcd → Waves
 waves_in vcd =
-    record { cycles = vcd.cycles; references = vcd.references;
-      bit = λ n cycle. get_or vcd.bits (cycle * length vcd.references + n) false }
+    record {
+      cycles = vcd.cycles;
+      references = vcd.references;
+      bit = λ n cycle. get_or vcd.bits (cycle * length vcd.references + n) false;
+    }
 
 -- the lines of so many variables from n on
 abbrev pub vars_text : Waves → (n many : ℕ) → List ℕ

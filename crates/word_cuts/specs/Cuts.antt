@@ -34,7 +34,7 @@ abbrev pub has_context : ℕ → List ℕ → Bool
 has_context contexts name =
     let number = before_first is_colon name in
     list_any is_colon name && (is_unpadded_number number
-        && nat_lt (digits_value 10 number) contexts)
+    && nat_lt (digits_value 10 number) contexts)
 
 -- that number, and the name after the `:`
 abbrev pub context_of : List ℕ → ℕ

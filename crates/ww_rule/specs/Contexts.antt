@@ -15,7 +15,7 @@ abbrev pub due_of_contexts : ℕ → List (ℕ × ℕ) → List (List (List Bool
 due_of_contexts period cells [] g x y = false
 due_of_contexts period cells (rows ∷ contexts) g x y =
     due_of_streams period cells rows g x y
-      || due_later 32 (due_of_contexts period cells contexts) g x y
+    || due_later 32 (due_of_contexts period cells contexts) g x y
 
 -- the row of bits of a cycle of a context
 abbrev pub context_row : List (List (List Bool)) → ℕ → ℕ → List Bool
@@ -40,17 +40,17 @@ pub record IsBitOfContexts (period : ℕ) (cells : List (ℕ × ℕ)) (contexts 
 -- makes due what streams do.
 pub record ContextsAreInjected : Type 0 where
   pub exactly : (period : ℕ) (cells : List (ℕ × ℕ)) (contexts : List (List (List Bool))) (g : ℕ)
-    (x y : ℤ)
+      (x y : ℤ)
       → (due_of_contexts period cells contexts g x y ≡ true)
       ↔ IsBitOfContexts period cells contexts g x y
   pub listed : (period : ℕ) (cells : List (ℕ × ℕ)) (contexts : List (List (List Bool)))
-    (injections : List Injection)
+      (injections : List Injection)
       → ((i : Injection) → Contains injections i
-        ↔ IsBitOfContexts period cells contexts i.generation (pos i.x) (pos i.y))
+      ↔ IsBitOfContexts period cells contexts i.generation (pos i.x) (pos i.y))
       → due_of_list injections ≡ due_of_contexts period cells contexts
   pub rest : (period : ℕ) (cells : List (ℕ × ℕ)) (contexts : List (List (List Bool)))
-    (zeros : List (List Bool)) → All (λ row. All (λ bit. bit ≡ false) row) zeros
+      (zeros : List (List Bool)) → All (λ row. All (λ bit. bit ≡ false) row) zeros
       → due_of_contexts period cells (map (λ rows. rows ++ zeros) contexts)
-        ≡ due_of_contexts period cells contexts
+      ≡ due_of_contexts period cells contexts
   pub one : (period : ℕ) (cells : List (ℕ × ℕ)) (rows : List (List Bool))
-    → due_of_contexts period cells (rows ∷ []) ≡ due_of_streams period cells rows
+      → due_of_contexts period cells (rows ∷ []) ≡ due_of_streams period cells rows

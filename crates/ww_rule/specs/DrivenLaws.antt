@@ -30,11 +30,11 @@ due_upside_down b due g x y = due g x (b -ℤ y)
 -- mirrored
 pub record DrivesAnywhere : Type 0 where
   pub moves : (a b : ℤ) (due : Due) (p : Plane) (g : ℕ)
-    → driven (due_moved a b due) (moved a b p) g ≡ moved a b (driven due p g)
+      → driven (due_moved a b due) (moved a b p) g ≡ moved a b (driven due p g)
   pub mirrors : (a : ℤ) (due : Due) (p : Plane) (g : ℕ)
-    → driven (due_mirrored a due) (mirrored a p) g ≡ mirrored a (driven due p g)
+      → driven (due_mirrored a due) (mirrored a p) g ≡ mirrored a (driven due p g)
   pub mirrors_down : (b : ℤ) (due : Due) (p : Plane) (g : ℕ)
-    → driven (due_upside_down b due) (upside_down b p) g ≡ upside_down b (driven due p g)
+      → driven (due_upside_down b due) (upside_down b p) g ≡ upside_down b (driven due p g)
 
 -- what is due after a generation changes nothing at it
 abbrev pub IsCausal : Type 0
@@ -75,18 +75,18 @@ pub record IsInjectionOf (injections : List Injection) (g : ℕ) (x y : ℤ) : T
 -- drives
 pub record ListsAreInjected : Type 0 where
   pub exactly : (injections : List Injection) (g : ℕ) (x y : ℤ)
-    → (due_of_list injections g x y ≡ true) ↔ IsInjectionOf injections g x y
+      → (due_of_list injections g x y ≡ true) ↔ IsInjectionOf injections g x y
   pub in_any_order : (injections others : List Injection)
-    → ((i : Injection) → Contains injections i ↔ Contains others i) → (p : Plane) (g : ℕ)
-    → driven (due_of_list injections) p g ≡ driven (due_of_list others) p g
+      → ((i : Injection) → Contains injections i ↔ Contains others i) → (p : Plane) (g : ℕ)
+      → driven (due_of_list injections) p g ≡ driven (due_of_list others) p g
 
 -- later rows of streams change nothing before their own cycles, and rows of 0 bits at the end
 -- change nothing at all
 pub record StreamsGoOn (period : ℕ) (cells : List (ℕ × ℕ))
     (rows later : List (List Bool)) : Type 0 where
   pub before : (p : Plane) (g : ℕ) → g < length rows * period
-    → driven (due_of_streams period cells (rows ++ later)) p g
+      → driven (due_of_streams period cells (rows ++ later)) p g
       ≡ driven (due_of_streams period cells rows) p g
   pub rest : All (λ row. All (λ bit. bit ≡ false) row) later → (p : Plane) (g : ℕ)
-    → driven (due_of_streams period cells (rows ++ later)) p g
+      → driven (due_of_streams period cells (rows ++ later)) p g
       ≡ driven (due_of_streams period cells rows) p g

@@ -25,7 +25,7 @@ injections_of_row g [] bits = []
 injections_of_row g (cell ∷ cells) [] = []
 injections_of_row g (cell ∷ cells) (bit ∷ bits) =
     cond bit (record { generation = g; x = cell.0; y = cell.1 } ∷ []) []
-      ++ injections_of_row g cells bits
+    ++ injections_of_row g cells bits
 
 -- the injections of rows of bits, one row a cycle, where the first cycle is at a generation
 -- and each later one `period` generations after the one before

@@ -57,9 +57,9 @@ IsLocal =
 abbrev pub StaysInBox : Type 0
 StaysInBox =
     ((width height : ℕ) (rows : List (List State)) → IsGrid width height rows
-      → IsEmptyOutside width height (plane_of rows))
+    → IsEmptyOutside width height (plane_of rows))
     × ((width height n : ℕ) (p : Plane) → IsEmptyOutside width height p
-      → IsEmptyOutside width height (evolve n p))
+    → IsEmptyOutside width height (evolve n p))
     × ((width height : ℕ) (due : Due) (p : Plane) → IsEmptyOutside width height p
     → ((g : ℕ) (x y : ℤ) → in_box width height x y ≡ false → due g x y ≡ false)
     → (g : ℕ) → IsEmptyOutside width height (driven due p g))
@@ -70,7 +70,7 @@ StaysFinite =
     ((rows : List (List State)) → HasFinitelyManyCells (plane_of rows))
     × ((n : ℕ) (p : Plane) → HasFinitelyManyCells p → HasFinitelyManyCells (evolve n p))
     × ((injections : List Injection) (p : Plane) (g : ℕ) → HasFinitelyManyCells p
-      → HasFinitelyManyCells (driven (due_of_list injections) p g))
+    → HasFinitelyManyCells (driven (due_of_list injections) p g))
 
 -- an injection of streams: at generation cycle * period, in a cycle in which the bit of an input is
 -- 1, at the input's cell

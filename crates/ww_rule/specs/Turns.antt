@@ -25,6 +25,6 @@ KeepsTurns =
 -- injections is turned one by one
 pub record DrivesTurned : Type 0 where
   pub turns : (due : Due) (p : Plane) (g : ℕ)
-    → driven (due_turned due) (turned p) g ≡ turned (driven due p g)
+      → driven (due_turned due) (turned p) g ≡ turned (driven due p g)
   pub lists : (injections : List Injection)
-    → due_of_list (map injection_turned injections) ≡ due_turned (due_of_list injections)
+      → due_of_list (map injection_turned injections) ≡ due_turned (due_of_list injections)
