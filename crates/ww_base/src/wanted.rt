@@ -3,13 +3,14 @@ ghost use Rattle.std.specs.Prelude.{◌≡◌, IsOk};
 
 use std::test::Fail;
 
-/// Fails where a text is not the one that is wanted, and tells both.
+/// Fails if a text is not the one that is wanted, and prints both.
 pub fn expect(said: &[u8], want: &[u8]) -> Result<(), Fail>
     ensures { IsOk result → said.now ≡ want.now }
 {
     if said == want {
         Ok(())
     } else {
-        Err(Fail::new(format_args!("{said:?}, and not {want:?}")))
+        let (said, want) = (said.escape_ascii(), want.escape_ascii());
+        Err(Fail::new(format_args!("{said}, and not {want}")))
     }
 }
