@@ -1,21 +1,12 @@
 // Cells as letters, and texts of several parts.
+use pattern_writing::tag_of;
 use std::alloc::{AllocError, Global};
 use ww_rule::{CellRows, State};
-
-/// The letter of a cell, as in RLE.
-pub fn letter(state: State) -> u8 {
-    match state {
-        State::Empty => b'.',
-        State::Head => b'A',
-        State::Tail => b'B',
-        State::Conductor => b'C',
-    }
-}
 
 /// Adds the letters of cells.
 pub fn push_cells(text: &mut Vec<u8>, cells: &[State]) -> Result<(), AllocError> {
     for state in cells {
-        text.push(letter(*state))?;
+        text.push(tag_of(*state))?;
     }
     Ok(())
 }

@@ -1,11 +1,13 @@
 //! The text of a pattern in extended RLE and its ports, as a definition that contracts cite; that it reads as that
 //! pattern and those ports; laws of it, and some texts letter by letter.
 //!
-//! The functions here do nothing: their clauses are the laws and the cases.
+//! All functions here but `tag_of` do nothing: their clauses are the laws and the cases.
 //!
 //! Theorem: `written_text_reads` (`pattern`, `ports`, `text`), `items_are_runs`, `wrapping_keeps_items`; definition
 //! `writer_text`.
 #![tactic(auto)]
+
+mod tags;
 
 ghost use Rattle.std.specs.Prelude.{◌≡◌, ◌++◌, ℕ, List, [], length};
 ghost use Rattle.ww_rule.specs.Grid.{Grid};
@@ -20,6 +22,8 @@ ghost use Rattle.pattern_writing.specs.Samples.{or_grid, or_port_lines, or_net_l
 ghost use Rattle.pattern_writing.specs.SamplePorts.{or_ports, bare_ports};
 ghost use Rattle.pattern_writing.specs.NamedGate.{HasNamedGate};
 ghost use Rattle.pattern_writing.specs.WrittenText.{HasWrittenPattern, HasWrittenPorts, HasWrittenText};
+
+pub use tags::tag_of;
 
 /// Does nothing: its clauses are laws of every pattern whose sizes fit 64 bits and of every port
 /// table whose lines can be spelled: what is written of them reads as them.

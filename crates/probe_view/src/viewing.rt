@@ -2,7 +2,6 @@
 ghost use Rattle.std.specs.Prelude.{◌≡◌, ◌+◌, ◌++◌, IfOk, IfErr, OnOk, None};
 ghost use Rattle.ww_rule.specs.Grid.{AreInBox, plane_of};
 ghost use Rattle.pattern_reading.specs.Ports.{cells_of};
-ghost use Rattle.pattern_writing.specs.Writer.{tag_of};
 ghost use Rattle.drive.specs.Driving.{AreFor, driven_by, first_miss};
 ghost use Rattle.drive.specs.Runs.{IsBandRun, planes_of};
 ghost use Rattle.probe_view.specs.Windows.{HasWindowCause, window_tags, window_text};
@@ -11,20 +10,9 @@ use crate::error::WindowError;
 use drive::{Run, Streams};
 use lists::Bytes;
 use pattern_reading::Ports;
+use pattern_writing::tag_of;
 use std::alloc::{AllocError, Global};
-use ww_rule::{Injection, Pattern, State};
-
-// The letter of a state.
-fn tag_of(state: State) -> u8
-    ensures { result ≡ tag_of state }
-{
-    match state {
-        State::Empty => b'.',
-        State::Head => b'A',
-        State::Tail => b'B',
-        State::Conductor => b'C',
-    }
-}
+use ww_rule::{Injection, Pattern};
 
 // Puts the tags of so many cells of a row at the end of a text.
 fn push_tags(text: &mut Vec<u8>, run: &Run, row: u128, x: u64, width: u64) -> Result<(), AllocError>

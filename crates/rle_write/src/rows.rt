@@ -8,6 +8,7 @@ ghost use Rattle.ww_base.specs.Pages.{held, column_of};
 ghost use Rattle.ww_base.specs.Progress.{Wrote, Broke};
 
 use crate::items::write_item;
+use pattern_writing::tag_of;
 use ww_base::{Failed, Page, Sink};
 use ww_rule::State;
 
@@ -42,18 +43,6 @@ impl Kept {
                 tag: EMPTY,
             },
         }
-    }
-}
-
-fn letter(state: State) -> u8
-    ensures tag { result ≡ tag_of state }
-    ensures cell { result ≢ row_end }
-{
-    match state {
-        State::Empty => EMPTY,
-        State::Head => b'A',
-        State::Tail => b'B',
-        State::Conductor => b'C',
     }
 }
 
@@ -166,7 +155,7 @@ pub fn write_same<O: Sink>(
         (row_left kept.due (replicate kept.run.count kept.run.tag ++
         (replicate count (tag_of state) ++ more)) rows))) }
 {
-    let tag = letter(state);
+    let tag = tag_of(state);
     if tag == kept.run.tag {
         let count = kept.run.count + count;
         return Ok(Kept {

@@ -1,8 +1,8 @@
 // Rows that bands show, as letters.
 ghost use Rattle.std.specs.Prelude.{◌≡◌, ◌<◌, length};
 
-use crate::texts::letter;
 use band_core::Bands;
+use pattern_writing::tag_of;
 use std::alloc::AllocError;
 
 /// Adds a row of the pattern, at the generation of its band.
@@ -21,7 +21,7 @@ pub fn push_row(
     let b = y as usize / height as usize;
     if b < count {
         for x in 0..width {
-            text.push(letter(bands.cell(b, x, y)))?;
+            text.push(tag_of(bands.cell(b, x, y)))?;
         }
     }
     Ok(())

@@ -19,5 +19,5 @@ loop-i-preserved c =
     c.in_ok-push.ensures.items
     ∙ ap (λ (text : List ℕ). text ++ c.tag_of.result ∷ []) c.loop-i.invariant
     ∙ append_assoc before tags (c.tag_of.result ∷ [])
-    ∙ ap (λ (t : ℕ). before ++ (tags ++ t ∷ [])) (c.tag_of.ensures ∙ ap tag_of c.state-state.ensures)
+    ∙ ap (λ (t : ℕ). before ++ (tags ++ t ∷ [])) (c.tag_of.ensures.tag ∙ ap tag_of c.state-state.ensures)
     ∙ ap (λ (tags : List ℕ). before ++ tags) (sym (map-range_with_len_more tag x i (x + i) refl))

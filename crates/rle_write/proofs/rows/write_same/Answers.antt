@@ -13,7 +13,7 @@ pub returns-then-tag-kept-clause-ok : goal.returns-then-tag-kept-clause-ok
 returns-then-tag-kept-clause-ok g c more rows =
     let run = c.args.kept.run in
     let n : ℕ = c.args.count in
-    let same : tag_of c.args.state ≡ run.tag = sym c.letter-tag.ensures.tag ∙ c.if-tag-kept.true in
+    let same : tag_of c.args.state ≡ run.tag = sym c.tag_of-tag.ensures.tag ∙ c.if-tag-kept.true in
     wrote_as
     (left_by (held c.args.page.now) (column_of c.args.page.now) c.args.kept.due run.count run.tag rows (ap (λ t. replicate n t ++ more) same)
     ∙ ap (λ l. text_left (held c.args.page.now) (column_of c.args.page.now) (row_left c.args.kept.due l rows)) (run_joined run.count n run.tag more)
@@ -24,10 +24,10 @@ pub returns-in_err-due-clause-err : goal.returns-in_err-due-clause-err
 returns-in_err-due-clause-err g c =
     let run = c.args.kept.run in
     let n : ℕ = c.args.count in
-    let tag : ℕ = c.letter-tag.result in
+    let tag : ℕ = c.tag_of-tag.result in
     let f = λ (more : List ℕ) (rows : List (List State)).
     broke_as
-    (left_by (held c.args.page.now) (column_of c.args.page.now) c.args.kept.due run.count run.tag rows (ap (λ t. replicate n t ++ more) (sym c.letter-tag.ensures.tag)))
+    (left_by (held c.args.page.now) (column_of c.args.page.now) c.args.kept.due run.count run.tag rows (ap (λ t. replicate n t ++ more) (sym c.tag_of-tag.ensures.tag)))
     (c.in_err-due.ensures.err (replicate n tag ++ more) rows (run_before_run run.count run.tag n tag more c.requires.some (λ e. c.if-tag-kept.false (sym e)))) in
     on_err _ f
 
@@ -35,7 +35,7 @@ pub returns-clause-ok : goal.returns-clause-ok
 returns-clause-ok g c more rows =
     let run = c.args.kept.run in
     let n : ℕ = c.args.count in
-    let tag : ℕ = c.letter-tag.result in
+    let tag : ℕ = c.tag_of-tag.result in
     wrote_as
-    (left_by (held c.args.page.now) (column_of c.args.page.now) c.args.kept.due run.count run.tag rows (ap (λ t. replicate n t ++ more) (sym c.letter-tag.ensures.tag)))
+    (left_by (held c.args.page.now) (column_of c.args.page.now) c.args.kept.due run.count run.tag rows (ap (λ t. replicate n t ++ more) (sym c.tag_of-tag.ensures.tag)))
     (c.in_ok-due.ensures.ok (replicate n tag ++ more) rows (run_before_run run.count run.tag n tag more c.requires.some (λ e. c.if-tag-kept.false (sym e))))
