@@ -30,13 +30,13 @@ abbrev pub is_annotation : List ℕ → Bool
 is_annotation word = is_among word annotations || starts_with nat_eq word (codes ".default_")
 
 -- the directives and types of latch that change what nets mean, or need another file
-abbrev pub left_out : List (List ℕ)
-left_out =
+abbrev pub unsupported_directives : List (List ℕ)
+unsupported_directives =
     codes ".gate" ∷ codes ".mlatch" ∷ codes ".exdc" ∷ codes ".search" ∷ codes ".start_kiss"
     ∷ codes ".end_kiss" ∷ codes ".conn" ∷ []
 
-abbrev pub left_out_types : List (List ℕ)
-left_out_types = codes "ah" ∷ codes "al" ∷ codes "as" ∷ []
+abbrev pub unsupported_types : List (List ℕ)
+unsupported_types = codes "ah" ∷ codes "al" ∷ codes "as" ∷ []
 
 abbrev pub latch_types : List (List ℕ)
 latch_types = codes "re" ∷ codes "fe" ∷ codes "ah" ∷ codes "al" ∷ codes "as" ∷ []
@@ -50,24 +50,24 @@ is_before_models before l = not (list_any begins_model (l ∷ before))
 
 -- 2: the first word begins with `.` and is no directive that is known or left out
 abbrev pub is_known : List ℕ → Bool
-is_known word = is_among word netlist_directives || is_annotation word || is_among word left_out
+is_known word = is_among word netlist_directives || is_annotation word || is_among word unsupported_directives
 
 abbrev pub unknown_directive : Logical → Option (List ℕ)
 unknown_directive l = then_some (is_directive l && not (is_known (first_word l))) (first_word l)
 
 -- 3: a directive that is left out, or a `.latch` of 4 or 5 operands with a type that is
-abbrev pub type_if_left_out : List ℕ → Option (List ℕ)
-type_if_left_out type = then_some (is_among type left_out_types) type
+abbrev pub type_if_unsupported : List ℕ → Option (List ℕ)
+type_if_unsupported type = then_some (is_among type unsupported_types) type
 
-abbrev pub left_out_type : List (List ℕ) → Option (List ℕ)
-left_out_type (input ∷ output ∷ type ∷ control ∷ []) = type_if_left_out type
-left_out_type (input ∷ output ∷ type ∷ control ∷ init ∷ []) = type_if_left_out type
-left_out_type _ = None
+abbrev pub unsupported_type : List (List ℕ) → Option (List ℕ)
+unsupported_type (input ∷ output ∷ type ∷ control ∷ []) = type_if_unsupported type
+unsupported_type (input ∷ output ∷ type ∷ control ∷ init ∷ []) = type_if_unsupported type
+unsupported_type _ = None
 
 abbrev pub unsupported : Logical → Option (List ℕ)
 unsupported l =
-    option_or (then_some (is_among (first_word l) left_out) (first_word l))
-    (cond (has_directive (codes ".latch") l) (left_out_type (operands l)) None)
+    option_or (then_some (is_among (first_word l) unsupported_directives) (first_word l))
+    (cond (has_directive (codes ".latch") l) (unsupported_type (operands l)) None)
 
 -- 4: `.model` has not one operand, `.end` has any, `.names` or `.subckt` has none
 abbrev pub has_bad_count : Logical → Bool
