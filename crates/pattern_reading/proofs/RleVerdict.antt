@@ -6,7 +6,7 @@ use Rattle.std.proofs.lemmas.Option.{none-some}
 use Rattle.ww_rule.specs.declared.pattern.State.TheVariants.{Empty, Head, Tail, Conductor}
 use Rattle.ww_rule.specs.Grid.{Grid}
 use Rattle.pattern_reading.specs.declared.faults.RleFaultKind.{RleFaultKind}
-use Rattle.pattern_reading.specs.declared.faults.RleFaultKind.TheVariants.{NoHeader, BadHeader, OtherRule, BadItem, CellOutside, NoEnd, GridTooLarge}
+use Rattle.pattern_reading.specs.declared.faults.RleFaultKind.TheVariants.{NoHeader, BadHeader, OtherRule, BadItem, CellOutside, NoEnd}
 use Rattle.pattern_reading.specs.Lines.{Line, last_line}
 use Rattle.pattern_reading.specs.Numbers.{◌>>=◌, after_word}
 use Rattle.pattern_reading.specs.Header.{Header, header_in, header_line, is_wireworld}
@@ -95,7 +95,6 @@ item_judged text width height box fault NoHeader e k = absurd k
 item_judged text width height box fault BadHeader e k = absurd k
 item_judged text width height box fault OtherRule e k = absurd k
 item_judged text width height box fault NoEnd e k = absurd k
-item_judged text width height box fault GridTooLarge e k = absurd k
 
 no_header : (bytes : List ℕ) → is_some (after_word (codes "x") bytes) ≡ false → after_word (codes "x") bytes ≡ None
 no_header bytes e = by_rest (after_word (codes "x") bytes) e
@@ -164,7 +163,6 @@ rle_fault_is text OtherRule line h = rw (h.1, h.3, h.4, h.5) refl
 rle_fault_is text BadItem line h = box_verdict text h.0 h.1 h.2 ∙ first_fault text _ _ _ h.3
 rle_fault_is text CellOutside line h = box_verdict text h.0 h.1 h.2 ∙ first_fault text _ _ _ h.3
 rle_fault_is text NoEnd line h = box_verdict text h.0 h.1 h.2 ∙ rw (h.3, h.4, h.5) refl
-rle_fault_is text GridTooLarge line h = absurd h
 
 -- a text that reads has no fault, and reads as the pattern of the text
 pub rle_reading_is : (text : List ℕ) (grid : Grid) → ReadsAsPattern text grid → (rle_verdict text ≡ None) × (grid ≡ grid_of text)

@@ -5,7 +5,7 @@ use Rattle.ww_rule.specs.declared.pattern.State.{State}
 use Rattle.ww_rule.specs.declared.pattern.State.TheVariants.{Empty}
 use Rattle.ww_rule.specs.Grid.{Grid, IsGrid}
 use Rattle.pattern_reading.specs.declared.faults.RleFaultKind.{RleFaultKind}
-use Rattle.pattern_reading.specs.declared.faults.RleFaultKind.TheVariants.{NoHeader, BadHeader, OtherRule, BadItem, CellOutside, NoEnd, GridTooLarge}
+use Rattle.pattern_reading.specs.declared.faults.RleFaultKind.TheVariants.{NoHeader, BadHeader, OtherRule, BadItem, CellOutside, NoEnd}
 use Rattle.pattern_reading.specs.Lines.{Line, last_line}
 use Rattle.pattern_reading.specs.Numbers.{◌>>=◌, after_word}
 use Rattle.pattern_reading.specs.Header.{Header, header_in, header_line, is_wireworld, lines_after_header}
@@ -112,7 +112,6 @@ HasRleFault text CellOutside line =
 HasRleFault text NoEnd line =
     (width height : ℕ) × HasBox text width height × (item_faults text width height ≡ [])
     × (has_end text ≡ false) × (line ≡ last_line text)
-HasRleFault text GridTooLarge line = ⊥
 
 -- the most cells that the box of a text may have for a reader
 abbrev pub most_cells : ℕ

@@ -17,10 +17,6 @@ pub enum RleFaultKind {
     CellOutside,
     /// The text ends without `!`.
     NoEnd,
-    /// The box has more cells than a reader takes. It has no line, and is no fault of the text: the
-    /// definition `HasLargeBox` says of which texts a reader answers so, with the box's width and
-    /// height.
-    GridTooLarge,
 }
 
 /// The faults of a port table. Of one text the earliest line is answered, and of one line the first

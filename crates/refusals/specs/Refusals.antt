@@ -86,7 +86,6 @@ rle_fault_name rle.OtherRule = codes "G3 OtherRule"
 rle_fault_name rle.BadItem = codes "G4 BadItem"
 rle_fault_name rle.CellOutside = codes "G5 CellOutside"
 rle_fault_name rle.NoEnd = codes "G6 NoEnd"
-rle_fault_name rle.GridTooLarge = codes "G7 GridTooLarge"
 
 -- those of a port table
 abbrev pub port_fault_name : PortFaultKind → List ℕ

@@ -32,7 +32,6 @@ fn rle_fault_name(kind: RleFaultKind) -> &'static [u8]
         RleFaultKind::BadItem => b"G4 BadItem",
         RleFaultKind::CellOutside => b"G5 CellOutside",
         RleFaultKind::NoEnd => b"G6 NoEnd",
-        RleFaultKind::GridTooLarge => b"G7 GridTooLarge",
     }
 }
 

@@ -2,7 +2,7 @@
 use Rattle.std.specs.Prelude.{◌≡◌, ◌+◌, ◌*◌, ◌^◌, ◌≤◌, ◌<◌, ℕ, List, Some, None, true, false, codes, is_some, length}
 use denote.Ref.{Bor}
 use Rattle.pattern_reading.specs.declared.faults.RleFaultKind.{RleFaultKind}
-use Rattle.pattern_reading.specs.declared.faults.RleFaultKind.TheVariants.{NoHeader, BadHeader, OtherRule, BadItem, CellOutside, NoEnd, GridTooLarge}
+use Rattle.pattern_reading.specs.declared.faults.RleFaultKind.TheVariants.{NoHeader, BadHeader, OtherRule, BadItem, CellOutside, NoEnd}
 use Rattle.pattern_reading.specs.Lines.{last_line, lines_from, with_line_feeds}
 use Rattle.pattern_reading.specs.Numbers.{after_word}
 use Rattle.pattern_reading.specs.Header.{Header, header_in, header_line, is_wireworld, lines_after_header}
@@ -31,7 +31,6 @@ IsHeaderFault bytes OtherRule =
 IsHeaderFault bytes BadItem = ⊥
 IsHeaderFault bytes CellOutside = ⊥
 IsHeaderFault bytes NoEnd = ⊥
-IsHeaderFault bytes GridTooLarge = ⊥
 
 -- Why a reader reads no pattern of a text: its first fault; a box that is too large; or want of
 -- memory, where the header is without fault and the box is not too large.
