@@ -1,5 +1,6 @@
-//! Makes a plan and its port table of an AIGER circuit; their text carries the circuit. What it means that a text carries a circuit,
-//! and that what the text's pattern shows under streams of bits is what the circuit gives under them.
+//! Makes a plan and its port table of an AIGER circuit; their text carries the circuit. States what it means that a
+//! text carries a circuit, and proves that the text's pattern shows under streams of bits what the circuit gives under
+//! them.
 //!
 //! Theorem: `plan_circuit` (`plan`, `light`, `no_loop`, `refused`); `aigs_are_carried`, `carries_aig_cycles`,
 //! `flats_of_aigs_ask_alike`, `carriers_show_aig_runs`; definition `CarriesAig`.

@@ -1,5 +1,5 @@
-//! A driven pattern in bands of rows, each at a generation of its own, which move on one by one in any order that their
-//! neighbours allow.
+//! A driven pattern in bands of rows, each at a generation of its own. Bands move on one at a time, in any order that
+//! their neighbours allow.
 //!
 //! Theorem: `cell`, `advance`, `skip`.
 #![tactic(auto)]

@@ -1,4 +1,5 @@
-//! Rows of cells in words of bits that know where their light is, and one generation of rows that stand together.
+//! Rows of cells in words of bits that keep track of where their light is, and one generation of rows that stand
+//! together.
 //!
 //! Theorem: `step_band` (`steps`).
 #![tactic(auto)]

@@ -1,4 +1,5 @@
-//! Checks models against the rules on models: they are a design, or have a first fault; and the clocks of a flat netlist.
+//! Checks models against the rules on models: they are a design, or have a first fault. Also exports `check_clock`,
+//! which checks the clocks of a flat netlist.
 //!
 //! Theorem: `check` (`faultless`, `passes`, `fault`).
 #![tactic(auto)]

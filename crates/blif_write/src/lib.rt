@@ -1,4 +1,4 @@
-//! Writes the netlist of a plan's cells as BLIF text. The text is made while it is written, without memory.
+//! Writes the netlist of a plan's cells as BLIF text, which is made while it is written and takes no memory.
 //!
 //! Theorem: `of` (`lift`, `computes`, `no_one`); `write` (`ok`, `front`, `cause`); `laws::lifted_texts_read`; definition `lifted_text`.
 #![tactic(auto)]

@@ -1,5 +1,5 @@
-//! What it means that a text carries a design, or a flat netlist, also in several contexts: the pattern that it spells
-//! shows its runs; and what it means that a text runs by itself.
+//! What it means that a text carries a design, or a flat netlist, in one context or several: the pattern that it spells
+//! shows its runs. Also what it means that a text runs by itself.
 //!
 //! The functions here do nothing: their clauses are laws of the definition.
 //!

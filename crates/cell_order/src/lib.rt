@@ -1,4 +1,5 @@
-//! Puts the cells of a list in an order that is given, which it checks; and finds an order in which fewer values are needed at a time.
+//! Puts the cells of a list into a given order, which it checks; and finds an order in which fewer values are needed at
+//! a time.
 //!
 //! Theorem: `in_order`, `alike_is_planned`.
 #![tactic(auto)]

@@ -1,4 +1,5 @@
-//! Makes a plan of one of several lists of cells: places, packs and closes it, in orders of its cells that are tried and climbed.
+//! Makes a plan of one of several lists of cells: places, packs and closes it, in an order of its cells that it finds by
+//! trials and climbing.
 //!
 //! Theorem: `best_plan`, `plan_of` (`admissible`, `computes`, `lanes`, `columns`).
 #![tactic(auto)]

@@ -1,6 +1,6 @@
-//! The plans of circuits, and the cells that their columns make, the converse of placing cells on lanes. The plan of a circuit
-//! is admissible and has no tape, and electrons stand at generation 0 only where loops enter the columns: so its starts are a
-//! bit for each loop.
+//! The plans of circuits, and the cells that their columns make, which is the converse of placing cells on lanes. The
+//! plan of a circuit is admissible and has no tape, and electrons stand at generation 0 only where loops enter the
+//! columns, so its starts are a bit for each loop.
 //!
 //! Theorem: `cells_of` (`computes`, `starts`, `no_one`), `first_bits`, `starts_of_bits`, `starts_are_of_loops`; definition
 //! `IsCircuit`.

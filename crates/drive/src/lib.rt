@@ -1,4 +1,4 @@
-//! Streams of bits for the inputs of a pattern, and the pattern's run under them.
+//! Runs a pattern under streams of bits for its inputs.
 //!
 //! Theorem: `simulate`, `bits_of_cells` (`near`, `quiet`, `bits`, `refused`); `injections` (`list`, `due`, `sorted`).
 #![tactic(auto)]

@@ -1,5 +1,6 @@
-//! Laws of designs without a fault, and of the flat netlist of a design. A design without a fault is not recursive, and each net
-//! has exactly one driver; its flat netlist exists, it is unique, and it has the design's valuations, cycles and loops.
+//! Laws of designs without a fault, and of the flat netlist of a design. A design without a fault is not recursive, and
+//! each net has exactly one driver; its flat netlist exists, is unique, and has the design's valuations, cycles and
+//! loops.
 //!
 //! The functions here do nothing: their clauses are the laws.
 //!

@@ -1,5 +1,5 @@
-//! A text that spells the drawing of a plan carries the netlist that is lifted of it; and what is compiled for one context
-//! is written as such a text.
+//! A text that spells the drawing of a plan carries the netlist that is lifted from it; and what is compiled for one
+//! context is written as such a text.
 //!
 //! The functions here do nothing: their clauses are the laws.
 //!

@@ -1,5 +1,5 @@
-//! The netlist of a list of cells, as one BLIF model: the list computes it, it has runs, and it breaks no rule. The lines of
-//! the model: what they say, and that a text with these lines is that netlist.
+//! The netlist of a list of cells, as one BLIF model: the list computes it, it has runs, and it breaks no rule. The
+//! lines of the model say that netlist, and a text with these lines is that netlist.
 //!
 //! The functions here do nothing: their clauses are the laws.
 //!

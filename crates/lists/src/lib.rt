@@ -1,5 +1,5 @@
-//! A list type of which contracts see the items alone, and not where they lie in memory; the error of a call that fails
-//! for want of memory alone; and words and lemmas on lists, names and bits.
+//! A list type of which contracts see only the items, and not where they lie in memory; the error of a call that fails
+//! only if memory runs out; and words and lemmas on lists, names and bits.
 //!
 //! Theorem: `of`, `get`, `as_slice`.
 #![tactic(auto)]

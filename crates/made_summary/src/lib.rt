@@ -1,4 +1,5 @@
-//! What made netlists are, and a summary of one: it is run twice, as its pattern shows it and as the netlist gives it.
+//! Proves what made netlists are, and makes a summary of one: it is run twice, as its pattern shows it and as the
+//! netlist gives it.
 //!
 //! Theorem: `summarize` (`summary`, `refused`).
 #![tactic(auto)]

@@ -1,4 +1,4 @@
-//! Finds the earliest subckt line on a circle of models, each of which places the next.
+//! Finds the earliest subckt line on a circle of models, in which each model places the next.
 //!
 //! Theorem: `circle_fault`.
 #![tactic(auto)]

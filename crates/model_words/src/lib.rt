@@ -1,5 +1,5 @@
-//! Words of models with the numbers of their lines: the earliest of those that are offered one after another, such as those
-//! at which models break a rule, and the names of the ports of models, as subckt lines look them up.
+//! Words of models with the numbers of their lines: the earliest of several words that are offered one after another,
+//! such as those at which models break a rule; and the names of the ports of models, as subckt lines look them up.
 //!
 //! Theorem: `offer`, `find`.
 #![tactic(auto)]

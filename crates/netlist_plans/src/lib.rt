@@ -1,5 +1,5 @@
-//! Makes a plan and its port table of a flat netlist with an order of its covers; their text carries the flat netlist. With
-//! streams of its inputs on its tape it runs by itself.
+//! Makes a plan and its port table of a flat netlist with an order of its covers; their text carries the flat netlist.
+//! With streams for its inputs on the plan's tape, the text runs by itself.
 //!
 //! Theorem: `plan_netlist` (`carries`, `small`, `places`), `plan_contexts` (`carries`), `load_netlist` (`runs`).
 #![tactic(auto)]

@@ -1,5 +1,5 @@
-//! Climbs through orders of cells: a bare copy of the placer answers how many columns an order takes, and small changes that do
-//! not make the box larger are kept. Nothing is promised of what is found but its range: whoever takes it checks it.
+//! Climbs through orders of cells: a bare copy of the placer answers how many columns an order takes, and small changes
+//! that do not make the box larger are kept. Only the range of what is found is promised: whoever takes it checks it.
 //!
 //! Theorem: `climb`.
 #![tactic(auto)]

@@ -1,6 +1,6 @@
-//! Laws of what a pattern's text and its port table say, and over a hundred texts with their readings.
+//! Laws of what a pattern's text and its port table say, and more than a hundred texts with their readings.
 //!
-//! Nothing stands on this crate, so a further law or text proves nothing else anew.
+//! Nothing stands on this crate, so a further law or text proves nothing else again.
 //!
 //! Theorem: `pattern_laws`, `port_laws`, `whole_laws`.
 #![tactic(auto)]

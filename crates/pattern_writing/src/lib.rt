@@ -1,5 +1,5 @@
-//! The text of a pattern in extended RLE and its ports, as a definition that contracts cite; that it reads as that
-//! pattern and those ports; laws of it, and some texts letter by letter.
+//! The text of a pattern in extended RLE and its ports, as a definition that contracts cite. It reads as that pattern
+//! and those ports; there are laws of it, and some texts letter by letter.
 //!
 //! All functions here but `tag_of` do nothing: their clauses are the laws and the cases.
 //!

@@ -1,6 +1,6 @@
-//! The text of a plan that computes the cells of a flat netlist carries it, and so the design that it is the flat netlist
-//! of; with the starts of several contexts on its loops it carries them in each of these, and with bits of the inputs on
-//! its tape it runs by itself.
+//! The text of a plan that computes the cells of a flat netlist carries that netlist, and so the design that it belongs
+//! to. With the starts of several contexts on the plan's loops it carries them in each context, and with bits of the
+//! inputs on the plan's tape it runs by itself.
 //!
 //! The functions here do nothing: their clauses are the laws.
 //!

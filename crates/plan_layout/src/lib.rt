@@ -1,5 +1,5 @@
-//! The layout of a plan: which tile stands in which block, and that the tiles of an admissible plan fit together; and its
-//! drawing, in which the tape lies before the body.
+//! The layout of a plan: which tile stands in which block, and that the tiles of an admissible plan fit together; and
+//! the plan's drawing, in which the tape lies before the body.
 //!
 //! Theorem: `plans_fit_together`, `tapes_fit_together`, `slot_at`, `slot_drawn_at`, `is_lit`.
 #![tactic(auto)]

@@ -1,4 +1,4 @@
-//! Tapes of plans: bits for the inputs of a plan are put on its tape, before the body, and run in by themselves.
+//! Tapes of plans: bits for the inputs of a plan, put on its tape before the body, run in by themselves.
 //!
 //! Theorem: `load` (`loaded`, `admissible`, `back`), `tapes_run_in`, `tapes_begin`, `tapes_show_rows`.
 #![tactic(auto)]

@@ -1,5 +1,4 @@
-//! The port table in the comments before a pattern's header: read from a text, made of a plan, and written line by
-//! line.
+//! Reads the port table in the comments before a pattern's header.
 //!
 //! Theorem: `read` (`table`, `reads`, `fault`).
 #![tactic(auto)]

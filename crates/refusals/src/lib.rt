@@ -1,4 +1,4 @@
-//! Why a run of the program does not end well: the causes, each with its exit status and the one line that tells it.
+//! Why a run of the program does not end well: the causes, each with its exit status and its one line.
 //!
 //! Theorem: `Refusal::status`, `Refusal::tell`.
 #![tactic(auto)]

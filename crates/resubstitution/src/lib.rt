@@ -1,5 +1,5 @@
-//! Finds replacements of cells by functions of other cells, by which a list gets fewer of them. Nothing is promised of what
-//! it finds: whoever takes a replacement checks it.
+//! Finds replacements of cells by functions of other cells, by which a list needs fewer cells. Nothing is promised of
+//! what it finds: whoever takes a replacement checks it.
 //!
 //! Theorem: `replacements`.
 #![tactic(auto)]

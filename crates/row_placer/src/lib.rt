@@ -1,4 +1,4 @@
-//! The placer: makes a program on lanes of a list of cells.
+//! The placer: turns a list of cells into a program on lanes.
 //!
 //! Theorem: `place` (`computes`, `lanes`, `instrs`).
 #![tactic(auto)]

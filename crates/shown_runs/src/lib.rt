@@ -1,5 +1,5 @@
-//! What a pattern shows under streams of bits, in each context, is what its netlist gives under them; and what a pattern shows
-//! that runs by itself.
+//! What a pattern shows under streams of bits, in each context, is what its netlist gives under them; and what a
+//! pattern that runs by itself shows.
 //!
 //! The functions here do nothing: their clauses are the laws.
 //!

@@ -1,4 +1,4 @@
-//! The stages of docs/TOUR.md: compares what stands there with what the crates make.
+//! Compares the stages of docs/TOUR.md with what the crates make.
 #![tactic(auto)]
 
 #[cfg(test)]

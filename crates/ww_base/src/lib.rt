@@ -1,5 +1,5 @@
-//! Byte sources and sinks, over the standard streams and in memory, the calls that read or write everything, and texts
-//! in pieces that are gathered on pages.
+//! Byte sources and sinks, over the standard streams and in memory; calls that read or write everything; and texts in
+//! pieces that are gathered on pages.
 //!
 //! Theorem: `read_all` (`all`, `front`), `write_all` (`ok`, `front`), `write_pieces` (`ok`, `front`, `cause`).
 #![tactic(auto)]
