@@ -19,7 +19,7 @@ use ww_rule::State;
 /// What a row of cells has west of a plan.
 #[derive(Clone, Copy)]
 pub enum West {
-    /// No cell.
+    /// No wire: all cells are empty.
     Blank,
     /// The wire of an input, with the electrons of its tape.
     Wire,
