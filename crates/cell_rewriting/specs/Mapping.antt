@@ -1,4 +1,4 @@
--- A list that is mapped from a flat netlist stays so where it is rewritten.
+-- A list that is mapped from a flat netlist stays so when it is rewritten.
 use Rattle.std.specs.Prelude.{ℕ, ◌≡◌, Bool, true, List, Contains}
 use Rattle.netlist_core.specs.declared.flat.Flat.{Flat}
 use Rattle.netlist_meaning.specs.Flat.{FlatDriver, FlatDrives, IsSound}

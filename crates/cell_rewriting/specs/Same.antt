@@ -24,12 +24,12 @@ cell_over to (Xor a b) = Xor (to a) (to b)
 cell_over to (AndNot a b) = AndNot (to a) (to b)
 
 -- if the source is a cell of the old list, it goes to that cell in the new one: the kind stays, and
--- the operands go where they go
+-- each operand goes where `to` sends it
 abbrev pub StaysCell : CellList → CellList → (Src → Src) → Src → Type 0
 StaysCell old new to src =
     (cell : Cell) → IsCell old src cell → IsCell new (to src) (cell_over to cell)
 
--- if the source is a cell of the old list, where it goes has the bit that it had
+-- if the source is a cell of the old list, the source to which it goes has the bit that it had
 abbrev pub StaysBit : CellList → CellList → (Src → Src) → Src → Type 0
 StaysBit old new to src =
     (cell : Cell) → IsCell old src cell → (inputs state : List Bool)

@@ -82,7 +82,7 @@ fn next_list(
     Ok(if_no_larger(now, new))
 }
 
-// The next list, or the old one where there is none.
+// The next list, or the old one if there is none.
 #[tactic(auto, using(crate::proofs::Keeping::itself_rewritten))]
 fn next_or(now: KeptList, next: Option<KeptList>) -> KeptList
     requires { IfSome next (λ n. IsRewritten now.list now.kept.items n.list n.kept.items) }

@@ -119,7 +119,7 @@ fn add_word(
     Ok(())
 }
 
-// The words of the cells of a cone, each of which stands after those that it reads.
+// The words of the cells of a cone, in which each cell stands after those that it reads.
 fn cone_words(
     alloc: Global,
     subst: &Substitution,

@@ -84,7 +84,7 @@ fn edge_lanes(plan: &Plan) -> usize
     plan.lanes as usize + plan.latches as usize + 1
 }
 
-// Sets the bits of the edges on the west sides of blocks that are lit at generation 0.
+// Sets the bits of the edges on the west sides of blocks to whether they are lit at generation 0.
 #[tactic(auto, using(crate::proofs::Bits::column_near))]
 fn light_beside(plan: &Plan, lanes: usize, bits: &mut [bool])
     requires admissible { IsAdmissible plan.now }
@@ -98,7 +98,7 @@ fn light_beside(plan: &Plan, lanes: usize, bits: &mut [bool])
     }
 }
 
-// Sets the bits of those on the north sides.
+// Sets the bits of the edges on the north sides of blocks to whether they are lit at generation 0.
 #[tactic(auto, using(crate::proofs::Bits::column_near))]
 fn light_above(plan: &Plan, lanes: usize, bits: &mut [bool])
     requires admissible { IsAdmissible plan.now }

@@ -287,8 +287,7 @@ ports_examples =
     ∷ record { text = wire_cells ++ wire_in; width = 3; height = 1; ports = bare_ports }
     -- a text without a header
     ∷ reads_as_ports (codes "\n#\n" ++ wire_in) (port_line_at 0 0 (codes "a") ∷ []) [] []
-    -- the first line that is neither a comment nor blank ends the table, also where it is no good
-    -- header
+    -- the first line that is neither a comment nor blank ends the table, even if it is no header
     ∷ reads_as_ports (wire_in ++ codes "x = 3\n" ++ wire_out)
       (port_line_at 0 0 (codes "a") ∷ []) [] []
     ∷ record { text = codes "3C!\n#C BLIFWW 1 P 0 L 0\n"; width = 3; height = 1;
@@ -300,7 +299,7 @@ ports_examples =
         ∷ port_line_at 2 0 (codes "a\r") ∷ [])
     []
     []
-    -- one context in any period, and more where each has 32 generations of it
+    -- one context in any period, and more if each has 32 generations of it
     ∷ reads_as_contexts (codes "4") (codes "1") 4 1
     ∷ reads_as_contexts (codes "4") (codes "001") 4 1
     ∷ reads_as_contexts (codes "64") (codes "2") 64 2
@@ -438,7 +437,7 @@ bad_order_examples =
     ∷ has_port_fault (version_two ++ version_four ++ wire_cells) port.BadOrder 2
     -- a table without a version has names as they stand
     ∷ has_port_fault (codes "#C BLIFWW IN 0 0 %4\n" ++ version_two ++ wire_cells) port.BadOrder 1
-    -- also where the line's cell is outside
+    -- also if the line's cell is outside
     ∷ has_port_fault (codes "#C BLIFWW OUT 3 0 y\n" ++ wire_cells) port.BadOrder 1
     ∷ []
 
@@ -450,7 +449,7 @@ outside_port_examples =
       ++ wire_cells) port.CellOutside 3
     ∷ has_port_fault (version_four ++ codes "#C BLIFWW NET 3 0 0 a -\n"
       ++ wire_cells) port.CellOutside 2
-    -- also where the line's name stands in an earlier one
+    -- also if the line's name stands in an earlier one
     ∷ has_port_fault (version_four ++ wire_in ++ codes "#C BLIFWW IN 3 0 a\n"
       ++ wire_cells) port.CellOutside 3
     ∷ []

@@ -16,7 +16,7 @@ use Rattle.pattern_reading.specs.Header.{lines_before_header}
 
 -- what a line of the table says, by its form
 pub data PortForm : Type 0 where
-  -- `2 P p L l C c`; in version 1 `1 P p L l C c`, or `1 P p L l` where c is 1
+  -- `2 P p L l C c`; in version 1 `1 P p L l C c`, or `1 P p L l` if c is 1
   Version : ℕ → ℕ → ℕ → PortForm
   -- `IN x y name`
   In : PortLine → PortForm

@@ -49,14 +49,14 @@ PlansShowContexts =
     → DrivesContexts plan (length starts) due → StartsContexts plan starts lit
     → ShowsContextBits library plan lit due (length starts) (context_bits plan due starts)
 
--- a cell shows the same of a context in two evolutions of planes: at the generations of that
--- context's cycles it is a head in both or in neither
+-- a cell shows a context alike in two evolutions of planes: at the generations of that context's
+-- cycles it is a head in both or in neither
 abbrev pub ShowsAlike : (period : ℕ) → (ℕ → Plane) → (ℕ → Plane) → ℕ → ℕ × ℕ × ℕ → Type 0
 ShowsAlike period plane other c cell =
     (t : ℕ) → (plane (cell.2 + 32 * c + t * period) (pos cell.0) (pos cell.1) ≡ Head)
     ↔ (other (cell.2 + 32 * c + t * period) (pos cell.0) (pos cell.1) ≡ Head)
 
--- all outputs and nets show the same of a context under two drives
+-- all outputs and nets show a context alike under two drives
 pub record IsIsolated (library : Kind → Drawing) (plan : Plan) (lit : Lit) (due other : Due)
     (c : ℕ) : Type 0 where
   pub outs : (i : ℕ) → i < length plan.outs

@@ -37,8 +37,8 @@ abbrev pub before_entry : Plan → ℕ → ℕ → Edge
 before_entry plan loop j = tiles_before (tiling_of plan) j (loop_entry plan loop)
 
 -- The way back of a loop begins at the loop's exit and meets no edge of the body but this one and
--- the loop's entry. What is lit on it enters the body one macro step later for each tile that is
--- left of the way.
+-- the loop's entry. What is lit on it enters the body one macro step later for each tile that
+-- remains of the way.
 pub record HasWayBack (plan : Plan) (loop : ℕ) : Type 0 where
   pub begins : before_entry plan loop (tiles_back plan) ≡ loop_exit plan loop
   pub outside : (j : ℕ) → 0 < j → j ≤ tiles_back plan

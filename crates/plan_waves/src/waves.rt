@@ -9,7 +9,7 @@ pub fn columns_pass()
 {}
 
 /// What is lit on the way back of a loop of an admissible plan enters the body one macro step later
-/// for each tile that is left of the way. The way back begins where the loop leaves the body, and
+/// for each tile that remains of the way. The way back begins where the loop leaves the body, and
 /// meets the body again at its end alone.
 pub fn loops_have_ways_back()
     ensures { LoopsHaveWaysBack }

@@ -4,6 +4,7 @@ ghost use Rattle.tile_library.specs.Drawings.{drawn_rows};
 ghost use Rattle.tile_library.specs.RowRuns.{IsRowRun};
 ghost use Rattle.tile_timing.specs.Mirror.{mirrored_drawing};
 
+/// Returns whether the rows have a conductor at column `x` and row `y`.
 pub fn is_drawn(rows: &[[u8; 32]], x: u32, y: u32) -> bool
     ensures { result ≡ drawn_rows rows.now (pos x) (pos y) }
 {
@@ -13,6 +14,7 @@ pub fn is_drawn(rows: &[[u8; 32]], x: u32, y: u32) -> bool
     }
 }
 
+/// Does what `is_drawn` does for the rows with west and east exchanged.
 pub fn is_drawn_mirrored(rows: &[[u8; 32]], x: u32, y: u32) -> bool
     ensures { result ≡ mirrored_drawing (drawn_rows rows.now) (pos x) (pos y) }
 {
