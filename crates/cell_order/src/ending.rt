@@ -125,7 +125,7 @@ impl Search {
         }
     }
 
-    // Notes that a cell reads a source, and waits for it if it is a cell.
+    // Notes that a cell reads a source, and that it waits for the source if this is another cell.
     fn read_by_cell(&mut self, src: Src, cell: u32) -> Result<(), ReorderError> {
         let Some(number) = self.number(src) else {
             return Ok(());
@@ -182,7 +182,7 @@ impl Search {
         }
     }
 
-    // The reader of a value with a number among its readers.
+    // One of the cells that read a value, by its number among them.
     fn reader(&self, number: usize, reader: usize) -> Option<u32> {
         let value = self.values.get(number)?;
         value.readers.get(reader).copied()

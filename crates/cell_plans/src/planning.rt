@@ -44,8 +44,8 @@ fn planned(alloc: Global, list: &CellList) -> Result<Plan, PlanError>
     closed(alloc, list, &program)
 }
 
-// The same with so many spare lanes and, if they will do, with the inputs and the dark lane on
-// these lanes.
+// The plan of a list with its cells in the order in which they stand, with so many spare lanes and,
+// if they will do, with the inputs and the dark lane on these lanes.
 fn planned_at(alloc: Global, list: &CellList, spare: u32, lanes: &[u32]) -> Result<Plan, PlanError>
     requires short { IsPlannable list.now }
     ensures { IfOk result (IsPlanOf list.now) }
@@ -65,7 +65,7 @@ fn planned_by(alloc: Global, list: &CellList, other: &CellList) -> Result<Plan, 
     planned(alloc, other)
 }
 
-// The same at a layout that climbing found.
+// A plan of a list, made from another list that computes alike, at a layout that climbing found.
 #[tactic(auto, using(crate::proofs::Alike::plan_by))]
 fn planned_by_at(
     alloc: Global,

@@ -8,8 +8,8 @@ use crate::PackError;
 use lane_core::Instr;
 use std::alloc::Global;
 
-// Puts an instruction into a column, up to which its lanes are used from now on; the column's
-// number.
+// Puts an instruction into the first column after the last use of its lanes, and notes this use;
+// the column's number.
 fn put(used: &mut [usize], instr: Instr) -> usize
     requires within { IsOnLanes (length used.old) instr }
     requires few { (lane : ℕ) → lane < length used.old → number_at used.old lane + 1 < 2 ^ 64 }

@@ -28,7 +28,7 @@ start_grid plan =
     record { width = (size_of plan).0; height = (size_of plan).1;
         rows = map (start_row plan) (range_with_len 0 (size_of plan).1) }
 
--- the pattern is a box of cells, and outside it the plane is empty
+-- the pattern is a box of cells, and its plane is `p`: outside the box that is empty
 pub record IsPatternOf (grid : Grid) (p : Plane) : Type 0 where
   pub box : IsGrid grid.width grid.height grid.rows
   pub plane : plane_of grid.rows ≡ p

@@ -39,7 +39,7 @@ fn own_lanes(alloc: Global, above: u32, inputs: u32, is_dark: bool) -> Result<Ve
 }
 
 // The wanted lanes, if they are as many as are asked for, distinct and above the loops, and else
-// the own lanes.
+// those of `own_lanes`.
 fn upper_lanes(
     alloc: Global,
     above: u32,

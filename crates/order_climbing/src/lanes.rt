@@ -145,8 +145,8 @@ impl Lanes {
         self.set_clock(to, time);
     }
 
-    // Moves what stands on a lane to the lane beside it, whose own comes to the lane at that time
-    // or later; when it does.
+    // Moves what stands on lane `from` to lane `to` beside it, by one swap with a lane that is
+    // brought past it, no earlier than at `time`; the column after the swap.
     fn shift(&mut self, from: usize, to: usize, time: usize) -> usize {
         let time = time.max(self.clock(from)).saturating_add(1);
         self.put(to, self.standing_on(from));

@@ -76,8 +76,8 @@ impl<'a> Placer<'a> {
         }
     }
 
-    // Places all gates, ports and loops; how many columns they take. If a gate ends after column
-    // `most`, the rest is not placed.
+    // Places all gates, ports and loops; how many columns they take, or `None` if a gate ends past
+    // column `most` or the lanes are not enough.
     fn place_all(&mut self, layout: &Layout, most: u64) -> Option<usize> {
         for cell in &layout.order {
             let gate = *self.gates.gates.get(*cell)?;

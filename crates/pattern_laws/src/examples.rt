@@ -7,32 +7,32 @@ ghost use Rattle.pattern_laws.specs.Examples.{ports_examples, too_large_texts, l
 ghost use Rattle.pattern_reading.specs.Pattern.{IsGridTooLarge};
 ghost use Rattle.pattern_laws.specs.Examples.{bad_line_examples, bad_order_examples, outside_port_examples, twice_examples};
 
-/// Examples of texts of extended RLE read as these patterns, in the forms that a header and items
-/// may have.
+/// Example texts of extended RLE read as their patterns. They have the forms that a header and
+/// items may have.
 pub fn patterns_read()
     ensures headers { AllByRecursion ReadsAsSaid header_examples }
     ensures items { AllByRecursion ReadsAsSaid item_examples }
 {}
 
-/// Examples of texts of extended RLE have these faults on these lines.
+/// Example texts of extended RLE have their faults on their lines.
 pub fn faults_of_patterns()
     ensures headers { AllByRecursion HasSaidFault header_fault_examples }
     ensures items { AllByRecursion HasSaidFault item_fault_examples }
     ensures ends { AllByRecursion HasSaidFault end_fault_examples }
 {}
 
-/// Examples of texts have a box that is too large for a reader, and others have none.
+/// Some example texts have a box that is too large for a reader, and others have none.
 pub fn large_boxes()
     ensures too_large { AllByRecursion IsGridTooLarge too_large_texts }
     ensures not_too_large { AllByRecursion (λ text. ¬ (IsGridTooLarge text)) large_texts }
 {}
 
-/// Examples of texts read as these port tables, in the forms that their lines may have.
+/// Example texts read as their port tables. They have the forms that lines of a table may have.
 pub fn ports_read()
     ensures { AllByRecursion ReadsAsSaidPorts ports_examples }
 {}
 
-/// Examples of texts have these faults in their port tables, on these lines.
+/// Example texts have their faults in their port tables, on their lines.
 pub fn faults_of_ports()
     ensures bad_line { AllByRecursion HasSaidPortFault bad_line_examples }
     ensures bad_order { AllByRecursion HasSaidPortFault bad_order_examples }

@@ -147,7 +147,7 @@ IsPortInside width height port = (port.x < width) × (port.y < height)
 abbrev pub IsNetInside : ℕ → ℕ → NetLine → Type 0
 IsNetInside width height net = (net.x < width) × (net.y < height)
 
--- The cells of a table as which a text reads lie in the box.
+-- If a text reads as a table, the table's cells lie in the box.
 pub record HasCellsInside (width height : ℕ) (ports : Ports) : Type 0 where
   pub ins : AllByRecursion (IsPortInside width height) ports.ins
   pub outs : AllByRecursion (IsPortInside width height) ports.outs

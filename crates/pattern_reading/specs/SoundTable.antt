@@ -1,4 +1,4 @@
--- What holds for the values of a port table as which a text reads.
+-- What holds for the values of every port table that is read from a text.
 use Rattle.std.specs.Prelude.{◌≡◌, ◌≢◌, ◌≤◌, ◌<◌, ◌*◌, ℕ, List, [], Some}
 use Rattle.std.specs.List.{AllByRecursion, AllPairs}
 use Rattle.pattern_reading.specs.declared.ports.PortLine.{PortLine}
@@ -40,7 +40,7 @@ pub record IsSoundTable (ports : Ports) : Type 0 where
   pub one_output : AllPairs (λ a b. a.name ≢ b.name) ports.outs
   pub one_net : AllPairs (λ a b. a.name ≡ b.name → a.path ≢ b.path) ports.nets
 
--- A table as which a text reads is sound.
+-- If a text reads as a table, the table is sound.
 abbrev pub HasSoundTable : List ℕ → ℕ → ℕ → Type 0
 HasSoundTable text width height =
     (ports : Ports) → ReadsAsPorts text width height ports → IsSoundTable ports

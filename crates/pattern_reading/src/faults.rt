@@ -4,7 +4,7 @@
 /// the header comes before one in the items.
 #[derive(Clone, Copy, Debug, PartialEq, Eq)]
 pub enum RleFaultKind {
-    /// No line can be the header, or that line does not begin with `x`.
+    /// There is no line for the header, or the header does not begin with `x`.
     NoHeader,
     /// The header has another form, or a number in it is past 18446744073709551615.
     BadHeader,

@@ -3,7 +3,7 @@ use lists::{Bytes, List};
 
 /// The versions of port tables, which differ in how they write names. Version 1 writes them as they
 /// are. Version 2, in which tables are written, has an escape for each byte outside 33 to 126 and
-/// for each `%`: `%` and two hexadecimal digits. Its reader takes any other byte as it stands.
+/// for each `%`: `%` and two hexadecimal digits. Its reader takes every byte but `%` as it stands.
 #[derive(Clone, Copy)]
 pub enum TableVersion {
     /// Version 1: names as they are.

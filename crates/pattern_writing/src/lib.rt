@@ -69,7 +69,7 @@ pub fn named_gate_reads()
     ensures { (a b y : List ℕ) → IsPortName a → IsPortName b → IsPortName y → HasNamedGate a b y }
 {}
 
-/// The text of a box without cells and without ports reads as that box and an empty table.
+/// The text of a box without cells and without ports reads as that box and a table without ports.
 pub fn bare_reads()
     ensures pattern { ReadsAsPattern bare_text bare_grid }
     ensures ports { ReadsAsPorts bare_text 0 0 bare_ports }

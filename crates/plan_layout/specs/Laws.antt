@@ -14,7 +14,8 @@ use Rattle.plan_layout.specs.Tape.{taped_tiling, drawn_tiling, drawn_edges, draw
 abbrev pub PlansFitTogether : Type 0
 PlansFitTogether = (plan : Plan) → IsAdmissible plan → IsMatched (tiling_of plan)
 
--- its tiles and those of a tape fit together, however long the tape is and wherever the plan stands
+-- the tiles of an admissible plan and those of a tape fit together, however long the tape is and
+-- wherever the plan stands
 abbrev pub TapesFitTogether : Type 0
 TapesFitTogether =
     (plan : Plan) → IsAdmissible plan → (shift tiles : ℕ)

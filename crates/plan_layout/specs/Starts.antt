@@ -20,7 +20,7 @@ named_edges names (Beside q l) =
 named_edges names (Above q l) =
     is_start_at names (32 * q + 16) (16 * l) || is_start_at names (32 * q + 16) (16 * l - 1)
 
--- the edges that are lit at generation 0
+-- the edges that the starts of a plan name, which are lit at generation 0
 abbrev pub start_edges : Plan → Lit
 start_edges plan = named_edges plan.starts.list
 

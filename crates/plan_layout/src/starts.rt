@@ -10,7 +10,7 @@ use crate::ports::{is_entered, is_left};
 use crate::{Edge, Slot, slot_at};
 use lane_core::{Plan, Start};
 
-/// Returns whether an edge is lit at generation 0.
+/// Returns whether the starts of a plan light an edge at generation 0.
 pub fn is_start(plan: &Plan, edge: Edge) -> bool
     requires far { column_in (as_edge edge) < 2 ^ 58 }
     requires low { lane_in (as_edge edge) < 2 ^ 58 }

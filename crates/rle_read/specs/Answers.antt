@@ -34,7 +34,7 @@ IsHeaderFault bytes NoEnd = ⊥
 IsHeaderFault bytes GridTooLarge = ⊥
 
 -- The reason why a reader reads no pattern from a text: its first fault; a box that is too large;
--- or out of memory, in which case the header is without fault and the box is not too large.
+-- or, if the header is without fault and the box is not too large, that memory runs out.
 abbrev pub HasReadReason : List ℕ → RleReadError → Type 0
 HasReadReason text (Fault fault) = HasReaderFault text fault.kind fault.line
 HasReadReason text (TooLarge width height) = HasLargeBox text width height

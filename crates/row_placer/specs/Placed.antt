@@ -144,7 +144,8 @@ pub record IsPlacedOn (list : CellList) (lanes : ℕ) (p : Program) : Type 0 whe
   pub entries : AreAtEntries list p.lanes p.ins p.nets
   pub made : AreAtCells list p.instrs p.nets
 
--- the list is placed with no more spare lanes than these, and on no others if it is empty
+-- the list is placed with no more spare lanes than these, and on the spare lanes alone if it is
+-- empty
 pub record IsPlacedWithin (list : CellList) (spare : ℕ) (p : Program) : Type 0 where
   pub computes : ComputesByProgram list p
   pub instrs : length p.instrs ≤

@@ -259,9 +259,9 @@ fn most_spare(list: &CellList) -> u32
     list.inputs.max(list.outs.len() as u32)
 }
 
-/// Places a list on lanes: returns a program that computes it. Up to 4 spare lanes are tried, but
-/// no more than there are inputs or outputs. The contract leaves open which of the programs is
-/// kept.
+/// Places a list on lanes: returns a program that computes it. It tries 0 to 4 spare lanes, but no
+/// more than there are inputs or outputs, whichever are more. The contract leaves open which of the
+/// programs is kept.
 pub fn place(alloc: Global, list: &CellList) -> Result<Program, PlaceError>
     requires small { IsPlaceable list.now }
     ensures { IfOk result (IsPlacedWithin list.now (max list.now.inputs (length list.now.outs))) }
@@ -275,9 +275,10 @@ pub fn place(alloc: Global, list: &CellList) -> Result<Program, PlaceError>
     Ok(best.program)
 }
 
-/// Places a list on `spare` more lanes than the fewest, but on no more than there are inputs or
-/// outputs. `wanted` has the lanes of the inputs, and then one that stays dark if constant 0 is
-/// read or shown by a net: they are taken if they are distinct and above the loops.
+/// Places a list on lanes: returns a program that computes it, on `spare` more lanes than the
+/// fewest. No more spare lanes are taken than there are inputs or outputs, whichever are more.
+/// `wanted` has the lanes of the inputs, and then one that stays dark if constant 0 is read or
+/// shown by a net: they are taken if they are as many, distinct and above the loops.
 pub fn place_at(
     alloc: Global,
     list: &CellList,

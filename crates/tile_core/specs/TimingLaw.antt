@@ -20,7 +20,7 @@ pub record KeepsTime (tile : Interface) (drawing : Drawing) (a b : Bool) : Type 
   pub exits_answer : (x y : ℤ) → is_cell_of x y (exit_cells tile) ≡ true
     → (evolve 31 (started tile drawing a b) x y ≡ Head)
     ↔ (is_cell_of x y (lit_exits tile a b) ≡ true)
-  -- and at no other of the generations 0 to 32
+  -- no exit cell is a head at any other of the generations 0 to 32
   pub exits_stay_dark : (g : ℕ) (x y : ℤ) → g ≤ 32 → g ≢ 31
     → is_cell_of x y (exit_cells tile) ≡ true → evolve g (started tile drawing a b) x y ≢ Head
   -- at generation 32 every cell is a conductor, but the exit cells that were heads at 31, which are
