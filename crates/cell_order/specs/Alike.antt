@@ -7,9 +7,9 @@ use Rattle.lane_core.specs.declared.plan.Plan.{Plan}
 use Rattle.cell_meaning.specs.Computes.{ComputesByPlan}
 use Rattle.cell_meaning.specs.Origins.{entry_source, maker_on}
 
--- They have the same inputs and starts, as many cells, and both name constant 1 or neither does;
--- and under all inputs and states outputs, latches' data and nets have the same bits. The nets that
--- no cell makes have the same sources, and the others are made by cells of the same kinds.
+-- Both lists have the same inputs and starts and as many cells, and both name constant 1 or neither
+-- does. Under all inputs and states outputs, latches' data and nets have the same bits. The nets
+-- that no cell makes have the same sources, and the others are made by cells of the same kinds.
 pub record ComputeAlike (a b : CellList) : Type 0 where
   pub inputs : b.inputs ≡ a.inputs
   pub starts : b.starts ≡ a.starts
@@ -24,7 +24,7 @@ pub record ComputeAlike (a b : CellList) : Type 0 where
   pub entries : map entry_source b.nets ≡ map entry_source a.nets
   pub makers : (lane : ℕ) → map (maker_on b.cells lane) b.nets ≡ map (maker_on a.cells lane) a.nets
 
--- a plan that computes the one computes the other
+-- a plan that computes one of two lists that compute alike computes the other
 abbrev pub AlikeIsPlanned : Type 0
 AlikeIsPlanned =
     (a b : CellList) (plan : Plan) → ComputeAlike a b → ComputesByPlan b plan

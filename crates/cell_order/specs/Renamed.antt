@@ -21,7 +21,7 @@ renamed numbers One = Some One
 renamed numbers Zero = Some Zero
 renamed numbers (Made i) = option_map Made (get_or numbers i None)
 
--- a cell under them
+-- a cell under the new numbers, if each source has one
 abbrev pub renamed_cell : Numbers → Cell → Option Cell
 renamed_cell numbers (Or a b) =
     option_and_then (λ x. option_map (Or x) (renamed numbers b)) (renamed numbers a)
@@ -30,8 +30,8 @@ renamed_cell numbers (Xor a b) =
 renamed_cell numbers (AndNot a b) =
     option_and_then (λ x. option_map (AndNot x) (renamed numbers b)) (renamed numbers a)
 
--- Cells are in order, and each that a new number names has the bit of the one whose number it was,
--- and is of its kind.
+-- Cells are in order, and each that a new number names has the bit of the cell whose number it
+-- replaces, and is of its kind.
 pub record AreRenamed (list : CellList) (cells : List Cell) (numbers : Numbers) : Type 0 where
   pub in_order : are_in_order list.inputs (length list.starts) 0 cells ≡ true
   pub there : (i m : ℕ) → get_or numbers i None ≡ Some m → m < length cells

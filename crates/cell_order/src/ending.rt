@@ -1,5 +1,5 @@
-// An order of cells in which the next is the one that is worth most. Of what is found only the
-// range is told: who takes it checks it.
+// An order of cells in which the next is the one that is worth most. The contract gives only the
+// range of its numbers: `in_order` checks the rest.
 ghost use Rattle.std.specs.Prelude.{◌≤◌, ◌<◌, length, All, IfOk};
 
 use crate::ReorderError;
@@ -18,15 +18,14 @@ fn operands(cell: Cell) -> (Src, Option<Src>) {
     }
 }
 
-// A value: the cells that read it, and how many of these, and of the ports that do, are still to
-// come.
+// A value: the cells that read it, and how many uses by cells and ports are still to come.
 #[derive(Drop)]
 struct Value {
     readers: Vec<u32>,
     uses: u32,
 }
 
-// A cell that is to come: how many others it waits for, and what it is worth to take it next.
+// A cell that is still to come: how many others it waits for, and what it is worth to take it next.
 #[derive(Clone, Copy)]
 struct Pending {
     waits: u32,
@@ -34,15 +33,15 @@ struct Pending {
     is_taken: bool,
 }
 
-// A cell before it is known what it reads.
+// A cell before its operands are read.
 const WAITS_FOR_NOTHING: Pending = Pending {
     waits: 0,
     worth: 0,
     is_taken: false,
 };
 
-// What a value with so many uses left adds to the worth of a cell that reads it: the fewer uses the
-// more, if they are fewer than `reach`, and much more where it is the last.
+// What a value with so many uses left adds to the worth of a cell that reads it: the fewer uses are
+// left, the more, if they are fewer than `reach`, and much more for the last use.
 fn worth(reach: u32, uses: u32) -> u32 {
     let near = reach.saturating_sub(uses);
     if uses <= 1 {
@@ -52,8 +51,8 @@ fn worth(reach: u32, uses: u32) -> u32 {
     }
 }
 
-// The values by number, inputs first, then latches and cells; the cells; and those that wait for
-// nothing, by what they are worth, and of these the first.
+// The values by number, inputs first, then latches and cells; the cells; and a heap of those that
+// wait for nothing, the one that is worth most on top, and of equals the first.
 #[derive(Drop)]
 struct Search {
     reach: u32,
@@ -64,7 +63,7 @@ struct Search {
     ready: BinaryHeap<(u32, Reverse<u32>)>,
 }
 
-// So many values that nothing reads.
+// A number of values that nothing reads yet.
 fn unread_values(alloc: Global, count: usize) -> Result<Vec<Value>, ReorderError> {
     let mut values = Vec::with_capacity(alloc, count)?;
     for _value in 0..count {
@@ -77,7 +76,7 @@ fn unread_values(alloc: Global, count: usize) -> Result<Vec<Value>, ReorderError
 }
 
 impl Search {
-    // Before anything is read.
+    // The search before anything is read.
     fn begin(alloc: Global, list: &CellList, reach: u32) -> Result<Search, ReorderError> {
         let inputs = list.inputs as usize;
         let latches = list.starts.len();
@@ -110,7 +109,7 @@ impl Search {
         }
     }
 
-    // A port reads a source.
+    // Counts a port's use of a source.
     fn read_by_port(&mut self, src: Src) {
         if let Some(number) = self.number(src) {
             if let Some(value) = self.values.get_mut(number) {
@@ -119,14 +118,14 @@ impl Search {
         }
     }
 
-    // Ports read their sources.
+    // Counts the uses of sources by ports.
     fn read_by_ports(&mut self, sources: &[Src]) {
         for src in sources {
             self.read_by_port(*src);
         }
     }
 
-    // A cell reads a source.
+    // Notes that a cell reads a source, and that it waits for the source if this is another cell.
     fn read_by_cell(&mut self, src: Src, cell: u32) -> Result<(), ReorderError> {
         let Some(number) = self.number(src) else {
             return Ok(());
@@ -143,7 +142,7 @@ impl Search {
         Ok(())
     }
 
-    // The cell may come next, where it waits for nothing.
+    // Puts a cell on the heap if it waits for nothing.
     fn offer(&mut self, cell: u32) -> Result<(), ReorderError> {
         if let Some(pending) = self.pending.get(cell as usize) {
             if pending.waits == 0 && !pending.is_taken {
@@ -153,7 +152,7 @@ impl Search {
         Ok(())
     }
 
-    // The cells that read a value are worth so much more.
+    // Raises the worth of the cells that read a value.
     fn raise_readers(&mut self, number: usize, more: u32) -> Result<(), ReorderError> {
         let count = match self.values.get(number) {
             Some(value) if more > 0 => value.readers.len(),
@@ -167,7 +166,7 @@ impl Search {
         Ok(())
     }
 
-    // A cell is worth so much more.
+    // Raises the worth of a cell.
     fn raise(&mut self, cell: u32, more: u32) -> Result<(), ReorderError> {
         if let Some(pending) = self.pending.get_mut(cell as usize) {
             pending.worth = pending.worth.saturating_add(more);
@@ -183,13 +182,13 @@ impl Search {
         }
     }
 
-    // A cell that reads a value, by its number among them.
+    // One of the cells that read a value, by its number among them.
     fn reader(&self, number: usize, reader: usize) -> Option<u32> {
         let value = self.values.get(number)?;
         value.readers.get(reader).copied()
     }
 
-    // A source is read once less.
+    // Counts one use less of a source.
     fn use_up(&mut self, src: Src) -> Result<(), ReorderError> {
         let Some(number) = self.number(src) else {
             return Ok(());
@@ -202,7 +201,7 @@ impl Search {
         self.raise_readers(number, after.saturating_sub(before))
     }
 
-    // A reader of a value has one cell less to wait for.
+    // Lets a reader of a value wait for one cell less.
     fn wait_less(&mut self, number: usize, reader: usize) -> Result<(), ReorderError> {
         let Some(cell) = self.reader(number, reader) else {
             return Ok(());
@@ -213,7 +212,7 @@ impl Search {
         self.offer(cell)
     }
 
-    // The ready cell that is worth most, and of these the first.
+    // The ready cell that is worth most, and of equals the first.
     fn next(&mut self) -> Option<u32> {
         while let Some((worth, Reverse(cell))) = self.ready.pop() {
             if let Some(pending) = self.pending.get(cell as usize) {
@@ -225,7 +224,7 @@ impl Search {
         None
     }
 
-    // The cell comes next.
+    // Takes a cell as the next one.
     fn take(&mut self, list: &CellList, cell: u32) -> Result<(), ReorderError> {
         if let Some(pending) = self.pending.get_mut(cell as usize) {
             pending.is_taken = true;
@@ -248,7 +247,7 @@ impl Search {
         Ok(())
     }
 
-    // What cells and ports read.
+    // Reads the operands of all cells and what the ports read.
     fn read(&mut self, list: &CellList) -> Result<(), ReorderError> {
         self.read_by_ports(list.outs.as_slice());
         self.read_by_ports(list.latches.as_slice());
@@ -258,7 +257,7 @@ impl Search {
         Ok(())
     }
 
-    // What a cell reads.
+    // Reads the operands of a cell.
     fn read_cell(&mut self, list: &CellList, cell: usize) -> Result<(), ReorderError> {
         let Some(number) = u32::try_from(cell).ok() else {
             return Ok(());
@@ -274,7 +273,7 @@ impl Search {
         }
     }
 
-    // What all cells are worth by the values that they read.
+    // Adds to each cell its worth by the values that it reads.
     fn weigh_readers(&mut self) -> Result<(), ReorderError> {
         for number in 0..self.values.len() {
             self.raise_readers(number, worth(self.reach, self.uses(number)))?;
@@ -282,7 +281,7 @@ impl Search {
         Ok(())
     }
 
-    // What all cells are worth by the value that they make, whose making is a use as well.
+    // Adds to each cell its worth by the value that it makes, where making counts as a use.
     fn weigh_results(&mut self) -> Result<(), ReorderError> {
         for cell in 0..self.pending.len() {
             let uses = self.uses(self.made_by(cell)).saturating_add(1);
@@ -293,7 +292,7 @@ impl Search {
         Ok(())
     }
 
-    // What all cells are worth before any has come.
+    // Sets the worth of all cells before any has come.
     fn weigh(&mut self, list: &CellList) -> Result<(), ReorderError> {
         self.read(list)?;
         self.weigh_readers()?;
@@ -323,9 +322,11 @@ impl Search {
     }
 }
 
-/// The numbers of cells of the list in another order: the next is one that waits for no other, and
-/// of these one that is worth most, as the last reader of values or a reader of values with fewer
-/// than `reach` uses left, and of these the first of the list.
+/// Returns an order of the list's cells, by their numbers, in which fewer values are needed at a
+/// time. The next cell waits for no other; of these it is the one that is worth most, and of equals
+/// the first of the list. A cell is worth more for each value that it reads or makes with fewer
+/// than `reach` uses left, and much more if it is the value's last use; making a value counts as a
+/// use.
 pub fn ending_order(alloc: Global, list: &CellList, reach: u32) -> Result<Vec<u32>, ReorderError>
     ensures few { IfOk result (λ order. length order.items ≤ length list.now.cells) }
     ensures below { IfOk result (λ order. All (λ cell. cell < length list.now.cells) order.items) }

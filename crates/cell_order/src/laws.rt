@@ -1,7 +1,7 @@
 //! What lists that compute alike have in common.
 ghost use Rattle.cell_order.specs.Alike.{AlikeIsPlanned};
 
-/// Does nothing; its clause is the law.
+/// A plan that computes one of two lists that compute alike computes the other.
 pub fn alike_is_planned()
     ensures { AlikeIsPlanned }
 {}

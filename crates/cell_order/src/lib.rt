@@ -10,5 +10,6 @@ mod moving;
 mod reordering;
 
 pub use ending::ending_order;
+// The answer of `in_order` and `ending_order` when memory runs out.
 pub use lists::OutOfMemory as ReorderError;
 pub use reordering::in_order;

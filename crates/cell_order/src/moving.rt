@@ -6,7 +6,7 @@ use crate::ReorderError;
 use cell_core::{Cell, CellList, Src};
 use std::alloc::Global;
 
-// The source under the new numbers.
+// The source under the new numbers, if it has one.
 fn renamed(numbers: &[Option<u32>], src: Src) -> Option<Src>
     ensures { result ≡ renamed numbers.now src }
 {
@@ -52,7 +52,7 @@ pub struct Moved {
 }
 
 impl Moved {
-    /// None has come.
+    /// Begins with no cell.
     pub fn begin(alloc: Global, list: &CellList) -> Result<Moved, ReorderError>
         ensures { IfOk result (λ moved. AreRenamed list.now moved.cells.items moved.numbers.items) }
     {
@@ -65,7 +65,7 @@ impl Moved {
         })
     }
 
-    /// A cell comes, if it is one of the list, and what it reads has come.
+    /// Adds a cell of the list, if what it reads has come.
     pub fn add(&mut self, list: &CellList, number: u32) -> Result<(), ReorderError>
         requires { AreRenamed list.now self.old.cells.items self.old.numbers.items }
         ensures { OnOk result (AreRenamed list.now self.new.cells.items self.new.numbers.items) }
@@ -86,7 +86,7 @@ impl Moved {
         Ok(())
     }
 
-    /// The sources under the new numbers, if each has come.
+    /// Returns the sources under the new numbers, or `None` if one of them has not come.
     pub fn sources(&self, alloc: Global, sources: &[Src]) -> Result<Option<Vec<Src>>, ReorderError>
         ensures { IfOk result (λ o.
             IfSome o (λ found.
@@ -104,7 +104,8 @@ impl Moved {
         Ok(Some(found))
     }
 
-    /// What the list's outputs, latches and nets read under the new numbers, if each has come.
+    /// Returns what the list's outputs, latches and nets read under the new numbers, or `None` if
+    /// one of these sources has not come.
     pub fn ends(&self, alloc: Global, list: &CellList) -> Result<Option<Ends>, ReorderError>
         ensures outs { IfOk result (λ o.
             IfSome o (λ ends.

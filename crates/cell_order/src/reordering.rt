@@ -9,7 +9,8 @@ use cell_core::CellList;
 use lists::List;
 use std::alloc::Global;
 
-// The list with the cells that have come, if all have that its ports read, and they are as many.
+// The list with the cells that have come, if these are as many as before and have all that its
+// ports and nets read.
 #[tactic(auto, using(crate::proofs::Moves::bits_follow, crate::proofs::Moves::there_follow))]
 fn with_moved(
     alloc: Global,
@@ -40,8 +41,9 @@ fn with_moved(
     Ok(Some(new))
 }
 
-/// The list with its cells in an order, given by their numbers. There is none where the order
-/// leaves out a cell, or one comes before a cell that it reads.
+/// Returns the list with its cells in `order`, which gives their numbers. It skips a number of no
+/// cell, and a cell that comes before one that it reads. It returns `None` if then the cells are
+/// not as many as the list's, or a port or net reads one that is missing.
 pub fn in_order(
     alloc: Global,
     list: &CellList,

@@ -1,4 +1,4 @@
--- Where the nets of a plan are found that cells make.
+-- Where those nets of a plan are found that cells make.
 use Rattle.std.specs.Prelude.{ℕ, ◌<◌, ◌≡◌, List, Option, Some, length, get_or, Contains}
 use Rattle.cell_core.specs.declared.cells.Src.{Src}
 use Rattle.cell_core.specs.declared.list.CellList.{CellList}
@@ -8,7 +8,7 @@ use Rattle.lane_core.specs.declared.instr.Instr.{Instr}
 use Rattle.lane_core.specs.declared.instr.Column.{Column}
 use Rattle.lane_core.specs.declared.plan.NetPlace.{NetPlace}
 
--- the exit of a column in which the instruction stands
+-- the place is the exit of a column in which the instruction stands
 abbrev pub IsExitOf : List Column → Instr → Option ℕ → Type 0
 IsExitOf columns instr after = (c : ℕ) × (after ≡ Some c) × Contains (instrs_in columns c) instr
 

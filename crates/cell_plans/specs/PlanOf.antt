@@ -1,4 +1,4 @@
--- What a plan of a list of cells is.
+-- What it means that a plan is one of a list of cells.
 use Rattle.std.specs.Prelude.{ℕ, ◌≡◌, ◌≤◌, ◌<◌, ◌+◌, ◌*◌, ◌^◌, max, List, [], ◌∷◌, length, get_or}
 use Rattle.cell_core.specs.declared.list.CellList.{CellList}
 use Rattle.cell_core.specs.Loops.{loop_count, loop_state}
@@ -12,9 +12,9 @@ use Rattle.row_placer.specs.Empty.{IsEmpty}
 use Rattle.row_placer.specs.Entries.{AreAtEntries}
 use Rattle.cell_plans.specs.Exits.{AreAtExits}
 
--- It is admissible, has no tape and computes the list; its starts are edges of its drawing, and
--- start one context as the list starts. It is small by the list's own counts, and has nets at the
--- entries of their sources or the exits of their cells.
+-- The plan is admissible, has no tape and computes the list; its starts are edges of its drawing,
+-- and start one context as the list starts. Its size is bounded by the list's own counts, and its
+-- nets are at the entries of their sources or the exits of their cells.
 pub record IsPlanOf (list : CellList) (plan : Plan) : Type 0 where
   pub admissible : IsAdmissible plan
   pub bare : plan.tape ≡ []
@@ -35,7 +35,7 @@ pub record IsPlanOf (list : CellList) (plan : Plan) : Type 0 where
 abbrev pub IsPlannable : CellList → Type 0
 IsPlannable list = list.inputs + loop_count list + length list.outs + length list.cells < 2 ^ 18
 
--- it is a plan of the list of this number
+-- it is a plan of the list with this number
 abbrev pub IsPlanOfOne : List CellList → ℕ → Plan → Type 0
 IsPlanOfOne lists number plan =
     (number < length lists) × ((d : CellList) → IsPlanOf (get_or lists number d) plan)

@@ -20,14 +20,14 @@ use order_climbing::{Climbed, Start, climb};
 use std::alloc::Global;
 use std::slice::from_ref;
 
-/// A plan, and the number of the list that it is of.
+/// A plan, and the number of the list that it computes.
 #[derive(Drop)]
 pub struct Chosen {
     pub plan: Plan,
     pub list: usize,
 }
 
-// The one with fewer tiles, the first where both have as many.
+// The plan with fewer tiles, and the first if both have as many.
 fn smaller(lists: &[CellList], first: Chosen, second: Chosen) -> Chosen
     requires first { IsPlanOfOne lists.now first.list first.plan }
     requires second { IsPlanOfOne lists.now second.list second.plan }
@@ -100,7 +100,7 @@ fn push_starts(
     Ok(())
 }
 
-// What is climbed to from a few orders of each list.
+// What climbing finds from a few orders of each list.
 fn climb_lists(alloc: Global, lists: &[CellList]) -> Result<Option<Climbed>, PlanError>
     ensures { IfOk result (λ found. IfSome found (λ climbed. climbed.list < length lists.now)) }
 {
@@ -112,7 +112,7 @@ fn climb_lists(alloc: Global, lists: &[CellList]) -> Result<Option<Climbed>, Pla
     Ok(found)
 }
 
-// The chosen plan, or one that was climbed to and has fewer tiles.
+// The chosen plan, or the one that climbing found if it has fewer tiles.
 fn better(
     alloc: Global,
     lists: &[CellList],
@@ -137,9 +137,9 @@ fn better(
     }
 }
 
-/// A plan of one of the lists, the one with the fewest tiles of those that were tried: of each list
-/// in a few orders of its cells, and of one list in an order, on lanes of its inputs and on a
-/// number of lanes that were climbed to from these.
+/// Returns a plan of one of the lists: of those that were tried, the one with the fewest tiles. It
+/// tries each list in a few orders of its cells, and the list, order, lanes of inputs and number of
+/// lanes that climbing from these orders finds.
 pub fn best_plan(alloc: Global, lists: &[CellList]) -> Result<Chosen, PlanError>
     requires some { 0 < length lists.now }
     requires short { All IsPlannable lists.now }
@@ -162,8 +162,8 @@ fn one_plan(alloc: Global, list: &CellList) -> Result<Plan, PlanError>
     Ok(chosen.plan)
 }
 
-/// The plan of one list, as `best_plan` has it: in each cycle its outputs, its loops and its nets
-/// have the bits of their sources.
+/// Returns the plan of one list, chosen as by `best_plan`. In each cycle its outputs, its loops and
+/// its nets have the bits of their sources.
 pub fn plan_of(alloc: Global, list: &CellList) -> Result<Plan, PlanError>
     requires small { list.now.inputs
         + loop_count list.now

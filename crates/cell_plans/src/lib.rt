@@ -8,4 +8,5 @@ mod choosing;
 mod planning;
 
 pub use choosing::{Chosen, best_plan, plan_of};
+// The answer of `best_plan` and `plan_of` when memory runs out.
 pub use lists::OutOfMemory as PlanError;

@@ -44,8 +44,8 @@ fn planned(alloc: Global, list: &CellList) -> Result<Plan, PlanError>
     closed(alloc, list, &program)
 }
 
-// Such a plan with so many spare lanes and, if they will do, with its inputs and the dark lane on
-// these lanes.
+// The plan of a list with its cells in the order in which they stand, with so many spare lanes and,
+// if they will do, with the inputs and the dark lane on these lanes.
 fn planned_at(alloc: Global, list: &CellList, spare: u32, lanes: &[u32]) -> Result<Plan, PlanError>
     requires short { IsPlannable list.now }
     ensures { IfOk result (IsPlanOf list.now) }
@@ -54,7 +54,7 @@ fn planned_at(alloc: Global, list: &CellList, spare: u32, lanes: &[u32]) -> Resu
     closed(alloc, list, &program)
 }
 
-// A plan of a list by another that computes alike.
+// A plan of a list, made from another list that computes alike.
 #[tactic(auto, using(crate::proofs::Alike::plan_by))]
 fn planned_by(alloc: Global, list: &CellList, other: &CellList) -> Result<Plan, PlanError>
     requires alike { ComputeAlike list.now other.now }
@@ -65,7 +65,7 @@ fn planned_by(alloc: Global, list: &CellList, other: &CellList) -> Result<Plan, 
     planned(alloc, other)
 }
 
-// Such a plan at a layout that was climbed to.
+// A plan of a list, made from another list that computes alike, at a layout that climbing found.
 #[tactic(auto, using(crate::proofs::Alike::plan_by))]
 fn planned_by_at(
     alloc: Global,
@@ -81,8 +81,7 @@ fn planned_by_at(
     planned_at(alloc, other, found.spare, &found.lanes)
 }
 
-// The plan of a list at a layout that was climbed to, if its order has all cells, each after those
-// that it reads.
+// The plan of a list at a layout that climbing found, if the cells can be put in its order.
 pub fn climbed_plan(
     alloc: Global,
     list: &CellList,
@@ -100,7 +99,7 @@ pub fn climbed_plan(
     }
 }
 
-/// How many tiles the drawing of a plan has.
+/// Returns how many tiles the drawing of a plan has.
 pub fn tiles(plan: &Plan) -> u128
     ensures { result ≡ tiles plan.now }
 {
@@ -109,7 +108,7 @@ pub fn tiles(plan: &Plan) -> u128
     columns * (plan.lanes as u128 + loops)
 }
 
-// The plan of a list that takes fewer tiles, the first where both take as many.
+// The plan of a list that takes fewer tiles, and the first if both take as many.
 fn smaller(list: &CellList, first: Plan, second: Plan) -> Plan
     requires first { IsPlanOf list.now first }
     requires second { IsPlanOf list.now second }
@@ -141,8 +140,8 @@ fn better(alloc: Global, list: &CellList, plan: Plan, reach: u32) -> Result<Plan
     }
 }
 
-/// By which reaches orders are tried: 2, 3 and 4; for a list of more cells, whose placing takes
-/// long, 3 alone, which serves best.
+/// Returns the reaches for which orders are tried: 2, 3 and 4, or 3 alone for a long list, whose
+/// placing takes long; 3 serves best.
 pub fn reaches(list: &CellList) -> Range<u32> {
     if list.cells.len() > LONG_LIST {
         3..4
@@ -151,7 +150,8 @@ pub fn reaches(list: &CellList) -> Range<u32> {
     }
 }
 
-/// The plan of a list that takes the fewest tiles, of those of a few orders of its cells.
+/// Returns the plan of a list that takes the fewest tiles, among those of a few orders of its
+/// cells.
 pub fn plain_plan(alloc: Global, list: &CellList) -> Result<Plan, PlanError>
     requires short { IsPlannable list.now }
     ensures { IfOk result (IsPlanOf list.now) }

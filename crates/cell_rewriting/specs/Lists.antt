@@ -5,6 +5,6 @@ use Rattle.cell_core.specs.declared.list.CellList.{CellList}
 use Rattle.cell_rewriting.specs.declared.rebuilding.KeptList.{KeptList}
 use Rattle.cell_rewriting.specs.Same.{IsRewritten}
 
--- the list is one of them, with some kept sources
+-- the list is one to which the old one, with its kept sources, is rewritten
 abbrev pub IsRewrittenFrom : KeptList → CellList → Type 0
 IsRewrittenFrom from new = (still : List Src) × IsRewritten from.list from.kept.items new still

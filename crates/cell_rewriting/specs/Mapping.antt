@@ -1,4 +1,4 @@
--- A list that is mapped from a flat netlist stays so where it is rewritten.
+-- A list that is mapped from a flat netlist stays so when it is rewritten.
 use Rattle.std.specs.Prelude.{ℕ, ◌≡◌, Bool, true, List, Contains}
 use Rattle.netlist_core.specs.declared.flat.Flat.{Flat}
 use Rattle.netlist_meaning.specs.Flat.{FlatDriver, FlatDrives, IsSound}
@@ -9,7 +9,7 @@ use Rattle.cell_meaning.specs.Listed.{listed_classes}
 use Rattle.cell_meaning.specs.Mapped.{IsMapped, IsMappedWith, HasBits}
 use Rattle.cell_rewriting.specs.Same.{Rewrites}
 
--- where the nets are listed, each class that is driven is that of a listed net
+-- if the netlist's nets are listed, each class that is driven is that of a listed net
 abbrev pub AreDrivenListed : Flat → Type 0
 AreDrivenListed flat =
     flat.listed ≡ true → (class : ℕ) (d : FlatDriver) → FlatDrives flat d class
@@ -22,7 +22,7 @@ MappedStays =
     (flat : Flat) (old new : CellList) (singles : List Src) → IsSound flat
     → IsMappedWith flat old singles → Rewrites old singles new → IsMapped flat new
 
--- its ports and nets have the bits of each valuation that the old list has
+-- if the ports and nets of a list have certain bits, so do those of a list that rewrites it
 abbrev pub BitsStay : Type 0
 BitsStay =
     (flat : Flat) (old new : CellList) (kept : List Src) (inputs state : List Bool)

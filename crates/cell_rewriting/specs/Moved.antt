@@ -22,7 +22,7 @@ new_source news One = Some One
 new_source news Zero = Some Zero
 new_source news (Made i) = get_or news i None
 
--- a cell that reads the new sources of its own, if each has one
+-- the cell with its sources replaced by their new ones, if each has one
 abbrev pub new_cell : NewSources → Cell → Option Cell
 new_cell news (Or a b) =
     option_and_then (λ x. option_map (Or x) (new_source news b)) (new_source news a)
@@ -31,7 +31,7 @@ new_cell news (Xor a b) =
 new_cell news (AndNot a b) =
     option_and_then (λ x. option_map (AndNot x) (new_source news b)) (new_source news a)
 
--- where a source goes
+-- the new source of a source, or itself if it has none
 abbrev pub goes_to : NewSources → Src → Src
 goes_to news src = unwrap_or (new_source news src) src
 
@@ -43,7 +43,7 @@ pub record AreMoved (list : CellList) (cells : List Cell) (news : NewSources) : 
   pub bits : (i : ℕ) (src : Src) → get_or news i None ≡ Some src → (inputs state : List Bool)
       → bit_in cells inputs state src ≡ bit_of list inputs state (Made i)
 
--- the new list is that of the cells that have moved
+-- the new list is made of the cells that have moved, and each source goes to its new one
 pub record IsRebuilt (list : CellList) (news : NewSources) (new : CellList) : Type 0 where
   pub moves : MovesBy list (goes_to news) new
   pub are : AreMoved list new.cells news

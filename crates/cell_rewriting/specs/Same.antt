@@ -17,25 +17,25 @@ is_cell One = false
 is_cell Zero = false
 is_cell (Made i) = true
 
--- the cell over other sources
+-- the same kind of cell over the sources to which its own go
 abbrev pub cell_over : (Src → Src) → Cell → Cell
 cell_over to (Or a b) = Or (to a) (to b)
 cell_over to (Xor a b) = Xor (to a) (to b)
 cell_over to (AndNot a b) = AndNot (to a) (to b)
 
--- where the source is a cell of the old list, it goes to that cell of the new one: the operator
--- stays, and the operands go where they go
+-- if the source is a cell of the old list, it goes to that cell in the new one: the kind stays, and
+-- each operand goes where `to` sends it
 abbrev pub StaysCell : CellList → CellList → (Src → Src) → Src → Type 0
 StaysCell old new to src =
     (cell : Cell) → IsCell old src cell → IsCell new (to src) (cell_over to cell)
 
--- where it is one, it has the bit that it had
+-- if the source is a cell of the old list, the source to which it goes has the bit that it had
 abbrev pub StaysBit : CellList → CellList → (Src → Src) → Src → Type 0
 StaysBit old new to src =
     (cell : Cell) → IsCell old src cell → (inputs state : List Bool)
     → bit_of new inputs state (to src) ≡ bit_of old inputs state src
 
--- Each source goes to one other, and one that is no cell stays. Inputs and starts are the same.
+-- `to` gives where each source goes, and one that is no cell stays. Inputs and starts are the same.
 -- Outputs, latches' data and nets go where their sources go, and under all inputs and states they
 -- have the bits that they had.
 pub record MovesBy (old : CellList) (to : Src → Src) (new : CellList) : Type 0 where
@@ -52,9 +52,8 @@ pub record MovesBy (old : CellList) (to : Src → Src) (new : CellList) : Type 0
   pub nets : (inputs state : List Bool)
       → map (bit_of new inputs state) new.nets ≡ map (bit_of old inputs state) old.nets
 
--- The new list computes the same: sources move, those that are kept stay the cells that they are
--- and have the bits that they had, there are not more cells, and constant 1 is named only if it
--- was.
+-- The new list computes the same: sources move, the kept ones stay the cells that they are and have
+-- the bits that they had, there are no more cells, and constant 1 is named only if it was.
 pub record Rewrites (old : CellList) (kept : List Src) (new : CellList) : Type 0 where
   pub to : Src → Src
   pub moves : MovesBy old to new
@@ -63,8 +62,8 @@ pub record Rewrites (old : CellList) (kept : List Src) (new : CellList) : Type 0
   pub few : length new.cells ≤ length old.cells
   pub one : names_one new ≡ true → names_one old ≡ true
 
--- Sources move, and those that are kept stay the cells that they are; where they go is kept in the
--- new list.
+-- Sources move, and the kept ones stay the cells that they are and have the bits that they had.
+-- `still` are the sources of the new list to which the kept ones go.
 pub record Keeps (old : CellList) (kept : List Src) (new : CellList)
     (still : List Src) : Type 0 where
   pub to : Src → Src
@@ -73,18 +72,18 @@ pub record Keeps (old : CellList) (kept : List Src) (new : CellList)
   pub bits : (src : Src) → Contains kept src → StaysBit old new to src
   pub follow : still ≡ map to kept
 
--- there are not more cells, and constant 1 is named only if it was
+-- there are no more cells, and constant 1 is named only if it was
 pub record IsNoLarger (old new : CellList) : Type 0 where
   pub few : length new.cells ≤ length old.cells
   pub one : names_one new ≡ true → names_one old ≡ true
 
--- both
+-- the new list keeps the kept sources and is no larger
 pub record IsRewritten (old : CellList) (kept : List Src) (new : CellList)
     (still : List Src) : Type 0 where
   pub keeps : Keeps old kept new still
   pub no_larger : IsNoLarger old new
 
--- the two are one list
+-- the two lists are equal in all their parts
 pub record AreAlike (old new : CellList) : Type 0 where
   pub inputs : new.inputs ≡ old.inputs
   pub cells : new.cells ≡ old.cells

@@ -13,7 +13,7 @@ abbrev pub AreEquivalent : CellList → Src → Src → Type 0
 AreEquivalent list a b =
     (inputs state : List Bool) → bit_of list inputs state a ≡ bit_of list inputs state b
 
--- What is read in place of a cell is there, and has the cell's bit.
+-- Each source that is read in place of a cell is there, and has the cell's bit.
 pub record AreEqual (list : CellList) (instead : List (Option Src)) : Type 0 where
   pub within : (i : ℕ) (src : Src) → get_or instead i None ≡ Some src → i < length list.cells
   pub there : (i : ℕ) (src : Src) → get_or instead i None ≡ Some src
@@ -26,6 +26,6 @@ pub record IsSubstitute (list : CellList) (cell : ℕ) (by : Src) : Type 0 where
   pub there : is_there list.inputs (length list.starts) (length list.cells) by ≡ true
   pub bit : AreEquivalent list (Made cell) by
 
--- the list has cells more at its end, and all else is as before
+-- the new list has more cells at its end, and all else as in the old one
 abbrev pub Extends : CellList → CellList → Type 0
 Extends old new = (more : List Cell) × Adds old new more

@@ -1,4 +1,4 @@
--- Tables over leaves: words of 64 bits, of which the leaves' bits name one.
+-- Tables over leaves: words of 64 bits, in which the bits of the leaves select one bit.
 use Rattle.std.specs.Prelude.{◌≡◌, ℕ, Bool, List, map, All}
 use Rattle.cell_core.specs.declared.cells.Src.{Src}
 use Rattle.cell_core.specs.declared.cells.Src.TheVariants.{Cell as Made}
@@ -8,22 +8,22 @@ use Rattle.cell_core.specs.Meaning.{cell_bit, cell_bits, bit_of}
 use Rattle.cover_cells.specs.Words.{table_bit}
 use Rattle.cell_rewriting.specs.declared.words.CellWord.{CellWord}
 
--- what the word says where the leaves have their bits
+-- the bit of the word that the bits of the leaves select
 abbrev pub word_says : CellList → List Src → ℕ → List Bool → List Bool → Bool
 word_says list leaves word inputs state = table_bit (map (bit_of list inputs state) leaves) word
 
--- the word says the source's bit, under all inputs and states
+-- the bits of the leaves select the source's bit in the word, under all inputs and states
 abbrev pub IsWordOf : CellList → List Src → Src → ℕ → Type 0
 IsWordOf list leaves src word =
     (inputs state : List Bool) → word_says list leaves word inputs state
     ≡ bit_of list inputs state src
 
--- it says what the cell makes
+-- the bits of the leaves select in the word the bit that the cell makes
 abbrev pub IsWordOfCell : CellList → List Src → Cell → ℕ → Type 0
 IsWordOfCell list leaves cell word =
     (inputs state : List Bool) → word_says list leaves word inputs state ≡ cell_bit inputs state
     (cell_bits inputs state list.cells) cell
 
--- these are words of their cells
+-- each of these words is the word of its cell
 abbrev pub AreWords : CellList → List Src → List CellWord → Type 0
 AreWords list leaves words = All (λ (w : CellWord). IsWordOf list leaves (Made w.cell) w.word) words

@@ -13,5 +13,6 @@ mod rewriting;
 mod substitution;
 mod words;
 
+// The answer of `rewritten` when memory runs out.
 pub use lists::OutOfMemory as RewriteError;
 pub use rewriting::rewritten;

@@ -71,7 +71,7 @@ fn stays(old: &CellList, new: &CellList, news: &[Option<Src>], src: Src) -> bool
     }
 }
 
-/// Whether those of the sources that are cells stay the cells that they are.
+/// Returns whether each of `sources` that is a cell stays the cell that it is.
 pub fn stay_cells(old: &CellList, new: &CellList, news: &[Option<Src>], sources: &[Src]) -> bool
     ensures { result ≡ true
         → (src : Src)
@@ -86,7 +86,7 @@ pub fn stay_cells(old: &CellList, new: &CellList, news: &[Option<Src>], sources:
     true
 }
 
-/// The new sources of sources, if each has one.
+/// Returns the new sources of `sources`, or `None` if one of them has no new source.
 pub fn new_sources(
     alloc: Global,
     news: &[Option<Src>],
@@ -113,7 +113,7 @@ pub struct Moved {
 }
 
 impl Moved {
-    /// None has moved.
+    /// Begins with no cell moved.
     pub fn begin(alloc: Global, list: &CellList) -> Result<Moved, RewriteError>
         ensures { IfOk result (λ m. AreMoved list.now m.cells.items m.news.items) }
     {
@@ -125,7 +125,7 @@ impl Moved {
         })
     }
 
-    // A cell that is replaced goes where that source goes.
+    // A replaced cell goes where the source goes that is read in its place.
     fn follow(&mut self, subst: &Substitution, number: u32, by: Src)
         requires are { AreMoved subst.now.list self.old.cells.items self.old.news.items }
         requires equal { AreEqual subst.now.list subst.now.instead.items }
@@ -141,7 +141,7 @@ impl Moved {
         }
     }
 
-    // A cell comes to the end of the new cells, if what it reads has moved.
+    // Puts a cell at the end of the new cells, if what it reads has moved.
     fn come(&mut self, subst: &Substitution, number: u32) -> Result<(), RewriteError>
         requires { AreMoved subst.now.list self.old.cells.items self.old.news.items }
         ensures { OnOk result (AreMoved subst.now.list self.new.cells.items self.new.news.items) }
@@ -162,8 +162,8 @@ impl Moved {
         Ok(())
     }
 
-    /// A cell moves, if what it reads has moved. One that is replaced goes where the source goes
-    /// that is read in its place.
+    /// Moves a cell, if what it reads has moved. A replaced cell goes where the source goes that is
+    /// read in its place.
     pub fn add(&mut self, subst: &Substitution, number: u32) -> Result<(), RewriteError>
         requires are { AreMoved subst.now.list self.old.cells.items self.old.news.items }
         requires equal { AreEqual subst.now.list subst.now.instead.items }

@@ -1,11 +1,11 @@
-// In which order cells move: those that ports need, each after those that it reads. Nothing is said
-// of it: a cell that would move too early does not move.
+// The order in which cells move: those that ports and nets need, each after those that it reads. No
+// contract describes it, since a cell that would move too early does not move.
 use crate::RewriteError;
 use crate::substitution::Substitution;
 use cell_core::{Cell, CellList, Src};
 use std::alloc::Global;
 
-// What is yet to be done at a cell.
+// What is still to be done at a cell.
 #[derive(Clone, Copy)]
 enum Visit {
     Enter(u32),
@@ -20,7 +20,7 @@ struct Walk {
     todo: Vec<Visit>,
 }
 
-// What is read in place of a cell that is replaced, and else what the cell reads.
+// What is read in place of a replaced cell, or else what the cell reads.
 fn reads(subst: &Substitution, number: u32) -> (Src, Src) {
     if let Some(Some(by)) = subst.instead.get(number as usize) {
         return (*by, Src::Zero);
@@ -107,7 +107,8 @@ fn needed(alloc: Global, subst: &Substitution) -> Result<Vec<bool>, RewriteError
     Ok(walk.seen)
 }
 
-/// The needed cells, each after those that it reads, and else in the order in which they stand.
+/// Returns the needed cells, each after those that it reads, and otherwise in the order of the
+/// list.
 pub fn order_of(alloc: Global, subst: &Substitution) -> Result<Vec<u32>, RewriteError> {
     let needed = needed(alloc, subst)?;
     let mut walk = Walk::begin(alloc, needed.len())?;

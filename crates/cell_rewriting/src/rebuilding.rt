@@ -1,4 +1,4 @@
-// The list in which sources are read in place of cells, without the cells that then are not read.
+// The list in which sources are read in place of cells, without the cells that nothing reads then.
 ghost use Rattle.std.specs.Prelude.{IfOk, IfSome};
 ghost use Rattle.cell_rewriting.specs.Same.{Keeps};
 ghost use Rattle.cell_rewriting.specs.Moved.{AreMoved, IsRebuilt};
@@ -12,14 +12,14 @@ use cell_core::{Cell, CellList, Src};
 use lists::List;
 use std::alloc::Global;
 
-/// A list, and sources of it that stay the cells that they are.
+/// A list, and the sources in it that stay the cells that they are.
 #[derive(Drop)]
 pub struct KeptList {
     pub list: CellList,
     pub kept: Vec<Src>,
 }
 
-// The list of the cells that have moved, if all have that its ports read.
+// The list of the cells that have moved, if all that its outputs, latches and nets read have moved.
 #[tactic(auto, using(crate::proofs::Moves::bits_follow, crate::proofs::Moves::there_follow))]
 fn list_of(
     alloc: Global,
@@ -86,8 +86,8 @@ fn moved_by(alloc: Global, subst: &Substitution) -> Result<Moved, RewriteError>
     Ok(moved)
 }
 
-/// The list after all replacements, if it can be put in order and the kept sources stay the cells
-/// that they are.
+/// Returns the list after all replacements, if it can be put in order and the kept sources stay the
+/// cells that they are.
 pub fn rebuilt(
     alloc: Global,
     subst: &Substitution,

@@ -1,4 +1,4 @@
-// Lists of cells with fewer cells.
+// Rewrites a list into lists with fewer cells.
 ghost use Rattle.std.specs.Prelude.{◌≡◌, ◌≤◌, true, length, All, IfOk, IfSome, OnOk};
 ghost use Rattle.cell_rewriting.specs.Lists.{IsRewrittenFrom};
 ghost use Rattle.cell_rewriting.specs.Same.{Keeps, Rewrites, IsNoLarger, IsRewritten};
@@ -12,7 +12,7 @@ use cell_core::{CellList, Src};
 use resubstitution::{Chances, Replacement, Round, replacements};
 use std::alloc::Global;
 
-// The most rounds in which cells become fewer.
+// The greatest number of rounds that are to make cells fewer.
 const ROUNDS: u32 = 6;
 
 // Whether the new list has no more cells, and names constant 1 only if the old one does.
@@ -25,7 +25,7 @@ fn is_no_larger(list: &CellList, new: &CellList) -> bool
     list.names_one() || !new.names_one()
 }
 
-// The list with the new cells of replacements, and what is to be read in place of its cells.
+// The list with the cells that the replacements add, and what is read in place of its cells.
 fn substituted(
     alloc: Global,
     list: &CellList,
@@ -39,8 +39,8 @@ fn substituted(
     Ok(subst)
 }
 
-// The list after replacements, if it can be put in order and the kept sources stay the cells that
-// they are.
+// The list after the replacements, if it can be put in order and the kept sources stay the cells
+// that they are.
 fn replaced(
     alloc: Global,
     now: &KeptList,
@@ -82,7 +82,7 @@ fn next_list(
     Ok(if_no_larger(now, new))
 }
 
-// The next list, or the old one where there is none.
+// The next list, or the old one if there is none.
 #[tactic(auto, using(crate::proofs::Keeping::itself_rewritten))]
 fn next_or(now: KeptList, next: Option<KeptList>) -> KeptList
     requires { IfSome next (λ n. IsRewritten now.list now.kept.items n.list n.kept.items) }
@@ -143,7 +143,7 @@ fn reduced(alloc: Global, list: &CellList, kept: &[Src]) -> Result<KeptList, Rew
     Ok(now)
 }
 
-// The list after rounds of which every other one is by chance.
+// The list after rounds, every other one of which makes changes by chance.
 fn wandered(
     alloc: Global,
     from: &KeptList,
@@ -166,7 +166,7 @@ fn wandered(
     Ok(now)
 }
 
-// Adds a list that is made of another by chances.
+// Adds a list that rounds by chance make of another one.
 fn add_wandered(
     lists: &mut Vec<CellList>,
     alloc: Global,
@@ -182,7 +182,7 @@ fn add_wandered(
     Ok(())
 }
 
-// How many lists are made by chances, and in how many rounds each: fewer of a long list.
+// How many lists are made by chance, and in how many rounds each: the longer the list, the fewer.
 fn how_many(cells: usize) -> (u64, u32) {
     match cells {
         0..=150 => (3, 20),
@@ -191,7 +191,9 @@ fn how_many(cells: usize) -> (u64, u32) {
     }
 }
 
-/// Lists that compute the same, each by other chances, the last one by none. There is at least one.
+/// Rewrites `list` into one or more lists that compute the same with no more cells. `kept` are the
+/// sources of `list` that stay the cells that they are. Each list is found with other random
+/// choices, and the last one with none.
 pub fn rewritten(
     alloc: Global,
     list: &CellList,

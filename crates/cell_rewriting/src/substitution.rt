@@ -29,7 +29,7 @@ fn add_cell(alloc: Global, list: &mut CellList, cell: Cell) -> Result<(), Rewrit
     }
 }
 
-// Adds cells at the end, but for those whose sources are not there.
+// Adds cells at the end, and skips those that read a source that is not there.
 fn add_cells(alloc: Global, list: &mut CellList, cells: &[Cell]) -> Result<(), RewriteError>
     ensures { OnOk result (Extends list.old list.new) }
 {
@@ -40,7 +40,7 @@ fn add_cells(alloc: Global, list: &mut CellList, cells: &[Cell]) -> Result<(), R
 }
 
 impl Substitution {
-    /// A copy of a list, of which no cell is replaced.
+    /// Copies a list, with no cell replaced.
     pub fn begin(alloc: Global, list: &CellList) -> Result<Substitution, RewriteError>
         ensures extends { IfOk result (λ s. Extends list.now s.list) }
         ensures equal { IfOk result (λ s. AreEqual s.list s.instead.items) }
@@ -52,7 +52,7 @@ impl Substitution {
         })
     }
 
-    /// The cell of a number, if there is one.
+    /// Returns the cell with a number, if there is one.
     pub fn cell_at(&self, number: u32) -> Option<Cell>
         ensures { result ≡ slice_get self.now.list.cells number }
     {
@@ -73,7 +73,7 @@ impl Substitution {
         }
     }
 
-    /// What is read in place of a source at last.
+    /// Follows the replacements from a source to the one that is read in the end.
     pub fn standing(&self, src: Src) -> Src
         requires { AreEqual self.now.list self.now.instead.items }
         ensures { AreEquivalent self.now.list src result }
@@ -88,8 +88,7 @@ impl Substitution {
         now
     }
 
-    // Whether a source is seen to be there and to have the bit of the cell in whose place it is to
-    // be read.
+    // Whether the new source is there and words over the leaves show that it has the cell's bit.
     fn allows(&self, alloc: Global, new: &Replacement) -> Result<bool, RewriteError>
         requires { AreEqual self.now.list self.now.instead.items }
         ensures { IfOk result (λ yes. yes ≡ true →
@@ -115,7 +114,7 @@ impl Substitution {
         )
     }
 
-    // A source is read in place of a cell.
+    // Notes that a source is read in place of a cell.
     fn put(&mut self, cell: u32, by: Src)
         requires equal { AreEqual self.old.list self.old.instead.items }
         requires substitute { IsSubstitute self.old.list cell by }
@@ -127,7 +126,7 @@ impl Substitution {
         }
     }
 
-    // Cells come to the end of the list.
+    // Adds cells at the end of the list.
     fn grow(&mut self, alloc: Global, cells: &[Cell]) -> Result<(), RewriteError>
         requires { AreEqual self.old.list self.old.instead.items }
         ensures equal { OnOk result (AreEqual self.new.list self.new.instead.items) }
@@ -137,8 +136,8 @@ impl Substitution {
         Ok(())
     }
 
-    /// Replaces a cell, if the replacement is seen to be sound. Its new cells are added in any
-    /// case.
+    /// Replaces a cell, if words over the leaves show that the replacement is sound. Its new cells
+    /// are added in any case.
     pub fn replace(&mut self, alloc: Global, new: &Replacement) -> Result<(), RewriteError>
         requires { AreEqual self.old.list self.old.instead.items }
         ensures equal { OnOk result (AreEqual self.new.list self.new.instead.items) }

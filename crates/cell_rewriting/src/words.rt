@@ -1,5 +1,5 @@
-// Words of sources over at most six leaves: the table of what a source is, as a function of the
-// leaves.
+// Words of sources over at most six leaves. A word is the truth table of a source as a function of
+// the leaves.
 ghost use Rattle.std.specs.Prelude.{◌≡◌, ◌≤◌, length, true, IfOk, IfSome, OnOk, slice_get, Some};
 ghost use Rattle.cell_core.specs.declared.cells.Src.TheVariants.{Cell as Made};
 ghost use Rattle.cell_rewriting.specs.Substitution.{AreEqual, AreEquivalent};
@@ -11,7 +11,7 @@ use cell_core::{Cell, Src};
 use cover_cells::{and_not_words, is_same_src, net_word, or_words, xor_words};
 use std::alloc::Global;
 
-/// The word of a cell.
+/// A cell, by its number, and its word.
 #[derive(Clone, Copy)]
 pub struct CellWord {
     pub cell: u32,
@@ -30,7 +30,7 @@ fn place_among(leaves: &[Src], src: Src) -> Option<usize>
     None
 }
 
-// The word of a cell, if it is among these.
+// The word of a cell, if the known words have it.
 fn word_among(subst: &Substitution, leaves: &[Src], words: &[CellWord], number: u32) -> Option<u64>
     requires { AreWords subst.now.list leaves.now words.now }
     ensures { IfSome result (IsWordOf subst.now.list leaves.now (Made number)) }
@@ -119,7 +119,7 @@ fn add_word(
     Ok(())
 }
 
-// The words of the cells of a cone, each of which stands after those that it reads.
+// The words of the cells of a cone, in which each cell stands after those that it reads.
 fn cone_words(
     alloc: Global,
     subst: &Substitution,
@@ -137,7 +137,8 @@ fn cone_words(
     Ok(words)
 }
 
-/// Whether two sources are seen to have one bit: by equal words over the leaves.
+/// Returns whether two sources have equal words over the leaves, and so always the same bit.
+/// `false` is also the answer if there are more than six leaves or one of the words is not known.
 pub fn have_one_word(
     alloc: Global,
     subst: &Substitution,

@@ -5,8 +5,8 @@ use Rattle.lane_core.specs.declared.instr.Instr.{Instr}
 use Rattle.lane_core.specs.declared.instr.Instr.TheVariants.{Swap}
 use Rattle.lane_core.specs.Instrs.{bit_on, after_instrs, lane_of, IsOnLanes}
 
--- the lane that a lane's bit comes from: `to` has that of `from`, and the lanes between move on by
--- one
+-- the lane from which a lane's bit comes: `to` gets the bit of `from`, and the lanes between move
+-- on by one
 abbrev pub brought : ℕ → ℕ → ℕ → ℕ
 brought from to lane =
     if lane == to then from
@@ -14,18 +14,19 @@ brought from to lane =
     else if nat_lt to lane && nat_le lane from then lane - 1
     else lane
 
--- the lane that a lane's bit comes from, when two neighbours change places
+-- the lane from which a lane's bit comes, when two neighbours are exchanged
 abbrev pub swapped : ℕ → ℕ → ℕ
 swapped at lane = if lane == at then at + 1 else if lane == at + 1 then at else lane
 
--- how many lanes lie from one to the other
+-- how many steps lead from one lane to the other
 abbrev pub distance : ℕ → ℕ → ℕ
 distance from to = (from - to) + (to - from)
 
 abbrev pub IsSwap : Instr → Type 0
 IsSwap instr = instr ≡ Swap (lane_of instr)
 
--- on so many lanes these swaps bring the bit
+-- on so many lanes these swaps bring the bit of lane `from` to lane `to`, and the other bits keep
+-- their order
 pub record Brings (lanes from to : ℕ) (instrs : List Instr) : Type 0 where
   pub count : length instrs ≡ distance from to
   pub swaps : All IsSwap instrs

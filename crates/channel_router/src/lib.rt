@@ -5,5 +5,6 @@
 
 mod route;
 
+// The answer of `bring` when memory runs out.
 pub use lists::OutOfMemory as RouteError;
 pub use route::bring;

@@ -1,4 +1,4 @@
-// The route from a lane to another.
+// The route from one lane to another.
 ghost use Rattle.std.specs.Prelude.{◌<◌, IfOk};
 ghost use Rattle.channel_router.specs.Routes.{Brings};
 
@@ -6,8 +6,8 @@ use crate::RouteError;
 use lane_core::Instr;
 use std::alloc::Global;
 
-/// The swaps that bring the bit of lane `from` to lane `to` of so many lanes, one for each lane
-/// between them; the bits of the other lanes keep their order.
+/// Returns the swaps that bring the bit of lane `from` to lane `to` on so many lanes, one for each
+/// step from a lane to its neighbour. The bits of the other lanes keep their order.
 pub fn bring(alloc: Global, lanes: u32, from: u32, to: u32) -> Result<Vec<Instr>, RouteError>
     requires from { from < lanes }
     requires to { to < lanes }

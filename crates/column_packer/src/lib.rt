@@ -6,6 +6,7 @@
 mod numbering;
 mod packing;
 
+// The answer of `pack` and `column_numbers` when memory runs out.
 pub use lists::OutOfMemory as PackError;
 pub use numbering::column_numbers;
 pub use packing::pack;

@@ -8,7 +8,8 @@ use crate::PackError;
 use lane_core::Instr;
 use std::alloc::Global;
 
-// The column of an instruction, whose lanes are used up to there from now on.
+// Puts an instruction into the first column after the last use of its lanes, and notes this use;
+// the column's number.
 fn put(used: &mut [usize], instr: Instr) -> usize
     requires within { IsOnLanes (length used.old) instr }
     requires few { (lane : ℕ) → lane < length used.old → number_at used.old lane + 1 < 2 ^ 64 }
@@ -24,7 +25,8 @@ fn put(used: &mut [usize], instr: Instr) -> usize
     column
 }
 
-/// The number of the column of each instruction: the first one after the last use of its lanes.
+/// Returns the number of each instruction's column, from 0: the first column after the last use of
+/// its two lanes.
 pub fn column_numbers(alloc: Global, lanes: u32, instrs: &[Instr]) -> Result<Vec<usize>, PackError>
     requires { All (IsOnLanes lanes) instrs.now }
     ensures { IfOk result (λ v. v.items ≡ column_numbers instrs.now) }

@@ -13,7 +13,7 @@ StepsByEdges =
     (plan : Plan) → IsAdmissible plan → (lit : Lit)
     → StepsByMacro shipped_drawing (drawn_tiling plan) lit
 
--- every admissible plan's pattern is the plane of its drawing at generation 0
+-- the pattern of every admissible plan is the plane of its drawing at generation 0
 abbrev pub PatternsArePlanes : Type 0
 PatternsArePlanes =
     (plan : Plan) → IsAdmissible plan → IsPatternOf (start_grid plan)

@@ -1,4 +1,4 @@
--- The plane that a plan is drawn on, and the box of cells that is drawn.
+-- The plane on which a plan is drawn, and the box of cells that is drawn.
 use Rattle.std.specs.Prelude.{ℕ, pos, ◌+◌, ◌<◌, ◌≡◌, List, length, get_or, map}
 use Rattle.std.specs.List.{range_with_len}
 use Rattle.ww_rule.specs.declared.pattern.State.{State}
@@ -31,7 +31,7 @@ start_grid plan =
       rows = map (start_row plan) (range_with_len 0 (size_of plan).1);
     }
 
--- the pattern is a box of cells, and all of that plane: outside it the plane is empty
+-- the pattern is a box of cells, and its plane is `p`: outside the box that is empty
 pub record IsPatternOf (grid : Grid) (p : Plane) : Type 0 where
   pub box : IsGrid grid.width grid.height grid.rows
   pub plane : plane_of grid.rows ≡ p

@@ -1,4 +1,4 @@
--- The cells west of a plan, where its tape alone lies.
+-- The cells west of a plan, where only its tape lies.
 use Rattle.std.specs.Prelude.{ℕ, pos, ◌-◌, ◌*◌, ◌/◌, ◌%◌, ◌<◌, ◌≡◌, ◌==◌, true}
 use Rattle.std.specs.List.{list_any}
 use Rattle.ww_rule.specs.declared.pattern.State.TheVariants.{Empty}
@@ -9,13 +9,13 @@ use Rattle.plan_layout.specs.Tape.{drawn_plane}
 use Rattle.grid_assembly.specs.declared.west.West.{West}
 use Rattle.grid_assembly.specs.declared.west.West.TheVariants.{Blank, Wire}
 
--- west of this x no tile stands but the tape's: it is a tile column less than the plan is drawn
--- further east
+-- west of this x only tiles of the tape stand: it is one tile column west of where the plan's
+-- drawing begins
 abbrev pub tape_end : Plan → ℕ
 tape_end plan = 32 * (tape_shift plan - 1)
 
--- what a row of cells has there: no cell, or the wire of an input, which runs along the middle of
--- its lane
+-- what a row of cells has west of `tape_end`: empty cells alone, or the wire of an input, which
+-- runs along the middle of its lane
 abbrev pub IsWest : Plan → ℕ → West → Type 0
 IsWest plan y Blank =
     (x : ℕ) → x < tape_end plan → drawn_plane shipped_drawing plan (pos x) (pos y) ≡ Empty

@@ -17,8 +17,8 @@ use tile_core::{Kind, Library};
 use tile_library::Shipped;
 use ww_rule::State;
 
-// Whether the edge at a port is lit at generation 0, by the port's place in the box of a piece
-// whose first block is at this tile column and lane.
+// Whether the edge at a port is lit at generation 0. The port is given by its place in the box of a
+// piece whose first block is at this tile column and lane.
 fn is_port_lit(plan: &Plan, column: u64, lane: u64, port: (u32, u32)) -> bool
     requires admissible { IsAdmissible plan.now }
     requires far { column < 2 ^ 57 }
@@ -72,8 +72,8 @@ fn is_port_at(place: (u32, u32), port: (u32, u32)) -> bool
     place.0 == port.0 && place.1 == port.1
 }
 
-// Whether the n-th entry of a tile is at a place of its box, and lit. Few places are that of a
-// port, so this is looked at first.
+// Whether the n-th entry of a tile is at a place of its box, and lit. Few places are ports, so this
+// is tested first.
 fn is_lit_entry(
     plan: &Plan,
     column: u64,
@@ -179,8 +179,7 @@ fn has_tail(plan: &Plan, column: u64, lane: u64, kind: Kind, n: usize, y: u32) -
     kind.exits()[n].1 == y && is_exit_lit(plan, column, lane, kind, n)
 }
 
-// A cell of a tile whose first block is at this tile column and lane, by its place in the tile's
-// box.
+// The cell at a place in the box of a tile whose first block is at this tile column and lane.
 pub fn tile_cell(plan: &Plan, column: u64, lane: u64, kind: Kind, place: (u32, u32)) -> State
     requires admissible { IsAdmissible plan.now }
     requires far { column < 2 ^ 57 }
@@ -199,8 +198,7 @@ pub fn tile_cell(plan: &Plan, column: u64, lane: u64, kind: Kind, place: (u32, u
     }
 }
 
-// A cell of a piece whose first block is at this tile column and lane, by its place in the piece's
-// box.
+// The cell at a place in the box of a piece whose first block is at this tile column and lane.
 fn piece_cell(plan: &Plan, column: u64, lane: u64, piece: Piece, place: (u32, u32)) -> State
     requires admissible { IsAdmissible plan.now }
     requires far { column < 2 ^ 57 }
@@ -214,7 +212,7 @@ fn piece_cell(plan: &Plan, column: u64, lane: u64, piece: Piece, place: (u32, u3
     }
 }
 
-// A cell of a block where an output cell stands.
+// The cell at a place in a block in which an output cell stands.
 pub fn output_cell(plan: &Plan, column: u64, lane: u64, place: (u32, u32)) -> State
     requires admissible { IsAdmissible plan.now }
     requires far { column < 2 ^ 57 }
@@ -231,8 +229,7 @@ pub fn output_cell(plan: &Plan, column: u64, lane: u64, place: (u32, u32)) -> St
     }
 }
 
-/// A cell of the block of this tile column and lane, in which `slot` stands, by its place in the
-/// block.
+/// Returns the cell at a place in the block of this tile column and lane, in which `slot` stands.
 pub fn slot_cell(plan: &Plan, column: u64, lane: u64, slot: Slot, x: u32, y: u32) -> State
     requires admissible { IsAdmissible plan.now }
     requires slot { slot_of slot ≡ drawn_tiling plan.now column lane }
@@ -247,7 +244,7 @@ pub fn slot_cell(plan: &Plan, column: u64, lane: u64, slot: Slot, x: u32, y: u32
     }
 }
 
-// Whether a piece has no cell in a row of its box.
+// Whether a piece is known to have no cell in a row of its box.
 fn is_piece_blank(piece: Piece, y: u32) -> bool
     ensures { result ≡ true → (edges : Lit) (column lane x : ℕ) →
         drawn_piece shipped_drawing edges column lane (piece_of piece) x y ≡ Empty }
@@ -258,7 +255,7 @@ fn is_piece_blank(piece: Piece, y: u32) -> bool
     }
 }
 
-/// Whether a slot has no cell in a row of its block.
+/// Returns whether a slot is known to have no cell in a row of its block.
 pub fn is_slot_blank(slot: Slot, y: u32) -> bool
     requires in_block { y < 16 }
     ensures { result ≡ true → (edges : Lit) (column lane x : ℕ) →

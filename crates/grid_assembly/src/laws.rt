@@ -10,17 +10,17 @@ pub fn keeps_law<L: Library>(library: &L)
     ensures { KeepsLaw (L.drawing library.now) }
 {}
 
-/// Of every admissible plan in the shipped drawings and every set of lit edges: at generation 32 m
-/// the plane is drawn with the edges after m macro steps, and at the generations between each head
-/// or tail lies in a tile with a lit entry edge.
+/// An admissible plan in the shipped drawings moves by macro steps, whatever edges are lit: at
+/// generation 32 m the plane is drawn with the edges after m macro steps, and at the generations
+/// between each head or tail lies in a tile with a lit entry edge.
 pub fn steps_by_edges()
     ensures { StepsByEdges }
 {
     keeps_law(&Shipped);
 }
 
-/// Of every admissible plan: the rows of its drawing are a box of cells, and the plane of this box
-/// is the plan's plane at generation 0.
+/// The rows of the drawing of an admissible plan are a box of cells, and the plane of this box is
+/// the plan's plane at generation 0.
 pub fn patterns_are_planes()
     ensures { PatternsArePlanes }
 {}

@@ -13,7 +13,7 @@ use plan_layout::slot_drawn_at;
 use std::alloc::{AllocError, Global};
 use ww_rule::{CellRows, Pattern, State};
 
-/// Width and height of the drawing in cells, (0, 0) of a plan without lanes.
+/// Returns the width and height of the drawing in cells, (0, 0) for a plan without lanes.
 pub fn size(plan: &Plan) -> (u64, u64)
     requires { IsAdmissible plan.now }
     ensures exact { result ≡ size_of plan.now }
@@ -29,8 +29,8 @@ pub fn size(plan: &Plan) -> (u64, u64)
     )
 }
 
-/// The cell at column `x` and row `y`, both counted from 0 from the north-western corner; past the
-/// drawing all cells are empty.
+/// Returns the cell of the drawing at column `x` and row `y`, both counted from 0 from the
+/// north-western corner. Beyond the drawing all cells are empty.
 pub fn cell(plan: &Plan, x: u64, y: u64) -> State
     requires { IsAdmissible plan.now }
     ensures { result ≡ drawn_plane shipped_drawing plan.now (pos x) (pos y) }
@@ -46,7 +46,7 @@ pub fn cell(plan: &Plan, x: u64, y: u64) -> State
     )
 }
 
-/// Writes the cells of row `y` from column `x` on, as many as `row` has room for.
+/// Writes the cells of row `y` of the drawing, from column `x` on, into the whole of `row`.
 pub fn fill_row(plan: &Plan, y: u64, x: u64, row: &mut [State])
     requires admissible { IsAdmissible plan.now }
     requires in_range { x + length row.old ≤ 2 ^ 64 }
@@ -72,7 +72,7 @@ pub fn fill_row(plan: &Plan, y: u64, x: u64, row: &mut [State])
     }
 }
 
-/// The pattern of a plan, of `size`.
+/// Returns the pattern of a plan, which has the size that `size` returns.
 pub fn pattern_of(alloc: Global, plan: &Plan) -> Result<Pattern, AllocError>
     requires { IsAdmissible plan.now }
     ensures { IfOk result (λ pattern. grid_of pattern ≡ start_grid plan.now) }

@@ -15,8 +15,8 @@ use tile_core::Kind;
 use tile_library::Shipped;
 use ww_rule::State;
 
-// Equal cells of a tile whose first block is at this tile column and lane, from a place in the
-// tile's box on.
+// A run of equal cells of a tile whose first block is at this tile column and lane, from a place in
+// the tile's box on.
 fn tile_run(plan: &Plan, column: u64, lane: u64, kind: Kind, place: (u32, u32)) -> (State, u32)
     requires admissible { IsAdmissible plan.now }
     requires far { column < 2 ^ 57 }
@@ -39,8 +39,8 @@ fn tile_run(plan: &Plan, column: u64, lane: u64, kind: Kind, place: (u32, u32)) 
     }
 }
 
-// Equal cells of a piece whose first block is at this tile column and lane, from a place in the
-// piece's box on.
+// A run of equal cells of a piece whose first block is at this tile column and lane, from a place
+// in the piece's box on.
 fn piece_run(plan: &Plan, column: u64, lane: u64, piece: Piece, place: (u32, u32)) -> (State, u32)
     requires admissible { IsAdmissible plan.now }
     requires far { column < 2 ^ 57 }
@@ -56,8 +56,8 @@ fn piece_run(plan: &Plan, column: u64, lane: u64, piece: Piece, place: (u32, u32
     }
 }
 
-// Equal cells of the block of this tile column and lane, in which `slot` stands, from a place in
-// the block on.
+// A run of equal cells of the block of this tile column and lane, in which `slot` stands, from a
+// place in the block on.
 fn slot_run(plan: &Plan, column: u64, lane: u64, slot: Slot, x: u32, y: u32) -> (State, u32)
     requires admissible { IsAdmissible plan.now }
     requires slot { slot_of slot ≡ drawn_tiling plan.now column lane }
@@ -76,9 +76,9 @@ fn slot_run(plan: &Plan, column: u64, lane: u64, slot: Slot, x: u32, y: u32) -> 
     }
 }
 
-/// The state of the cell at column `x` and row `y`, in whose block `slot` stands, and a number of
-/// cells from it on to the east that all have it: 1 to `limit`, and none past the block. Where
-/// cells lie by an electron, it may tell less than the run.
+/// Returns the state of the cell at column `x` and row `y`, in whose block `slot` stands, and a
+/// number of cells from it eastward that all have this state: from 1 to `limit`, and none beyond
+/// the block. Beside an electron the number may be less than the run's length.
 pub fn run_in(plan: &Plan, slot: Slot, y: u64, x: u64, limit: u64) -> (State, u64)
     requires admissible { IsAdmissible plan.now }
     requires slot { slot_of slot ≡ drawn_tiling plan.now (x / 32) (y / 16) }
@@ -92,9 +92,9 @@ pub fn run_in(plan: &Plan, slot: Slot, y: u64, x: u64, limit: u64) -> (State, u6
     (state, limit.min(count as u64))
 }
 
-/// The state of the cell at column `x` and row `y`, and a number of cells from it on to the east
-/// that all have it: 1 to `limit`. It tells a run of a block's row at once; where a run goes on in
-/// the next block, or cells by an electron, it may tell less.
+/// Returns the state of the cell at column `x` and row `y`, and a number of cells from it eastward
+/// that all have this state, from 1 to `limit`. It finds the run within a block at once; if the run
+/// goes on in the next block, or beside an electron, the number may be less than its length.
 pub fn run_at(plan: &Plan, y: u64, x: u64, limit: u64) -> (State, u64)
     requires admissible { IsAdmissible plan.now }
     requires some { 1 ≤ limit }

@@ -1,5 +1,5 @@
-// Runs of equal cells west of a plan, where its tape alone lies: from electron to electron in one
-// step.
+// Runs of equal cells west of a plan, where only its tape lies, found from electron to electron in
+// one step.
 ghost use Rattle.std.specs.Prelude.{◌≡◌, ◌+◌, ◌-◌, ◌*◌, ◌<◌, ◌≤◌, ◌==◌, ◌/◌, ◌%◌, ◌^◌, ◌&&◌, cond, pos};
 ghost use Rattle.std.specs.List.{list_any};
 ghost use Rattle.lane_core.specs.Plans.{IsAdmissible};
@@ -19,13 +19,13 @@ use ww_rule::State;
 /// What a row of cells has west of a plan.
 #[derive(Clone, Copy)]
 pub enum West {
-    /// No cell.
+    /// No wire: all cells are empty.
     Blank,
     /// The wire of an input, with the electrons of its tape.
     Wire,
 }
 
-/// The x up to which cells belong to the tape alone, 0 without a tape.
+/// Returns the x up to which cells belong to the tape alone, or 0 without a tape.
 pub fn tape_end(plan: &Plan) -> u64
     requires { IsAdmissible plan.now }
     ensures exact { result ≡ tape_end plan.now }
@@ -48,7 +48,7 @@ fn has_wire(plan: &Plan, y: u64) -> bool
     y % 16 == 8 && is_input(plan.ins.as_slice(), y / 16)
 }
 
-/// What row `y` has up to `tape_end`.
+/// Returns what row `y` has up to `tape_end`.
 pub fn west_of(plan: &Plan, y: u64) -> West
     ensures { IsWest plan.now y result }
 {
@@ -59,8 +59,8 @@ pub fn west_of(plan: &Plan, y: u64) -> West
     }
 }
 
-// The first tile column east of this one at whose west side an electron may lie: a cycle begins
-// there.
+// The first tile column east of this one at whose west side an electron may lie, because a cycle
+// begins there.
 fn next_cycle(plan: &Plan, column: u64) -> u64
     requires admissible { IsAdmissible plan.now }
     requires west { column < tape_shift plan.now }
@@ -72,7 +72,8 @@ fn next_cycle(plan: &Plan, column: u64) -> u64
     column + 1 + (body - (column + 1)) % cycle_tiles(plan)
 }
 
-// Whether the cell at `x` is the west side of a lit edge.
+// Whether the cell at `x` is a head: it lies at the west side of a block, and the edge there is
+// lit.
 fn is_head_at(plan: &Plan, y: u64, x: u64) -> bool
     requires admissible { IsAdmissible plan.now }
     requires low { y < 2 ^ 60 }
@@ -96,7 +97,7 @@ fn end_of_wire(plan: &Plan, y: u64, column: u64) -> State
     }
 }
 
-// Equal cells of a wire, from the cell at `x` on.
+// A run of equal cells of a wire, from the cell at `x` on.
 fn wire_run(plan: &Plan, y: u64, x: u64) -> (State, u64)
     requires admissible { IsAdmissible plan.now }
     requires wire { IsWest plan.now y Wire }
@@ -116,9 +117,9 @@ fn wire_run(plan: &Plan, y: u64, x: u64) -> (State, u64)
     }
 }
 
-/// The state of the cell at column `x` and row `y`, west of `tape_end`, and a number of cells from
-/// it on to the east that all have it: 1 to `limit`, and none past `tape_end`. It takes one step to
-/// `tape_end` where the row is blank, and two from cycle to cycle where it has a wire.
+/// Returns the state of the cell at column `x` and row `y`, west of `tape_end`, and a number of
+/// cells from it eastward that all have this state: from 1 to `limit`, and none beyond `tape_end`.
+/// A blank row takes one step to `tape_end`, and a row with a wire two steps from cycle to cycle.
 pub fn run_on_tape(plan: &Plan, west: West, y: u64, x: u64, limit: u64) -> (State, u64)
     requires admissible { IsAdmissible plan.now }
     requires row { IsWest plan.now y west }

@@ -1,11 +1,11 @@
-// Whether lanes are apart.
+// Whether lanes are distinct.
 ghost use Rattle.std.specs.Prelude.{◌<◌, IfOk, IsTrue};
 ghost use Rattle.lane_core.specs.Places.{AreDistinctBelow};
 
 use std::alloc::{AllocError, Global};
 
-/// Whether the lanes are below the limit, and none stands twice: there is a mark for each lane that
-/// stood.
+/// Returns whether the lanes are below the limit and no two are the same. It marks each lane that
+/// it has met.
 pub fn are_apart_below(alloc: Global, lanes: &[u32], limit: u32) -> Result<bool, AllocError>
     ensures { IfOk result (λ apart. IsTrue apart → AreDistinctBelow limit lanes.now) }
 {

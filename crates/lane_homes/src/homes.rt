@@ -8,7 +8,7 @@ ghost use Rattle.lane_homes.specs.Homes.{AreHomesAbove};
 use crate::apart::are_apart_below;
 use std::alloc::{AllocError, Global};
 
-// So many lanes side by side are added, the first of them `first`.
+// Adds so many lanes side by side, from `first` on.
 fn push_row(lanes: &mut Vec<u32>, first: u32, count: u32) -> Result<(), AllocError>
     requires { first + count < 2 ^ 32 }
     ensures { OnOk result (lanes.new.items ≡
@@ -22,7 +22,7 @@ fn push_row(lanes: &mut Vec<u32>, first: u32, count: u32) -> Result<(), AllocErr
     Ok(())
 }
 
-// Lanes for so many inputs, the lowest ones above `above`, and lane 0 where one is to stay dark.
+// Lanes for so many inputs, the lowest ones above lane `above`, and lane 0 if one is to stay dark.
 fn own_lanes(alloc: Global, above: u32, inputs: u32, is_dark: bool) -> Result<Vec<u32>, AllocError>
     requires { inputs ≤ above }
     ensures { IfOk result (λ lanes.
@@ -38,8 +38,8 @@ fn own_lanes(alloc: Global, above: u32, inputs: u32, is_dark: bool) -> Result<Ve
     Ok(lanes)
 }
 
-// The wanted lanes, if they are as many as are asked for, apart and above the loops; else lanes of
-// its own.
+// The wanted lanes, if they are as many as are asked for, distinct and above the loops, and else
+// those of `own_lanes`.
 fn upper_lanes(
     alloc: Global,
     above: u32,
@@ -61,10 +61,10 @@ fn upper_lanes(
     Ok(lanes)
 }
 
-/// Homes of so many inputs and loops, and of one value more where a lane is to stay dark: the
-/// loops' stand side by side from lane `above` on, and the others above them. `wanted` has the
-/// lanes of the inputs, and then the dark one: they are taken if they are apart and above the
-/// loops.
+/// Returns the homes of so many inputs, then of so many loops, and then of the dark lane's value if
+/// a lane is to stay dark. The loops' homes stand side by side from lane `above` on, and the others
+/// above them. `wanted` has the lanes of the inputs, and then the dark one: they are taken if they
+/// are as many as are asked for, distinct and above the loops.
 pub fn homes_of(
     alloc: Global,
     above: u32,

@@ -10,28 +10,27 @@ use Rattle.cell_core.specs.declared.list.CellList.{CellList}
 use Rattle.cell_meaning.specs.Computes.{ComputesByProgram, ComputesByPlan}
 use Rattle.latch_loops.specs.Places.{closed_place}
 
--- columns without instructions were added, where there were fewer than this many
+-- columns without instructions are added, if there are fewer than `size`
 pub record IsPadded (size : ℕ) (columns padded : List Column) : Type 0 where
   pub more : List Column
   pub is : padded ≡ columns ++ more
   pub empty : All (λ column. column.instrs ≡ []) more
   pub count : length padded ≡ max size (length columns)
 
--- columns enough for the starts of so many contexts on the ways back of so many loops; without
--- loops there is nothing to start
+-- how many columns are enough for the starts of so many contexts on the ways back of so many loops:
+-- none without loops, as there is nothing to start
 abbrev pub contexts_size : ℕ → ℕ → ℕ
 contexts_size loops contexts = cond (loops == 0) 0 (contexts - 4 * loops)
 
--- the greatest of the number of loops, of 1 where there are lanes, and of what so many contexts
--- need
+-- the greatest of the number of loops, of 1 if there are lanes, and of what so many contexts need
 abbrev pub least_size : Program → ℕ → ℕ
 least_size program contexts =
     max (max (length program.latches) (min program.lanes 1))
     (contexts_size (length program.latches) contexts)
 
--- The plan has the program's lanes, loops, ports and nets, no tape, and these columns, which are at
--- least as many as loops, at least 1 where there are lanes, and enough for the starts of so many
--- contexts.
+-- The plan has the program's lanes, loops, ports and nets, no tape, and these columns, padded:
+-- there are at least as many as loops, at least 1 if there are lanes, and enough for the starts of
+-- so many contexts.
 pub record IsClosed (program : Program) (columns : List Column) (contexts : ℕ)
     (plan : Plan) : Type 0 where
   pub lanes : plan.lanes ≡ program.lanes
@@ -42,7 +41,8 @@ pub record IsClosed (program : Program) (columns : List Column) (contexts : ℕ)
   pub nets : plan.nets ≡ map (closed_place program.instrs) program.nets
   pub tape : plan.tape ≡ []
 
--- as many contexts as a loop of the plan of one context has tiles; 1 without loops
+-- how many contexts there may be: as many as a loop of the plan of one context has tiles, or 1
+-- without loops
 abbrev pub contexts_limit : List Column → Program → ℕ
 contexts_limit columns program =
     cond (length program.latches == 0) 1
@@ -57,7 +57,8 @@ pub record DoesAsProgram (program : Program) (plan : Plan) : Type 0 where
       ≡ map (λ place. bit_on
       (bits_after after_instrs program.instrs place.after bits) place.lane) program.nets
 
--- so it computes what the program computes
+-- a plan that is closed from a program and does as it does computes the cells that the program
+-- computes
 abbrev pub ClosingKeepsCells : Type 0
 ClosingKeepsCells =
     (list : CellList) (program : Program) (columns : List Column) (contexts : ℕ) (plan : Plan)

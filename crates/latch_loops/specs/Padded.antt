@@ -8,7 +8,7 @@ use Rattle.cell_core.specs.declared.list.CellList.{CellList}
 use Rattle.cell_meaning.specs.Computes.{ComputesByPlan}
 use Rattle.latch_loops.specs.Closed.{IsPadded}
 
--- the plan with columns added, where there were fewer than this many; it may start otherwise
+-- the plan with columns added, if there are fewer than `size`; its starts may be others
 pub record IsPaddedPlan (size : ℕ) (plan padded : Plan) : Type 0 where
   pub lanes : padded.lanes ≡ plan.lanes
   pub latches : padded.latches ≡ plan.latches
@@ -18,7 +18,7 @@ pub record IsPaddedPlan (size : ℕ) (plan padded : Plan) : Type 0 where
   pub columns : IsPadded size plan.columns padded.columns
   pub tape : padded.tape ≡ plan.tape
 
--- it does what the plan does: at the end, and at each place of a net
+-- the padded plan does what the plan does: at the end, and at each place of a net
 pub record DoesAsPlan (plan padded : Plan) : Type 0 where
   pub end : (bits : List Bool) → after_columns padded.columns bits ≡ after_columns plan.columns bits
   pub nets : (bits : List Bool)
@@ -27,7 +27,7 @@ pub record DoesAsPlan (plan padded : Plan) : Type 0 where
       ≡ map (λ place. bit_on
       (bits_after after_columns plan.columns place.after bits) place.lane) plan.nets
 
--- so it computes what the plan computes
+-- a padded plan that does as the plan does computes the cells that the plan computes
 abbrev pub PaddingKeepsCells : Type 0
 PaddingKeepsCells =
     (list : CellList) (size : ℕ) (plan padded : Plan) → IsPaddedPlan size plan padded

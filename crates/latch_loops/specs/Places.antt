@@ -5,13 +5,13 @@ use Rattle.lane_core.specs.declared.plan.NetPlace.{NetPlace}
 use Rattle.lane_core.specs.Instrs.{is_on}
 use Rattle.column_packer.specs.Numbers.{used_by, column_numbers}
 
--- the last of so many columns, or the start where there is none
+-- the last of so many columns, or the start if there is none
 abbrev pub last_of : ℕ → Option ℕ
 last_of zero = None
 last_of (suc c) = Some c
 
--- the column of the last instruction up to this one that works on the lane, or the start where
--- there is none
+-- the column of the last instruction up to this one that works on the lane, or the start if there
+-- is none
 abbrev pub column_of_place : List Instr → ℕ → Option ℕ → Option ℕ
 column_of_place instrs lane None = None
 column_of_place instrs lane (Some n) = last_of (used_by (take (n + 1) instrs) lane)
@@ -21,7 +21,7 @@ abbrev pub closed_place : List Instr → NetPlace → NetPlace
 closed_place instrs place =
     record { lane = place.lane; after = column_of_place instrs place.lane place.after }
 
--- Instruction m is the last one, up to number n, that works on the lane
+-- Instruction m is the last one, up to number n, that works on the lane.
 pub record IsLastUse (instrs : List Instr) (lane n m : ℕ) (d : Instr) : Type 0 where
   pub before : m ≤ n
   pub on : is_on lane (slice_index_or instrs m d) ≡ true
@@ -31,7 +31,7 @@ pub record IsLastUse (instrs : List Instr) (lane n m : ℕ) (d : Instr) : Type 0
 abbrev pub NoUse : List Instr → ℕ → ℕ → Instr → Type 0
 NoUse instrs lane n d = (j : ℕ) → j ≤ n → is_on lane (slice_index_or instrs j d) ≡ false
 
--- a place is at the number of its lane's last use, or at the start where there is none
+-- a place is at the column of its lane's last use, or at the start if there is none
 abbrev pub PlacesAreLastUses : Type 0
 PlacesAreLastUses =
     (instrs : List Instr) (lane n : ℕ) (d : Instr) → n < length instrs

@@ -7,13 +7,13 @@ use Rattle.plan_layout.specs.Layout.{tiling_of}
 use Rattle.plan_layout.specs.Starts.{edge_name}
 use Rattle.plan_waves.specs.WaysBack.{before_entry}
 
--- the start of a loop in a context, where its bit is 1
+-- the start of a loop in a context, if its bit is 1
 abbrev pub start_in : Plan → List (List Bool) → ℕ → ℕ → List Start
 start_in plan starts loop c =
     cond (bit_on (get_or starts c []) loop)
     (edge_name (tiling_of plan) (before_entry plan loop c) ∷ []) []
 
--- those of a loop in the first contexts, and of the first loops in all contexts
+-- the starts of a loop in the first contexts, and those of the first loops in all contexts
 abbrev pub starts_of_loop : Plan → List (List Bool) → ℕ → ℕ → List Start
 starts_of_loop plan starts loop zero = []
 starts_of_loop plan starts loop (suc c) =

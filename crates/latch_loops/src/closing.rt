@@ -15,8 +15,8 @@ use lane_core::{Column, Plan, Program, Starts};
 use lists::List;
 use std::alloc::Global;
 
-/// How many contexts fit into the period of the plan that `close` makes of a program and its
-/// columns for one context, each 32 generations after the one before.
+/// Returns how many contexts, each 32 generations after the one before, fit into the period of the
+/// plan that `close` makes of a program and its columns for one context.
 #[tactic(auto, using(crate::proofs::Limits::limit_is_period))]
 pub fn most_contexts(columns: &[Column], program: &Program) -> u64
     requires few { length columns.now < 2 ^ 40 }
@@ -62,12 +62,12 @@ fn unstarted(alloc: Global, columns: Vec<Column>, program: &Program) -> Result<P
     })
 }
 
-/// Makes a plan of a program and of the columns that `pack` gives for it, in several contexts, the
-/// loops of each of which start with these bits, one list a context. Where there are fewer columns
-/// than loops, or none on some lanes, or too few for the starts of all contexts, it adds columns
-/// without instructions. The place of a net becomes the exit of the column of the last instruction
-/// that works on its lane up to there, or the entry of the first column where there is none; it
-/// looks for this instruction back from the place.
+/// Makes a plan of a program and of the columns that `pack` gives for it. `starts` has a list for
+/// each context, with the bits with which its loops start. If there are fewer columns than loops,
+/// or lanes without a column, or too few columns for the starts of all contexts, `close` adds
+/// columns without instructions. The place of a net becomes the exit of the column of the last
+/// instruction up to there that works on its lane, or the entry of the first column if there is
+/// none; `close` looks for this instruction back from the place.
 pub fn close(
     alloc: Global,
     columns: Vec<Column>,

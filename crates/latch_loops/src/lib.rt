@@ -12,6 +12,7 @@ mod starting;
 mod walking;
 
 pub use closing::{close, most_contexts};
+// The answer of `close` and `start_contexts` when memory runs out.
 pub use lists::OutOfMemory as CloseError;
 pub use loop_starts::starts_of;
 pub use starting::start_contexts;

@@ -13,7 +13,7 @@ use lists::List;
 use plan_layout::{Edge, edge_name};
 use std::alloc::{AllocError, Global};
 
-// Puts a start at the end, where the bit is 1.
+// Puts a start at the end, if the bit is 1.
 fn push_if(found: &mut Vec<Start>, bit: bool, start: Start) -> Result<(), AllocError>
     ensures { OnOk result (found.new.items ≡ found.old.items ++ alone_if bit start) }
 {
@@ -49,10 +49,10 @@ fn push_loop(
     Ok(())
 }
 
-/// The names of the edges that are lit at generation 0 where the loops of a plan start with these
-/// bits, one list a context and one bit a loop: those of context c lie c tiles before the loops'
-/// entries, on their ways back. There are no more contexts than tiles on a way back, and one
-/// without loops.
+/// Returns the names of the edges that are lit at generation 0 if the loops of a plan start with
+/// these bits. `starts` has a list for each context, with a bit for each loop. The edges of context
+/// c lie c tiles before the loops' entries, on their ways back. There are no more contexts than
+/// tiles on a way back, and no more than one without loops.
 pub fn starts_of(alloc: Global, plan: &Plan, starts: &[List<bool>]) -> Result<Starts, AllocError>
     requires admissible { IsAdmissible plan.now }
     requires fit { length starts.now ≤ contexts_on_ways plan.now }

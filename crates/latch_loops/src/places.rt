@@ -1,4 +1,4 @@
-// The places of nets, in columns.
+// The places of nets in columns.
 ghost use Rattle.std.specs.Prelude.{◌≡◌, ◌<◌, ◌+◌, length, take, map, All, IfOk};
 ghost use Rattle.std.specs.Option.{ForSome};
 ghost use Rattle.lane_core.specs.Instrs.{is_on};
@@ -46,7 +46,7 @@ fn closed_place(instrs: &[Instr], numbers: &[usize], place: NetPlace) -> NetPlac
     }
 }
 
-/// The places of nets in columns, from those after instructions.
+/// Returns the places of nets in columns, from their places after instructions.
 pub fn closed_places(
     alloc: Global,
     places: &[NetPlace],

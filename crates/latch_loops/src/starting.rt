@@ -12,7 +12,7 @@ use lane_core::{Column, Plan};
 use lists::List;
 use std::alloc::Global;
 
-/// Adds columns without instructions, where there are fewer than this many.
+/// Adds columns without instructions, if there are fewer than `size`.
 pub fn padded(alloc: Global, columns: Vec<Column>, size: usize) -> Result<Vec<Column>, CloseError>
     ensures { IfOk result (λ v. IsPadded size columns.items v.items) }
 {
@@ -37,10 +37,10 @@ fn contexts_size(loops: u32, contexts: usize) -> usize
     }
 }
 
-/// The plan in several contexts, the loops of each of which start with these bits, one list a
-/// context: no more contexts than macro steps in the plan's period. Where there are loops and too
-/// few columns for all starts to lie on the ways back of the loops, it adds columns without
-/// instructions.
+/// Returns a plan in several contexts. `starts` has a list for each context, with the bits with
+/// which its loops start; there are no more contexts than macro steps in the plan's period. If
+/// there are loops and too few columns for all starts to lie on the loops' ways back, columns
+/// without instructions are added.
 #[tactic(auto, using(crate::proofs::PaddedPlans::padded_admissible, crate::proofs::PaddedPlans::room, crate::proofs::PaddedPlans::does_as_plan))]
 pub fn start_contexts(alloc: Global, plan: Plan, starts: &[List<bool>]) -> Result<Plan, CloseError>
     requires admissible { IsAdmissible plan }

@@ -10,8 +10,8 @@ ghost use Rattle.plan_waves.specs.WaysBack.{way_in, tile_before};
 use lane_core::Plan;
 use plan_layout::{Edge, Piece, Slot, is_left, slot_at};
 
-// The edge at a port, by its place in the box of a piece whose first block is at this tile column
-// and lane.
+// The edge at a port, which is given by its place in the box of a piece whose first block is at
+// this tile column and lane.
 fn port_edge(column: u64, lane: u64, port: (u32, u32)) -> Edge
     requires far { column < 2 ^ 62 }
     requires low { lane < 2 ^ 62 }
@@ -29,7 +29,7 @@ fn port_edge(column: u64, lane: u64, port: (u32, u32)) -> Edge
     }
 }
 
-// Where a signal has entered that leaves a block on the way back of a loop.
+// The edge at which a signal has entered a block that it leaves on the way back of a loop.
 fn way_in(column: u64, lane: u64, slot: Slot) -> Edge
     requires far { column < 2 ^ 62 }
     requires low { lane < 2 ^ 62 }
@@ -48,8 +48,8 @@ fn way_in(column: u64, lane: u64, slot: Slot) -> Edge
     }
 }
 
-/// One tile back from an edge, through that one of the two blocks that meet there which is left at
-/// it.
+/// Returns the edge one tile back from an edge, through the one of the two blocks that meet there
+/// which is left at the edge.
 pub fn tile_before(plan: &Plan, edge: Edge) -> Edge
     requires admissible { IsAdmissible plan.now }
     requires far { column_in (as_edge edge) < 2 ^ 62 }

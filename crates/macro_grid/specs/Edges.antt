@@ -21,20 +21,21 @@ lit_of bits (Beside column lane) =
 lit_of bits (Above column lane) =
     nat_lt lane bits.lanes && get_or bits.above (column * bits.lanes + lane) false
 
--- The first bits tell which edges are lit: bit k is that of block k on one of its sides.
+-- The first bits tell which edges are lit: bit k is that of block k, for the edge on one of its
+-- sides.
 abbrev pub TellEdges : (count lanes : ℕ) → (side : ℕ → ℕ → Edge) → List Bool → Lit → Type 0
 TellEdges count lanes side bits lit =
     (k : ℕ) → k < count → get_or bits k false ≡ lit (side (k / lanes) (k % lanes))
 
--- the tile columns and lanes that have bits: those of the drawing, and some round it, where nothing
--- stands
+-- the numbers of tile columns and lanes that have bits: those of the drawing, and some beyond it,
+-- where nothing stands
 abbrev pub edge_columns : Plan → ℕ
 edge_columns plan = tape_shift plan + (end_of_body plan + plan.latches + 2)
 
 abbrev pub edge_lanes : Plan → ℕ
 edge_lanes plan = plan.lanes + plan.latches + 1
 
--- the bits were made for the plan
+-- there are as many bits as the plan's edges need
 pub record IsEdgesOf (plan : Plan) (bits : EdgeBits) : Type 0 where
   pub lanes : bits.lanes ≡ edge_lanes plan
   pub beside : length bits.beside ≡ edge_columns plan * edge_lanes plan

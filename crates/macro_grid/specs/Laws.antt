@@ -16,7 +16,7 @@ PlansStepByMacro =
     (library : Kind → Drawing) → KeepsLaw library → (plan : Plan) → IsAdmissible plan → (lit : Lit)
     → StepsByMacro library (drawn_tiling plan) lit
 
--- the same where heads are injected at free entries at multiples of 32
+-- the same if heads are injected at free entries at multiples of 32 generations
 abbrev pub PlansAreDriven : Type 0
 PlansAreDriven =
     (library : Kind → Drawing) → KeepsLaw library → (plan : Plan) → IsAdmissible plan → (due : Due)

@@ -5,7 +5,7 @@ use Rattle.tile_core.specs.declared.kind.Kind.{Kind}
 use Rattle.tile_core.specs.Drawing.{Drawing}
 use Rattle.tiling.specs.Tiling.{Tiling, Lit, drawn}
 
--- after 32 generations the plane that is drawn with some edges is the one that is drawn with others
+-- 32 generations after the plane is drawn with some edges, it is drawn with others
 abbrev pub IsDrawnAfter32 : (Kind → Drawing) → Tiling → Lit → Lit → Type 0
 IsDrawnAfter32 library tiling before after =
     evolve 32 (drawn library tiling before) ≡ drawn library tiling after

@@ -1,7 +1,7 @@
 -- Lanes of ports by spans.
 use Rattle.std.specs.Prelude.{ℕ, ◌<◌, ◌≤◌, ◌≢◌, List, All, AllPairs, Contains}
 
--- no lane that is at least `low` and below `high` stands twice
+-- no lane that is at least `low` and below `high` is in the list twice
 abbrev pub AreDistinctWithin : ℕ → ℕ → List ℕ → Type 0
 AreDistinctWithin low high lanes = AllPairs (λ a b. low ≤ a → a < high → a ≢ b) lanes
 

@@ -15,7 +15,7 @@ use plan_layout::{Edge, is_lit};
 use std::alloc::Global;
 use std::marker::Model;
 
-/// A bit for each edge of a plan, true where it is lit.
+/// A bit for each edge of a plan's drawing, true if the edge is lit.
 #[derive(Drop)]
 pub struct Edges {
     pub(crate) lanes: usize,
@@ -36,7 +36,7 @@ impl Model for Edges {
 }
 
 impl Edges {
-    /// The edges that are lit at generation 0.
+    /// Returns the edges that are lit at generation 0.
     pub fn start(alloc: Global, plan: &Plan) -> Result<Edges, EdgesError>
         requires admissible { IsAdmissible plan.now }
         requires starts { HasStartEdges plan.now }
@@ -59,14 +59,14 @@ impl Edges {
         })
     }
 
-    /// Whether the edge on the west side of a block is lit.
+    /// Returns whether the edge on the west side of a block is lit.
     pub fn beside(&self, column: u64, lane: u64) -> bool
         ensures { result ≡ lit_of self.now (Beside column lane) }
     {
         is_set(&self.beside, self.lanes, column, lane)
     }
 
-    /// Whether the edge on the north side of a block is lit.
+    /// Returns whether the edge on the north side of a block is lit.
     pub fn above(&self, column: u64, lane: u64) -> bool
         ensures { result ≡ lit_of self.now (Above column lane) }
     {
@@ -88,7 +88,7 @@ fn edge_lanes(plan: &Plan) -> usize
     plan.lanes as usize + plan.latches as usize + 1
 }
 
-// Writes the edges on the west sides of blocks that are lit at generation 0.
+// Sets the bits of the edges on the west sides of blocks to whether they are lit at generation 0.
 #[tactic(auto, using(crate::proofs::Bits::column_near))]
 fn light_beside(plan: &Plan, lanes: usize, bits: &mut [bool])
     requires admissible { IsAdmissible plan.now }
@@ -102,7 +102,7 @@ fn light_beside(plan: &Plan, lanes: usize, bits: &mut [bool])
     }
 }
 
-// Writes those on the north sides.
+// Sets the bits of the edges on the north sides of blocks to whether they are lit at generation 0.
 #[tactic(auto, using(crate::proofs::Bits::column_near))]
 fn light_above(plan: &Plan, lanes: usize, bits: &mut [bool])
     requires admissible { IsAdmissible plan.now }
@@ -116,7 +116,7 @@ fn light_above(plan: &Plan, lanes: usize, bits: &mut [bool])
     }
 }
 
-// The bit of a block, and false where it has none.
+// The bit of a block, or false if it has none.
 fn is_set(bits: &[bool], lanes: usize, column: u64, lane: u64) -> bool
     ensures { result ≡ (nat_lt lane lanes && flag_at bits.now (column * lanes + lane)) }
 {

@@ -12,6 +12,7 @@ mod step;
 
 pub use edges::Edges;
 pub use laws::{plans_are_driven, plans_step_by_macro};
+// The answer of `Edges::start` when memory runs out.
 pub use lists::OutOfMemory as EdgesError;
 pub use rules::admissible;
 pub use step::macro_step;

@@ -1,5 +1,5 @@
-// Whether the ports of a list are on distinct lanes. No memory is taken: the lanes are looked at in
-// spans, with a mark for each lane of a span, and only where there are ports.
+// Whether the ports of a list are on distinct lanes. This takes no memory: it looks at the lanes in
+// spans, with a mark for each lane of a span, and only at spans that have ports.
 ghost use Rattle.std.specs.Prelude.{◌≡◌, ◌≢◌, ◌+◌, ◌<◌, ◌≤◌, ◌⊎◌, ◌↔◌, IsTrue, All, AllPairs, MatchOption};
 ghost use Rattle.lane_core.specs.Places.{AreDistinctBelow};
 ghost use Rattle.macro_grid.specs.Spans.{AreDistinctWithin, IsLeastFrom};
@@ -7,7 +7,7 @@ ghost use Rattle.macro_grid.specs.Spans.{AreDistinctWithin, IsLeastFrom};
 // The lanes of a span: 64 KiB of marks on the stack.
 const SPAN: usize = 65_536;
 
-/// Whether the lanes are below a limit, and none stands twice.
+/// Returns whether the lanes are below a limit and no two are the same.
 pub fn are_distinct_below(lanes: &[u32], limit: u32) -> bool
     ensures { IsTrue result ↔ AreDistinctBelow limit lanes.now }
 {
@@ -20,7 +20,7 @@ fn are_below(lanes: &[u32], limit: u32) -> bool
     lanes.iter().all(|lane| *lane < limit)
 }
 
-// Each span begins at the least lane that no earlier one has.
+// Whether no two lanes are the same. Each span begins at the least lane that no earlier span has.
 fn are_distinct(lanes: &[u32]) -> bool
     ensures { IsTrue result ↔ AllPairs (λ a b. a ≢ b) lanes.now }
 {
@@ -48,7 +48,7 @@ fn least_from(lanes: &[u32], from: u64) -> Option<u32>
     least
 }
 
-// The place of a lane in the span that begins at `from`, and none for a lane of another span.
+// The place of a lane in the span that begins at `from`, or `None` if the lane is in another span.
 fn place_in_span(lane: u32, from: u32) -> Option<usize>
     ensures { MatchOption result ((lane < from) ⊎ (from + 65536 ≤ lane))
         (λ place. (place < 65536) × (lane ≡ from + place)) }
@@ -57,7 +57,7 @@ fn place_in_span(lane: u32, from: u32) -> Option<usize>
     if place < SPAN { Some(place) } else { None }
 }
 
-// Whether none of the lanes of the span that begins at `from` stands twice.
+// Whether no two lanes of the span that begins at `from` are the same.
 fn are_distinct_in_span(lanes: &[u32], from: u32) -> bool
     ensures { IsTrue result ↔ AreDistinctWithin from (from + 65536) lanes.now }
 {

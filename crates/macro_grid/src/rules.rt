@@ -14,10 +14,10 @@ use crate::starts::has_start_edges;
 use lane_core::{Column, Instr, NetPlace, Plan, tape_cycles};
 use lists::List;
 
-/// Whether a plan keeps the rules that a drawing of it needs, and each of its starts names an edge
-/// of the drawing. It takes no memory but 64 KiB of the stack. For each span of 65,536 lanes that
-/// has ports of a list it clears these and goes over the list twice; it goes over the list twice
-/// more, and over all else once.
+/// Returns whether a plan keeps the rules that a drawing of it needs, and each of its starts names
+/// an edge of the drawing. It takes no memory but 64 KiB of the stack. For each span of 65,536
+/// lanes that has ports of a list, it clears these 64 KiB and goes over the list twice; it goes
+/// over the list twice more, and over all else once.
 pub fn admissible(plan: &Plan) -> bool
     ensures exact { IsTrue result ↔ (IsAdmissible plan.now × HasStartEdges plan.now) }
     // the tiles of such a plan's drawing fit together

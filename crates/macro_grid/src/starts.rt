@@ -9,7 +9,7 @@ ghost use Rattle.plan_layout.specs.Starts.{HasCell, NamesEdge, HasStartEdges};
 use lane_core::{Plan, Start};
 use plan_layout::{Edge, edge_name, is_passed};
 
-// The edge that has the cell at this `x` and `y`.
+// The edge that has the cell at this `x` and `y`, if there is one.
 fn edge_at(x: u64, y: u64) -> Option<Edge>
     ensures { MatchOption result ((edge : tiling.Edge) → HasCell edge x y → ⊥)
         (λ edge. HasCell (as_edge edge) x y) }
@@ -35,7 +35,7 @@ fn names_edge(plan: &Plan, start: &Start) -> bool
     }
 }
 
-/// Whether each start of a plan names an edge of its drawing.
+/// Returns whether each start of a plan names an edge of its drawing.
 pub fn has_start_edges(plan: &Plan) -> bool
     requires { IsAdmissible plan.now }
     ensures { IsTrue result ↔ HasStartEdges plan.now }

@@ -19,8 +19,8 @@ use lane_core::Plan;
 use plan_layout::{Piece, Slot, slot_drawn_at};
 use tile_core::Kind;
 
-// Whether the edge at a port is lit, by the port's place in the box of a piece whose first block is
-// at this tile column and lane.
+// Whether the edge at a port is lit. The port is given by its place in the box of a piece whose
+// first block is at this tile column and lane.
 fn is_port_lit(edges: &Edges, column: u64, lane: u64, port: (u32, u32)) -> bool
     requires far { column < 2 ^ 63 }
     requires low { lane < 2 ^ 62 }
@@ -96,7 +96,7 @@ fn is_answered(edges: &Edges, column: u64, lane: u64, slot: Slot, x: u32, y: u32
     }
 }
 
-// Whether the edge on the west side of a block is lit by the step.
+// Whether the step lights the edge on the west side of a block.
 fn beside_after(plan: &Plan, old: &Edges, column: u64, lane: u64) -> bool
     requires admissible { IsAdmissible plan.now }
     requires far { column < 2 ^ 63 }
@@ -117,7 +117,7 @@ fn beside_after(plan: &Plan, old: &Edges, column: u64, lane: u64) -> bool
     ) || from_east
 }
 
-// Whether the edge on the north side of a block is lit by the step.
+// Whether the step lights the edge on the north side of a block.
 fn above_after(plan: &Plan, old: &Edges, column: u64, lane: u64) -> bool
     requires admissible { IsAdmissible plan.now }
     requires far { column < 2 ^ 63 }
@@ -138,7 +138,7 @@ fn above_after(plan: &Plan, old: &Edges, column: u64, lane: u64) -> bool
     ) || from_below
 }
 
-// Writes the edges on the west sides of blocks.
+// Sets the bits of the edges on the west sides of blocks.
 fn step_beside(plan: &Plan, old: &Edges, lanes: usize, bits: &mut [bool])
     requires admissible { IsAdmissible plan.now }
     requires some { 0 < lanes }
@@ -151,7 +151,7 @@ fn step_beside(plan: &Plan, old: &Edges, lanes: usize, bits: &mut [bool])
     }
 }
 
-// Writes the edges on the north sides of blocks.
+// Sets the bits of the edges on the north sides of blocks.
 fn step_above(plan: &Plan, old: &Edges, lanes: usize, bits: &mut [bool])
     requires admissible { IsAdmissible plan.now }
     requires some { 0 < lanes }
@@ -164,8 +164,8 @@ fn step_above(plan: &Plan, old: &Edges, lanes: usize, bits: &mut [bool])
     }
 }
 
-/// The edges that are lit 32 generations after those of `old`: the exits of tiles that answer 1 to
-/// their entry edges.
+/// Does one macro step: sets `new` to the edges that are lit 32 generations after those of `old`.
+/// These are the exits of tiles that answer 1 to their entry edges.
 pub fn macro_step(plan: &Plan, old: &Edges, new: &mut Edges)
     requires admissible { IsAdmissible plan.now }
     requires made { IsEdgesOf plan.now new.old }

@@ -1,4 +1,4 @@
-// Climbing: small changes are kept where they do not make the drawing larger.
+// Climbing: small changes are kept if they do not make the drawing larger.
 use crate::draws::Draws;
 use crate::gates::Gates;
 use crate::layout::{Homes, Layout};
@@ -7,7 +7,7 @@ use cell_core::CellError;
 use std::alloc::Global;
 use std::mem;
 
-/// A layout of a list, by the list's number, and how many tiles its drawing has.
+/// A layout of a list, the list's number, and how many tiles the layout's drawing has.
 #[derive(Drop)]
 pub struct Camp {
     pub list: usize,
@@ -15,7 +15,7 @@ pub struct Camp {
     pub tiles: u64,
 }
 
-/// What changes camps, and tries what the changes bring.
+/// A climber: it changes camps and keeps the changes that bring no larger drawing.
 #[derive(Drop)]
 pub struct Climber<'a> {
     gates: &'a Gates,
@@ -26,7 +26,7 @@ pub struct Climber<'a> {
 }
 
 impl<'a> Climber<'a> {
-    /// A climber at camps of the gates.
+    /// Returns a climber for camps of these gates.
     pub fn new(alloc: Global, gates: &'a Gates, seed: u64) -> Result<Climber<'a>, CellError> {
         Ok(Climber {
             gates,
@@ -36,7 +36,7 @@ impl<'a> Climber<'a> {
         })
     }
 
-    /// Tries as many changes of a camp as place so many gates.
+    /// Tries changes of a camp, until they have placed about `work` gates.
     pub fn climb(&mut self, camp: &mut Camp, work: usize) -> Result<(), CellError> {
         for _ in 0..work / self.gates.gates.len().saturating_add(4) {
             match self.draws.below(10) {
@@ -48,7 +48,7 @@ impl<'a> Climber<'a> {
         Ok(())
     }
 
-    // Whether the changed layout's drawing is no larger; then it counts.
+    // Whether the changed layout's drawing is no larger; if so, its size is the camp's.
     fn accepts(&mut self, camp: &mut Camp) -> Result<bool, CellError> {
         match self.placer.tiles(&camp.layout, camp.tiles)? {
             Some(tiles) => {
@@ -59,14 +59,14 @@ impl<'a> Climber<'a> {
         }
     }
 
-    // A place to which the cell at a place may go.
+    // A place to which the cell at place `from` may go.
     fn other_place(&mut self, layout: &Layout, from: usize) -> Option<usize> {
         let range = layout.range(self.gates, from)?;
         let more = self.draws.below(range.end.saturating_sub(range.start));
         Some(range.start.saturating_add(more))
     }
 
-    // A cell goes elsewhere in the order.
+    // Tries a cell at another place of the order.
     fn try_cell(&mut self, camp: &mut Camp) -> Result<(), CellError> {
         let from = self.draws.below(camp.layout.order.len());
         match self.other_place(&camp.layout, from) {
@@ -75,7 +75,7 @@ impl<'a> Climber<'a> {
         }
     }
 
-    // The cell at one place goes to another.
+    // Tries the cell at place `from` at place `to`.
     fn try_shift(&mut self, camp: &mut Camp, from: usize, to: usize) -> Result<(), CellError> {
         camp.layout.shift(from, to);
         if !self.accepts(camp)? {
@@ -84,7 +84,7 @@ impl<'a> Climber<'a> {
         Ok(())
     }
 
-    // A lane above the loops, or that of an input.
+    // A random lane above the loops, or that of a random input.
     fn other_lane(&mut self, homes: &Homes) -> Option<usize> {
         if self.draws.coin() {
             let other = self.draws.below(homes.ins.len());
@@ -94,7 +94,7 @@ impl<'a> Climber<'a> {
         Some(self.draws.below(above))
     }
 
-    // An input goes to another lane, or to that of another one.
+    // Tries an input on another lane, or on that of another input.
     fn try_input(&mut self, camp: &mut Camp) -> Result<(), CellError> {
         let input = self.draws.below(camp.layout.homes.ins.len());
         let Some(lane) = self.other_lane(&camp.layout.homes) else {
@@ -108,7 +108,7 @@ impl<'a> Climber<'a> {
         self.try_other(camp)
     }
 
-    // There are one or two lanes more, or one less.
+    // Tries one or two lanes more, or one less.
     fn try_lanes(&mut self, camp: &mut Camp) -> Result<(), CellError> {
         let old = camp.layout.homes.lanes;
         let lanes = match self.draws.below(4) {
@@ -127,7 +127,7 @@ impl<'a> Climber<'a> {
         self.try_other(camp)
     }
 
-    // The other homes are tried.
+    // Tries the other homes.
     fn try_other(&mut self, camp: &mut Camp) -> Result<(), CellError> {
         mem::swap(&mut camp.layout.homes, &mut self.other);
         if !self.accepts(camp)? {

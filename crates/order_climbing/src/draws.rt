@@ -1,13 +1,13 @@
-// Numbers drawn by chance, the same ones for the same seed: the generator splitmix64.
+// Random numbers, the same ones for the same seed: the generator splitmix64.
 
-/// A generator.
+/// A generator of random numbers.
 #[derive(Drop)]
 pub struct Draws {
     state: u64,
 }
 
 impl Draws {
-    /// The generator of a seed.
+    /// Returns the generator of a seed.
     pub fn new(seed: u64) -> Draws {
         Draws { state: seed }
     }
@@ -19,12 +19,12 @@ impl Draws {
         mixed ^ (mixed >> 31)
     }
 
-    /// A number below `limit`, or 0 where that is 0.
+    /// Draws a number below `limit`, or 0 if `limit` is 0.
     pub fn below(&mut self, limit: usize) -> usize {
         (self.next() % (limit.max(1) as u64)) as usize
     }
 
-    /// One of two.
+    /// Draws `true` or `false`.
     pub fn coin(&mut self) -> bool {
         self.below(2) == 0
     }

@@ -1,5 +1,5 @@
-// A list of cells by the numbers of its values: inputs, loops, constant 0, and then what the cells
-// make.
+// A list of cells by the numbers of its values: inputs, loops, constant 0, and then the values that
+// the cells make.
 use cell_core::{Cell, CellError, CellList, Src};
 use std::alloc::Global;
 
@@ -13,13 +13,13 @@ pub struct Gate {
 }
 
 impl Gate {
-    /// Whether it reads a value.
+    /// Returns whether the gate reads a value.
     pub fn reads(self, value: usize) -> bool {
         self.first == value || self.second == value
     }
 }
 
-/// What a list asks of lanes. `ports` are the values of the loops' data and then those of the
+/// What a list needs of the lanes. `ports` are the values of the loops' data and then those of the
 /// outputs; `uses` says how often each value is read.
 #[derive(Drop)]
 pub struct Gates {
@@ -33,7 +33,7 @@ pub struct Gates {
 }
 
 impl Gates {
-    /// The gates of a list.
+    /// Returns the gates of a list.
     pub fn of(alloc: Global, list: &CellList) -> Result<Gates, CellError> {
         let one = if list.names_one() { 1 } else { 0 };
         let mut gates = Gates {
@@ -48,7 +48,7 @@ impl Gates {
         Ok(gates)
     }
 
-    // The cells and ports of the list.
+    // Reads the cells and ports of the list.
     fn read(&mut self, list: &CellList) -> Result<(), CellError> {
         let values = self.made_by(list.cells.len());
         self.uses.resize(values, 0)?;
@@ -59,30 +59,30 @@ impl Gates {
         Ok(())
     }
 
-    /// The number of constant 0.
+    /// Returns the number of constant 0.
     pub fn zero(&self) -> usize {
         self.inputs.saturating_add(self.loops)
     }
 
-    /// The number of what a cell makes.
+    /// Returns the number of the value that a cell makes.
     pub fn made_by(&self, cell: usize) -> usize {
         self.zero().saturating_add(1).saturating_add(cell)
     }
 
-    /// How often a value is read.
+    /// Returns how often a value is read.
     pub fn uses_of(&self, value: usize) -> usize {
         self.uses.get(value).copied().unwrap_or(0)
     }
 
-    /// The fewest lanes on which the cells can be placed in an order: one for each value that is
-    /// still read, and for the copies in hand.
+    /// Returns the fewest lanes on which the cells can be placed in an order: one for each value
+    /// that is still read, and for the copies in hand.
     pub fn fewest_lanes(&self, alloc: Global, order: &[u32]) -> Result<usize, CellError> {
         let mut left = self.uses.as_slice().to_vec(alloc)?;
         let most = self.most_live(&mut left, order);
         Ok(most.max(self.fewest_homes()).max(self.ports.len()))
     }
 
-    // The most lanes in use at a time, where the values have so many uses.
+    // The most lanes in use at a time, if the values have `left` uses.
     fn most_live(&self, left: &mut [usize], order: &[u32]) -> usize {
         let mut live = count_used(left.get(..self.made_by(0)).unwrap_or(&[]));
         let mut most = live;
@@ -100,7 +100,7 @@ impl Gates {
         most
     }
 
-    // How many lanes the value of a cell takes: none where it is not read.
+    // How many lanes the value of a cell takes: none if it is not read.
     fn lanes_of(&self, cell: usize) -> usize {
         if self.uses_of(self.made_by(cell)) > 0 {
             1
@@ -109,7 +109,7 @@ impl Gates {
         }
     }
 
-    /// Whether a cell reads a value.
+    /// Returns whether a cell reads a value.
     pub fn does_read(&self, cell: usize, value: usize) -> bool {
         match self.gates.get(cell) {
             Some(gate) => gate.reads(value),
@@ -117,13 +117,13 @@ impl Gates {
         }
     }
 
-    /// How many lanes the inputs, the loops and a dark lane take.
+    /// Returns how many lanes the inputs, the loops and a dark lane take.
     pub fn fewest_homes(&self) -> usize {
         let dark = if self.is_dark { 1 } else { 0 };
         self.zero().saturating_add(dark)
     }
 
-    /// How many tiles the drawing of so many columns and lanes has.
+    /// Returns how many tiles the drawing of so many columns and lanes has.
     pub fn tiles(&self, columns: usize, lanes: usize) -> u64 {
         let columns = columns.max(self.loops).max(lanes.min(1)) as u64;
         let loops = self.loops as u64;
@@ -131,7 +131,7 @@ impl Gates {
         width.saturating_mul((lanes as u64).saturating_add(loops))
     }
 
-    /// The most columns of a drawing on so many lanes that has no more tiles.
+    /// Returns the most columns of a drawing on so many lanes that has no more than `tiles` tiles.
     pub fn most_columns(&self, tiles: u64, lanes: usize) -> u64 {
         let loops = self.loops as u64;
         let width = tiles / (lanes as u64).saturating_add(loops).max(1);
@@ -149,7 +149,7 @@ impl Gates {
         }
     }
 
-    // A value is read once more.
+    // Counts one more use of a value.
     fn count(&mut self, value: usize) {
         if let Some(uses) = self.uses.get_mut(value) {
             *uses = uses.saturating_add(1);
@@ -195,7 +195,7 @@ impl Gates {
     }
 }
 
-// A value is read once less; 1 where that was the last time.
+// Counts one use less of a value; 1 if it was the last.
 fn use_up(left: &mut [usize], value: usize) -> usize {
     match left.get_mut(value) {
         Some(uses) => {
@@ -206,13 +206,13 @@ fn use_up(left: &mut [usize], value: usize) -> usize {
     }
 }
 
-// The operands of a gate are read once less; how many of them for the last time.
+// Counts one use less of each operand of a gate; how many of these were the last.
 fn end_operands(left: &mut [usize], gate: Gate) -> usize {
     let first = use_up(left, gate.first);
     first.saturating_add(use_up(left, gate.second))
 }
 
-// How many values are used.
+// How many values have uses left.
 fn count_used(left: &[usize]) -> usize {
     let mut count = 0usize;
     for uses in left {

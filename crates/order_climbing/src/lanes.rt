@@ -1,10 +1,10 @@
-// Lanes as the placer sees them, without instructions: what stands on each, and from which column
-// on it is idle.
+// Lanes as the placer sees them, without instructions: what stands on each, and the column from
+// which it is idle.
 use cell_core::CellError;
 use std::alloc::Global;
 
-/// What stands on a lane is a number: of a value, or of a port, or of an operand in hand, and
-/// `nothing` on a free lane. Each but `nothing` stands on one lane at most, which `places` tells.
+/// The numbers that stand on lanes: of a value, of a port or of an operand in hand, and `nothing`
+/// on a free lane. Each number but `nothing` stands on at most one lane, which `places` names.
 #[derive(Drop)]
 pub struct Lanes {
     standing: Vec<usize>,
@@ -13,7 +13,7 @@ pub struct Lanes {
     nothing: usize,
 }
 
-/// Where two lanes come side by side: the upper one of the two, and the column after.
+/// Where two lanes come side by side: the upper one of the two, and the column after that.
 #[derive(Clone, Copy)]
 struct Meeting {
     at: usize,
@@ -34,7 +34,7 @@ enum Way {
     Up(Copying),
 }
 
-// The way by which a copy is there first: one up takes a column more.
+// The way by which a copy is made first: one up takes a column more.
 fn first_way(below: Option<Copying>, above: Option<Copying>) -> Option<Way> {
     let Some(down) = below else {
         return Some(Way::Up(above?));
@@ -46,7 +46,7 @@ fn first_way(below: Option<Copying>, above: Option<Copying>) -> Option<Way> {
 }
 
 impl Lanes {
-    /// No lanes yet, for numbers below `nothing`.
+    /// Returns an empty set of lanes, for numbers below `nothing`.
     pub fn new(alloc: Global, nothing: usize) -> Result<Lanes, CellError> {
         let places = vec![in alloc; 0; nothing.saturating_add(1)]?;
         Ok(Lanes {
@@ -57,7 +57,7 @@ impl Lanes {
         })
     }
 
-    /// So many lanes, all free, at the first column.
+    /// Makes all of `lanes` lanes free, and idle from the first column.
     pub fn clear(&mut self, lanes: usize) -> Result<(), CellError> {
         self.standing.clear();
         self.standing.resize(lanes, self.nothing)?;
@@ -66,7 +66,7 @@ impl Lanes {
         Ok(())
     }
 
-    /// The lane of a number that stands on one.
+    /// Returns the lane of a number that stands on one.
     pub fn place(&self, number: usize) -> usize {
         self.places.get(number).copied().unwrap_or(0)
     }
@@ -85,7 +85,7 @@ impl Lanes {
         }
     }
 
-    /// The number stands on the lane.
+    /// Puts a number on a lane.
     pub fn put(&mut self, lane: usize, number: usize) {
         if let Some(standing) = self.standing.get_mut(lane) {
             *standing = number;
@@ -95,12 +95,12 @@ impl Lanes {
         }
     }
 
-    /// Nothing stands on the lane.
+    /// Frees a lane.
     pub fn free(&mut self, lane: usize) {
         self.put(lane, self.nothing);
     }
 
-    /// The column after the last instruction.
+    /// Returns the column after the last instruction.
     pub fn columns(&self) -> usize {
         let mut latest = 0usize;
         for clock in &self.clocks {
@@ -109,7 +109,7 @@ impl Lanes {
         latest
     }
 
-    /// An instruction on a lane and the next one; the column after it.
+    /// Places an instruction on a lane and the next one, and returns the column after it.
     pub fn tick(&mut self, lane: usize) -> usize {
         let next = lane.saturating_add(1);
         let time = self.clock(lane).max(self.clock(next)).saturating_add(1);
@@ -145,8 +145,8 @@ impl Lanes {
         self.set_clock(to, time);
     }
 
-    // What stands on a lane goes to the one beside it, whose own comes to the lane at that time or
-    // later; when it does.
+    // Moves what stands on lane `from` to lane `to` beside it, by one swap with a lane that is
+    // brought past it, no earlier than at `time`; the column after the swap.
     fn shift(&mut self, from: usize, to: usize, time: usize) -> usize {
         let time = time.max(self.clock(from)).saturating_add(1);
         self.put(to, self.standing_on(from));
@@ -154,7 +154,7 @@ impl Lanes {
         time
     }
 
-    // Where two lanes come side by side first: the one that can step earlier steps.
+    // Where two lanes come side by side first: at each step the lane moves that can do so earlier.
     fn meeting(&self, upper: usize, lower: usize) -> Meeting {
         let (mut i, mut j) = (upper, lower);
         let (mut time_i, mut time_j) = (self.clock(i), self.clock(j));
@@ -180,7 +180,8 @@ impl Lanes {
         self.bring(lower, at.saturating_add(1));
     }
 
-    /// Brings two lanes side by side: the upper one of the two that they come to.
+    /// Brings two lanes side by side, and returns the upper one of the two lanes to which they
+    /// come.
     pub fn join(&mut self, upper: usize, lower: usize) -> usize {
         let at = self.meeting(upper, lower).at;
         self.meet(upper, lower, at);
@@ -223,8 +224,8 @@ impl Lanes {
         Some(Copying { free, meeting })
     }
 
-    /// Makes a second copy of what stands on a lane, by the free lane that it can meet first: the
-    /// upper one of the two lanes that then have it. There is none where no lane is free.
+    /// Makes a second copy of what stands on a lane, on the free lane that it can meet first.
+    /// Returns the upper one of the two lanes that then have it, or `None` if no lane is free.
     pub fn copy(&mut self, lane: usize) -> Option<usize> {
         let below = self.copy_below(lane);
         let above = self.copy_above(lane);

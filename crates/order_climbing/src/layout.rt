@@ -1,10 +1,11 @@
-// What is climbed: an order of the cells, the lanes of the inputs, and how many lanes there are.
+// What climbing changes: an order of the cells, the lanes of the inputs, and how many lanes there
+// are.
 use crate::gates::{Gate, Gates};
 use cell_core::CellError;
 use std::alloc::Global;
 use std::ops::Range;
 
-/// The lane of each input, apart and above the loops, and how many lanes there are.
+/// The lane of each input, all distinct and above the loops, and how many lanes there are.
 #[derive(Drop)]
 pub struct Homes {
     pub ins: Vec<usize>,
@@ -12,7 +13,7 @@ pub struct Homes {
 }
 
 impl Homes {
-    /// No homes.
+    /// Returns no homes.
     pub fn new(alloc: Global) -> Homes {
         Homes {
             ins: Vec::new(alloc),
@@ -20,7 +21,7 @@ impl Homes {
         }
     }
 
-    /// Makes them equal to others.
+    /// Makes these homes equal to others.
     pub fn copy(&mut self, other: &Homes) -> Result<(), CellError> {
         self.ins.clear();
         self.ins.extend_from_slice(&other.ins)?;
@@ -38,7 +39,7 @@ impl Homes {
         None
     }
 
-    /// Whether an input stands on a lane.
+    /// Returns whether an input stands on a lane.
     pub fn is_home(&self, input: usize, lane: usize) -> bool {
         match self.input_on(lane) {
             Some(other) => other == input,
@@ -46,7 +47,7 @@ impl Homes {
         }
     }
 
-    /// The input goes to the lane; one that stands there comes to its own.
+    /// Moves an input to a lane. Another input that stands there moves to the first one's old lane.
     pub fn place(&mut self, input: usize, lane: usize) {
         let Some(old) = self.ins.get(input).copied() else {
             return;
@@ -63,7 +64,7 @@ impl Homes {
         }
     }
 
-    /// The highest lane above the loops on which no input stands, of `above` lanes.
+    /// Returns the highest of the `above` lanes above the loops on which no input stands.
     pub fn dark_lane(&self, above: usize) -> Option<usize> {
         for lane in 0..above {
             if !self.ins.contains(&lane) {
@@ -73,7 +74,7 @@ impl Homes {
         None
     }
 
-    // The lowest of them.
+    // The lowest of the `above` lanes on which no input stands.
     fn free_lane(&self, above: usize) -> Option<usize> {
         for lane in (0..above).rev() {
             if !self.ins.contains(&lane) {
@@ -83,7 +84,7 @@ impl Homes {
         None
     }
 
-    // The inputs, in their ranks, over the lanes above the loops.
+    // Spreads the inputs by their ranks over the lanes above the loops.
     fn spread(&mut self, ranked: &[(usize, usize)], above: usize) {
         let inputs = self.ins.len().max(1);
         for (rank, (_, input)) in ranked.iter().enumerate() {
@@ -91,8 +92,8 @@ impl Homes {
         }
     }
 
-    /// So many lanes, of which `above` stand above the loops: inputs that would stand on loops'
-    /// lanes go to free ones. Whether there are enough.
+    /// Sets the number of lanes, of which `above` stand above the loops. Inputs that would stand on
+    /// loops' lanes go to free ones. Returns whether there are enough.
     pub fn resize(&mut self, lanes: usize, above: usize) -> bool {
         self.lanes = lanes;
         for input in 0..self.ins.len() {
@@ -116,8 +117,8 @@ pub struct Layout {
 }
 
 impl Layout {
-    /// The order, with inputs spread over the lanes above the loops, those whose first reader comes
-    /// latest at the top.
+    /// Returns a layout of an order. Its inputs are spread over the lanes above the loops, those
+    /// whose first reader comes latest at the top.
     pub fn spread(
         alloc: Global,
         gates: &Gates,
@@ -136,7 +137,7 @@ impl Layout {
         Ok(layout)
     }
 
-    // The order, and so many lanes, of which no input has its own yet.
+    // Sets the order and the number of lanes. No input has its own lane yet.
     fn fill(&mut self, gates: &Gates, order: &[u32], lanes: usize) -> Result<(), CellError> {
         self.order.reserve(order.len())?;
         for cell in order {
@@ -147,8 +148,8 @@ impl Layout {
         Ok(())
     }
 
-    /// The places to which the cell at a place may go: after those that it reads, and before those
-    /// that read it.
+    /// Returns the places to which the cell at a place may go: after the cells that it reads, and
+    /// before those that read it.
     pub fn range(&self, gates: &Gates, place: usize) -> Option<Range<usize>> {
         let cell = *self.order.get(place)?;
         let gate = *gates.gates.get(cell)?;
@@ -157,7 +158,7 @@ impl Layout {
         Some(first..end)
     }
 
-    // The place after the last cell before a place that a gate reads.
+    // The place after the last earlier cell that a gate reads.
     fn after_read(&self, gates: &Gates, gate: Gate, place: usize) -> usize {
         for earlier in (0..place.min(self.order.len())).rev() {
             if gate.reads(gates.made_by(self.order[earlier])) {
@@ -167,7 +168,7 @@ impl Layout {
         0
     }
 
-    // The place of the first cell from a place on that reads a value, or the end.
+    // The place of the first cell from `place` on that reads a value, or the end.
     fn before_reader(&self, gates: &Gates, value: usize, place: usize) -> usize {
         for later in place..self.order.len() {
             if gates.does_read(self.order[later], value) {
@@ -177,7 +178,7 @@ impl Layout {
         self.order.len()
     }
 
-    /// The cell at one place goes to another.
+    /// Moves the cell at place `from` to place `to`.
     pub fn shift(&mut self, from: usize, to: usize) {
         let order = self.order.as_mut_slice();
         if from < order.len() && to < order.len() {
@@ -204,7 +205,7 @@ fn by_first_reader(
     Ok(ranked)
 }
 
-// So many inputs, each as if it were read at the start.
+// Adds the inputs, each as if it were first read at the start.
 fn push_inputs(
     ranked: &mut Vec<(usize, usize)>,
     inputs: usize,
@@ -227,7 +228,7 @@ fn note_readers(ranked: &mut [(usize, usize)], gates: &Gates, order: &[usize]) {
     }
 }
 
-// A value is read so far before the end of the order.
+// Notes that a value is read so far before the end of the order.
 fn note_reader(ranked: &mut [(usize, usize)], value: usize, before_end: usize) {
     if let Some((first, _)) = ranked.get_mut(value) {
         *first = before_end;

@@ -1,13 +1,13 @@
 // How many columns the placer takes for an order of the cells: the placer's own steps, without
-// instructions.
+// their instructions.
 use crate::gates::{Gate, Gates};
 use crate::lanes::Lanes;
 use crate::layout::Layout;
 use cell_core::CellError;
 use std::alloc::Global;
 
-/// A placer of some gates. It takes memory once; what stands on lanes is numbered as `Lanes` says:
-/// values, ports, the two operands.
+/// A placer of some gates, which takes memory once. The numbers on its `Lanes` are those of the
+/// values, then of the ports, then of the two operands.
 #[derive(Drop)]
 pub struct Placer<'a> {
     gates: &'a Gates,
@@ -18,7 +18,7 @@ pub struct Placer<'a> {
 }
 
 impl<'a> Placer<'a> {
-    /// A placer that has placed nothing.
+    /// Returns a placer that has placed nothing.
     pub fn new(alloc: Global, gates: &'a Gates) -> Result<Placer<'a>, CellError> {
         let first = gates.uses.len().saturating_add(gates.ports.len());
         let second = first.saturating_add(1);
@@ -31,8 +31,8 @@ impl<'a> Placer<'a> {
         })
     }
 
-    /// How many tiles the drawing of a layout has, if these are at most so many, and the lanes are
-    /// enough.
+    /// Returns how many tiles the drawing of a layout has, or `None` if these are more than `most`
+    /// or the lanes are not enough.
     pub fn tiles(&mut self, layout: &Layout, most: u64) -> Result<Option<u64>, CellError> {
         self.begin(layout)?;
         let lanes = layout.homes.lanes;
@@ -46,7 +46,7 @@ impl<'a> Placer<'a> {
         Ok(Some(tiles))
     }
 
-    // The lanes at the start.
+    // Sets the lanes as they are at the start.
     fn begin(&mut self, layout: &Layout) -> Result<(), CellError> {
         self.lanes.clear(layout.homes.lanes)?;
         self.left.clear();
@@ -69,15 +69,15 @@ impl<'a> Placer<'a> {
         Ok(())
     }
 
-    // A value that is used stands on a lane.
+    // Puts a value on a lane, if it is used.
     fn start(&mut self, value: usize, lane: usize) {
         if self.gates.uses_of(value) > 0 {
             self.lanes.put(lane, value);
         }
     }
 
-    // All gates, ports and loops; how many columns they take. Where a gate comes after so many
-    // columns, the rest is not placed.
+    // Places all gates, ports and loops; how many columns they take, or `None` if a gate ends past
+    // column `most` or the lanes are not enough.
     fn place_all(&mut self, layout: &Layout, most: u64) -> Option<usize> {
         for cell in &layout.order {
             let gate = *self.gates.gates.get(*cell)?;
@@ -90,7 +90,7 @@ impl<'a> Placer<'a> {
         Some(self.lanes.columns())
     }
 
-    // A gate; the column after it.
+    // Places a gate; the column after it.
     fn place_gate(&mut self, gate: Gate, made: usize) -> Option<usize> {
         let partner = self.lanes.place(gate.second);
         self.fetch(gate.first, self.first, partner)?;
@@ -111,8 +111,8 @@ impl<'a> Placer<'a> {
         Some(time)
     }
 
-    // One use of a value: a number stands for it on its lane, or on a copy, the one on the
-    // partner's side, where there are later uses.
+    // Uses a value once: `number` takes its place on its lane at the last use, and else on a copy,
+    // the one on the partner's side.
     fn fetch(&mut self, value: usize, number: usize, partner: usize) -> Option<()> {
         let left = self.left.get_mut(value)?;
         *left = left.saturating_sub(1);
@@ -148,7 +148,7 @@ impl<'a> Placer<'a> {
         Some(())
     }
 
-    // The loops' data come to the lowest lanes, the first to the lowest.
+    // Brings the loops' data to the lowest lanes, the first to the lowest.
     fn settle_loops(&mut self, lanes: usize) {
         for port in 0..self.gates.loops {
             let lane = self.lanes.place(self.port_number(port));

@@ -1,4 +1,4 @@
--- Texts, and what each of them says.
+-- Texts, and how each of them reads.
 use Rattle.std.specs.Prelude.{ℕ, ◌==◌, if◌then◌else◌, List, [], ◌∷◌, ◌++◌, map, codes}
 use Rattle.std.specs.Str.{byte}
 use Rattle.ww_rule.specs.declared.pattern.State.{State}
@@ -42,7 +42,7 @@ pub record PortFaultExample : Type 0 where
   pub kind : PortFaultKind
   pub line : ℕ
 
--- what examples claim
+-- what the examples claim
 abbrev pub ReadsAsSaid : PatternExample → Type 0
 ReadsAsSaid example = ReadsAsPattern example.text example.grid
 
@@ -77,7 +77,7 @@ has text kind line = record { text = text; kind = kind; line = line }
 abbrev pub with_items : List ℕ → List ℕ
 with_items items = codes "x = 3, y = 1, rule = WireWorld\n" ++ items
 
--- a wire of three cells with period p
+-- a wire of three cells, and its port table of period p
 abbrev pub wire_cells : List ℕ
 wire_cells = with_items (codes "3C!\n")
 
@@ -228,7 +228,8 @@ end_fault_examples =
     ∷ has (with_items (codes "3C18446744073709551616")) rle.NoEnd 2
     ∷ []
 
--- boxes of more cells than a reader takes, and of as many as it takes
+-- texts whose box has more cells than a reader takes, and texts with large numbers in the header
+-- but without such a box
 abbrev pub too_large_texts : List (List ℕ)
 too_large_texts =
     codes "x = 16385, y = 16384, rule = WireWorld\n!"
@@ -240,11 +241,11 @@ large_texts =
     ∷ codes "x = 18446744073709551615, y = 0, rule = WireWorld\n0C"
     ∷ codes "x = 16385, y = 16384\n!" ∷ []
 
--- the version line of a period of 4 and a latency of 2
+-- the version line with period 4 and latency 2
 abbrev pub version_four : List ℕ
 version_four = wire_version (codes "4")
 
--- a table of this version line and these lines, in the box of the wire
+-- a table of the version line with period 4 and these lines, in the box of the wire
 abbrev pub reads_as_ports : List ℕ → List PortLine → List PortLine → List NetLine → PortsExample
 reads_as_ports lines ins outs nets = record {
   text = version_four ++ lines;
@@ -253,7 +254,7 @@ reads_as_ports lines ins outs nets = record {
   ports = record { p = 4; l = 2; c = 1; ins = ins; outs = outs; nets = nets };
 }
 
--- a version line alone, of a period, a latency of 2 and so many contexts
+-- a version line alone, with a period, latency 2 and a number of contexts
 abbrev pub counted_version : List ℕ → List ℕ → List ℕ
 counted_version p c = codes "#C BLIFWW 1 P " ++ p ++ codes " L 2 C " ++ c ++ codes "\n"
 
@@ -265,11 +266,11 @@ reads_as_contexts p_word c_word p c = record {
   ports = record { p = p; l = 2; c = c; ins = []; outs = []; nets = [] };
 }
 
--- the version line of version 2, of a period of 4, a latency of 2 and one context
+-- the version line of version 2 with period 4, latency 2 and one context
 abbrev pub version_two : List ℕ
 version_two = codes "#C BLIFWW 2 P 4 L 2 C 1\n"
 
--- a table of this version line and these lines
+-- a table of the version line of version 2 and these lines
 abbrev pub reads_as_escapes : List ℕ → List PortLine → List PortLine → List NetLine → PortsExample
 reads_as_escapes lines ins outs nets = record {
   text = version_two ++ lines;
@@ -296,8 +297,7 @@ ports_examples =
     ∷ record { text = wire_cells ++ wire_in; width = 3; height = 1; ports = bare_ports }
     -- a text without a header
     ∷ reads_as_ports (codes "\n#\n" ++ wire_in) (port_line_at 0 0 (codes "a") ∷ []) [] []
-    -- the first line that is neither a comment nor blank ends the table, also where it is no good
-    -- header
+    -- the first line that is neither a comment nor blank ends the table, even if it is no header
     ∷ reads_as_ports (wire_in ++ codes "x = 3\n" ++ wire_out)
     (port_line_at 0 0 (codes "a") ∷ []) [] []
     ∷ record {
@@ -313,7 +313,7 @@ ports_examples =
     ∷ port_line_at 2 0 (codes "a\r") ∷ [])
     []
     []
-    -- one context in any period, and more where each has 32 generations of it
+    -- one context in any period, and more if each has 32 generations of it
     ∷ reads_as_contexts (codes "4") (codes "1") 4 1
     ∷ reads_as_contexts (codes "4") (codes "001") 4 1
     ∷ reads_as_contexts (codes "64") (codes "2") 64 2
@@ -376,7 +376,7 @@ is_no_port_line entry =
     has_port_fault (version_four ++ codes "#C BLIFWW " ++ entry ++ codes "\n"
     ++ wire_cells) port.BadLine 2
 
--- the same in version 2
+-- a version line of version 2 and one more line, which has none of the four forms
 abbrev pub is_no_escaped_line : List ℕ → PortFaultExample
 is_no_escaped_line entry =
     has_port_fault (version_two ++ codes "#C BLIFWW " ++ entry ++ codes "\n"
@@ -455,7 +455,7 @@ bad_order_examples =
     ∷ has_port_fault (version_two ++ version_four ++ wire_cells) port.BadOrder 2
     -- a table without a version has names as they stand
     ∷ has_port_fault (codes "#C BLIFWW IN 0 0 %4\n" ++ version_two ++ wire_cells) port.BadOrder 1
-    -- also where the line's cell is outside
+    -- also if the line's cell is outside
     ∷ has_port_fault (codes "#C BLIFWW OUT 3 0 y\n" ++ wire_cells) port.BadOrder 1
     ∷ []
 
@@ -467,7 +467,7 @@ outside_port_examples =
     ++ wire_cells) port.CellOutside 3
     ∷ has_port_fault (version_four ++ codes "#C BLIFWW NET 3 0 0 a -\n"
     ++ wire_cells) port.CellOutside 2
-    -- also where the line's name stands in an earlier one
+    -- also if the line's name stands in an earlier one
     ∷ has_port_fault (version_four ++ wire_in ++ codes "#C BLIFWW IN 3 0 a\n"
     ++ wire_cells) port.CellOutside 3
     ∷ []

@@ -1,4 +1,4 @@
--- What a text says as a whole: a pattern with its port table, or what keeps a reader from them.
+-- How a whole text reads: as a pattern with its port table, or what keeps a reader from them.
 use Rattle.std.specs.Prelude.{◌≡◌, ℕ, List}
 use Rattle.ww_rule.specs.Grid.{Grid}
 use Rattle.pattern_reading.specs.declared.faults.RleFaultKind.{RleFaultKind}
@@ -13,8 +13,8 @@ ReadsWhole text grid ports =
     ReadsWithinLimit text grid × ReadsAsPorts text grid.width grid.height ports
 
 -- The text reads as a pattern that a reader takes, and its port table has this first fault in the
--- pattern's box. So what is at fault in the pattern, and a box that is too large, come before what
--- is at fault in the table.
+-- pattern's box. So a fault of the pattern, and a box that is too large, come before a fault of the
+-- table.
 abbrev pub HasTableFault : List ℕ → PortFaultKind → ℕ → Type 0
 HasTableFault text kind line =
     (grid : Grid) × ReadsWithinLimit text grid × HasPortFault text grid.width grid.height kind line
@@ -30,14 +30,14 @@ pub data Answer : Type 0 where
   -- a fault of the port table, and its line
   TableFault : PortFaultKind → ℕ → Answer
 
--- This is what the text says.
+-- This is the answer to the text.
 abbrev pub IsAnswer : List ℕ → Answer → Type 0
 IsAnswer text (Whole grid ports) = ReadsWhole text grid ports
 IsAnswer text (PatternFault kind line) = HasReaderFault text kind line
 IsAnswer text (LargeBox width height) = HasLargeBox text width height
 IsAnswer text (TableFault kind line) = HasTableFault text kind line
 
--- It says something, and two things are one.
+-- Each text has an answer, and no text has two different ones.
 abbrev pub HasAnswer : List ℕ → Type 0
 HasAnswer text = (answer : Answer) × IsAnswer text answer
 

@@ -1,5 +1,4 @@
-// Texts whose reading is known, and texts that are at fault: the definitions say of each what they
-// should.
+// Texts whose reading is known, and texts that are at fault, as examples of the definitions.
 ghost use Rattle.std.specs.List.{AllByRecursion};
 ghost use Rattle.pattern_laws.specs.Examples.{ReadsAsSaid, HasSaidFault, ReadsAsSaidPorts, HasSaidPortFault};
 ghost use Rattle.pattern_laws.specs.Examples.{header_examples, item_examples};
@@ -8,31 +7,32 @@ ghost use Rattle.pattern_laws.specs.Examples.{ports_examples, too_large_texts, l
 ghost use Rattle.pattern_reading.specs.Pattern.{IsGridTooLarge};
 ghost use Rattle.pattern_laws.specs.Examples.{bad_line_examples, bad_order_examples, outside_port_examples, twice_examples};
 
-/// Patterns by texts of extended RLE, in the forms that a header and items may have.
+/// Example texts of extended RLE read as their patterns. They have the forms that a header and
+/// items may have.
 pub fn patterns_read()
     ensures headers { AllByRecursion ReadsAsSaid header_examples }
     ensures items { AllByRecursion ReadsAsSaid item_examples }
 {}
 
-/// Texts of extended RLE that are at fault, with the fault and its line.
+/// Example texts of extended RLE have their faults on their lines.
 pub fn faults_of_patterns()
     ensures headers { AllByRecursion HasSaidFault header_fault_examples }
     ensures items { AllByRecursion HasSaidFault item_fault_examples }
     ensures ends { AllByRecursion HasSaidFault end_fault_examples }
 {}
 
-/// Texts whose box is too large for a reader, and texts in which no such box is.
+/// Some example texts have a box that is too large for a reader, and others have none.
 pub fn large_boxes()
     ensures too_large { AllByRecursion IsGridTooLarge too_large_texts }
     ensures not_too_large { AllByRecursion (λ text. ¬ (IsGridTooLarge text)) large_texts }
 {}
 
-/// Port tables by texts, in the forms that their lines may have.
+/// Example texts read as their port tables. They have the forms that lines of a table may have.
 pub fn ports_read()
     ensures { AllByRecursion ReadsAsSaidPorts ports_examples }
 {}
 
-/// Texts whose port table is at fault, with the fault and its line.
+/// Example texts have their faults in their port tables, on their lines.
 pub fn faults_of_ports()
     ensures bad_line { AllByRecursion HasSaidPortFault bad_line_examples }
     ensures bad_order { AllByRecursion HasSaidPortFault bad_order_examples }

@@ -1,4 +1,4 @@
-// What the definitions of a text's readings imply, proved once for every text.
+// What the definitions of how a text reads imply, for every text.
 
 ghost use Rattle.std.specs.Prelude.{Bool, List, ℕ};
 ghost use Rattle.pattern_reading.specs.Laws.{HasOnePattern, HasOneRleFault, HasNoFaultIfRead, HasPatternOrFault};
@@ -22,7 +22,7 @@ pub fn pattern_laws()
     ensures total { (text : List ℕ) → HasPatternOrFault text }
 {}
 
-/// A reader that refuses boxes past a limit has exactly one answer to each text, and the numbers of
+/// A reader that refuses boxes past a limit has exactly one answer to each text, and the numbers in
 /// a header fit 64 bits.
 pub fn reader_laws()
     ensures answer { (text : List ℕ) → HasReaderAnswer text }
@@ -40,15 +40,16 @@ pub fn port_laws()
     ensures inside { (text : List ℕ) (width height : ℕ) → HasPortsInside text width height }
 {}
 
-/// Of each text exactly one holds: it reads as a pattern with its port table, its pattern has a
-/// fault, its box is too large, or its table has a fault in the pattern's box.
+/// Exactly one of these holds for each text: it reads as a pattern with its port table, its pattern
+/// has a fault, its box is too large, or its table has a fault in the pattern's box.
 pub fn whole_laws()
     ensures answer { (text : List ℕ) → HasAnswer text }
     ensures one { (text : List ℕ) → HasOneAnswer text }
 {}
 
-/// The lines of a text are numbered from 1 on, all of the text is in them, they are those of Rust's
-/// `lines`, and a line before a text is its first line, so that a text can be read line by line.
+/// The lines of a text are numbered from 1 on, have all of the text in them, and are those of
+/// Rust's `lines`. A line put before a text is its first line, so that a text can be read line by
+/// line.
 pub fn line_laws()
     ensures joined { (text : List ℕ) → HasAllInLines text }
     ensures numbered { (text : List ℕ) → HasNumberedLines text }
@@ -58,15 +59,15 @@ pub fn line_laws()
     ensures lone { (bytes : List ℕ) → HasLoneLine bytes }
 {}
 
-/// The sums of counts that place an item grow item by item, as a reader keeps them, and no two runs
-/// of cells overlap.
+/// The sums of counts that give an item's place grow item by item, as a reader keeps them, and no
+/// two runs of cells overlap.
 pub fn place_laws()
     ensures next { (item : Item) (before : List Item) → HasNextPlace item before }
     ensures one_run { (text : List ℕ) → HasOneRun text }
 {}
 
-/// A port table that is spelled before a text is read as it was meant, and changes nothing in the
-/// text's pattern. Its names are any of one or more bytes without a line feed.
+/// A port table that is spelled before a text without one reads as that table, and changes nothing
+/// in the text's pattern. Its names may be any of one or more bytes without a line feed.
 pub fn spelled_table_laws()
     ensures ports { (forms : List PortForm) (rest : List ℕ) → HasSpelledPorts forms rest }
     ensures pattern { (forms : List PortForm) (rest : List ℕ) → HasSamePattern forms rest }
@@ -77,8 +78,8 @@ pub fn spelled_table_laws()
     ensures sound { (width height : ℕ) (ports : Ports) → HasSoundLines width height ports }
 {}
 
-/// A header and items that are spelled are read as the pattern that they spell, however the items
-/// are cut into lines.
+/// A spelled header and spelled items read as the pattern that they spell, however the items are
+/// cut into lines.
 pub fn spelled_pattern_laws()
     ensures pattern { (header : List ℕ) (lines : List (List SpelledItem)) (rest : List ℕ)
         → HasSpelledPattern header lines rest }

@@ -1,4 +1,4 @@
--- Lines as values, without where their bytes lie in memory.
+-- Lines as values, regardless of where their bytes lie in memory.
 use Rattle.pattern_reading.specs.Lines.{Line}
 use Rattle.pattern_lines.specs.declared.lines.Line as lent
 

@@ -8,8 +8,8 @@ ghost use Rattle.pattern_lines.specs.Lines.{line_of};
 
 use crate::blanks::is_all_blank;
 
-/// A line without its end, with its number, which is counted from 1. Only the last line of a text
-/// may lack an end.
+/// A line without its end, and its number, counted from 1. Only the last line of a text may lack an
+/// end.
 #[derive(Clone, Copy)]
 pub struct Line<'a> {
     pub number: u64,
@@ -18,7 +18,7 @@ pub struct Line<'a> {
 }
 
 impl Line<'_> {
-    /// Whether the line is a comment: it begins with `#`.
+    /// Returns whether the line is a comment: it begins with `#`.
     pub fn is_comment(self) -> bool
         ensures { result ≡ is_comment (line_of self.entry) }
     {
@@ -28,8 +28,7 @@ impl Line<'_> {
         }
     }
 
-    /// Whether the line is skipped where it stands before the header: comments are, and lines of
-    /// blanks.
+    /// Returns whether the line is skipped before the header: comments are, and lines of blanks.
     pub fn is_skipped(self) -> bool
         ensures { result ≡ is_skipped (line_of self.entry) }
     {
@@ -47,14 +46,15 @@ fn without_carriage_return(bytes: &[u8]) -> &[u8]
     }
 }
 
-// How many bytes stand before the first line feed, which are all where there is none.
+// How many bytes stand before the first line feed, or how many there are if there is none.
 fn bytes_before_feed(text: &[u8]) -> usize
     ensures { result ≡ prefix_len (λ b. not (b == 10)) text.now }
 {
     text.iter().take_while(|b| **b != b'\n').count()
 }
 
-/// The first line of a text before which stand so many lines, and the text after it.
+/// Returns the first line of a text and the text after it. `lines_before` is the number of lines
+/// that stand before the text.
 pub fn split_line(lines_before: u64, text: &[u8]) -> (Line<'_>, &[u8])
     requires room { lines_before + length text.now < 2 ^ 64 }
     requires some { 0 < length text.now }

@@ -2,8 +2,8 @@
 ghost use Rattle.std.specs.Prelude.{◌≡◌};
 ghost use Rattle.pattern_reading.specs.Numbers.{number_in};
 
-/// The number that bytes write: one or more decimal digits and no sign, at most
-/// 18446744073709551615. Leading zeros are free.
+/// Returns the number that bytes write, or `None` if they write none. A number is one or more
+/// decimal digits and no sign, at most 18446744073709551615. Leading zeros are free.
 pub fn number_in(digits: &[u8]) -> Option<u64>
     ensures { result ≡ number_in digits.now }
 {

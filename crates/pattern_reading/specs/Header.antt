@@ -52,11 +52,11 @@ is_comment line = begins_with (byte "#") line.bytes
 abbrev pub is_skipped : Line → Bool
 is_skipped line = is_comment line || list_all is_blank line.bytes
 
--- the line that is to be the header: the first that is not skipped
+-- the line that is to be the header: the first one that is not skipped
 abbrev pub header_line : List ℕ → Option Line
 header_line text = find (λ line. not (is_skipped line)) (lines_of text)
 
--- the lines before the header, which are all where there is none, and the lines after it
+-- the lines before the header, or all lines if there is none, and the lines after the header
 abbrev pub lines_before_header : List ℕ → List Line
 lines_before_header text = take_while is_skipped (lines_of text)
 

@@ -9,8 +9,8 @@ use Rattle.pattern_reading.specs.Lines.{Line}
 use Rattle.pattern_reading.specs.Numbers.{is_blank, number_in}
 use Rattle.pattern_reading.specs.Header.{is_comment}
 
--- a byte that is no digit, with the digits directly before it; where the line ends with digits,
--- they are a piece without such a byte
+-- a byte that is no digit, with the digits directly before it; if a line ends with digits, they are
+-- a piece without such a byte
 pub record TaggedDigits : Type 0 where
   pub digits : List ℕ
   pub tag : Option ℕ
@@ -28,7 +28,7 @@ pieces_of (b ∷ bs) =
     if is_ascii_digit b then onto_first_piece b of_rest
     else record { digits = []; tag = Some b } ∷ of_rest
 
--- what a piece of a line stands for: one of the three items, or one of three things that are none
+-- what a piece of a line stands for: one of the three items, or something that is no item
 pub data Item : Type 0 where
   -- so many cells of one state
   Cells : ℕ → State → Item
@@ -60,12 +60,13 @@ item_with_count None tag = NoItem
 item_with_count (Some zero) tag = NoItem
 item_with_count (Some (suc n)) tag = counted_item (suc n) tag
 
--- what a byte without a count stands for: `!` and the blanks take none, and for other tags it is 1
+-- what a byte without a count stands for: `!` and the blanks take no count, and for other tags it
+-- is 1
 abbrev pub item_without_count : ℕ → Item
 item_without_count tag =
     if tag == byte "!" then End else if is_blank tag then Blank else counted_item 1 tag
 
--- digits at a line's end are cut off where the line has no end, since the text ends there
+-- digits at the end of a line are cut off if the line has no end, since the text ends there
 abbrev pub item_in : Bool → List ℕ → Option ℕ → Item
 item_in is_ended digits None = if is_ended then NoItem else CutOff
 item_in is_ended [] (Some tag) = item_without_count tag
@@ -111,16 +112,16 @@ abbrev pub is_end : Item → Bool
 is_end End = true
 is_end _ = false
 
--- the column at which an item begins: the sum of the counts of cells since the last `$`, of the
+-- the column at which an item begins: the sum of the counts of cells since the last `$`, by the
 -- items before it, the nearest first
 abbrev pub column_after : List Item → ℕ
 column_after before = sum_by cell_count (take_while (λ item. not (is_row_end item)) before)
 
--- the row: the sum of the counts of all `$` before it
+-- the row at which an item begins: the sum of the counts of all `$` before it
 abbrev pub row_after : List Item → ℕ
 row_after before = sum_by row_end_count before
 
--- the items at their places, where these stand before them, the nearest first
+-- the items at their places, if the items of `before` stand before them, the nearest first
 abbrev pub placed_after : List Item → List LineItem → List Placed
 placed_after before [] = []
 placed_after before (i ∷ is) =

@@ -18,33 +18,33 @@ use Rattle.pattern_reading.specs.PortTable.{ReadsAsPorts, HasPortFault}
 abbrev pub HasOnePattern : List ℕ → Type 0
 HasOnePattern text = (a b : Grid) → ReadsAsPattern text a → ReadsAsPattern text b → a ≡ b
 
--- It has at most one fault that is the first.
+-- A text has at most one first fault.
 abbrev pub HasOneRleFault : List ℕ → Type 0
 HasOneRleFault text =
     (k k' : RleFaultKind) (line line' : ℕ) → HasRleFault text k line → HasRleFault text k' line'
     → (k ≡ k') × (line ≡ line')
 
--- It never reads and has a fault.
+-- A text that reads as a pattern has no fault.
 abbrev pub HasNoFaultIfRead : List ℕ → Type 0
 HasNoFaultIfRead text =
     (grid : Grid) (kind : RleFaultKind) (line : ℕ) → ReadsAsPattern text grid
     → HasRleFault text kind line → ⊥
 
--- It reads or has a fault.
+-- A text reads as a pattern or has a fault.
 abbrev pub HasPatternOrFault : List ℕ → Type 0
 HasPatternOrFault text =
     ((grid : Grid) × ReadsAsPattern text grid)
     ⊎ ((kind : RleFaultKind) × (line : ℕ) × HasRleFault text kind line)
 
--- A reader answers it in one of three ways: a pattern, a fault and its line, or a box that is too
--- large with its numbers.
+-- A reader answers a text in one of three ways: a pattern, a fault and its line, or a box that is
+-- too large with its width and height.
 abbrev pub HasReaderAnswer : List ℕ → Type 0
 HasReaderAnswer text =
     ((grid : Grid) × ReadsWithinLimit text grid)
     ⊎ ((kind : RleFaultKind) × (line : ℕ) × HasReaderFault text kind line)
     ⊎ ((width height : ℕ) × HasLargeBox text width height)
 
--- No two of them are possible, and a box has one width and one height.
+-- No two of the three answers are possible for one text, and a box has one width and one height.
 pub record HasOneReaderAnswer (text : List ℕ) : Type 0 where
   pub reads_or_fault : (grid : Grid) (kind : RleFaultKind) (line : ℕ) → ReadsWithinLimit text grid
       → HasReaderFault text kind line → ⊥
@@ -55,7 +55,7 @@ pub record HasOneReaderAnswer (text : List ℕ) : Type 0 where
   pub one_box : (width height width' height' : ℕ) → HasBox text width height
       → HasBox text width' height' → (width ≡ width') × (height ≡ height')
 
--- The same of the port table of a text, in a box of this width and height.
+-- The same four laws for the port table of a text, in a box of this width and height.
 abbrev pub HasOneTable : List ℕ → ℕ → ℕ → Type 0
 HasOneTable text width height =
     (a b : Ports) → ReadsAsPorts text width height a → ReadsAsPorts text width height b → a ≡ b
@@ -79,7 +79,7 @@ HasTableOrFault text width height =
 abbrev pub with_end : Line → List ℕ
 with_end line = line.bytes ++ (if line.is_ended then 10 ∷ [] else [])
 
--- The lines with their ends, joined, are the text with line feeds for its line ends.
+-- The lines with their ends, joined, are the text with a line feed for each of its line ends.
 abbrev pub HasAllInLines : List ℕ → Type 0
 HasAllInLines text = flat_map with_end (lines_of text) ≡ with_line_feeds text
 
@@ -88,11 +88,11 @@ abbrev pub HasNumberedLines : List ℕ → Type 0
 HasNumberedLines text =
     map (λ line. line.number) (lines_of text) ≡ range_with_len 1 (length (lines_of text))
 
--- The lines are those that `lines` of Rust gives.
+-- The lines are those that `lines` of Rust returns.
 abbrev pub HasLinesOfRust : List ℕ → Type 0
 HasLinesOfRust text = map (λ line. line.bytes) (lines_of text) ≡ lines text
 
--- bytes without line feeds and carriage returns, which stand in a line whatever follows them
+-- bytes without line feeds and carriage returns, which lie in one line whatever follows them
 abbrev pub IsLineText : List ℕ → Type 0
 IsLineText bytes = All (λ b. (b ≢ 10) × (b ≢ 13)) bytes
 
@@ -100,13 +100,13 @@ IsLineText bytes = All (λ b. (b ≢ 10) × (b ≢ 13)) bytes
 abbrev pub later_by : ℕ → Line → Line
 later_by n line = record line { number = n + line.number }
 
--- A line before a text is its first line, and the others are the text's.
+-- A line put before a text is the first line, and the other lines are the text's.
 abbrev pub HasFirstLine : List ℕ → List ℕ → Type 0
 HasFirstLine bytes rest =
     lines_of (bytes ++ 10 ∷ rest) ≡ record { number = 1; bytes = bytes; is_ended = true }
     ∷ map (later_by 1) (lines_of rest)
 
--- where the item after another begins, by where that one began
+-- the place at which the next item begins, by the place of this item
 abbrev pub next_column : Item → ℕ → ℕ
 next_column (Cells n state) x = x + n
 next_column (RowEnds n) x = 0
@@ -122,8 +122,8 @@ HasNextPlace item before =
     (column_after (item ∷ before) ≡ next_column item (column_after before))
     × (row_after (item ∷ before) ≡ next_row item (row_after before))
 
--- Any text that is not empty is a line and the rest: up to its first line feed, less the carriage
--- return directly before it; or, where it has no line feed, all of it.
+-- Any text that is not empty is a line and the rest. The line ends before the first line feed, less
+-- the carriage return directly before that; without a line feed it is all of the text.
 abbrev pub HasLineThenRest : List ℕ → List ℕ → Type 0
 HasLineThenRest bytes rest =
     All (λ b. b ≢ 10) bytes → lines_of (bytes ++ 10 ∷ rest) ≡ record
@@ -140,14 +140,14 @@ abbrev pub HasSmallBox : List ℕ → ℕ → ℕ → Type 0
 HasSmallBox text width height =
     HasBox text width height → (width ≤ greatest_number) × (height ≤ greatest_number)
 
--- a port and a net in a box
+-- a port in a box, and a net in a box
 abbrev pub IsPortInside : ℕ → ℕ → PortLine → Type 0
 IsPortInside width height port = (port.x < width) × (port.y < height)
 
 abbrev pub IsNetInside : ℕ → ℕ → NetLine → Type 0
 IsNetInside width height net = (net.x < width) × (net.y < height)
 
--- The cells of a table that a text reads as lie in the box.
+-- If a text reads as a table, the table's cells lie in the box.
 pub record HasCellsInside (width height : ℕ) (ports : Ports) : Type 0 where
   pub ins : AllByRecursion (IsPortInside width height) ports.ins
   pub outs : AllByRecursion (IsPortInside width height) ports.outs

@@ -9,7 +9,7 @@ pub record Line : Type 0 where
   -- whether it has a line end, which only the last line may lack
   pub is_ended : Bool
 
--- whether this is the first byte
+-- whether the bytes begin with this one
 abbrev pub begins_with : ℕ → List ℕ → Bool
 begins_with b [] = false
 begins_with b (c ∷ cs) = c == b
@@ -22,7 +22,7 @@ with_line_feeds (b ∷ bs) =
     let rest = with_line_feeds bs in
     if b == 13 && begins_with 10 bs then rest else b ∷ rest
 
--- a byte put before the first of these lines; where there is none, it is a line n without an end
+-- a byte put before the first of these lines; if there is none, it becomes a line n without an end
 abbrev pub onto_first_line : ℕ → ℕ → List Line → List Line
 onto_first_line n b [] = record { number = n; bytes = b ∷ []; is_ended = false } ∷ []
 onto_first_line n b (line ∷ lines) = record line { bytes = b ∷ line.bytes } ∷ lines

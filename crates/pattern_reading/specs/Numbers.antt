@@ -21,7 +21,7 @@ number_in (b ∷ bs) =
 abbrev pub is_blank : ℕ → Bool
 is_blank b = b == 9 || b == 32
 
--- the bytes without the blanks at their front, and without those at both ends
+-- the bytes without the blanks at their beginning, and without those at both ends
 abbrev pub without_leading_blanks : List ℕ → List ℕ
 without_leading_blanks bytes = drop (prefix_len is_blank bytes) bytes
 
@@ -35,17 +35,17 @@ abbrev pub ◌>>=◌ : {A B : Type 0} → Option A → (A → Option B) → Opti
 None >>= read = None
 (Some x) >>= read = read x
 
--- what follows a word that the bytes begin with, if they do
+-- what follows a word, if the bytes begin with it
 abbrev pub after_prefix : List ℕ → List ℕ → Option (List ℕ)
 after_prefix [] bytes = Some bytes
 after_prefix (c ∷ word) [] = None
 after_prefix (c ∷ word) (b ∷ bytes) = if b == c then after_prefix word bytes else None
 
--- what follows a word, where blanks may stand before it
+-- what follows a word; blanks may stand before it
 abbrev pub after_word : List ℕ → List ℕ → Option (List ℕ)
 after_word word bytes = after_prefix word (without_leading_blanks bytes)
 
--- a number, where blanks may stand before it, and what follows its digits
+-- a number and what follows its digits; blanks may stand before it
 abbrev pub number_at_front : List ℕ → Option (ℕ × List ℕ)
 number_at_front bytes =
     let digits = take_while is_ascii_digit (without_leading_blanks bytes) in

@@ -25,18 +25,18 @@ pub record HasBox (text : List ℕ) (width height : ℕ) : Type 0 where
 abbrev pub items_after_header : List ℕ → List LineItem
 items_after_header text = items_of_lines (lines_after_header text)
 
--- whether there is an `!` among them
+-- whether there is an `!` among the items
 abbrev pub has_end : List ℕ → Bool
 has_end text = list_any (λ i. is_end i.item) (items_after_header text)
 
--- the items before the first `!`, or all where there is none, at their places; what follows it is
+-- the items before the first `!`, or all if there is none, at their places; what follows the `!` is
 -- ignored
 abbrev pub placed_items : List ℕ → List Placed
 placed_items text =
     placed_after [] (take_while (λ i. not (is_end i.item)) (items_after_header text))
 
--- what is at fault in a run of cells: heads, tails and conductors lie in the box, and empty cells
--- may pass it
+-- what is at fault in a run of cells: heads, tails and conductors must lie in the box, and empty
+-- cells may pass it
 abbrev pub run_fault : ℕ → ℕ → Placed → ℕ → State → Option RleFaultKind
 run_fault width height p n Empty = None
 run_fault width height p n _ =
@@ -61,17 +61,17 @@ fault_at width height p =
 abbrev pub item_faults : List ℕ → ℕ → ℕ → List RleFaultAt
 item_faults text width height = filter_map (fault_at width height) (placed_items text)
 
--- the state that an item gives to a cell, where it is a run of cells that covers it
+-- the state that an item gives to a cell, if it is a run of cells that covers the cell
 abbrev pub state_in : ℕ → ℕ → Placed → Item → Option State
 state_in x y p (Cells n state) =
     if p.y == y && nat_le p.x x && nat_lt x (p.x + n) then Some state else None
 state_in x y p _ = None
 
--- the state of a cell: that of the run that covers it, and empty where none does
+-- the state of a cell: that of the run that covers it, or empty if none does
 abbrev pub state_at : List Placed → ℕ → ℕ → State
 state_at items x y = unwrap_or (slice_get (filter_map (λ p. state_in x y p p.item) items) 0) Empty
 
--- The text reads as a pattern: after the lines that are skipped stands a header, and then items
+-- The text reads as a pattern: after the lines that are skipped comes a header, and then items
 -- without fault, ended by `!`. The pattern has the header's box and the items' cells.
 pub record ReadsAsPattern (text : List ℕ) (grid : Grid) : Type 0 where
   pub header : HasBox text grid.width grid.height
@@ -81,26 +81,26 @@ pub record ReadsAsPattern (text : List ℕ) (grid : Grid) : Type 0 where
   pub cells : (x y : ℕ) → x < grid.width → y < grid.height
       → get_or (get_or grid.rows y []) x Empty ≡ state_at (placed_items text) x y
 
--- This fault comes first in the text, and it is on this line. What is at fault in the header comes
--- first, and then the items, in the text's order. That a box is too large is no fault of the text,
--- but a reader's limit.
+-- This fault comes first in the text, and it is on this line. A fault of the header comes before
+-- those of the items, which come in the text's order. A box that is too large is no fault of the
+-- text, but a limit of the reader.
 abbrev pub HasRleFault : List ℕ → RleFaultKind → ℕ → Type 0
 -- there is no line to be the header, or it does not begin with `x`, blanks before it aside
 HasRleFault text NoHeader line =
     ((header_line text ≡ None) × (line ≡ last_line text))
     ⊎ ((header : Line) × (header_line text ≡ Some header)
     × (after_word (codes "x") header.bytes ≡ None) × (line ≡ header.number))
--- it has another form
+-- the header has another form
 HasRleFault text BadHeader line =
     (header : Line) × (header_line text ≡ Some header)
     × (is_some (after_word (codes "x") header.bytes) ≡ true) × (header_in header.bytes ≡ None)
     × (line ≡ header.number)
--- it names no rule, or another
+-- the header names no rule, or another one
 HasRleFault text OtherRule line =
     (header : Line) × (header_line text ≡ Some header) × (parts : Header)
     × (header_in header.bytes ≡ Some parts) × (is_wireworld parts.rule ≡ false)
     × (line ≡ header.number)
--- of the items that are at fault the first is no item, or has cells outside the box
+-- the first item at fault is no item, or has cells outside the box
 HasRleFault text BadItem line =
     (width height : ℕ) × HasBox text width height
     × (slice_get (item_faults text width height) 0 ≡ Some (record { kind = BadItem; line = line }))
@@ -113,7 +113,7 @@ HasRleFault text NoEnd line =
     (width height : ℕ) × HasBox text width height × (item_faults text width height ≡ [])
     × (has_end text ≡ false) × (line ≡ last_line text)
 
--- the most cells that the box of a text may have for a reader
+-- the most cells that a reader takes in the box of a text
 abbrev pub most_cells : ℕ
 most_cells = 268435456
 
@@ -125,8 +125,8 @@ HasLargeBox text width height = HasBox text width height × (most_cells < width 
 abbrev pub IsGridTooLarge : List ℕ → Type 0
 IsGridTooLarge text = (width height : ℕ) × HasLargeBox text width height
 
--- The fault with a line that a reader answers: a box that is too large it answers in place of what
--- is at fault in the items.
+-- The fault with a line that a reader answers: if the box is too large, the reader answers that in
+-- place of a fault of the items.
 abbrev pub HasReaderFault : List ℕ → RleFaultKind → ℕ → Type 0
 HasReaderFault text kind line = HasRleFault text kind line × ¬ (IsGridTooLarge text)
 

@@ -1,6 +1,6 @@
--- The lines of a port table. It stands in comments before the header, in a form of this program's
--- own, so that other readers of extended RLE pass over it. There are two versions: version 2 is
--- written, and version 1 is still read.
+-- The lines of a port table. The table stands in comments before the header, in a form of this
+-- program's own, so that other readers of extended RLE skip it. There are two versions: version 2
+-- is written, and version 1 is read as well.
 use Rattle.std.specs.Prelude.{ℕ, Bool, ◌&&◌, ◌||◌, not, ◌==◌, ◌*◌, nat_le, if◌then◌else◌, List, [], ◌∷◌, length, slice_index, Option, Some, None, codes, is_some, filter_map, take_while, unwrap_or}
 use Rattle.std.specs.List.{list_all, slice_split}
 use Rattle.std.specs.Str.{bytes_eq, byte}
@@ -16,7 +16,7 @@ use Rattle.pattern_reading.specs.Header.{lines_before_header}
 
 -- what a line of the table says, by its form
 pub data PortForm : Type 0 where
-  -- `2 P p L l C c`; in version 1 `1 P p L l C c`, or `1 P p L l` where c is 1
+  -- `2 P p L l C c`; in version 1 `1 P p L l C c`, or `1 P p L l` if c is 1
   Version : ℕ → ℕ → ℕ → PortForm
   -- `IN x y name`
   In : PortLine → PortForm
@@ -36,12 +36,12 @@ path_in field =
     if bytes_eq field (codes "-") || list_all is_path_number
     (slice_split (λ b. b == byte ".") field) then Some field else None
 
--- whether a period has room for so many contexts: for one, and for more where each has 32
+-- whether a period has room for so many contexts: it has room for one, and for more if each has 32
 -- generations of it
 abbrev pub has_room : ℕ → ℕ → Bool
 has_room period contexts = contexts == 1 || (not (contexts == 0) && nat_le (32 * contexts) period)
 
--- the number of contexts
+-- the number of contexts, after its word `C`
 abbrev pub count_in : List ℕ → List ℕ → Option ℕ
 count_in c_word c = if bytes_eq c_word (codes "C") then number_in c else None
 
@@ -51,7 +51,7 @@ version_named word =
     if bytes_eq word (codes "1") then Some Raw else if bytes_eq word (codes "2") then Some Escaped
     else None
 
--- the number of contexts where a version line does not say it: version 2 always says it
+-- the number of contexts if a version line does not give it: version 2 always gives it
 abbrev pub uncounted : TableVersion → Option ℕ
 uncounted Raw = Some 1
 uncounted Escaped = None
@@ -69,8 +69,9 @@ version_in p_word p l_word l contexts =
           else Some (Version period latency count))
     else None
 
--- The name that a field says, of one or more bytes: in version 1 the field as it stands, and in
--- version 2 with escapes. No space stands in a field, since spaces separate the fields.
+-- The name that a field stands for, of one or more bytes: in version 1 the field as it stands, and
+-- in version 2 the field with its escapes read. No space stands in a field, since spaces separate
+-- the fields.
 abbrev pub name_of_field : TableVersion → List ℕ → Option (List ℕ)
 name_of_field Raw field = non_empty field
 name_of_field Escaped field = unescaped field >>= non_empty
@@ -106,7 +107,8 @@ form_of_fields version (kind ∷ x ∷ y ∷ offset ∷ name ∷ path ∷ []) =
     (net_in version x y offset name path >>= λ net. Some (Net net)) else None
 form_of_fields version _ = None
 
--- what follows `#C BLIFWW ` in a line that begins so: such lines before the header are the table
+-- what follows `#C BLIFWW ` in a line that begins with it: such lines before the header are the
+-- table
 abbrev pub table_entry : Line → Option (List ℕ)
 table_entry line = after_prefix (codes "#C BLIFWW ") line.bytes
 
@@ -114,9 +116,9 @@ table_entry line = after_prefix (codes "#C BLIFWW ") line.bytes
 abbrev pub first_field : List ℕ → List ℕ
 first_field entry = take_while (λ b. not (b == byte " ")) entry
 
--- The version of a table, which the first field of its first entry names. Where it names none,
--- names are read as they stand: then that entry, which is no version line, is in the wrong order if
--- it has a form.
+-- The version of a table, which the first field of its first entry names. If it names none, names
+-- are read as they stand: then that entry, which is no version line, is in the wrong order if it
+-- has a form.
 abbrev pub version_of_entries : List (List ℕ) → TableVersion
 version_of_entries [] = Raw
 version_of_entries (entry ∷ entries) = unwrap_or (version_named (first_field entry)) Raw
@@ -138,8 +140,8 @@ table_line version line = do
 abbrev pub table_version : List ℕ → TableVersion
 table_version text = version_of_entries (filter_map table_entry (lines_before_header text))
 
--- The lines of a text's table, in order. The header that they stand before is the first line that
--- is neither a comment nor blank, whatever its form; where there is none, they are looked for in
--- all lines.
+-- The lines of a text's table, in order. They stand before the header, which is the first line that
+-- is neither a comment nor blank, whatever its form; if there is no such line, all lines are
+-- searched for them.
 abbrev pub table_of : List ℕ → List TableLine
 table_of text = filter_map (table_line (table_version text)) (lines_before_header text)

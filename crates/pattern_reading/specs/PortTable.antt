@@ -28,14 +28,14 @@ is_same_port (Out a) (Out b) = bytes_eq a.name b.name
 is_same_port (Net a) (Net b) = bytes_eq a.name b.name && bytes_eq a.path b.path
 is_same_port _ _ = false
 
--- whether a line that has a form is at the wrong place: the version line is the first line, and no
--- other
+-- whether a line that has a form is in the wrong place: the first line must be the version line,
+-- and no other line may be one
 abbrev pub is_misplaced : List (Option PortForm) → PortForm → Bool
 is_misplaced [] form = not (is_version form)
 is_misplaced (first ∷ before) form = is_version form
 
--- What is at fault in a line, by the forms of the table's lines before it; of several faults the
--- first in the order of their names.
+-- What is at fault in a line, by the forms of the table's lines before it; of several faults it is
+-- the first in the order of their names.
 abbrev pub fault_of_form : ℕ → ℕ → List (Option PortForm) → Option PortForm → Option PortFaultKind
 fault_of_form width height before None = Some BadLine
 fault_of_form width height before (Some form) =
@@ -49,7 +49,7 @@ pub record PortFaultAt : Type 0 where
   pub kind : PortFaultKind
   pub line : ℕ
 
--- the faults of the table's lines, in order, where lines of these forms stand before them
+-- the faults of the table's lines, in order, if lines of these forms stand before them
 abbrev pub faults_after : ℕ → ℕ → List (Option PortForm) → List TableLine → List PortFaultAt
 faults_after width height before [] = []
 faults_after width height before (line ∷ lines) =
@@ -61,7 +61,7 @@ faults_after width height before (line ∷ lines) =
 abbrev pub port_faults : List ℕ → ℕ → ℕ → List PortFaultAt
 port_faults text width height = faults_after width height [] (table_of text)
 
--- the period, the latency and the number of contexts of the version line; 32, 0 and 1 where there
+-- the period, the latency and the number of contexts of the version line, or 32, 0 and 1 if there
 -- is none
 abbrev pub period_in : List PortForm → ℕ
 period_in [] = 32
@@ -105,15 +105,14 @@ ports_of forms = record {
 abbrev pub forms_of : List ℕ → List PortForm
 forms_of text = filter_map (λ line. line.form) (table_of text)
 
--- The text reads as a port table in a box of this width and height, which is the header's where
--- there is one: no line of its table is at fault, and its lines make that table. A text without
--- such lines has the empty table of period 32, latency 0 and one context.
+-- The text reads as a port table in a box of this width and height, which is the header's if there
+-- is one: no line of its table is at fault, and its lines make that table. A text without such
+-- lines has the empty table of period 32, latency 0 and one context.
 pub record ReadsAsPorts (text : List ℕ) (width height : ℕ) (ports : Ports) : Type 0 where
   pub no_fault : port_faults text width height ≡ []
   pub ports_is : ports ≡ ports_of (forms_of text)
 
--- The first line of the table that is at fault is this one, and this is the first fault that it
--- has.
+-- This line is the first line of the table that is at fault, and this is its first fault.
 abbrev pub HasPortFault : List ℕ → ℕ → ℕ → PortFaultKind → ℕ → Type 0
 HasPortFault text width height kind line =
     slice_get (port_faults text width height) 0 ≡ Some (record { kind = kind; line = line })

@@ -1,4 +1,4 @@
--- What the values of a port table are that a text reads as.
+-- What holds for the values of every port table that is read from a text.
 use Rattle.std.specs.Prelude.{◌≡◌, ◌≢◌, ◌≤◌, ◌<◌, ◌*◌, ℕ, List, [], Some}
 use Rattle.std.specs.List.{AllByRecursion, AllPairs}
 use Rattle.pattern_reading.specs.declared.ports.PortLine.{PortLine}
@@ -16,7 +16,7 @@ pub record IsSoundPort (port : PortLine) : Type 0 where
   pub y : port.y ≤ greatest_number
   pub name : IsPortName port.name
 
--- a net's as well, and it has a path
+-- a net's numbers fit 64 bits, and it has a name and a path
 pub record IsSoundNet (net : NetLine) : Type 0 where
   pub x : net.x ≤ greatest_number
   pub y : net.y ≤ greatest_number
@@ -24,7 +24,7 @@ pub record IsSoundNet (net : NetLine) : Type 0 where
   pub name : IsPortName net.name
   pub path : path_in net.path ≡ Some net.path
 
--- The period is not 0, there is a context, and where there are more each has 32 generations of the
+-- The period is not 0, there is a context, and if there are more each has 32 generations of the
 -- period. All numbers fit 64 bits, all names have one or more bytes and no line feed, and no two
 -- inputs, no two outputs and no two nets of one path have one name.
 pub record IsSoundTable (ports : Ports) : Type 0 where
@@ -40,17 +40,17 @@ pub record IsSoundTable (ports : Ports) : Type 0 where
   pub one_output : AllPairs (λ a b. a.name ≢ b.name) ports.outs
   pub one_net : AllPairs (λ a b. a.name ≡ b.name → a.path ≢ b.path) ports.nets
 
--- Such is a table that a text reads as.
+-- If a text reads as a table, the table is sound.
 abbrev pub HasSoundTable : List ℕ → ℕ → ℕ → Type 0
 HasSoundTable text width height =
     (ports : Ports) → ReadsAsPorts text width height ports → IsSoundTable ports
 
--- A sound table whose cells lie in a box has lines of which none is at fault there.
+-- A sound table whose cells lie in a box is written in lines of which none is at fault there.
 abbrev pub HasSoundLines : ℕ → ℕ → Ports → Type 0
 HasSoundLines width height ports =
     IsSoundTable ports → HasCellsInside width height ports
     → IsSoundAfter width height [] (port_forms ports)
 
--- They can be spelled.
+-- The lines of a sound table can be spelled.
 abbrev pub HasSpellableLines : Ports → Type 0
 HasSpellableLines ports = IsSoundTable ports → AllByRecursion IsSpellable (port_forms ports)

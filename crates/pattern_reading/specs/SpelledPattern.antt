@@ -10,8 +10,8 @@ use Rattle.pattern_reading.specs.Items.{Item, Placed, counted_item, is_end, item
 use Rattle.pattern_reading.specs.Pattern.{ReadsAsPattern, fault_at, state_at}
 use Rattle.pattern_reading.specs.Laws.{IsLineText}
 
--- an item that is written out: the digits of its count, of which there are none where it is left
--- out, and its tag
+-- an item that is written out: the digits of its count, or none if the count is left out, and its
+-- tag
 pub record SpelledItem : Type 0 where
   pub digits : List ℕ
   pub tag : ℕ
@@ -33,7 +33,7 @@ line_text items = flat_map item_text items
 abbrev pub lines_text : List (List SpelledItem) → List ℕ
 lines_text lines = flat_map (λ items. line_text items ++ 10 ∷ []) lines
 
--- what the items of some lines stand for
+-- the items for which these lines stand
 abbrev pub items_of_text : List (List SpelledItem) → List Item
 items_of_text lines =
     flat_map (λ items. map (λ item. item_in true item.digits (Some item.tag)) items) lines
@@ -44,8 +44,8 @@ places_of items =
     placed_after [] (map (λ item. record { line = 0; item = item })
     (take_while (λ item. not (is_end item)) items))
 
--- The items spell the cells of a grid: none of them is at fault in its box, they are ended by `!`,
--- and each cell is as they say.
+-- The items spell the cells of a grid: none of them is at fault in its box, `!` ends them, and each
+-- cell is as they say.
 pub record SpellsGrid (items : List Item) (grid : Grid) : Type 0 where
   pub no_fault : filter_map (fault_at grid.width grid.height) (places_of items) ≡ []
   pub ends : list_any is_end items ≡ true
@@ -74,7 +74,7 @@ spelled_header width height =
     codes "x = " ++ (decimal width ++ (codes ", y = "
     ++ (decimal height ++ codes ", rule = WireWorld")))
 
--- It is a header of the box, and it can stand in a line.
+-- The spelled header is a header of the box, and it lies in one line.
 abbrev pub HasSpelledHeader : Grid → Type 0
 HasSpelledHeader grid =
     grid.width < 2 ^ 64 → grid.height < 2 ^ 64

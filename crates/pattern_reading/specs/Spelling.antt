@@ -1,4 +1,4 @@
--- How a port table of version 2 is spelled: each line in one way, its numbers without leading
+-- How a port table of version 2 is spelled: each line in one way, with its numbers without leading
 -- zeros.
 use Rattle.std.specs.Prelude.{◌≡◌, ◌≢◌, ℕ, ◌^◌, ◌<◌, Bool, true, false, List, [], ◌∷◌, ◌++◌, flat_map, map, Option, Some, None, codes, decimal}
 use Rattle.std.specs.List.{All, AllByRecursion, join_with_byte}
@@ -41,11 +41,11 @@ port_forms ports =
 abbrev pub port_lines : Ports → List (List ℕ)
 port_lines ports = map spelled_line (port_forms ports)
 
--- These lines make the table.
+-- The lines of a table make that table.
 abbrev pub HasItsForms : Ports → Type 0
 HasItsForms ports = ports_of (port_forms ports) ≡ ports
 
--- bytes that stand in a field whatever follows them: no line feed, no carriage return and no space
+-- bytes that lie in one field whatever follows them: no line feed, no carriage return and no space
 abbrev pub IsField : List ℕ → Type 0
 IsField bytes = All (λ b. (b ≢ 10) × (b ≢ 13) × (b ≢ 32)) bytes
 
@@ -53,14 +53,14 @@ IsField bytes = All (λ b. (b ≢ 10) × (b ≢ 13) × (b ≢ 32)) bytes
 abbrev pub IsPortName : List ℕ → Type 0
 IsPortName name = (name ≢ []) × All (λ b. b ≢ 10) name
 
--- Whatever test tells the plain bytes, as long as `%` is not one of them, bytes without a line feed
--- are read back from their escapes.
+-- With every test for the plain bytes that excludes `%`, bytes without a line feed are read back
+-- from their escapes.
 abbrev pub HasItsEscapes : (ℕ → Bool) → List ℕ → Type 0
 HasItsEscapes is_plain bytes =
     is_plain (byte "%") ≡ false → All (λ b. b ≢ 10) bytes
     → unescaped (escaped is_plain bytes) ≡ Some bytes
 
--- So a name with escapes is a field, and in version 2 it says the name.
+-- A name with escapes is a field, and in version 2 this field stands for the name.
 abbrev pub HasItsName : List ℕ → Type 0
 HasItsName name =
     IsPortName name → IsField (escaped_name name)
@@ -76,7 +76,7 @@ IsSpellable (Net net) =
     (net.x < 2 ^ 64) × (net.y < 2 ^ 64) × (net.offset < 2 ^ 64) × IsPortName net.name
     × (path_in net.path ≡ Some net.path)
 
--- none of these lines is at fault, where lines of these forms stand before them
+-- none of these lines is at fault, if lines of these forms stand before them
 abbrev pub IsSoundAfter : ℕ → ℕ → List (Option PortForm) → List PortForm → Type 0
 IsSoundAfter width height before [] = Unit {0}
 IsSoundAfter width height before (form ∷ forms) =

@@ -1,10 +1,10 @@
 // The faults of a pattern's text and of its port table, by the names that the program prints.
 
-/// The faults of a text of extended RLE. Of one text the earliest is answered, and what is at fault
-/// in the header comes before what is at fault in the items.
+/// The faults of a text of extended RLE. The answer is the earliest fault of a text, and a fault in
+/// the header comes before one in the items.
 #[derive(Clone, Copy, Debug, PartialEq, Eq)]
 pub enum RleFaultKind {
-    /// There is no line to be the header, or it does not begin with `x`.
+    /// There is no line for the header, or the header does not begin with `x`.
     NoHeader,
     /// The header has another form, or a number in it is past 18446744073709551615.
     BadHeader,
@@ -19,20 +19,21 @@ pub enum RleFaultKind {
     NoEnd,
 }
 
-/// The faults of a port table. Of one text the earliest line is answered, and of one line the first
-/// of these.
+/// The faults of a port table. The answer is the earliest line at fault, and the first of its
+/// faults in this order.
 #[derive(Clone, Copy, Debug, PartialEq, Eq)]
 pub enum PortFaultKind {
-    /// A line of the table has none of the four forms: so a version other than 1 and 2, a version
-    /// line of version 2 without its number of contexts, and, in version 2, a name in which a `%`
-    /// is not followed by two hexadecimal digits, or in which these stand for a line feed. Or its
-    /// period is 0, its number of contexts is 0 or has no room in the period, or a number is past
-    /// 18446744073709551615.
+    /// A line of the table has none of the four forms. This includes a version other than 1 and 2,
+    /// a version line of version 2 without its number of contexts, and, in version 2, a name in
+    /// which a `%` is not followed by two hexadecimal digits, or is followed by those of a line
+    /// feed. A period of 0, a number of contexts that is 0 or has no room in the period, and a
+    /// number past 18446744073709551615 are bad too.
     BadLine,
     /// The first line of the table is not the version line, or a later line is one.
     BadOrder,
     /// The cell of a line is outside the header's box.
     CellOutside,
-    /// An earlier line of its kind has the name, or, of a net, the name and the path.
+    /// An earlier line of the same kind has the same name, or, if it is a net, the same name and
+    /// path.
     Twice,
 }

@@ -1,14 +1,14 @@
 // Port tables as values.
 use lists::{Bytes, List};
 
-/// The versions of port tables, by how names stand in them. Version 1 has them as they are. Version
-/// 2, which is written, has an escape for each byte outside 33 to 126 and for each `%`: `%` and two
-/// hexadecimal digits. Its reader takes any other byte as it stands.
+/// The versions of port tables, which differ in how they write names. Version 1 writes them as they
+/// are. Version 2, in which tables are written, has an escape for each byte outside 33 to 126 and
+/// for each `%`: `%` and two hexadecimal digits. Its reader takes every byte but `%` as it stands.
 #[derive(Clone, Copy)]
 pub enum TableVersion {
-    /// Version 1.
+    /// Version 1: names as they are.
     Raw,
-    /// Version 2.
+    /// Version 2: names with escapes.
     Escaped,
 }
 
@@ -20,8 +20,8 @@ pub struct PortLine {
     pub name: Bytes,
 }
 
-/// A net: the cell at which it can be seen, the generation at which its first bit is there, its
-/// name, and the path of its model, which is `-` for the main model.
+/// A net: the cell at which it can be seen, the generation at which its bit of cycle 0 shows there,
+/// its name, and the path of its model, which is `-` for the main model.
 #[derive(Drop)]
 pub struct NetLine {
     pub x: u64,
@@ -33,7 +33,7 @@ pub struct NetLine {
 
 /// A port table: the period `p` and the latency `l` of the pattern, in generations, the number `c`
 /// of contexts, which are machines that run through the same wires, each 32 generations after the
-/// other, and the ports and nets in the order of the text.
+/// one before, and the ports and nets in the order of the text.
 #[derive(Drop)]
 pub struct Ports {
     pub p: u64,

@@ -16,8 +16,8 @@ named_or_forms a b y =
 abbrev pub named_or_text : List ℕ → List ℕ → List ℕ → List ℕ
 named_or_text a b y = spelled_table (named_or_forms a b y) ++ or_items_text
 
--- The text spells the gate's drawing, whatever its names are, and its ports, where the inputs have
--- two names.
+-- The text reads as the gate's drawing, whatever its names are, and as its ports if the inputs have
+-- different names.
 abbrev pub HasNamedGate : List ℕ → List ℕ → List ℕ → Type 0
 HasNamedGate a b y =
     ReadsAsPattern (named_or_text a b y) or_grid

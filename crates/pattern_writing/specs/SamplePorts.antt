@@ -11,7 +11,7 @@ abbrev pub net_line_at : ℕ → ℕ → ℕ → List ℕ → List ℕ → NetLi
 net_line_at x y offset name path =
     record { x = x; y = y; offset = offset; name = name; path = path }
 
--- of an OR gate
+-- the table of an OR gate
 abbrev pub or_ports : Ports
 or_ports = record {
   p = 32;
@@ -24,6 +24,6 @@ or_ports = record {
       ∷ net_line_at 31 8 31 (codes "y") (codes "-") ∷ [];
 }
 
--- of a circuit without ports
+-- the table of a circuit without ports
 abbrev pub bare_ports : Ports
 bare_ports = record { p = 32; l = 0; c = 1; ins = []; outs = []; nets = [] }

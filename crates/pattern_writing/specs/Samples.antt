@@ -57,7 +57,7 @@ or_port_lines =
     ∷ codes "#C BLIFWW OUT 32 8 y"
     ∷ []
 
--- and where its nets are
+-- the lines that say where its nets are
 abbrev pub or_net_lines : List (List ℕ)
 or_net_lines =
     codes "#C BLIFWW NET 0 8 0 a -"

@@ -1,5 +1,6 @@
 -- The text of a pattern in extended RLE (cells by run lengths), as Golly's description of its
--- pattern formats has it for rules of several states, with lines before it that a reader may skip.
+-- pattern formats gives it for rules of several states, with lines before it that a reader may
+-- skip.
 use Rattle.std.specs.Prelude.{ℕ, ◌+◌, ◌==◌, nat_le, Bool, if◌then◌else◌, List, [], ◌∷◌, ◌++◌, map, flat_map, length, codes, decimal}
 use Rattle.ww_rule.specs.declared.pattern.State.{State}
 use Rattle.ww_rule.specs.declared.pattern.State.TheVariants.{Empty, Head, Tail, Conductor}
@@ -17,7 +18,7 @@ tag_of Conductor = 67
 abbrev pub row_end : ℕ
 row_end = 36
 
--- y before the tags ys, where y is left out if it is x and nothing follows
+-- y before the tags ys; y is left out if it is x and nothing follows
 abbrev pub unless_last : ℕ → ℕ → List ℕ → List ℕ
 unless_last x y [] = if x == y then [] else y ∷ []
 unless_last x y (z ∷ zs) = y ∷ z ∷ zs
@@ -35,12 +36,12 @@ row_tags row = without_end (tag_of Empty) (map tag_of row) ++ row_end ∷ []
 abbrev pub grid_tags : List (List State) → List ℕ
 grid_tags rows = without_end row_end (flat_map row_tags rows)
 
--- a tag, and how often it stands
+-- a tag, and how many of it stand side by side
 pub record TagRun : Type 0 where
   pub count : ℕ
   pub tag : ℕ
 
--- one more tag before items: it makes the first item longer, or one of its own
+-- one more tag before items: it makes the first item longer, or becomes an item of its own
 abbrev pub with_tag : ℕ → List TagRun → List TagRun
 with_tag t [] = record { count = 1; tag = t } ∷ []
 with_tag t (i ∷ is) =
@@ -52,7 +53,7 @@ abbrev pub runs_of : List ℕ → List TagRun
 runs_of [] = []
 runs_of (t ∷ ts) = with_tag t (runs_of ts)
 
--- the digits of a count, where a count of 1 is left out
+-- the digits of a count; a count of 1 is left out
 abbrev pub count_text : ℕ → List ℕ
 count_text n = if n == 1 then [] else decimal n
 
@@ -64,19 +65,19 @@ run_text i = count_text i.count ++ i.tag ∷ []
 abbrev pub item_texts : List (List State) → List (List ℕ)
 item_texts rows = map run_text (runs_of (grid_tags rows)) ++ codes "!" ∷ []
 
--- whether an item may stand on a line that has some bytes: a line has at most 70
+-- whether an item fits on a line that already has some bytes: a line has at most 70
 abbrev pub fits_after : ℕ → List ℕ → Bool
 fits_after used item = nat_le (used + length item) 70
 
--- a line end, where the item does not fit on the line
+-- a line end, if the item does not fit on the line
 abbrev pub line_break : ℕ → List ℕ → List ℕ
 line_break used item = if fits_after used item then [] else 10 ∷ []
 
--- the bytes of the line that the item stands on, up to the item's end
+-- how many bytes the item's line has, up to the item's end
 abbrev pub used_after : ℕ → List ℕ → ℕ
 used_after used item = if fits_after used item then used + length item else length item
 
--- the items on lines, none of them cut, begun on a line that has some bytes
+-- the items on lines, none of them cut, beginning on a line that already has some bytes
 abbrev pub wrapped : ℕ → List (List ℕ) → List ℕ
 wrapped used [] = []
 wrapped used (item ∷ items) = line_break used item ++ item ++ wrapped (used_after used item) items

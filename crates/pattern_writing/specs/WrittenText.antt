@@ -1,4 +1,4 @@
--- What the text that is written reads as.
+-- How the written text reads.
 use Rattle.std.specs.Prelude.{ℕ, ◌<◌, ◌^◌, List, [], map}
 use Rattle.std.specs.List.{AllByRecursion}
 use Rattle.ww_rule.specs.Grid.{Grid, IsGrid}
@@ -11,7 +11,7 @@ use Rattle.pattern_reading.specs.SoundTable.{IsSoundTable}
 use Rattle.pattern_reading.specs.Spelling.{IsSpellable, IsSoundAfter, port_lines, spelled_line}
 use Rattle.pattern_writing.specs.Writer.{writer_text}
 
--- a pattern whose rows are its box's, and whose sizes fit 64 bits
+-- a pattern whose rows fill its box, and whose sizes fit 64 bits
 pub record IsWritable (grid : Grid) : Type 0 where
   pub in_rows : IsGrid grid.width grid.height grid.rows
   pub width : grid.width < 2 ^ 64
@@ -25,20 +25,21 @@ written grid forms = writer_text grid (map spelled_line forms)
 abbrev pub pattern_text : Grid → Ports → List ℕ
 pattern_text grid ports = writer_text grid (port_lines ports)
 
--- It reads as the pattern.
+-- The written text reads as the pattern.
 abbrev pub HasWrittenPattern : Grid → List PortForm → Type 0
 HasWrittenPattern grid forms =
     IsWritable grid → AllByRecursion IsSpellable forms → ReadsAsPattern (written grid forms) grid
 
--- It reads as the table of the lines, where none of them is at fault in the pattern's box.
+-- The written text reads as the table of the lines, if none of them is at fault in the pattern's
+-- box.
 abbrev pub HasWrittenPorts : Grid → List PortForm → Type 0
 HasWrittenPorts grid forms =
     IsWritable grid → AllByRecursion IsSpellable forms
     → IsSoundAfter grid.width grid.height [] forms
     → ReadsAsPorts (written grid forms) grid.width grid.height (ports_of forms)
 
--- The writer's text of a pattern and its ports reads as both, where the ports' cells lie in the
--- pattern's box, and their names can stand in a table, each of one port.
+-- The writer's text of a pattern and its ports reads as both, if the ports' cells lie in the
+-- pattern's box and the table is sound.
 abbrev pub HasWrittenText : Grid → Ports → Type 0
 HasWrittenText grid ports =
     IsWritable grid → IsSoundTable ports → HasCellsInside grid.width grid.height ports

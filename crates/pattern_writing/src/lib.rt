@@ -25,17 +25,16 @@ ghost use Rattle.pattern_writing.specs.WrittenText.{HasWrittenPattern, HasWritte
 
 pub use tags::tag_of;
 
-/// Does nothing: its clauses are laws of every pattern whose sizes fit 64 bits and of every port
-/// table whose lines can be spelled: what is written of them reads as them.
+/// The text that is written reads as what it was written for: a pattern whose sizes fit 64 bits,
+/// and a port table whose lines can be spelled and are without fault in the pattern's box.
 pub fn written_text_reads()
     ensures pattern { (grid : Grid) (forms : List PortForm) → HasWrittenPattern grid forms }
     ensures ports { (grid : Grid) (forms : List PortForm) → HasWrittenPorts grid forms }
     ensures text { (grid : Grid) (ports : Ports) → HasWrittenText grid ports }
 {}
 
-/// Does nothing: its clauses are facts about the definition, for an OR gate in a box of 33 by 32
-/// cells, for a box without cells, for one with cells of all four states and empty rows, and for
-/// one of empty cells.
+/// The definition gives these texts for an OR gate in a box of 33 by 32 cells, for a box without
+/// cells, for one with cells of all four states and empty rows, and for one of empty cells.
 pub fn samples_are_so()
     ensures gate { writer_text or_grid or_port_lines ≡ or_text }
     ensures gate_length { length or_text ≡ 246 }
@@ -47,22 +46,20 @@ pub fn samples_are_so()
     ensures empty { writer_text empty_grid [] ≡ empty_text }
 {}
 
-/// Does nothing: its clauses are laws of the items of every list of tags.
+/// The items of every list of tags spell these tags, and each item is as long as it can be.
 pub fn items_are_runs()
     ensures spell { ItemsSpellTags }
     ensures longest { ItemsAreLongestRuns }
 {}
 
-/// Does nothing: its clauses are laws of all items on lines: nothing but line ends is put between
-/// them, and where each fits on a line, no item is cut, no line is too long, and none ends too
-/// early.
+/// Wrapping puts only line ends between items. If each item fits on a line, no item is cut, no line
+/// is too long, and no line ends before an item that it has room for.
 pub fn wrapping_keeps_items()
     ensures kept { WrappingKeepsItems }
     ensures on_lines { WrappedIsLines }
 {}
 
-/// Does nothing: the text of an OR gate, with its net lines and without them, spells its drawing
-/// and its ports.
+/// The text of an OR gate, with its net lines and without them, reads as its drawing and its ports.
 pub fn gate_reads()
     ensures pattern { ReadsAsPattern or_text or_grid }
     ensures ports { ReadsAsPorts or_text 33 32 (record or_ports { nets = [] }) }
@@ -70,12 +67,13 @@ pub fn gate_reads()
     ensures ports_with_nets { ReadsAsPorts or_text_with_nets 33 32 or_ports }
 {}
 
-/// Does nothing: the same of a gate with any names.
+/// The text of an OR gate with any names reads as its drawing, and as its ports if the two inputs
+/// have different names.
 pub fn named_gate_reads()
     ensures { (a b y : List ℕ) → IsPortName a → IsPortName b → IsPortName y → HasNamedGate a b y }
 {}
 
-/// Does nothing: a text without ports spells a box without cells.
+/// The text of a box without cells and without ports reads as that box and a table without ports.
 pub fn bare_reads()
     ensures pattern { ReadsAsPattern bare_text bare_grid }
     ensures ports { ReadsAsPorts bare_text 0 0 bare_ports }

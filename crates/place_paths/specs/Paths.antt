@@ -6,7 +6,7 @@ use Rattle.netlist_meaning.specs.Places.{Place}
 use Rattle.pattern_reading.specs.declared.ports.NetLine.{NetLine}
 use Rattle.pattern_reading.specs.PortLines.{path_in}
 
--- the path of a place: its numbers, joined by dots, and `-` for the main model's
+-- the path of a place: its numbers, joined by dots, or `-` for that of the main model
 abbrev pub path_of : Place → List ℕ
 path_of [] = codes "-"
 path_of (number ∷ place) = join_with_byte 46 (map decimal (number ∷ place))
@@ -18,16 +18,16 @@ name_and_path place name = (name, path_of place)
 abbrev pub names_and_paths : List NetLine → List (Name × List ℕ)
 names_and_paths lines = map (λ line. (line.name, line.path)) lines
 
--- the numbers of the place are no greater than a table may write
+-- a table may write each number of the place
 abbrev pub HasTableNumbers : Place → Type 0
 HasTableNumbers place = All (λ number. number < 2 ^ 64) place
 
--- such a path is read as it stands
+-- the path of a place with such numbers is read as it stands
 abbrev pub PathsAreRead : Type 0
 PathsAreRead =
     (place : Place) → HasTableNumbers place → path_in (path_of place) ≡ Some (path_of place)
 
--- two places have two paths
+-- different places with such numbers have different paths
 abbrev pub PathsAreDistinct : Type 0
 PathsAreDistinct =
     (a b : Place) → HasTableNumbers a → HasTableNumbers b → path_of a ≡ path_of b → a ≡ b

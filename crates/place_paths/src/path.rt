@@ -6,7 +6,7 @@ use itoa::Buffer;
 use lists::Bytes;
 use std::alloc::{AllocError, Global};
 
-// Puts each number after a text, with a dot before it.
+// Adds each number to the end of a text, with a dot before it.
 fn push_inner(text: &mut Vec<u8>, numbers: &[u32]) -> Result<(), AllocError>
     ensures { OnOk result (
         text.new.items ≡ text.old.items ++ flat_map (λ number. 46 ∷ decimal number) numbers.now
@@ -30,7 +30,8 @@ fn joined(alloc: Global, first: u32, inner: &[u32]) -> Result<Vec<u8>, AllocErro
     Ok(text)
 }
 
-/// The path of a place: `-` for the main model's, else its numbers, joined by dots.
+/// Returns the path of a place: `-` for that of the main model, and else the place's numbers,
+/// joined by dots.
 pub fn path_of(alloc: Global, place: &[u32]) -> Result<Bytes, AllocError>
     ensures { IfOk result (λ path. path ≡ path_of place.now) }
 {

@@ -10,22 +10,23 @@ use Rattle.plan_layout.specs.Planes.{start_plane}
 use Rattle.plan_layout.specs.Starts.{start_edges}
 use Rattle.plan_layout.specs.Tape.{taped_tiling, drawn_tiling, drawn_edges, drawn_plane}
 
--- where an admissible plan can be drawn, its tiles fit together
+-- the tiles of an admissible plan fit together
 abbrev pub PlansFitTogether : Type 0
 PlansFitTogether = (plan : Plan) → IsAdmissible plan → IsMatched (tiling_of plan)
 
--- so do its tiles and those of a tape, however long the tape is and wherever the plan stands
+-- the tiles of an admissible plan and those of a tape fit together, however long the tape is and
+-- wherever the plan stands
 abbrev pub TapesFitTogether : Type 0
 TapesFitTogether =
     (plan : Plan) → IsAdmissible plan → (shift tiles : ℕ)
     → IsMatched (taped_tiling plan shift tiles)
 
--- the drawing is that of the plan alone
+-- the drawing of a plan is that of its tiles and starts alone
 pub record IsDrawnBare (plan : Plan) : Type 0 where
   pub tiling : drawn_tiling plan ≡ tiling_of plan
   pub edges : drawn_edges plan ≡ start_edges plan
   pub plane : (library : Kind → Drawing) → drawn_plane library plan ≡ start_plane library plan
 
--- every plan without a tape is drawn so
+-- every plan without a tape is drawn from its tiles and starts alone
 abbrev pub BarePlansAreMachines : Type 0
 BarePlansAreMachines = (plan : Plan) → plan.tape ≡ [] → IsDrawnBare plan

@@ -28,8 +28,8 @@ kind_of (Xor i) = kind.Xor
 kind_of (Or i) = kind.Or
 kind_of (AndNot i) = kind.AndNot
 
--- what stands on a lane of a column of the body: half of the tile of the instruction on it, or a
--- tile that only goes on
+-- what stands on a lane of a column of the body: half of the tile of the instruction on that lane,
+-- or a tile that carries the signal on
 abbrev pub body_slot : ℕ → Option Instr → Slot
 body_slot lane None = Whole (Tile kind.East)
 body_slot lane (Some instr) =
@@ -39,10 +39,9 @@ body_slot lane (Some instr) =
 abbrev pub instrs_of : Plan → ℕ → List Instr
 instrs_of plan column = slice_index_or (map (λ c. c.instrs) plan.columns) column []
 
--- what stands in the turns of this many loops, in the tile column that lies `away` columns beyond
--- the body, and `off` lanes from the two lanes that the innermost turn joins: the loops round about
--- go along, the turn of this column has its corner here, and inside there is the way across of this
--- turn
+-- what stands in the turns of this many loops, `away` tile columns beyond the body and `off` lanes
+-- from the two lanes that the innermost turn joins: before its corner the loop of this lane goes
+-- along, then comes its corner, and beyond it the turn of this column goes across
 abbrev pub turn_slot : ℕ → ℕ → ℕ → Kind → Kind → Kind → Slot
 turn_slot loops away off along corner across =
     if nat_lt away loops && nat_lt off loops
@@ -50,8 +49,8 @@ turn_slot loops away off along corner across =
     else Nothing
 
 -- what stands on the way back, `back` tile columns from its beginning in the east and `off` lanes
--- below the body: in the first as many columns as there are loops, swaps of lanes e and e + 1 for
--- each even e, then for each odd e, and so on in turn, which reverses the lanes' order
+-- below the body: in the first columns, as many as there are loops, swaps of lanes e and e + 1 for
+-- each even e, then for each odd e, and so on in turn, which reverses the order of the lanes
 abbrev pub return_slot : ℕ → ℕ → ℕ → Slot
 return_slot loops back off =
     if nat_lt back loops && off % 2 == back % 2 && nat_lt (off + 1) loops
@@ -64,17 +63,17 @@ return_slot loops back off =
 abbrev pub end_of_body : Plan → ℕ
 end_of_body plan = plan.latches + length plan.columns
 
--- on a lane of the body, left of it
+-- what stands on a lane of the body, left of the body
 abbrev pub upper_left : Plan → ℕ → ℕ → Slot
 upper_left plan column lane =
     turn_slot plan.latches (plan.latches - 1 - column)
     (plan.lanes - 1 - lane) kind.East kind.NorthEast kind.North
 
--- in the body
+-- what stands in the body
 abbrev pub in_body : Plan → ℕ → ℕ → Slot
 in_body plan column lane = body_slot lane (instr_on (instrs_of plan (column - plan.latches)) lane)
 
--- on a lane of the body, right of it; next to it each output has its cell
+-- what stands on a lane of the body, right of the body; next to the body each output has its cell
 abbrev pub upper_right : Plan → ℕ → ℕ → Slot
 upper_right plan column lane =
     if column == end_of_body plan && list_any (λ out. out == lane) plan.outs
@@ -82,30 +81,31 @@ upper_right plan column lane =
     else turn_slot plan.latches (column - end_of_body plan)
     (plan.lanes - 1 - lane) kind.East kind.EastSouth kind.South
 
--- on a lane below those of the body, left of it
+-- what stands on a lane below those of the body, left of the body
 abbrev pub lower_left : Plan → ℕ → ℕ → Slot
 lower_left plan column lane =
     turn_slot plan.latches (plan.latches - 1 - column)
     (lane - plan.lanes) kind.West kind.WestNorth kind.North
 
--- below the body
+-- what stands below the body
 abbrev pub on_return : Plan → ℕ → ℕ → Slot
 on_return plan column lane =
     return_slot plan.latches (end_of_body plan - 1 - column) (lane - plan.lanes)
 
--- on a lane below those of the body, right of it
+-- what stands on a lane below those of the body, right of the body
 abbrev pub lower_right : Plan → ℕ → ℕ → Slot
 lower_right plan column lane =
     turn_slot plan.latches (column - end_of_body plan)
     (lane - plan.lanes) kind.West kind.SouthWest kind.South
 
--- one of three, by whether a tile column lies left of the body, in line with it, or right of it
+-- one of three slots, by whether a tile column lies left of the body, in line with it, or right of
+-- it
 abbrev pub by_column : Plan → ℕ → Slot → Slot → Slot → Slot
 by_column plan column left middle right =
     if nat_lt column plan.latches then left else if nat_lt column (end_of_body plan) then middle
     else right
 
--- what stands on a lane of the body, and on a lane below
+-- what stands on a lane of the body, and what on a lane below
 abbrev pub upper_part : Plan → ℕ → ℕ → Slot
 upper_part plan column lane =
     by_column plan column (upper_left plan column lane) (in_body plan column lane)

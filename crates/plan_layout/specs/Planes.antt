@@ -1,4 +1,4 @@
--- The planes that a plan is drawn on, with any library of tiles.
+-- The planes on which a plan is drawn, with any library of tiles.
 use Rattle.ww_rule.specs.Wireworld.{Plane}
 use Rattle.tile_core.specs.declared.kind.Kind.{Kind}
 use Rattle.tile_core.specs.Drawing.{Drawing}

@@ -8,25 +8,25 @@ use Rattle.lane_core.specs.declared.plan.Plan.{Plan}
 use Rattle.lane_core.specs.Starts.{is_start_at}
 use Rattle.plan_layout.specs.Layout.{tiling_of}
 
--- one of the two cells of an edge, on its two sides, has this x and this y
+-- x and y are those of one of the edge's two cells, one on each of its sides
 abbrev pub HasCell : Edge → ℕ → ℕ → Type 0
 HasCell (Beside q l) x y = ((x ≡ 32 * q) ⊎ (x ≡ 32 * q - 1)) × (y ≡ 16 * l + 8)
 HasCell (Above q l) x y = (x ≡ 32 * q + 16) × ((y ≡ 16 * l) ⊎ (y ≡ 16 * l - 1))
 
--- the edges with these names: of an edge's two cells one is a name
+-- the edges with these names: one of the edge's two cells is among the names
 abbrev pub named_edges : List Start → Lit
 named_edges names (Beside q l) =
     is_start_at names (32 * q) (16 * l + 8) || is_start_at names (32 * q - 1) (16 * l + 8)
 named_edges names (Above q l) =
     is_start_at names (32 * q + 16) (16 * l) || is_start_at names (32 * q + 16) (16 * l - 1)
 
--- the edges that are lit at generation 0
+-- the edges that the starts of a plan name, which are lit at generation 0
 abbrev pub start_edges : Plan → Lit
 start_edges plan = named_edges plan.starts.list
 
--- An edge is named by its entry cell, or by its exit cell where nothing is entered there. Signals
--- of a plan that go west or north always enter something, so such an exit cell lies west or north
--- of its edge.
+-- An edge is named by its entry cell, or by its exit cell if nothing is entered there. Signals of a
+-- plan that go west or north always enter something, so such an exit cell lies west or north of its
+-- edge.
 abbrev pub edge_name : Tiling → Edge → Start
 edge_name tiling (Beside q l) =
     record { x = if is_entered (tiling q l) 0 8 then 32 * q else 32 * q - 1; y = 16 * l + 8 }

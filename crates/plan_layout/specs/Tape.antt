@@ -1,6 +1,6 @@
--- The drawing of a plan with its tape: lanes of East tiles lie before the body, where inputs enter
--- it, and the electrons of the tape lie between them. The plan stands so many tile columns further
--- east that the tape has room.
+-- The drawing of a plan with its tape: East tiles lie before the body on the lanes of the inputs,
+-- and the electrons of the tape lie between them. The plan stands so many tile columns further east
+-- that the tape has room.
 use Rattle.std.specs.Prelude.{ℕ, ◌+◌, ◌-◌, ◌==◌, nat_lt, nat_le, Bool, ◌&&◌, ◌||◌, if◌then◌else◌}
 use Rattle.std.specs.List.{list_any}
 use Rattle.ww_rule.specs.Wireworld.{Plane}
@@ -16,14 +16,14 @@ use Rattle.lane_core.specs.Tape.{tape_tiles, tape_shift, tape_bit}
 use Rattle.plan_layout.specs.Layout.{tiling_of}
 use Rattle.plan_layout.specs.Starts.{start_edges}
 
--- whether a block is one of the tape's, which has so many tiles directly before the body on the
--- lane of each input, where the plan stands `shift` tile columns further east
+-- whether a block is one of the tape's, which has `tiles` tiles directly before the body on the
+-- lane of each input, if the plan stands `shift` tile columns further east
 abbrev pub is_on_tape : Plan → (shift tiles column lane : ℕ) → Bool
 is_on_tape plan shift tiles column lane =
     (nat_lt column (shift + plan.latches) && nat_le (shift + plan.latches) (column + tiles))
     && list_any (λ input. input == lane) plan.ins
 
--- the tiles of a plan that stands there, and of its tape
+-- the tiles of a plan that stands `shift` tile columns further east, and of its tape
 abbrev pub taped_tiling : Plan → (shift tiles : ℕ) → Tiling
 taped_tiling plan shift tiles column lane =
     if is_on_tape plan shift tiles column lane then Whole (Tile kind.East)

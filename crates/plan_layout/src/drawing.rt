@@ -12,7 +12,7 @@ use crate::{Edge, Piece, Slot, is_start, slot_at};
 use lane_core::{Plan, tape_bit, tape_shift, tape_tiles};
 use tile_core::Kind;
 
-/// The tile column in which the body begins, where the plan is drawn.
+/// Returns the tile column of the drawing in which the body begins.
 pub fn body_column(plan: &Plan) -> u64
     requires { IsAdmissible plan.now }
     ensures exact { result ≡ tape_shift plan.now + plan.now.latches }
@@ -37,8 +37,8 @@ fn is_on_tape(plan: &Plan, column: u64, lane: u64) -> bool
     column < body && body <= column + tape_tiles(plan) && is_input(plan.ins.as_slice(), lane)
 }
 
-/// What stands in the block of this tile column and this lane of the drawing, both counted from 0
-/// from its north-western corner: a tile of the tape, or what the plan has there.
+/// Returns what stands in the block of this tile column and lane of the drawing, both counted from
+/// 0 from its north-western corner: a tile of the tape, or what the plan has there.
 pub fn slot_drawn_at(plan: &Plan, column: u64, lane: u64) -> Slot
     requires { IsAdmissible plan.now }
     ensures { slot_of result ≡ drawn_tiling plan.now column lane }
@@ -65,7 +65,8 @@ fn is_taped(plan: &Plan, column: u64, lane: u64) -> bool
     column <= body && tape_bit(plan, body - column, lane)
 }
 
-/// Whether an edge of the drawing is lit at generation 0: by the tape, or by a start of the plan.
+/// Returns whether an edge of the drawing is lit at generation 0, by the tape or by a start of the
+/// plan.
 pub fn is_lit(plan: &Plan, edge: Edge) -> bool
     requires admissible { IsAdmissible plan.now }
     requires far { column_in (as_edge edge) < 2 ^ 58 }

@@ -1,7 +1,7 @@
 // Sides at which two blocks meet.
 
-/// An edge, by the tile column and the lane, both counted from 0, of the block on whose west side
-/// (`Beside`) or north side (`Above`) it lies.
+/// An edge, named by the tile column and the lane, both counted from 0, of the block on whose west
+/// side (`Beside`) or north side (`Above`) it lies.
 #[derive(Clone, Copy)]
 pub enum Edge {
     Beside(u64, u64),

@@ -11,7 +11,8 @@ pub fn tapes_fit_together()
     ensures { TapesFitTogether }
 {}
 
-/// A plan without a tape is drawn as its tiles stand and its starts are named.
+/// The drawing of a plan without a tape has the plan's tiles and the edges that its starts name,
+/// and nothing else.
 pub fn bare_plans_are_machines()
     ensures { BarePlansAreMachines }
 {}

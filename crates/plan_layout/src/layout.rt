@@ -8,8 +8,8 @@ use crate::{Piece, Slot};
 use lane_core::{Instr, Plan};
 use tile_core::Kind;
 
-/// What stands in the block of this tile column and this lane, both counted from 0 from the
-/// north-western corner of the drawing.
+/// Returns what stands in the block of this tile column and lane of a plan without its tape, both
+/// counted from 0 from the north-western corner.
 pub fn slot_at(plan: &Plan, column: u64, lane: u64) -> Slot
     requires { IsAdmissible plan.now }
     ensures { slot_of result ≡ tiling_of plan.now column lane }

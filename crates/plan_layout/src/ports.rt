@@ -1,4 +1,4 @@
-// Where what stands in a block is entered and left.
+// The places where what stands in a block is entered and left.
 ghost use Rattle.std.specs.Prelude.{◌≡◌, ◌&&◌, ◌<◌, pos, [], ◌∷◌};
 ghost use Rattle.std.specs.Ordering.{int_eq};
 ghost use Rattle.tile_core.specs.Drawing.{is_cell_of};
@@ -29,7 +29,7 @@ fn is_tile_left(kind: Kind, place: (u32, u32)) -> bool
     upper | (two & lower)
 }
 
-// Whether it is entered there.
+// Whether a tile is entered at this place of its box.
 #[tactic(auto, using(crate::proofs::PortCells::entered_at))]
 fn is_tile_entered(kind: Kind, place: (u32, u32)) -> bool
     ensures { result ≡ is_cell_of (pos place.0) (pos place.1) (entry_cells (interface kind)) }
@@ -41,7 +41,7 @@ fn is_tile_entered(kind: Kind, place: (u32, u32)) -> bool
     upper | (two & lower)
 }
 
-// Whether an output cell is entered there: at its one cell.
+// Whether an output cell is entered at this place: at its one cell.
 #[tactic(auto, using(crate::proofs::PortCells::output_at))]
 fn is_output_entered(place: (u32, u32)) -> bool
     ensures { result ≡ is_cell_of (pos place.0) (pos place.1) (cell_at (0, 8) ∷ []) }
@@ -49,7 +49,7 @@ fn is_output_entered(place: (u32, u32)) -> bool
     is_at(place, (0, 8))
 }
 
-/// Whether what stands in a block is left at this place of the block.
+/// Returns whether what stands in a block is left at this place of the block.
 pub fn is_left(slot: Slot, place: (u32, u32)) -> bool
     requires { place.1 < 16 }
     ensures { result ≡ is_left (slot_of slot) place.0 place.1 }
@@ -66,7 +66,7 @@ pub fn is_left(slot: Slot, place: (u32, u32)) -> bool
     }
 }
 
-/// Whether it is entered there.
+/// Returns whether what stands in a block is entered at this place of the block.
 pub fn is_entered(slot: Slot, place: (u32, u32)) -> bool
     requires { place.1 < 16 }
     ensures { result ≡ is_entered (slot_of slot) place.0 place.1 }

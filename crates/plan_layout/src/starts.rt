@@ -10,7 +10,7 @@ use crate::ports::{is_entered, is_left};
 use crate::{Edge, Slot, slot_at};
 use lane_core::{Plan, Start};
 
-/// Whether an edge is lit at generation 0.
+/// Returns whether the starts of a plan light an edge at generation 0.
 pub fn is_start(plan: &Plan, edge: Edge) -> bool
     requires far { column_in (as_edge edge) < 2 ^ 58 }
     requires low { lane_in (as_edge edge) < 2 ^ 58 }
@@ -28,7 +28,7 @@ pub fn is_start(plan: &Plan, edge: Edge) -> bool
     }
 }
 
-/// The name of an edge: its entry cell, or its exit cell where no tile is entered there.
+/// Returns the name of an edge: its entry cell, or its exit cell if nothing is entered there.
 pub fn edge_name(plan: &Plan, edge: Edge) -> Start
     requires admissible { IsAdmissible plan.now }
     requires far { column_in (as_edge edge) < 2 ^ 58 }
@@ -67,7 +67,7 @@ fn is_port(slot: Slot, place: (u32, u32)) -> bool
     is_entered(slot, place) || is_left(slot, place)
 }
 
-/// Whether signals pass an edge: something is entered or left there.
+/// Returns whether signals pass an edge: whether something is entered or left there.
 pub fn is_passed(plan: &Plan, edge: Edge) -> bool
     requires { IsAdmissible plan.now }
     ensures { result ≡ is_passed (tiling_of plan.now) (as_edge edge) }

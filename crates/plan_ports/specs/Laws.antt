@@ -9,19 +9,19 @@ use Rattle.pattern_reading.specs.SoundTable.{IsSoundTable}
 use Rattle.pattern_reading.specs.Laws.{HasCellsInside}
 use Rattle.plan_ports.specs.Tables.{IsTableOf, HasPortNames, HasTablePlaces}
 
--- what the law that a written text reads back asks of a table beside a pattern of this size
+-- what the law that a written text reads back requires of a table beside a pattern of this size
 pub record IsReadable (width height : ℕ) (ports : Ports) : Type 0 where
   pub sound : IsSoundTable ports
   pub inside : HasCellsInside width height ports
 
--- a plan's period has room for so many contexts: for one, and for more where each has 32
+-- a plan's period has room for so many contexts: it has room for one, and for more if each has 32
 -- generations of it
 pub record HasRoom (plan : Plan) (c : ℕ) : Type 0 where
   pub some : c ≢ 0
   pub room : 1 < c → 32 * c ≤ period_of plan
 
--- it holds of the table of every admissible plan with room for the contexts, where ports have
--- distinct names, nets distinct names at each place, and all names and places can stand in a table
+-- the table of every admissible plan with room for the contexts is readable, if ports have distinct
+-- names, nets have distinct names at each place, and all names and places can stand in a table
 abbrev pub TablesAreReadable : Type 0
 TablesAreReadable =
     (flat : Flat) (plan : Plan) (c : ℕ) (ports : Ports) → IsInRange flat → IsNamed flat

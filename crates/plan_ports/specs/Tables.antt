@@ -1,4 +1,4 @@
--- The port table of a plan that was made of a flat netlist.
+-- The port table of a plan that is made from a flat netlist.
 use Rattle.std.specs.Prelude.{ℕ, ◌+◌, ◌*◌, ◌≡◌, ◌≢◌, ◌==◌, if◌then◌else◌, List, [], length, map, All, AllPairs}
 use Rattle.lane_core.specs.declared.plan.Plan.{Plan}
 use Rattle.lane_core.specs.Plans.{period_of, latency_of, left_of, row_of, cell_after}
@@ -20,12 +20,12 @@ pub record HasPortsOf (flat : Flat) (plan : Plan) : Type 0 where
   pub outs : length plan.outs ≡ length flat.outs
   pub nets : length plan.nets ≡ length (listed_nets flat)
 
--- what a table lists of the inputs of a plan: each, or none where their bits are on a tape, since
--- nothing drives them then
+-- what a table lists of the inputs of a plan: each of them, or none if their bits are on a tape,
+-- since nothing drives them then
 abbrev pub driven_inputs : {X : Type 0} → Plan → List X → List X
 driven_inputs plan inputs = if length plan.tape == 0 then inputs else []
 
--- x and y of the cells of inputs and of outputs, where the plan is drawn
+-- x and y of the cells of inputs and of outputs in the plan's drawing
 abbrev pub drawn_input_cells : Plan → List (ℕ × ℕ)
 drawn_input_cells plan = map (λ lane. (32 * tape_shift plan + left_of plan 0, row_of lane)) plan.ins
 
@@ -33,7 +33,7 @@ abbrev pub drawn_output_cells : Plan → List (ℕ × ℕ)
 drawn_output_cells plan =
     map (λ lane. (32 * tape_shift plan + left_of plan (length plan.columns), row_of lane)) plan.outs
 
--- and those of nets, with the generations from the inputs to them
+-- x and y of the cells of nets in the plan's drawing, with the generations from the inputs to them
 abbrev pub drawn_net_cells : Plan → List (ℕ × ℕ × ℕ)
 drawn_net_cells plan =
     map (λ place. moved_east (tape_shift plan) (cell_after plan place.lane place.after)) plan.nets
@@ -46,10 +46,10 @@ net_cells_of lines = map (λ line. (line.x, line.y, line.offset)) lines
 abbrev pub named_paths : List FlatNet → List (Name × List ℕ)
 named_paths nets = map (λ net. name_and_path net.place net.name) nets
 
--- The period, the latency, the cells of ports, and the cells and the offsets of nets are the
--- plan's. The names of ports, and the names and places of nets, are the netlist's, in order: the
--- nets are those that tables list, and of a plan with a tape no input is named. So many contexts
--- run in the pattern.
+-- The period, the latency, the cells of ports, and the cells and offsets of nets are the plan's.
+-- The names of ports, and the names and places of nets, are the netlist's, in order: the nets are
+-- those that tables list, and the inputs have no lines if the plan has a tape. The number of
+-- contexts is c.
 pub record IsTableOf (flat : Flat) (plan : Plan) (c : ℕ) (ports : Ports) : Type 0 where
   pub period : ports.p ≡ period_of plan
   pub latency : ports.l ≡ latency_of plan
@@ -67,7 +67,8 @@ pub record HasPortNames (flat : Flat) : Type 0 where
   pub outs : All IsPortName (names_of_ports flat flat.outs)
   pub nets : All (λ (net : FlatNet). IsPortName net.name) (listed_nets flat)
 
--- so can the places of listed nets, and no two of one name are at one place
+-- the places of listed nets can stand in a port table, and no two nets with one name are at one
+-- place
 pub record HasTablePlaces (flat : Flat) : Type 0 where
   pub numbers : All (λ (net : FlatNet). HasTableNumbers net.place) (listed_nets flat)
   pub apart : AllPairs (λ (a b : FlatNet). a.name ≡ b.name → a.place ≢ b.place) (listed_nets flat)

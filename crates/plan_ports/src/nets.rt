@@ -16,7 +16,7 @@ use pattern_reading::NetLine;
 use place_paths::path_of;
 use std::alloc::Global;
 
-// The line of net i of the plan, with the name and the path of a net.
+// The line of net `i` of the plan, with the name and the path of `net`.
 fn net_line(alloc: Global, plan: &Plan, i: usize, net: &Net) -> Result<NetLine, PortsError>
     requires admissible { IsAdmissible plan.now }
     requires known { i < length plan.now.nets }
@@ -60,7 +60,7 @@ fn plain_lines(alloc: Global, flat: &Flat, plan: &Plan) -> Result<Vec<NetLine>, 
     Ok(lines)
 }
 
-/// The lines of the nets that tables list, in order.
+/// Returns the lines of the nets that tables list, in order.
 pub fn net_lines(alloc: Global, flat: &Flat, plan: &Plan) -> Result<Vec<NetLine>, PortsError>
     requires in_range { IsInRange flat.now }
     requires admissible { IsAdmissible plan.now }

@@ -13,7 +13,7 @@ use netlist_core::{Flat, FlatPort};
 use pattern_reading::{PortLine, Ports};
 use std::alloc::Global;
 
-// The line of a port whose cell is at x, y.
+// The line of a port whose cell is at `x`, `y`.
 fn port_line(
     alloc: Global,
     flat: &Flat,
@@ -47,7 +47,7 @@ fn input_lines(alloc: Global, flat: &Flat, plan: &Plan) -> Result<Vec<PortLine>,
     Ok(lines)
 }
 
-// The lines of the inputs that are driven: none where their bits are on a tape.
+// The lines of the inputs that are driven: none if their bits are on a tape.
 fn driven_lines(alloc: Global, flat: &Flat, plan: &Plan) -> Result<Vec<PortLine>, PortsError>
     requires there { All (λ port. IsNetId flat.now port.net) flat.now.ins }
     requires admissible { IsAdmissible plan.now }
@@ -81,9 +81,9 @@ fn output_lines(alloc: Global, flat: &Flat, plan: &Plan) -> Result<Vec<PortLine>
     Ok(lines)
 }
 
-/// The port table of a plan that has an input and an output for each of the netlist's, and a net
-/// for each that tables list. In the pattern run `c` contexts. Where the bits of the inputs are on
-/// the plan's tape, no input has a line.
+/// Returns the port table of a plan that has an input and an output for each of the netlist's, and
+/// a net for each that tables list. `c` is the number of contexts that run in the pattern. If the
+/// bits of the inputs are on the plan's tape, no input has a line.
 pub fn of_plan(alloc: Global, flat: &Flat, plan: &Plan, c: u64) -> Result<Ports, PortsError>
     requires in_range { IsInRange flat.now }
     requires admissible { IsAdmissible plan.now }

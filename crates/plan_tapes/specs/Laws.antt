@@ -18,16 +18,15 @@ use Rattle.plan_layout.specs.Tape.{taped_tiling, drawn_edges, drawn_plane}
 use Rattle.plan_waves.specs.Waves.{DrivesInputs}
 use Rattle.plan_tapes.specs.Tape.{drive_of_rows, is_due_on, taped_edges}
 
--- The tape has room, and no head is due on a lane that is no input's, or later than the tape is
--- long.
+-- The tape has room, and no head is due on a lane of no input, or later than the tape is long.
 pub record FitsTape (plan : Plan) (shift tiles : ℕ) (due : Due) : Type 0 where
   pub room : tiles ≤ shift + plan.latches
   pub on_inputs : (g lane : ℕ) → list_any (λ input. input == lane) plan.ins ≡ false
       → is_due_on plan due g lane ≡ false
   pub within : (m lane : ℕ) → tiles < m → is_due_on plan due (32 * m) lane ≡ false
 
--- Of every admissible plan with a tape: a macro step is one of the plan that is driven, with the
--- tape a tile further east.
+-- A macro step of every admissible plan with a tape does what a macro step of the driven plan does,
+-- and brings the tape one tile further east.
 abbrev pub TapesRunIn : Type 0
 TapesRunIn =
     (plan : Plan) → IsAdmissible plan → (shift tiles : ℕ) (due : Due) → DrivesInputs plan due
@@ -37,8 +36,8 @@ TapesRunIn =
     (taped_edges plan shift due (driven_edges (tiling_of plan) due lit) m) edge
     ≡ taped_edges plan shift due (driven_edges (tiling_of plan) due lit) (suc m) edge
 
--- The edges that are lit at the beginning, those of the tape and the starts, are those from which
--- this goes on, for the rows of the tape.
+-- The edges of the drawing that are lit at generation 0, by the tape and by the starts, are those
+-- of `taped_edges` at macro time 0, for the plan that the rows of the tape drive.
 abbrev pub TapesBegin : Type 0
 TapesBegin =
     (plan : Plan) → IsAdmissible plan → HasStartEdges plan → (edge : Edge)
@@ -48,7 +47,7 @@ TapesBegin =
     (start_edges plan)) 0 edge
 
 -- A cell, given by x, y and an offset, is a head in the drawing with the tape, which nothing
--- drives, at the same generations as in the plan without one, which the rows of the tape drive.
+-- drives, at the same generations as in the plan without a tape, which the rows of the tape drive.
 abbrev pub ShowsWithoutDrive : (Kind → Drawing) → Plan → ℕ × ℕ × ℕ → Type 0
 ShowsWithoutDrive library plan cell =
     (g : ℕ) → (evolve g (drawn_plane library plan) (pos (moved_east (tape_shift plan) cell).0)
@@ -56,8 +55,7 @@ ShowsWithoutDrive library plan cell =
     ↔ (driven (drive_of_rows plan (tape_rows plan)) (start_plane library plan) g (pos cell.0)
     (pos cell.1) ≡ Head)
 
--- so do the cells of all outputs and nets, of every library that keeps the timing law and every
--- admissible plan whose starts are edges
+-- the cells of all outputs and nets show without a drive what they show in the driven plan
 pub record ShowsByItself (library : Kind → Drawing) (plan : Plan) : Type 0 where
   pub outs : (i : ℕ) → i < length plan.outs → ShowsWithoutDrive library plan (out_cell_of plan i)
   pub nets : (i : ℕ) → i < length plan.nets → ShowsWithoutDrive library plan (net_cell_of plan i)

@@ -2,7 +2,7 @@
 use Rattle.std.specs.Prelude.{Bool, List}
 use Rattle.lane_core.specs.declared.plan.Plan.{Plan}
 
--- all but the tape stays
+-- the plan with these bits on its tape; all else stays
 abbrev pub with_tape : List (List Bool) → Plan → Plan
 with_tape bits plan = record {
   lanes = plan.lanes;

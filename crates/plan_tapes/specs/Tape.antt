@@ -1,4 +1,4 @@
--- What is lit where a plan has a tape, by what is lit in the plan without one, which rows of bits
+-- What is lit in a plan with a tape, by what is lit in the plan without one that rows of bits
 -- drive.
 use Rattle.std.specs.Prelude.{pos, ℕ, ◌+◌, ◌-◌, ◌*◌, nat_lt, Bool, false, ◌&&◌, if◌then◌else◌, List}
 use Rattle.ww_rule.specs.Wireworld.{Due}
@@ -14,20 +14,19 @@ use Rattle.lane_core.specs.Entering.{first_loop_lane}
 abbrev pub drive_of_rows : Plan → List (List Bool) → Due
 drive_of_rows plan rows = due_of_streams (period_of plan) (input_cells plan) rows
 
--- whether a head is due at a generation at the entry of a lane, in the plan that stands without a
--- tape
+-- whether a head is due at a generation at the entry of a lane, in the plan without a tape
 abbrev pub is_due_on : Plan → Due → ℕ → ℕ → Bool
 is_due_on plan due generation lane = due generation (pos (left_of plan 0)) (pos (row_of lane))
 
--- whether a block lies before the body, on a lane that no loop enters, where the plan stands so
--- many tile columns further east
+-- whether a block lies before the body, on a lane that no loop enters, if the plan stands `shift`
+-- tile columns further east
 abbrev pub is_before_body : Plan → (shift column lane : ℕ) → Bool
 is_before_body plan shift column lane =
     nat_lt column (shift + plan.latches) && nat_lt lane (first_loop_lane plan.lanes plan.latches)
 
--- The edges of a plan with a tape at each macro time, by those of the plan that is driven: before
--- the body the edge that lies so many tiles from it is lit exactly when a head is due as many macro
--- steps later, and all others are those of the plan, further east.
+-- The edges of a plan with a tape at each macro time, by those of the driven plan. On lanes that no
+-- loop enters, the edge so many tiles before the body is lit exactly if a head is due as many macro
+-- steps later; all other edges are those of the plan, further east.
 abbrev pub taped_edges : Plan → (shift : ℕ) → Due → (ℕ → Lit) → ℕ → Lit
 taped_edges plan shift due edges m (Beside column lane) =
     if is_before_body plan shift column lane

@@ -9,10 +9,10 @@ use lane_core::Plan;
 use lists::{List, OutOfMemory};
 use std::alloc::{AllocError, Global};
 
-/// Why a plan has not got its tape.
+/// The reason why `load` has put no bits on a plan's tape.
 #[derive(Drop)]
 pub enum LoadError {
-    /// There is no memory for a copy of the bits. The plan is handed back as it was.
+    /// Memory runs out while the bits are copied. The plan is handed back as it was.
     NoMemory(Plan),
 }
 
@@ -24,7 +24,7 @@ impl From<LoadError> for OutOfMemory {
     }
 }
 
-// A copy of lists of bits.
+// Copies lists of bits.
 fn copied(alloc: Global, bits: &[List<bool>]) -> Result<Vec<List<bool>>, AllocError>
     ensures { IfOk result (λ copy. copy.items ≡ bits.now) }
 {
@@ -35,8 +35,8 @@ fn copied(alloc: Global, bits: &[List<bool>]) -> Result<Vec<List<bool>>, AllocEr
     Ok(copy)
 }
 
-/// The plan with these bits on its tape, in place of those that it had: a list for each of its
-/// inputs in order, with the bit of each cycle. All lists have one length, from 1 to 4,096.
+/// Puts bits on the tape of a plan, in place of those that it had. `bits` has a list for each of
+/// its inputs in order, with the bit of each cycle. All lists have one length, from 1 to 4,096.
 pub fn load(alloc: Global, plan: Plan, bits: &[List<bool>]) -> Result<Plan, LoadError>
     requires each_input { length bits.now ≡ length plan.ins }
     requires lists { AreTapeLists bits.now }

@@ -1,4 +1,4 @@
--- What stands beside the ports of a plan, where wires of another hand may lead to them.
+-- What stands beside the ports of a plan, where other wires may lead to them.
 use Rattle.std.specs.Prelude.{pos, ℕ, ◌+◌, ◌*◌, ◌<◌, ◌≤◌, ◌≡◌, length, slice_index}
 use Rattle.ww_rule.specs.declared.pattern.State.TheVariants.{Empty}
 use Rattle.ww_rule.specs.Wireworld.{Plane}
@@ -9,7 +9,7 @@ use Rattle.lane_core.specs.declared.plan.Plan.{Plan}
 use Rattle.lane_core.specs.Plans.{IsAdmissible, in_cell_of, out_cell_of}
 use Rattle.plan_layout.specs.Planes.{plane_with}
 
--- a row of a lane: there are sixteen
+-- y is one of the sixteen rows of a lane
 abbrev pub IsRowOf : ℕ → ℕ → Type 0
 IsRowOf lane y = (16 * lane ≤ y) × (y < 16 * lane + 16)
 
@@ -21,8 +21,8 @@ pub record HasFreePorts (plan : Plan) (p : Plane) : Type 0 where
   pub east : (i x y : ℕ) → i < length plan.outs → IsRowOf (slice_index plan.outs i) y
       → (out_cell_of plan i).0 < x → p (pos x) (pos y) ≡ Empty
 
--- every admissible plan's plane is so, whichever library it is drawn with and whichever edges are
--- lit
+-- the plane of every admissible plan has free ports, whichever library it is drawn with and
+-- whichever edges are lit
 abbrev pub PortsStandFree : Type 0
 PortsStandFree =
     (plan : Plan) → IsAdmissible plan → (library : Kind → Drawing) (lit : Lit)

@@ -1,5 +1,5 @@
--- A plan that is driven by rows of input bits in several contexts: a list of rows for each, with
--- one row a cycle and one bit an input.
+-- A plan that rows of input bits drive in several contexts: a list of rows for each context, with
+-- one row for each cycle and one bit for each input.
 use Rattle.std.specs.Prelude.{ℕ, ◌<◌, ◌≡◌, Bool, List, [], length, get_or}
 use Rattle.ww_rule.specs.Wireworld.{Due}
 use Rattle.ww_rule.specs.Contexts.{due_of_contexts, context_row}
@@ -30,7 +30,7 @@ pub record AreInjectedInContexts (plan : Plan) (contexts : List (List (List Bool
   pub bits : (c t : ℕ) → c < length contexts
       → injected_in plan (drive_of_contexts plan contexts) c t ≡ row_bits_in plan contexts c t
 
--- so do those of as many contexts as can be started
+-- the rows of as many contexts as are started drive an admissible plan so
 abbrev pub ContextRowsAreInjected : Type 0
 ContextRowsAreInjected =
     (plan : Plan) → IsAdmissible plan → (starts : List (List Bool)) (lit : Lit)
@@ -46,7 +46,8 @@ bits_of_context_rows plan starts contexts c t =
     entering_bits (first_loop_lane plan.lanes plan.latches) plan.columns
     (row_bits_in plan contexts c) (get_or starts c []) t
 
--- of every library, every admissible plan, all edges that start contexts, and rows for each context
+-- an admissible plan that such rows drive shows what its columns make of the bits that enter: for
+-- every library, all edges that start contexts, and rows for each context
 abbrev pub PlansShowContextRows : Type 0
 PlansShowContextRows =
     (library : Kind → Drawing) → KeepsLaw library → (plan : Plan) → IsAdmissible plan

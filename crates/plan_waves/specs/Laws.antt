@@ -13,17 +13,17 @@ use Rattle.lane_core.specs.Entering.{first_loop_lane}
 use Rattle.plan_layout.specs.Layout.{tiling_of}
 use Rattle.plan_waves.specs.Waves.{is_free_entry, GoesOn, IsDarkInside, bits_at, loop_exit, loop_entry, tiles_back, DrivesInputs}
 
--- the edges after macro steps go on
+-- the edges after 0, 1, 2 and more macro steps go on by macro steps
 abbrev pub StepsGoOn : Type 0
 StepsGoOn = (plan : Plan) (lit : Lit) → GoesOn plan (after_steps (tiling_of plan) lit)
 
--- where heads are injected at inputs, the tiling is driven at its free entries
+-- if heads are injected at inputs, the tiling is driven at its free entries
 abbrev pub InputsAreEntries : Type 0
 InputsAreEntries =
     (plan : Plan) → IsAdmissible plan → (due : Due) → DrivesInputs plan due
     → DrivesEntries (tiling_of plan) due
 
--- and the edges of the driven tiling go on
+-- if heads are injected at inputs, the edges of the driven tiling go on by macro steps
 abbrev pub DrivenEdgesGoOn : Type 0
 DrivenEdgesGoOn =
     (plan : Plan) (due : Due) → DrivesInputs plan due → (lit : Lit)
@@ -35,7 +35,7 @@ FreeEntriesGoDark =
     (plan : Plan) → IsAdmissible plan → (lit : Lit) (edge : Edge) → is_free_entry plan edge ≡ true
     → macro_step (tiling_of plan) lit edge ≡ false
 
--- so that after the beginning a free entry is lit exactly when a head is injected in its cell
+-- after the beginning a free entry is lit exactly if a head is injected in its cell
 abbrev pub InputsEnter : Type 0
 InputsEnter =
     (plan : Plan) → IsAdmissible plan → (due : Due) (lit : Lit) (m lane : ℕ)
@@ -60,8 +60,8 @@ LoopsReturn =
     → loop < plan.latches
     → edges (m + tiles_back plan) (loop_entry plan loop) ≡ edges m (loop_exit plan loop)
 
--- both: what enters the body goes through all its columns and comes again on the loops' lanes, a
--- period later
+-- what enters the body goes through all its columns and comes back on the loops' lanes, a period
+-- later
 abbrev pub LoopsComeRound : Type 0
 LoopsComeRound =
     (plan : Plan) → IsAdmissible plan → (edges : ℕ → Lit) → GoesOn plan edges → (m loop : ℕ)
@@ -69,8 +69,8 @@ LoopsComeRound =
     → edges (m + (length plan.columns + tiles_back plan)) (loop_entry plan loop)
     ≡ bit_on (after_columns plan.columns (bits_at plan 0 (edges m))) (plan.lanes - 1 - loop)
 
--- where the body is dark inside at first, it is dark until what enters it arrives; whether its
--- entries are lit, or edges on the way back, makes no difference
+-- if the body is dark inside at first, it is dark until what enters it arrives; whether its entries
+-- or edges on the way back are lit makes no difference
 abbrev pub BodyBeginsDark : Type 0
 BodyBeginsDark =
     (plan : Plan) → IsAdmissible plan → (edges : ℕ → Lit) → GoesOn plan edges

@@ -1,5 +1,5 @@
--- What the plane of a plan shows of each of several contexts, which is drawn with any library of
--- tiles that keep the timing law.
+-- What the plane of a plan, drawn with any library of tiles that keep the timing law, shows of each
+-- of several contexts.
 use Rattle.std.specs.Prelude.{pos, ℕ, ◌+◌, ◌*◌, ◌<◌, ◌≡◌, ◌↔◌, Bool, true, List, length, slice_index}
 use Rattle.ww_rule.specs.declared.pattern.State.TheVariants.{Head}
 use Rattle.ww_rule.specs.Wireworld.{Plane, Due, driven}
@@ -16,9 +16,9 @@ use Rattle.lane_core.specs.Entering.{bits_after}
 use Rattle.plan_layout.specs.Planes.{plane_with}
 use Rattle.plan_waves.specs.Contexts.{StartsContexts, DrivesContexts, injected_in, context_bits}
 
--- A cell, given by x, y and the generations from the beginning of a cycle to it, is a head so many
--- generations after the beginning of each cycle of each context in which the bit is 1, and at no
--- other generation.
+-- A cell is given by x, y and the number of generations from the beginning of a cycle. It is a head
+-- so many generations after the beginning of each cycle of each context in which the bit is 1, and
+-- at no other generation.
 abbrev pub ShowsEachContext : (contexts period : ℕ) → (ℕ → Plane) → ℕ × ℕ × ℕ → (ℕ → ℕ → Bool)
     → Type 0
 ShowsEachContext contexts period plane cell bit =
@@ -26,7 +26,7 @@ ShowsEachContext contexts period plane cell bit =
     ↔ ((c : ℕ) × (t : ℕ) × (c < contexts) × (g ≡ cell.2 + 32 * c + t * period) × (bit c t ≡ true))
 
 -- Each injection meets a conductor, and the cells of outputs and nets show, context by context and
--- cycle by cycle, what the columns make on their lanes of these bits that enter the body.
+-- cycle by cycle, what the columns make on their lanes of the bits that enter the body.
 pub record ShowsContextBits (library : Kind → Drawing) (plan : Plan) (lit : Lit) (due : Due)
     (contexts : ℕ) (entering : ℕ → ℕ → List Bool) : Type 0 where
   pub conductors : MeetsConductors due (plane_with library plan lit)
@@ -40,8 +40,8 @@ pub record ShowsContextBits (library : Kind → Drawing) (plan : Plan) (lit : Li
       (λ c t. bit_on (bits_after after_columns plan.columns (net_place plan i).after (entering c t))
       (net_place plan i).lane)
 
--- of every library, every admissible plan, all edges that start contexts, and every drive of so
--- many contexts
+-- every admissible plan shows the bits of its contexts: for every library, all edges that start
+-- contexts, and every drive of so many contexts
 abbrev pub PlansShowContexts : Type 0
 PlansShowContexts =
     (library : Kind → Drawing) → KeepsLaw library → (plan : Plan) → IsAdmissible plan
@@ -49,14 +49,14 @@ PlansShowContexts =
     → DrivesContexts plan (length starts) due → StartsContexts plan starts lit
     → ShowsContextBits library plan lit due (length starts) (context_bits plan due starts)
 
--- a cell shows the same of a context in two evolutions of one plane: at the generations of its
--- cycles it is a head in both, or in none
+-- a cell shows a context alike in two evolutions of planes: at the generations of that context's
+-- cycles it is a head in both or in neither
 abbrev pub ShowsAlike : (period : ℕ) → (ℕ → Plane) → (ℕ → Plane) → ℕ → ℕ × ℕ × ℕ → Type 0
 ShowsAlike period plane other c cell =
     (t : ℕ) → (plane (cell.2 + 32 * c + t * period) (pos cell.0) (pos cell.1) ≡ Head)
     ↔ (other (cell.2 + 32 * c + t * period) (pos cell.0) (pos cell.1) ≡ Head)
 
--- where two drives inject the same in a context, all outputs and nets show the same of it
+-- all outputs and nets show a context alike under two drives
 pub record IsIsolated (library : Kind → Drawing) (plan : Plan) (lit : Lit) (due other : Due)
     (c : ℕ) : Type 0 where
   pub outs : (i : ℕ) → i < length plan.outs

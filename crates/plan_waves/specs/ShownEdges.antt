@@ -1,4 +1,4 @@
--- What the plane of a plan shows of its edges, which is drawn with any library of tiles that keep
+-- What the plane of a plan shows of its edges, if it is drawn with any library of tiles that keep
 -- the timing law, and driven at its inputs from any lit edges on.
 use Rattle.std.specs.Prelude.{ℤ, pos, ℕ, suc, ◌+◌, ◌*◌, ◌<◌, ◌≡◌, ◌↔◌, Bool, true, false, length, slice_index}
 use Rattle.ww_rule.specs.declared.pattern.State.TheVariants.{Head, Conductor}
@@ -14,17 +14,17 @@ use Rattle.plan_layout.specs.Planes.{plane_with}
 use Rattle.plan_layout.specs.Layout.{end_of_body, tiling_of}
 use Rattle.plan_waves.specs.Waves.{DrivesInputs}
 
--- A cell, given by x and y, is a head so many generations after each macro time at which the bit is
+-- A cell, given by x and y, is a head `late` generations after each macro time at which the bit is
 -- 1, and at no other generation.
 abbrev pub ShowsEachStep : (ℕ → Plane) → ℕ × ℕ → ℕ → (ℕ → Bool) → Type 0
 ShowsEachStep plane cell late bit =
     (g : ℕ) → (plane g (pos cell.0) (pos cell.1) ≡ Head)
     ↔ ((m : ℕ) × (g ≡ 32 * m + late) × (bit m ≡ true))
 
--- Each injection meets a conductor, at generation 0 where its edge is not lit without it. On each
--- lane of the body the cell at the entry of a column shows the column's edge, and the cell at its
--- exit, 31 generations later, the edge after the column at the next macro time; and the cell of an
--- output shows the edge at which it is entered.
+-- Each injection meets a conductor, at generation 0 if its edge is not lit anyway. On each lane of
+-- the body the cell at the entry of a column shows the column's edge, and the cell at its exit, 31
+-- generations later, the edge after the column at the next macro time. The cell of an output shows
+-- the edge at which it is entered.
 pub record ShowsDrivenEdges (library : Kind → Drawing) (plan : Plan) (due : Due)
     (lit : Lit) : Type 0 where
   pub first_conductors : (lane : ℕ) → due 0 (pos (left_of plan 0)) (pos (row_of lane)) ≡ true
@@ -45,8 +45,8 @@ pub record ShowsDrivenEdges (library : Kind → Drawing) (plan : Plan) (due : Du
       (λ m. driven_edges (tiling_of plan) due lit m
       (Beside (end_of_body plan) (slice_index plan.outs i)))
 
--- of every library, every admissible plan, every drive of its inputs at multiples of 32, and all
--- edges at the beginning
+-- every admissible plan shows its edges: for every library, every drive of its inputs at multiples
+-- of 32 generations, and all edges at the beginning
 abbrev pub PlansShowEdges : Type 0
 PlansShowEdges =
     (library : Kind → Drawing) → KeepsLaw library → (plan : Plan) → IsAdmissible plan → (due : Due)

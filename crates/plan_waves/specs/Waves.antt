@@ -1,5 +1,5 @@
--- The lit edges of a plan from macro step to macro step, where heads are injected at its free
--- entries alone.
+-- The lit edges of a plan from macro step to macro step, if heads are injected at its free entries
+-- alone.
 use Rattle.std.specs.Prelude.{ℤ, pos, ℕ, suc, ◌+◌, ◌-◌, ◌*◌, ◌%◌, ◌<◌, ◌≡◌, ◌==◌, nat_lt, nat_le, Bool, true, false, ◌&&◌, List, length, map}
 use Rattle.std.specs.List.{range_with_len}
 use Rattle.ww_rule.specs.Wireworld.{Due}
@@ -11,8 +11,8 @@ use Rattle.lane_core.specs.Plans.{left_of, row_of}
 use Rattle.lane_core.specs.Entering.{first_loop_lane}
 use Rattle.plan_layout.specs.Layout.{end_of_body, tiling_of}
 
--- the free entries: where the lanes that no loop enters enter the body's first column, and heads
--- may be injected
+-- the free entries: where the lanes that no loop enters meet the body's first column, and heads may
+-- be injected
 abbrev pub is_free_entry : Plan → Edge → Bool
 is_free_entry plan (Beside column lane) =
     column == plan.latches && nat_lt lane (first_loop_lane plan.lanes plan.latches)
@@ -29,8 +29,8 @@ abbrev pub is_body_entry : Plan → Edge → Bool
 is_body_entry plan (Beside column lane) = column == plan.latches && nat_lt lane plan.lanes
 is_body_entry plan (Above column lane) = false
 
--- the bits at the entries of a column of the body, lane by lane; with the number of columns, the
--- bits that leave the body
+-- the bits at the entries of a column of the body, lane by lane; if `column` is the number of
+-- columns, the bits that leave the body
 abbrev pub bits_at : Plan → ℕ → Lit → List Bool
 bits_at plan column lit =
     map (λ lane. lit (Beside (plan.latches + column) lane)) (range_with_len 0 plan.lanes)
@@ -41,7 +41,7 @@ is_inside plan (Beside column lane) =
     nat_lt plan.latches column && nat_le column (end_of_body plan) && nat_lt lane plan.lanes
 is_inside plan (Above column lane) = false
 
--- none of these is lit
+-- no edge inside the body is lit
 abbrev pub IsDarkInside : Plan → Lit → Type 0
 IsDarkInside plan lit = (edge : Edge) → is_inside plan edge ≡ true → lit edge ≡ false
 
@@ -52,8 +52,8 @@ loop_exit plan loop = Beside (end_of_body plan) (plan.lanes - 1 - loop)
 abbrev pub loop_entry : Plan → ℕ → Edge
 loop_entry plan loop = Beside plan.latches (first_loop_lane plan.lanes plan.latches + loop)
 
--- the tiles from a loop's exit to its entry: one in each column of the way back, and four for each
--- loop in the two turns
+-- how many tiles lie from a loop's exit to its entry: one in each column of the way back, and four
+-- for each loop in the two turns
 abbrev pub tiles_back : Plan → ℕ
 tiles_back plan = length plan.columns + 4 * plan.latches
 

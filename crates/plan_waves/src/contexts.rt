@@ -3,33 +3,34 @@ ghost use Rattle.plan_waves.specs.Contexts.{PlansRunByContexts};
 ghost use Rattle.plan_waves.specs.ShownContexts.{PlansShowContexts, ContextsAreIsolated};
 ghost use Rattle.plan_waves.specs.ContextRows.{ContextRowsAreInjected, PlansShowContextRows};
 
-/// Where an admissible plan is driven from edges on that start contexts, by heads 32 generations
-/// later in each context than in the one before, the entries of each column, and the outputs, have
-/// the bits of each cycle of each context once, and are dark at all other macro times.
+/// If the edges at the beginning start contexts, and heads drive an admissible plan in each context
+/// 32 generations later than in the one before, then the entries of each column, and the outputs,
+/// have the bits of each cycle of each context once, and are dark at all other macro times.
 pub fn plans_run_by_contexts()
     ensures { PlansRunByContexts }
 {}
 
-/// Drawn with any library that keeps the timing law, it shows at its outputs and nets, context by
-/// context and cycle by cycle, the bits on their lanes, and no head at any other generation; and
-/// each injection meets a conductor.
+/// Such a plan, drawn with any library that keeps the timing law, shows at its outputs and nets,
+/// context by context and cycle by cycle, the bits on their lanes, and no head at any other
+/// generation. Each injection meets a conductor.
 pub fn plans_show_contexts()
     ensures { PlansShowContexts }
 {}
 
-/// What it shows of a context does not depend on what is injected in the others.
+/// What such a plan shows of a context does not depend on what is injected in the others.
 pub fn contexts_are_isolated()
     ensures { ContextsAreIsolated }
 {}
 
-/// Rows of input bits, a list of rows for each context, drive an admissible plan so, and inject
-/// exactly their bits.
+/// Rows of input bits, with a list of rows for each context, drive an admissible plan in its
+/// contexts and inject exactly their bits.
 pub fn context_rows_are_injected()
     ensures { ContextRowsAreInjected }
 {}
 
-/// So an admissible plan shows at its outputs and nets, context by context and cycle by cycle, what
-/// its columns make of the bits of the cycle's row and of those that its loops bring.
+/// An admissible plan that such rows drive shows at its outputs and nets, context by context and
+/// cycle by cycle, what its columns make of the bits of the cycle's row and of those that its loops
+/// bring.
 pub fn plans_show_context_rows()
     ensures { PlansShowContextRows }
 {}

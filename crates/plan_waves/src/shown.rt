@@ -1,10 +1,10 @@
 // What the plane of a plan shows.
 ghost use Rattle.plan_waves.specs.ShownEdges.{PlansShowEdges};
 
-/// Drawn with any library that keeps the timing law, and driven at its inputs at multiples of 32
-/// from any lit edges on, an admissible plan shows at the entries and exits of its columns, and at
-/// its outputs, macro time by macro time, which edges are lit, and each injection meets a conductor
-/// where its edge is not lit without it.
+/// An admissible plan that is drawn with any library that keeps the timing law, and driven at its
+/// inputs at multiples of 32 generations from any lit edges on, shows at the entries and exits of
+/// its columns and at its outputs which edges are lit, macro time by macro time. Each injection
+/// meets a conductor, at generation 0 if its edge is not lit anyway.
 pub fn plans_show_edges()
     ensures { PlansShowEdges }
 {}

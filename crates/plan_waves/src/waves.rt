@@ -2,20 +2,21 @@
 ghost use Rattle.plan_waves.specs.WaysBack.{LoopsHaveWaysBack, WaysBackAreApart};
 ghost use Rattle.plan_waves.specs.Laws.{ColumnsPass, LoopsReturn, LoopsComeRound, BodyBeginsDark};
 
-/// The bits at the entries of the body at any macro time leave its c-th column c macro steps later,
-/// as c columns make of them.
+/// The bits at the entries of the body at any macro time leave the first c columns c macro steps
+/// later, as these columns change them.
 pub fn columns_pass()
     ensures { ColumnsPass }
 {}
 
 /// What is lit on the way back of a loop of an admissible plan enters the body one macro step later
-/// for each tile from there; the way back begins where the loop leaves the body, and meets the body
-/// again at its end alone.
+/// for each tile that remains of the way. The way back begins where the loop leaves the body, and
+/// meets the body again at its end alone.
 pub fn loops_have_ways_back()
     ensures { LoopsHaveWaysBack }
 {}
 
-/// No edge lies on the ways back of two loops of an admissible plan, nor at two places on one.
+/// No edge lies on the ways back of two loops of an admissible plan, nor at two places of one way
+/// back.
 pub fn ways_back_are_apart()
     ensures { WaysBackAreApart }
 {}
@@ -26,14 +27,14 @@ pub fn loops_return()
     ensures { LoopsReturn }
 {}
 
-/// A period after any macro time, each loop's lane brings what all columns make of the bits that
+/// One period after any macro time, each loop's lane brings what all columns make of the bits that
 /// entered the body then.
 pub fn loops_come_round()
     ensures { LoopsComeRound }
 {}
 
-/// Where no edge inside the body is lit at macro time 0, the entries of its c-th column, counted
-/// from 0, are dark before macro time c.
+/// If no edge inside the body is lit at macro time 0, the entries of its c-th column, counted from
+/// 0, are dark before macro time c.
 pub fn body_begins_dark()
     ensures { BodyBeginsDark }
 {}

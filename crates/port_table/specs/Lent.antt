@@ -1,4 +1,4 @@
--- The lines of a table in the code as values of the definitions.
+-- The lines of a table, from the code's values to those of the definitions.
 use Rattle.std.specs.Prelude.{List, Option, option_map, filter_map}
 use Rattle.std.specs.Option.{option_to_list}
 use Rattle.pattern_reading.specs.Numbers.{◌>>=◌}
@@ -22,7 +22,7 @@ table_line_of line = record { number = line.number; form = option_map form_of li
 abbrev pub forms_in : List TableLine → List lines.PortForm
 forms_in ls = filter_map (λ line. option_map form_of line.form) ls
 
--- what a line of a kind says, where it has a form
+-- what a line of a kind says, if it has a form
 abbrev pub said_by : {A : Type 0} → (lines.PortForm → Option A) → Option PortForm → List A
 said_by read form = option_to_list (option_map form_of form >>= read)
 

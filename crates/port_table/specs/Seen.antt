@@ -1,4 +1,4 @@
--- The names and paths of lines, as sets know them.
+-- The names and paths of lines, as the sets have them.
 use Rattle.std.specs.Prelude.{◌≡◌, ℕ, Bool, false, ◌&&◌, List}
 use Rattle.std.specs.List.{list_any}
 use Rattle.std.specs.Str.{bytes_eq}

@@ -36,8 +36,8 @@ fn is_outside(width: u64, height: u64, form: &PortForm) -> bool
     }
 }
 
-// What is at fault in a line, by the lines seen before it, of which it is the first or not. If
-// nothing is, it is seen too.
+// What is at fault in a line, by the lines seen before it; `is_first` says that there are none. A
+// line without a fault is then seen too.
 fn fault_of_form<'a>(
     seen: &mut Seen<'a>,
     is_first: bool,
@@ -92,7 +92,8 @@ fn first_fault_unseen<'a>(
     Ok(None)
 }
 
-/// The first fault of a table's lines in a box of this width and height, if they have one.
+/// Returns the first fault of a table's lines in a box of this width and height, or `None` if they
+/// have none.
 pub fn first_fault(
     alloc: Global,
     lines: &[TableLine],

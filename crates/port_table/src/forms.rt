@@ -13,10 +13,10 @@ use pattern_lines::number_in;
 use pattern_reading::{NetLine, PortLine, TableVersion};
 use std::alloc::{AllocError, Global};
 
-/// What a line of the table says.
+/// The content of a line of the table, by its form.
 #[derive(Drop)]
 pub enum PortForm {
-    /// `2 P p L l C c`; in version 1 `1 P p L l C c`, or `1 P p L l` where c is 1
+    /// `2 P p L l C c`; in version 1 `1 P p L l C c`, or `1 P p L l` if c is 1.
     Version {
         period: u64,
         latency: u64,
@@ -30,7 +30,7 @@ pub enum PortForm {
     Net(NetLine),
 }
 
-// Whether a period has room for so many contexts: for one, and for more where each has 32
+// Whether a period has room for so many contexts: it has room for one, and for more if each has 32
 // generations of it.
 fn has_room(period: u64, contexts: u64) -> bool
     ensures { result ≡ has_room period contexts }
@@ -38,7 +38,7 @@ fn has_room(period: u64, contexts: u64) -> bool
     contexts == 1 || (contexts != 0 && contexts <= period / 32)
 }
 
-// The number of contexts.
+// The number of contexts, after its word `C`.
 fn count_in(c_word: &[u8], c: &[u8]) -> Option<u64>
     ensures { result ≡ count_in c_word.now c.now }
 {
@@ -49,7 +49,7 @@ fn count_in(c_word: &[u8], c: &[u8]) -> Option<u64>
     }
 }
 
-/// The version that a word names.
+/// Returns the version that a word names.
 pub fn version_named(word: &[u8]) -> Option<TableVersion>
     ensures { result ≡ version_named word.now }
 {
@@ -62,7 +62,7 @@ pub fn version_named(word: &[u8]) -> Option<TableVersion>
     }
 }
 
-// The number of contexts where a version line does not say it.
+// The number of contexts if a version line does not give it.
 fn uncounted(version: TableVersion) -> Option<u64>
     ensures { result ≡ uncounted version }
 {
@@ -72,8 +72,8 @@ fn uncounted(version: TableVersion) -> Option<u64>
     }
 }
 
-// What a version line says, by the fields after the version: its period is not 0, and has room for
-// its contexts.
+// The content of a version line, by the fields after the version: its period is not 0, and has room
+// for its contexts.
 fn version_in(
     p_word: &[u8],
     p: &[u8],
@@ -99,7 +99,7 @@ fn version_in(
     })
 }
 
-// A version line that does not say the number of contexts.
+// A version line that does not give the number of contexts.
 fn uncounted_line(
     number: &[u8],
     p_word: &[u8],
@@ -114,7 +114,7 @@ fn uncounted_line(
     version_in(p_word, p, l_word, l, uncounted(version))
 }
 
-// A version line that says it.
+// A version line that gives the number of contexts.
 fn counted_line(
     number: &[u8],
     p_word: &[u8],
@@ -182,7 +182,7 @@ fn net_in(
     }))
 }
 
-// An input or an output.
+// The line of an input or an output.
 fn named_port(
     alloc: Global,
     version: TableVersion,
@@ -210,7 +210,7 @@ fn named_port(
     }))
 }
 
-// A net.
+// The line of a net.
 fn named_net(
     alloc: Global,
     version: TableVersion,
@@ -265,8 +265,8 @@ fn fields_of(alloc: Global, entry: &[u8]) -> Result<Vec<&[u8]>, AllocError>
     entry.split(|b| *b == b' ').take(8).collect(alloc)
 }
 
-/// The form of a line with this entry in a table of a version, if it has one. The fields of a line
-/// are separated by single spaces.
+/// Returns the form of a line with this entry in a table of a version, or `None` if it has none.
+/// The fields of a line are separated by single spaces.
 pub fn form_in(
     alloc: Global,
     version: TableVersion,

@@ -56,7 +56,8 @@ fn non_empty(bytes: Bytes) -> Option<Bytes>
     if bytes.len() == 0 { None } else { Some(bytes) }
 }
 
-/// The name that a field says in a table of a version, if it says one.
+/// Returns the name for which a field stands in a table of a version, or `None` if it stands for
+/// none.
 pub fn name_of_field(
     alloc: Global,
     version: TableVersion,

@@ -21,8 +21,8 @@ fn are_path_numbers(field: &[u8]) -> bool
     field.split(|b| *b == b'.').all(is_path_number)
 }
 
-/// The path that a field is, if it is one: `-`, or numbers without leading zeros, joined by single
-/// dots.
+/// Returns the field as a path, or `None` if it is none. A path is `-`, or numbers without leading
+/// zeros, joined by single dots.
 pub fn path_in(field: &[u8]) -> Option<&[u8]>
     ensures { option_copied result ≡ path_in field.now }
 {

@@ -1,4 +1,4 @@
-// The table that lines make.
+// The table that the lines make.
 ghost use Rattle.std.specs.Prelude.{◌≡◌, ◌++◌, [], filter_map, IfOk, OnOk};
 ghost use Rattle.pattern_reading.specs.PortTable.{input_of, output_of, period_in, latency_in, contexts_in, ports_of};
 ghost use Rattle.pattern_reading.specs.PortTable as table;
@@ -10,7 +10,7 @@ use lists::List;
 use pattern_reading::{NetLine, PortLine, Ports};
 use std::alloc::{AllocError, Global};
 
-// The period, the latency and the number of contexts of the version line; 32, 0 and 1 where there
+// The period, the latency and the number of contexts of the version line, or 32, 0 and 1 if there
 // is none.
 fn version_of(lines: &[TableLine]) -> (u64, u64, u64)
     ensures period { result.0 ≡ period_in (forms_in lines.now) }
@@ -77,7 +77,7 @@ impl Lists {
     }
 }
 
-/// The table that lines make, each kind in the order of the lines.
+/// Returns the table that the lines make, each kind in the order of the lines.
 pub fn ports_of(alloc: Global, lines: Vec<TableLine>) -> Result<Ports, AllocError>
     ensures { IfOk result (λ ports. ports ≡ ports_of (forms_in lines.items)) }
 {

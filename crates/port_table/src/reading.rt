@@ -13,11 +13,13 @@ use pattern_reading::Ports;
 use std::alloc::{AllocError, Global};
 use thiserror::Error;
 
-/// Why a table was not read.
+/// The reason why `read` has read no table.
 #[derive(Debug, Drop, Error)]
 pub enum PortReadError {
+    /// A line of the table is at fault: this is the first one, with its first fault.
     #[error("a line of the port table is at fault")]
     Fault(PortFault),
+    /// Memory runs out.
     #[error("out of memory")]
     NoMemory,
 }
@@ -30,16 +32,17 @@ impl From<AllocError> for PortReadError {
     }
 }
 
-/// Reads the port table that stands in the comments before the header of a text of extended RLE, in
-/// a box of `width` by `height` cells, which is the header's. All lines of a text without a header
-/// are looked at.
+/// Reads the port table in the comments before the header of a text of extended RLE. `width` and
+/// `height` are those of the header's box, in cells. In a text without a header it looks at all
+/// lines.
 ///
 /// The lines of the table begin with `#C BLIFWW `, and their fields are separated by single spaces.
 /// A text without such lines has the empty table of period 32, latency 0 and one context. Otherwise
-/// the first line is `2 P p L l C c`, or in version 1 `1 P p L l` or `1 P p L l C c`, with a period
-/// `p` of at least 1 and 1 to `p` / 32 contexts `c`, or one, and each later line is `IN x y name`,
-/// `OUT x y name` or `NET x y offset name path`. In version 2 a `%` in a name and two hexadecimal
-/// digits after it are a byte; in version 1 names are as they stand.
+/// the first line is `2 P p L l C c`, or in version 1 `1 P p L l` or `1 P p L l C c`. Its period
+/// `p` is at least 1. Its number of contexts `c` is 1, or more if each has 32 generations of the
+/// period. Each later line is `IN x y name`, `OUT x y name` or `NET x y offset name path`. In
+/// version 2 a `%` in a name and the two hexadecimal digits after it stand for a byte; in version 1
+/// names stand as they are.
 ///
 /// `Fault` has the first line that is at fault, and the first fault of that line.
 pub fn read(alloc: Global, text: &[u8], width: u64, height: u64) -> Result<Ports, PortReadError>

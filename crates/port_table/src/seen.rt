@@ -19,7 +19,7 @@ pub struct Seen<'a> {
 }
 
 impl<'a> Seen<'a> {
-    /// Of no lines.
+    /// Returns the names and paths of no lines.
     pub fn new(alloc: Global) -> Seen<'a>
         ensures { HasSeen result [] }
     {
@@ -30,7 +30,7 @@ impl<'a> Seen<'a> {
         }
     }
 
-    /// Adds a line, and answers whether its name was new, and for a net its name and path.
+    /// Adds a line, and returns whether its name was new, or, for a net, its name with its path.
     pub fn insert(&mut self, form: &'a PortForm) -> Result<bool, AllocError>
         ensures added { IfOk result (λ added. (before : List lines.PortForm) →
             HasSeen self.old before →

@@ -19,14 +19,14 @@ pub struct TableLine {
     pub form: Option<PortForm>,
 }
 
-// What follows the word that each line of the table begins with.
+// What follows the word with which each line of the table begins.
 fn table_entry(bytes: &[u8]) -> Option<&[u8]>
     ensures { option_copied result ≡ after_prefix (codes "#C BLIFWW ") bytes.now }
 {
     bytes.strip_prefix(b"#C BLIFWW ")
 }
 
-// How many bytes stand before the first space, which are all where there is none.
+// How many bytes stand before the first space, or how many there are if there is none.
 fn bytes_before_space(entry: &[u8]) -> usize
     ensures { result ≡ prefix_len (λ b. not (b == 32)) entry.now }
 {
@@ -60,7 +60,7 @@ fn table_version(text: &[u8]) -> TableVersion
     TableVersion::Raw
 }
 
-// The line as one of a table of a version, if it is one.
+// The line as a line of a table of a version, if it is one.
 fn table_line(
     alloc: Global,
     version: TableVersion,
@@ -106,7 +106,8 @@ fn push_table_lines(
     Ok(())
 }
 
-/// The lines of a text's table, in order, which are those before its header; all where it has none.
+/// Returns the lines of a text's table, in order. They are those before its header, or among all
+/// lines if it has none.
 pub fn table_lines(alloc: Global, text: &[u8]) -> Result<Vec<TableLine>, AllocError>
     ensures { IfOk result (λ lines. map table_line_of lines.items ≡ table_of text.now) }
 {

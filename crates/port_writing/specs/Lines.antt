@@ -10,7 +10,7 @@ use Rattle.pattern_reading.specs.Spelling.{escaped_name, port_lines}
 abbrev pub spaced : List (Bor (List ℕ)) → List ℕ
 spaced fields = flat_map (λ field. 32 ∷ field.now) fields
 
--- a line with fields, of which one is a name, and what follows it
+-- a line with fields, of which one is a name, and the bytes that follow the line
 abbrev pub named_line : List (Bor (List ℕ)) → List ℕ → List (Bor (List ℕ)) → List ℕ → List ℕ
 named_line before name after rest =
     codes "#C BLIFWW" ++ (spaced before

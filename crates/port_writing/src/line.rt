@@ -11,7 +11,7 @@ use crate::table::{write_net, write_port, write_version};
 use pattern_reading::Ports;
 use ww_base::{Failed, Page, Sink};
 
-// Puts the line on a page.
+// Puts line `n` on a page.
 fn put_line<O: Sink>(sink: &mut O, page: &mut Page, ports: &Ports, n: usize) -> Result<(), Failed>
     requires { n < length (port_lines ports.now) }
     ensures ok { OnOk result ((rest : List ℕ) →
@@ -35,9 +35,9 @@ fn put_line<O: Sink>(sink: &mut O, page: &mut Page, ports: &Ports, n: usize) -> 
     write_net(sink, page, ports.nets.get(output - ports.outs.len()))
 }
 
-/// Writes a line of a table, with its line end: line 0 is the version line, and the inputs, the
-/// outputs and the nets follow. Where a write fails, a front of the line stands written. It takes
-/// no memory.
+/// Writes a line of a table, with its line end. Line 0 is the version line, and the lines of the
+/// inputs, the outputs and the nets follow. If a write fails, a prefix of the line has been
+/// written. It takes no memory.
 pub fn write_line<O: Sink>(ports: &Ports, n: usize, sink: &mut O) -> Result<(), Failed>
     requires { n < length (port_lines ports.now) }
     ensures ok { OnOk result (Appends (O.written sink.old) (O.written sink.new)

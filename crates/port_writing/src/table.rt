@@ -133,7 +133,7 @@ pub fn write_version<O: Sink>(
     write_unnamed(sink, page, &[b"2", b"P", p, b"L", l, b"C", c])
 }
 
-// The line of an input or an output.
+// Writes the line of an input or an output.
 pub fn write_port<O: Sink>(
     sink: &mut O,
     page: &mut Page,

@@ -12,7 +12,7 @@ use Rattle.pattern_lines.specs.declared.lines.Line as lent
 use Rattle.rle_read.specs.declared.error.RleReadError.{RleReadError}
 use Rattle.rle_read.specs.declared.error.RleReadError.TheVariants.{Fault, TooLarge, NoMemory}
 
--- The text's header line, and the text that holds the lines after it.
+-- The parts are the text's header line, and the text that holds the lines after it.
 pub record IsHeaderAt (text : List ℕ) (parts : lent.Line × Bor (List ℕ)) : Type 0 where
   pub header : header_line text ≡ Some (line_of parts.0)
   pub after : lines_after_header text
@@ -21,7 +21,7 @@ pub record IsHeaderAt (text : List ℕ) (parts : lent.Line × Bor (List ℕ)) : 
       ≡ last_line text
   pub room : parts.0.number + length parts.1.now < 2 ^ 64
 
--- what is at fault in the bytes of a header line
+-- this is the fault of the bytes of a header line
 abbrev pub IsHeaderFault : List ℕ → RleFaultKind → Type 0
 IsHeaderFault bytes NoHeader = after_word (codes "x") bytes ≡ None
 IsHeaderFault bytes BadHeader =
@@ -32,8 +32,8 @@ IsHeaderFault bytes BadItem = ⊥
 IsHeaderFault bytes CellOutside = ⊥
 IsHeaderFault bytes NoEnd = ⊥
 
--- Why a reader reads no pattern of a text: its first fault; a box that is too large; or want of
--- memory, where the header is without fault and the box is not too large.
+-- The reason why a reader reads no pattern from a text: its first fault; a box that is too large;
+-- or, if the header is without fault and the box is not too large, that memory runs out.
 abbrev pub HasReadReason : List ℕ → RleReadError → Type 0
 HasReadReason text (Fault fault) = HasReaderFault text fault.kind fault.line
 HasReadReason text (TooLarge width height) = HasLargeBox text width height

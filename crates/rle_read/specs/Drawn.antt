@@ -23,11 +23,11 @@ pub record Drawn : Type 0 where
 abbrev pub drawn_of : Drawing → Drawn
 drawn_of d = record { width = d.width; height = d.height; rows = d.rows; x = d.x; y = d.y }
 
--- a place, or the greatest number where it is past it
+-- a place, or the greatest number if the place is past it
 abbrev pub kept : ℕ → ℕ
 kept n = min n (2 ^ 64 - 1)
 
--- the box with empty cells
+-- the box with empty cells alone
 abbrev pub blank_drawing : ℕ → ℕ → Drawn
 blank_drawing width height =
     record {
@@ -43,7 +43,7 @@ abbrev pub rows_with : Drawn → ℕ → State → List (List State)
 rows_with d n Empty = d.rows
 rows_with d n state = slice_set d.rows d.y (with_run (get_or d.rows d.y []) d.x n state)
 
--- what an item makes of a drawing
+-- the drawing after an item
 abbrev pub drawn_after : Item → Drawn → Drawn
 drawn_after (Cells n state) d = record d { rows = rows_with d n state; x = kept (d.x + n) }
 drawn_after (RowEnds n) d = record d { x = 0; y = kept (d.y + n) }
@@ -53,8 +53,8 @@ drawn_after _ d = d
 abbrev pub place_of : ℕ → Drawn → Item → Placed
 place_of line d item = record { line = line; x = d.x; y = d.y; item = item }
 
--- how far items are drawn: up to an item at fault, up to the end of the pattern, or all of them,
--- where none is that end
+-- how far items are drawn: up to an item at fault, up to the end of the pattern, or all of them if
+-- there is no end among them
 pub data Reached : Type 0 where
   Fault : RleFaultAt → Reached
   Ended : Drawn → Reached
@@ -75,7 +75,7 @@ drawn_with d (i ∷ is) =
 abbrev pub rle_fault_of : RleFault → RleFaultAt
 rle_fault_of fault = record { kind = fault.kind; line = fault.line }
 
--- what a line's answer says of the drawing that it leaves
+-- how far the items of a line are drawn, by the line's answer and the drawing after it
 abbrev pub reached_of : Result LineEnd RleFault → Drawn → Reached
 reached_of (Err fault) d = Fault (rle_fault_of fault)
 reached_of (Ok OfPattern) d = Ended d

@@ -1,4 +1,4 @@
--- What the reader's small parts give, as values: without where they lie in memory.
+-- The results of the reader's small parts as values, regardless of where they lie in memory.
 use Rattle.std.specs.Prelude.{ℕ, List}
 use Rattle.std.specs.Option.{option_copied}
 use denote.Ref.{Bor}

@@ -13,14 +13,14 @@ use crate::items::{Item, item_in, split_piece};
 use pattern_lines::{Line, split_line};
 use pattern_reading::RleFaultKind;
 
-/// What a line of items ends with: its own end, or the end of the pattern.
+/// The end of a line of items: its own end, or the end of the pattern.
 #[derive(Clone, Copy)]
 pub enum LineEnd {
     OfLine,
     OfPattern,
 }
 
-// Draws the items of a line, up to the pattern's end or an item at fault.
+// Draws the items of a line, up to the end of the pattern or an item at fault.
 fn draw_line(drawing: &mut Drawing, line: Line<'_>) -> Result<LineEnd, RleFault>
     requires in_rows { IsGrid drawing.old.width drawing.old.height drawing.old.rows }
     ensures drawn { reached_of result (drawn_of drawing.new)
@@ -49,7 +49,8 @@ fn draw_line(drawing: &mut Drawing, line: Line<'_>) -> Result<LineEnd, RleFault>
     Ok(LineEnd::OfLine)
 }
 
-/// Draws the items of a text before which stand so many lines, up to the pattern's end.
+/// Draws the items of a text, up to the end of the pattern. `lines_before` is the number of lines
+/// that stand before the text.
 pub fn draw_text(drawing: &mut Drawing, lines_before: u64, text: &[u8]) -> Result<(), RleFault>
     requires room { lines_before + length text.now < 2 ^ 64 }
     requires in_rows { IsGrid drawing.old.width drawing.old.height drawing.old.rows }

@@ -13,7 +13,7 @@ use pattern_reading::RleFaultKind;
 use std::alloc::Global;
 use ww_rule::{CellRows, State};
 
-/// A pattern while its items are read: its rows so far, and the column and the row at which the
+/// A pattern whose items are being read: its rows so far, and the column and the row at which the
 /// next item begins. A column or a row past the greatest number is kept as the greatest, since no
 /// cell of a box lies there.
 #[derive(Drop)]
@@ -26,7 +26,7 @@ pub struct Drawing {
 }
 
 impl Drawing {
-    /// A drawing of empty cells, whose first item begins at its first cell.
+    /// Returns a drawing of empty cells, whose first item begins at its first cell.
     pub fn new(alloc: Global, width: u64, height: u64) -> Result<Drawing, RleReadError>
         ensures drawn { IfOk result (λ drawing. drawn_of drawing ≡ blank_drawing width height) }
         ensures failed { IfErr result (λ e. e ≡ NoMemory) }
@@ -50,7 +50,7 @@ impl Drawing {
         count <= self.width && self.x <= self.width - count && self.y < self.height
     }
 
-    /// What is at fault in an item that begins at this place.
+    /// Returns what is at fault in an item that begins at this place.
     pub fn item_fault(&self, item: Item) -> Option<RleFaultKind>
         ensures { result
             ≡ item_fault self.now.width self.now.height

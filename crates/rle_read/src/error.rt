@@ -1,25 +1,25 @@
-// What a reader answers where it reads no pattern.
+// The answers of a reader that reads no pattern.
 ghost use Rattle.std.specs.Prelude.{◌≡◌};
 ghost use Rattle.rle_read.specs.declared.error.RleReadError.TheVariants.{Fault, NoMemory};
 
 use pattern_reading::RleFaultKind;
 use std::alloc::{AllocError, AllocFailed};
 
-/// A fault of a text of extended RLE, and the number of the line that it is on, from 1.
+/// A fault of a text of extended RLE, and the number of its line, from 1.
 #[derive(Clone, Copy, Debug, PartialEq, Eq)]
 pub struct RleFault {
     pub kind: RleFaultKind,
     pub line: u64,
 }
 
-/// Why no pattern was read.
+/// The reason why `read` has read no pattern.
 #[derive(Clone, Copy, Debug, PartialEq, Eq)]
 pub enum RleReadError {
     /// The text is at fault, and this is its first fault.
     Fault(RleFault),
     /// The header's box has more cells than a reader takes, 268435456.
     TooLarge { width: u64, height: u64 },
-    /// There was no memory for the pattern.
+    /// Memory runs out.
     NoMemory,
 }
 

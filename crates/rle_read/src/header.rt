@@ -8,7 +8,7 @@ ghost use Rattle.rle_read.specs.Texts.{header_of};
 use crate::words::{after_word, number_at_front, without_leading_blanks};
 use pattern_lines::{is_all_blank, is_blank};
 
-/// What a header says; the rule's name may be missing.
+/// The parts of a header; the rule's name may be missing.
 #[derive(Clone, Copy)]
 pub struct Header<'a> {
     pub width: u64,
@@ -17,7 +17,7 @@ pub struct Header<'a> {
 }
 
 impl Header<'_> {
-    /// Whether the rule is Wireworld's, in any case of the letters.
+    /// Returns whether the rule is Wireworld's, in any case of the letters.
     pub fn is_wireworld(&self) -> bool
         ensures { result ≡ is_wireworld (option_copied self.now.rule) }
     {
@@ -63,7 +63,7 @@ fn rule_in(bytes: &[u8]) -> Option<Option<&[u8]>>
     Some(Some(rule_name_in(bytes)?))
 }
 
-/// The header that a line says, if it has the form of one.
+/// Returns the header in a line, or `None` if the line does not have the form of one.
 pub fn header_in(bytes: &[u8]) -> Option<Header<'_>>
     ensures { option_map header_of result ≡ header_in bytes.now }
 {

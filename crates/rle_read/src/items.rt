@@ -7,7 +7,7 @@ use crate::words::digits_at_front;
 use pattern_lines::{is_blank, number_in};
 use ww_rule::State;
 
-/// A byte that is no digit, with the digits directly before it; where a line ends with digits, they
+/// A byte that is no digit, with the digits directly before it. If a line ends with digits, they
 /// are a piece without such a byte.
 #[derive(Clone, Copy)]
 pub struct TaggedDigits<'a> {
@@ -15,12 +15,12 @@ pub struct TaggedDigits<'a> {
     pub tag: Option<u8>,
 }
 
-/// What a piece of a line stands for.
+/// The meaning of a piece of a line.
 #[derive(Clone, Copy)]
 pub enum Item {
-    /// So many cells of one state.
+    /// A number of cells of one state.
     Cells(u64, State),
-    /// So many ends of rows.
+    /// A number of ends of rows.
     RowEnds(u64),
     /// The end of the pattern, `!`.
     End,
@@ -32,7 +32,7 @@ pub enum Item {
     NoItem,
 }
 
-/// The first piece of bytes, and the bytes after it.
+/// Returns the first piece of bytes, and the bytes after it.
 pub fn split_piece(bytes: &[u8]) -> (TaggedDigits<'_>, &[u8])
     requires { 0 < length bytes.now }
     ensures pieces { pieces_of bytes.now ≡ tagged_digits_of result.0 ∷ pieces_of result.1.now }
@@ -81,7 +81,7 @@ fn item_without_count(tag: u8) -> Item
     counted_item(1, tag)
 }
 
-/// What a piece stands for, in a line that has an end or none.
+/// Returns what a piece stands for. `is_ended` says whether its line has an end.
 pub fn item_in(is_ended: bool, piece: TaggedDigits<'_>) -> Item
     ensures item { item_of result ≡ item_in is_ended piece.entry.digits.now piece.entry.tag }
     ensures counted { IsCounted (item_of result) }

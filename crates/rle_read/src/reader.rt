@@ -1,4 +1,4 @@
-// A text of extended RLE, read.
+// The reader of a text of extended RLE.
 ghost use Rattle.std.specs.Prelude.{◌≡◌, ◌⊎◌, ◌*◌, ◌^◌, ◌<◌, ℕ, Some, None, true, length, nat_lt, IfOk, IfErr, MatchResult};
 ghost use Rattle.ww_rule.specs.Grid.{Grid};
 ghost use Rattle.ww_rule.specs.Patterns.{grid_of};
@@ -19,7 +19,7 @@ use pattern_reading::RleFaultKind;
 use std::alloc::Global;
 use ww_rule::Pattern;
 
-// The most cells that a pattern's box may have.
+// The greatest number of cells in the box of a pattern.
 const MOST_CELLS: u128 = 268_435_456;
 
 // The line that is to be the header, and the text after it.
@@ -46,7 +46,7 @@ fn split_header(text: &[u8]) -> Result<(Line<'_>, &[u8]), RleFault>
     })
 }
 
-// The header that a line says.
+// The header in a line, or the line's fault.
 fn read_header(line: Line<'_>) -> Result<Header<'_>, RleFault>
     ensures header { IfOk result (λ header. (header_in line.entry.bytes.now ≡
         Some (header_of header))
@@ -77,7 +77,7 @@ fn is_too_large(width: u64, height: u64) -> bool
     u128::from(width) * u128::from(height) > MOST_CELLS
 }
 
-// The pattern of a text, or why there is none.
+// The pattern of a text, or the reason why there is none.
 fn pattern_in(alloc: Global, text: &[u8]) -> Result<Pattern, RleReadError>
     ensures pattern { IfOk result (λ pattern. ReadsWithinLimit text.now (grid_of pattern)) }
     ensures refused { IfErr result (HasReadReason text.now) }
@@ -99,9 +99,9 @@ fn pattern_in(alloc: Global, text: &[u8]) -> Result<Pattern, RleReadError>
 /// Reads the text of a pattern in extended RLE, by Golly's description of it: a header such as
 /// `x = 3, y = 1, rule = WireWorld`, and then items such as `3C!`.
 ///
-/// The answer is the pattern that the text says, or the text's first fault and its line, counted
-/// from 1. A box of more than 268435456 cells is refused once the header is read, and before any
-/// memory is taken.
+/// Returns the pattern of the text, or the text's first fault and its line, counted from 1. A box
+/// of more than 268435456 cells is refused after the header is read, and before any memory is
+/// taken.
 pub fn read(alloc: Global, text: &[u8]) -> Result<Pattern, RleReadError>
     ensures pattern { IfOk result (λ pattern. ReadsWithinLimit text.now (grid_of pattern)) }
     ensures refused { IfErr result (HasReadReason text.now) }

@@ -1,4 +1,4 @@
-// Words and numbers at the front of bytes, after blanks.
+// Words and numbers at the beginning of bytes, after blanks.
 ghost use Rattle.std.specs.Prelude.{◌≡◌, ◌≤◌, length, option_map};
 ghost use Rattle.std.specs.Option.{option_copied};
 ghost use Rattle.std.specs.Char.{is_ascii_digit};
@@ -8,7 +8,7 @@ ghost use Rattle.rle_read.specs.Texts.{number_and_rest};
 
 use pattern_lines::{is_blank, number_in};
 
-/// The bytes without the blanks at their front.
+/// Returns the bytes without the blanks at their beginning.
 pub fn without_leading_blanks(bytes: &[u8]) -> &[u8]
     ensures { result.now ≡ without_leading_blanks bytes.now }
 {
@@ -22,14 +22,15 @@ pub fn without_leading_blanks(bytes: &[u8]) -> &[u8]
     rest
 }
 
-/// What follows a word, where blanks may stand before it.
+/// Returns what follows a word, or `None` if the bytes do not begin with it. Blanks may stand
+/// before the word.
 pub fn after_word<'a>(word: &[u8], bytes: &'a [u8]) -> Option<&'a [u8]>
     ensures { option_copied result ≡ after_word word.now bytes.now }
 {
     without_leading_blanks(bytes).strip_prefix(word)
 }
 
-/// How many digits stand at the front.
+/// Returns how many digits the bytes begin with.
 pub fn digits_at_front(bytes: &[u8]) -> usize
     ensures count { result ≡ prefix_len is_ascii_digit bytes.now }
     ensures within { result ≤ length bytes.now }
@@ -37,7 +38,8 @@ pub fn digits_at_front(bytes: &[u8]) -> usize
     bytes.iter().take_while(|b| b.is_ascii_digit()).count()
 }
 
-/// A number, where blanks may stand before it, and what follows its digits.
+/// Returns a number and what follows its digits, or `None` if the bytes begin with none. Blanks may
+/// stand before the number.
 pub fn number_at_front(bytes: &[u8]) -> Option<(u64, &[u8])>
     ensures { option_map number_and_rest result ≡ number_at_front bytes.now }
 {

@@ -8,7 +8,7 @@ ghost use Rattle.ww_base.specs.Progress.{Wrote, Broke};
 use itoa::Buffer;
 use ww_base::{Failed, Page, Sink};
 
-// The most bytes that a line of items has.
+// The greatest number of bytes in a line of items.
 const LINE: usize = 70;
 
 // The digits of a count that is not 1.
@@ -20,7 +20,7 @@ fn count_digits(buffer: &mut Buffer, count: usize) -> &str
     buffer.format(count)
 }
 
-// Ends the line, where an item of `size` bytes does not fit on it.
+// Ends the line if an item of `size` bytes does not fit on it.
 fn break_line<O: Sink>(sink: &mut O, page: &mut Page, size: usize) -> Result<(), Failed>
     requires { size ≤ 41 }
     ensures room { OnOk result (column_of page.new + size ≤ 70) }
@@ -41,7 +41,7 @@ fn break_line<O: Sink>(sink: &mut O, page: &mut Page, size: usize) -> Result<(),
     Ok(())
 }
 
-// Puts the bytes of an item on the line, or on the next where they do not fit.
+// Puts the bytes of an item on the line, or on the next one if they do not fit.
 fn write_bytes<O: Sink>(sink: &mut O, page: &mut Page, item: &[u8]) -> Result<(), Failed>
     requires { length item.now ≤ 41 }
     ensures ok { OnOk result ((items : List (List ℕ)) →
@@ -89,8 +89,8 @@ fn digit(number: usize) -> u8
     b'0' + number as u8
 }
 
-/// Puts an item on the line, or on the next where it does not fit. The bytes of a short one are put
-/// at once.
+/// Puts an item on the line, or on the next one if it does not fit. The bytes of a short item are
+/// put at once.
 pub fn write_item<O: Sink>(
     sink: &mut O,
     page: &mut Page,

@@ -24,7 +24,7 @@ use plan_layout::Slot;
 use ww_base::{Failed, Page, Sink};
 use ww_rule::State;
 
-// What stands in the block of the cell at column `x` and row `y`: it is taken anew where the block
+// What stands in the block of the cell at column `x` and row `y`: it is looked up where the block
 // begins, and is else what stood there for the cell before.
 fn slot_from(plan: &Plan, blocks: &[Slot], y: u64, x: u64, before: Slot) -> Slot
     requires admissible { IsAdmissible plan.now }
@@ -39,8 +39,8 @@ fn slot_from(plan: &Plan, blocks: &[Slot], y: u64, x: u64, before: Slot) -> Slot
     }
 }
 
-// The next run of a row, and what stands in the block to which it goes: west of the plan no block
-// is looked up.
+// The next run of a row, and what stands in the block to which the run goes. West of the plan no
+// block is looked up.
 fn next_run(
     plan: &Plan,
     blocks: &[Slot],
@@ -72,7 +72,7 @@ fn next_run(
     }
 }
 
-// Writes row `y` up to its last cell that is not empty, and answers how many row ends are due then,
+// Writes row `y` up to its last cell that is not empty, and returns how many row ends are due then,
 // its own among them.
 fn write_plan_row<O: Sink>(
     sink: &mut O,
@@ -112,8 +112,8 @@ fn write_plan_row<O: Sink>(
     end_row(sink, page, kept)
 }
 
-/// Writes the items of a plan's rows, the `!` after them and a line end on the page. As many blocks
-/// of a lane as there is room for are looked up once for its rows.
+/// Writes the items of a plan's rows, the `!` after them and a line end on the page. The blocks of
+/// a lane are looked up once for all its rows, as many of them as `blocks` has room for.
 pub fn write_plan_rows<O: Sink>(
     sink: &mut O,
     page: &mut Page,

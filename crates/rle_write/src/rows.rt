@@ -1,5 +1,5 @@
-// Rows, run by run: of each run of equal cells the length is kept until it ends, and row ends until
-// a cell follows.
+// Rows, run by run. The length of a run of equal cells is kept until the run ends, and row ends are
+// kept until a cell follows.
 ghost use Rattle.std.specs.Prelude.{◌≡◌, ◌≢◌, ◌≤◌, ◌<◌, ◌+◌, ◌^◌, ℕ, List, [], ◌++◌, replicate, IfOk, OnErr, OnOk};
 ghost use Rattle.ww_rule.specs.declared.pattern.State.{State};
 ghost use Rattle.pattern_writing.specs.Writer.{TagRun, tag_of, row_end};
@@ -15,14 +15,14 @@ use ww_rule::State;
 /// The tag of an empty cell.
 const EMPTY: u8 = b'.';
 
-/// Equal cells of a row, not yet written.
+/// A run of equal cells of a row that is not yet written.
 #[derive(Clone, Copy)]
 pub struct Run {
     pub count: usize,
     pub tag: u8,
 }
 
-/// What is not yet written of the rows so far: row ends, and after them a run.
+/// The part of the rows so far that is not yet written: row ends, and a run after them.
 #[derive(Clone, Copy)]
 pub struct Kept {
     pub due: usize,
@@ -30,7 +30,7 @@ pub struct Kept {
 }
 
 impl Kept {
-    /// At the beginning of a row.
+    /// Returns what is kept at the beginning of a row: the row ends that are due, and no run.
     pub fn begin(due: usize) -> Kept
         ensures due { result.due ≡ due }
         ensures none { result.run.count ≡ 0 }
@@ -62,7 +62,7 @@ fn write_ends<O: Sink>(sink: &mut O, page: &mut Page, ends: usize) -> Result<(),
     write_item(sink, page, ends, b'$')
 }
 
-// Writes a run, after the row ends that are due before it, and answers how many are due then.
+// Writes a run, after the row ends that are due before it, and returns how many are due then.
 fn write_run<O: Sink>(sink: &mut O, page: &mut Page, ends: usize, run: Run) -> Result<usize, Failed>
     requires { run.tag ≢ row_end }
     ensures fewer { IfOk result (λ after. after ≤ ends) }
@@ -106,7 +106,7 @@ fn end_run<O: Sink>(sink: &mut O, page: &mut Page, ends: usize, run: Run) -> Res
     write_run(sink, page, ends, run)
 }
 
-/// Writes a row's last run, if its cells are not empty, and answers how many row ends are due then,
+/// Writes a row's last run, if its cells are not empty, and returns how many row ends are due then,
 /// its own among them.
 pub fn end_row<O: Sink>(sink: &mut O, page: &mut Page, kept: Kept) -> Result<usize, Failed>
     requires cell { kept.run.tag ≢ row_end }
@@ -126,9 +126,8 @@ pub fn end_row<O: Sink>(sink: &mut O, page: &mut Page, kept: Kept) -> Result<usi
     Ok(last + 1)
 }
 
-/// Writes the run before cells of another state, with `count` cells of a state to come, whatever
-/// follows them in the row, and answers what is kept then: these cells, with the run before them
-/// where it is of the same state.
+/// Takes `count` more cells of one state, and writes the kept run if it is of another state.
+/// Returns what is kept then: these cells, joined with the kept run if it is of the same state.
 pub fn write_same<O: Sink>(
     sink: &mut O,
     page: &mut Page,

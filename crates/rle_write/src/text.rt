@@ -1,4 +1,4 @@
-// The whole text: lines, the header, and the items.
+// The whole text: the lines of the port table, the header, and the items.
 ghost use Rattle.std.specs.Prelude.{◌≡◌, ◌≤◌, ℕ, List, ◌++◌, take, decimal, OnOk, OnErr};
 ghost use Rattle.std.specs.Io.KnownBytes.{Appends};
 ghost use Rattle.ww_base.specs.Faults.{HasCause};
@@ -18,10 +18,10 @@ use plan_layout::Slot;
 use port_writing::write_table;
 use ww_base::{Failed, Page, Sink};
 
-// The most blocks of a lane that are kept for its rows: 32 columns of cells each.
+// The greatest number of blocks of a lane that are kept for its rows: 32 columns of cells each.
 const KEPT: usize = 1024;
 
-// How many blocks are kept of a drawing of this width.
+// How many blocks are kept for a drawing of this width.
 fn kept_blocks(width: u64) -> usize
     ensures { result ≤ 1024 }
 {
@@ -66,8 +66,8 @@ fn write_header<O: Sink>(
 }
 
 /// Writes the pattern of an admissible plan in extended RLE (`.`, `A`, `B` and `C` for the states,
-/// as Golly describes it for rules of several states), after the lines of its port table. Where a
-/// write fails, a front of the text stands written. It takes no memory, and no pattern is held.
+/// as Golly describes it for rules of several states), after the lines of its port table. If a
+/// write fails, a prefix of the text has been written. It takes no memory, and holds no pattern.
 pub fn write<O: Sink>(plan: &Plan, ports: &Ports, sink: &mut O) -> Result<(), Failed>
     requires { IsAdmissible plan.now }
     ensures ok { OnOk result (

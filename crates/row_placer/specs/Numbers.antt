@@ -1,4 +1,4 @@
--- Sources by their numbers: inputs, latches, constant 1 where it is named, constant 0, cells.
+-- Sources by their numbers: inputs, latches, constant 1 if it is named, constant 0, cells.
 use Rattle.std.specs.Prelude.{ℕ, ◌+◌, ◌<◌, ◌≡◌, Bool, true, List, get_or, length, All}
 use Rattle.cell_core.specs.declared.cells.Src.{Src}
 use Rattle.cell_core.specs.declared.cells.Src.TheVariants.{Input, Latch, One, Zero, Cell as Made}
@@ -23,7 +23,7 @@ gate_of list (Xor a b) = record { kind = kind.Xor; first = number list a; second
 gate_of list (AndNot a b) =
     record { kind = kind.AndNot; first = number list a; second = number list b }
 
--- a source of a list whose first n cells are there
+-- a source that is there, in a list whose first n cells are there
 abbrev pub IsThere : CellList → ℕ → Src → Type 0
 IsThere list n (Input i) = i < list.inputs
 IsThere list n (Latch i) = i < length list.starts
@@ -43,6 +43,6 @@ pub record ReadsWhatIsThere (list : CellList) : Type 0 where
   pub latches : All (IsThere list (length list.cells)) list.latches
   pub nets : All (IsThere list (length list.cells)) list.nets
 
--- constant 0 is among the sources only where the flag says so
+-- constant 0 is among the sources only if the flag is set
 abbrev pub NamesZero : List Src → Bool → Type 0
 NamesZero srcs flag = All (λ src. src ≡ Zero → flag ≡ true) srcs

@@ -1,4 +1,4 @@
--- What is known of a program when all is placed.
+-- What holds for a program when all is placed.
 use Rattle.std.specs.Prelude.{ℕ, ◌+◌, ◌-◌, ◌<◌, ◌≤◌, ◌≡◌, ◌≢◌, Bool, List, ◌++◌, ◌*◌, ◌^◌, take, length, map, get_or, None, All}
 use Rattle.lane_core.specs.Places.{AreDistinctBelow}
 use Rattle.lane_core.specs.declared.plan.NetPlace.{NetPlace}
@@ -21,21 +21,21 @@ use Rattle.row_placer.specs.Uses.{idle}
 use Rattle.cell_core.specs.Meaning.{Fits}
 use Rattle.row_placer.specs.Programs.{program_bits}
 
--- the job of a list
+-- the job is that of the list
 pub record IsJobOf (list : CellList) (job : Job) : Type 0 where
   pub base : job.base ≡ list.inputs + loop_count list + 1
   pub gates : job.gates ≡ map (gate_of list) list.cells
   pub ports : job.ports ≡ map (number list) (loop_data list ++ list.outs)
 
--- a lane that tells something at the start is the home of its value
+-- a lane that is not free at the start is the home of its value, which is kept
 abbrev pub AreAtHome : List ℕ → List Tag → Type 0
 AreAtHome homes start =
     (lane : ℕ) → 0 < role_code (get_or start lane free_tag).role
     → (v : ℕ) × (v < length homes) × (get_or homes v 0 ≡ lane)
     × (get_or start lane free_tag ≡ tag v Kept)
 
--- the homes: of the inputs, of the loops on the lowest lanes, and perhaps a dark lane for constant
--- 0
+-- the homes of the inputs, of the loops on the lowest lanes, and perhaps of constant 0 on a dark
+-- lane
 pub record AreHomes (list : CellList) (lanes : ℕ) (ins homes : List ℕ) : Type 0 where
   pub ins_long : length ins ≡ list.inputs
   pub ins_apart : AreDistinctBelow (lanes - loop_count list) ins
@@ -59,7 +59,7 @@ net_place_of list homes made One =
 net_place_of list homes made Zero =
     record { lane = get_or homes (list.inputs + loop_count list) 0; after = None }
 
--- a home has its value's bit at the start
+-- each home has its value's bit at the start
 abbrev pub HomesHold : CellList → Program → List ℕ → ((List Bool) → (List Bool) → ℕ → Bool) → Type 0
 HomesHold list p homes bit =
     (inputs state : List Bool) → Fits list inputs state → (v : ℕ) → v < length homes
@@ -86,8 +86,8 @@ pub record IsPlaced (list : CellList) (job : Job) (p : Program) (homes : List �
   pub zero_home : All (λ src. src ≡ Zero → list.inputs + loop_count list < length homes) list.nets
   pub known_home : list.inputs + loop_count list ≤ length homes
 
--- each home of a used value has it, and the other lanes are free, the homes of unused values among
--- them
+-- each used value is kept on its home, the other lanes are free, and so are the homes of unused
+-- values
 pub record IsStart (homes left : List ℕ) (lanes : ℕ) (start : List Tag) : Type 0 where
   pub long : length start ≡ lanes
   pub home : AreAtHome homes start
@@ -95,20 +95,20 @@ pub record IsStart (homes left : List ℕ) (lanes : ℕ) (start : List Tag) : Ty
       → get_or start (get_or homes v 0) free_tag ≡ tag v Kept
   pub free : lanes + idle left (length homes) ≤ count 0 Free start + length homes
 
--- the lanes of the outputs
+-- these are the lanes of the outputs
 abbrev pub AreOuts : Job → ℕ → List Tag → List ℕ → Type 0
 AreOuts job loops tags outs =
     (o : ℕ) → o < length outs → (get_or outs o 0 < length tags)
     × (get_or tags (get_or outs o 0) free_tag
     ≡ tag (get_or job.ports (loops + o) 0) (Port (loops + o)))
 
--- lanes are few, with so many to spare, and no more than these where the list is empty
+-- the lanes are few, with so many to spare, and no more than the spare ones if the list is empty
 pub record AreFewLanes (list : CellList) (spare lanes : ℕ) : Type 0 where
   pub most : lanes
       ≤ list.inputs + 2 * loop_count list + length list.outs + length list.cells + 2 + spare
   pub empty : IsEmpty list → lanes ≤ spare
 
--- a job that can begin
+-- the job of the list is ready for its first gate
 pub record IsPrepared (list : CellList) (job : Job) (left homes : List ℕ) : Type 0 where
   pub job_of : IsJobOf list job
   pub ready : ReadyForGate job 0 job.start left
@@ -120,12 +120,12 @@ pub record IsPrepared (list : CellList) (job : Job) (left homes : List ℕ) : Ty
   pub room : loop_count list ≤ length job.start
   pub below : All (λ lane. lane < length job.start) homes
 
--- where the source is constant 0, that has a home
+-- if the source is constant 0, constant 0 has a home
 abbrev pub HasHomeIfZero : CellList → List ℕ → Src → Type 0
 HasHomeIfZero list homes src = src ≡ Zero → list.inputs + loop_count list < length homes
 
--- sources have places: each that no cell makes has a home, but perhaps constant 0, and each cell is
--- made
+-- sources have places: each one that no cell makes has a home, except perhaps constant 0, and each
+-- cell is made
 pub record HavePlaces (list : CellList) (homes : List ℕ) (made : List NetPlace) : Type 0 where
   pub small : list.inputs + loop_count list + 1 + length list.cells < 2 ^ 32
   pub known_home : list.inputs + loop_count list ≤ length homes
@@ -135,7 +135,7 @@ pub record HavePlaces (list : CellList) (homes : List ℕ) (made : List NetPlace
 abbrev pub IsPlaceable : CellList → Type 0
 IsPlaceable list = list.inputs + loop_count list + length list.outs + length list.cells < 2 ^ 20
 
--- a program that is placed on so many lanes
+-- the list is placed on so many lanes
 pub record IsPlacedOn (list : CellList) (lanes : ℕ) (p : Program) : Type 0 where
   pub wide : p.lanes ≡ lanes
   pub computes : ComputesByProgram list p
@@ -144,8 +144,8 @@ pub record IsPlacedOn (list : CellList) (lanes : ℕ) (p : Program) : Type 0 whe
   pub entries : AreAtEntries list p.lanes p.ins p.nets
   pub made : AreAtCells list p.instrs p.nets
 
--- a program that is placed with no more spare lanes than these, and with these alone where the list
--- is empty
+-- the list is placed with no more spare lanes than these, and on the spare lanes alone if it is
+-- empty
 pub record IsPlacedWithin (list : CellList) (spare : ℕ) (p : Program) : Type 0 where
   pub computes : ComputesByProgram list p
   pub instrs : length p.instrs ≤

@@ -24,22 +24,22 @@ abbrev pub ReadyForPort : Job → ℕ → List Tag → List ℕ → Type 0
 ReadyForPort job i tags left =
     Ready (drop i job.ports) (job.base + length job.gates) (owed_ports (drop i job.ports)) tags left
 
--- the first ports have lanes of their own
+-- the first n ports have lanes of their own
 abbrev pub HoldPorts : Job → ℕ → List Tag → Type 0
 HoldPorts job n tags = (i : ℕ) → i < n → 1 ≤ count (get_or job.ports i 0) (Port i) tags
 
--- and so has each port
+-- each port has a lane of its own
 abbrev pub HoldAllPorts : Job → List Tag → Type 0
 HoldAllPorts job tags = HoldPorts job (length job.ports) tags
 
--- the first loops have come to their lanes
+-- the first n loops have come to their lanes
 abbrev pub AreSettled : Job → ℕ → List Tag → Type 0
 AreSettled job n tags =
     (s : ℕ) → s < n → get_or tags (length tags - 1 - s) free_tag ≡ tag (get_or job.ports s 0)
     (Port s)
 
--- a value can be used: it is kept on a lane, uses of it are left, and a lane is free for a copy
--- where this is not the last
+-- a value can be used: it is kept on a lane, it has uses left, and a lane is free for a copy if
+-- this use is not the last
 pub record IsUsable (value : ℕ) (tags : List Tag) (left : List ℕ) : Type 0 where
   pub within : value < length left
   pub has : 1 ≤ count value Kept tags
@@ -50,11 +50,11 @@ pub record IsUsable (value : ℕ) (tags : List Tag) (left : List ℕ) : Type 0 w
 abbrev pub value_count : Job → ℕ
 value_count job = job.base + length job.gates
 
--- it has the value of each port
+-- the job has the value of each port
 abbrev pub ArePortsKnown : Job → Type 0
 ArePortsKnown job = All (λ v. v < value_count job) job.ports
 
--- the gate of this number
+-- the gate is the one with this number
 abbrev pub IsGateOf : Job → ℕ → NumberedCell → Type 0
 IsGateOf job g gate = get_or job.gates g gate ≡ gate
 

@@ -7,17 +7,17 @@ use Rattle.row_placer.specs.declared.lanes.Lanes.{Lanes}
 use Rattle.row_placer.specs.Told.{tag_on, gate_instr, SameTags, Exchanged, GateExchanged, Rearranged}
 use Rattle.row_placer.specs.Ready.{IsGateOf, HoldAllPorts, AreSettled}
 
--- no gate is made, and the job stays
+-- no gate is made, and the job stays the same
 pub record KeepsGates (old new : Lanes) : Type 0 where
   pub made : new.made.items ≡ old.made.items
   pub job : new.job ≡ old.job
 
--- so many instructions are added, and there are as many lanes as before
+-- so many instructions are added, and the number of lanes stays
 pub record AddsInstrs (old new : Lanes) (n : ℕ) : Type 0 where
   pub long : length new.tags.items ≡ length old.tags.items
   pub count : length new.instrs.items ≡ length old.instrs.items + n
 
--- so many at most
+-- at most so many instructions are added, and the number of lanes stays
 pub record AddsAtMost (old new : Lanes) (most : ℕ) : Type 0 where
   pub long : length new.tags.items ≡ length old.tags.items
   pub count : length new.instrs.items ≤ length old.instrs.items + most
@@ -29,7 +29,8 @@ pub record MovesTags (old new : Lanes) (from : ℕ → ℕ) (n : ℕ) : Type 0 w
   pub long : length new.tags.items ≡ length old.tags.items
   pub count : length new.instrs.items ≡ length old.instrs.items + n
 
--- the lane `at` and the next one have the tag of the lane `from`, where a lane had the tag `over`
+-- the lane `at` and the next one get the tag of the lane `from`, and one lane with the tag `over`
+-- is given up for it
 pub record CopiesTag (old new : Lanes) (from at : ℕ) (over : Tag) : Type 0 where
   pub upper : tag_on new.tags.items at ≡ tag_on old.tags.items from
   pub lower : tag_on new.tags.items (at + 1) ≡ tag_on old.tags.items from
@@ -50,13 +51,13 @@ EndsWithNextGate lanes lane =
     (gate : NumberedCell) → slice_get lanes.instrs.items (length lanes.instrs.items - 1) ≡ Some
     (gate_instr (get_or lanes.job.now.gates (length lanes.made.items) gate).kind lane)
 
--- the next gate is made: its operands are exchanged for its value
+-- the next gate is made: a lane with each operand is given up for its value and a free lane
 pub record MakesGate (old new : Lanes) (gate : NumberedCell) : Type 0 where
   pub exchanged : GateExchanged old.tags.items new.tags.items gate (next_value old)
   pub made : length new.made.items ≡ length old.made.items + 1
 
--- lanes place all that a job asks for, by so many instructions at most: its gates, its ports, and
--- of these the loops on the lowest lanes
+-- the lanes place all that a job asks for, by at most so many instructions: its gates, its ports,
+-- and the loops among these on the lowest lanes
 pub record PlacesJob (job : Job) (loops : ℕ) (lanes : Lanes) : Type 0 where
   pub job_is : lanes.job.now ≡ job
   pub long : length lanes.tags.items ≡ length job.start

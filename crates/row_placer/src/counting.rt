@@ -1,4 +1,4 @@
-// Uses of values are counted from the last to the first, and with them the lanes that copies need.
+// Counts the uses of values from the last to the first, and the lanes that copies need.
 ghost use Rattle.std.specs.Prelude.{◌≡◌, ◌==◌, ◌≤◌, ◌<◌, ◌+◌, ◌-◌, ◌*◌, ◌^◌, ◌++◌, [], length, All, cond, set, IfOk};
 ghost use Rattle.lists.specs.Items.{number_at};
 ghost use Rattle.row_placer.specs.Uses.{uses_of, owed, owed_ports, unused, idle, AreCounted, ReadsBelow};
@@ -6,7 +6,7 @@ ghost use Rattle.row_placer.specs.Uses.{uses_of, owed, owed_ports, unused, idle,
 use crate::{NumberedCell, PlaceError};
 use std::alloc::Global;
 
-// One use more; 1 where there were uses.
+// Counts one more use of a value; 1 if it had uses already.
 fn add_use(left: &mut Vec<u32>, value: u32) -> u32
     requires within { value < length left.old.items }
     requires few { number_at left.old.items value < 2 ^ 32 - 1 }
@@ -18,7 +18,7 @@ fn add_use(left: &mut Vec<u32>, value: u32) -> u32
     if before == 0 { 0 } else { 1 }
 }
 
-// 1 where a value has no use.
+// 1 if a value has no use, and else 0.
 fn unused(left: &Vec<u32>, value: u32) -> u32
     requires { value < length left.now.items }
     ensures { result ≡ unused (number_at left.now.items value) }
@@ -26,7 +26,7 @@ fn unused(left: &Vec<u32>, value: u32) -> u32
     if left[value as usize] == 0 { 1 } else { 0 }
 }
 
-/// How many of the first values have no use.
+/// Returns how many of the first `values` values have no use.
 pub fn count_idle(left: &Vec<u32>, values: u32) -> u32
     requires { values ≤ length left.now.items }
     ensures { result ≡ idle left.now.items values }
@@ -40,7 +40,7 @@ pub fn count_idle(left: &Vec<u32>, values: u32) -> u32
     idle
 }
 
-// Counts the uses of ports in a table that has none yet; so many free lanes are enough for them.
+// Counts the uses of ports in a table that has none yet; how many free lanes are enough for them.
 fn count_ports(left: &mut Vec<u32>, ports: &[u32]) -> u32
     requires none { AreCounted left.old.items [] }
     requires ports { All (λ v. v < length left.old.items) ports.now }
@@ -59,8 +59,8 @@ fn count_ports(left: &mut Vec<u32>, ports: &[u32]) -> u32
     owed
 }
 
-/// How often each value is used, and how many free lanes are enough. The gates make the values from
-/// `base` on.
+/// Returns how often each value is used, and how many free lanes are enough. The gates make the
+/// values from `base` on.
 pub fn count_uses(
     alloc: Global,
     gates: &[NumberedCell],

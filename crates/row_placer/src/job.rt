@@ -5,7 +5,7 @@ ghost use Rattle.row_placer.specs.Uses.{AreKnown};
 use crate::Tag;
 use lists::List;
 
-/// What a gate does.
+/// The kind of a gate.
 #[derive(Clone, Copy)]
 pub enum CellKind {
     Or,
@@ -21,8 +21,8 @@ pub struct NumberedCell {
     pub second: u32,
 }
 
-/// Gate g makes value `base + g`; the lanes stand at first as `start` says; the values of `ports`
-/// are wanted at the end.
+/// What is to be placed. Gate g makes value `base + g`; the lanes begin as `start` says; the values
+/// of `ports` are wanted at the end.
 #[derive(Drop)]
 pub struct Job {
     pub gates: List<NumberedCell>,

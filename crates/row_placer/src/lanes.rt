@@ -14,8 +14,8 @@ use crate::{CellKind, Job, NumberedCell, PlaceError, Role, Tag};
 use lane_core::{Instr, NetPlace};
 use std::alloc::Global;
 
-/// Every tag tells the bit on its lane after the instructions, and every place of a gate has its
-/// value.
+/// Lanes with the instructions so far. After these every tag tells the bit on its lane, and every
+/// place of a gate has the gate's value.
 #[derive(Drop)]
 pub struct Lanes<'a> {
     pub job: &'a Job,
@@ -36,7 +36,7 @@ pub struct Lanes<'a> {
 impl<'a> Lanes<'a> {
     ghost use Rattle.row_placer.specs.Steps.{KeepsGates, AddsInstrs, AddsAtMost, MovesTags, CopiesTag, IsNextGate, EndsWithNextGate, MakesGate, PlacesJob, next_value};
 
-    /// The lanes as they are at the start.
+    /// Returns the lanes as they are at the start.
     pub fn new(alloc: Global, job: &'a Job) -> Result<Lanes<'a>, PlaceError>
         requires few { length job.now.start < 2 ^ 32 }
         ensures tags { IfOk result (λ r. r.tags.items ≡ job.now.start) }
@@ -147,7 +147,7 @@ impl<'a> Lanes<'a> {
         };
     }
 
-    /// Frees the lane of a value that has no use.
+    /// Frees the lane of a value if it has no use left.
     fn end(&mut self, value: u32, uses: u32)
         requires { 1 ≤ count value Kept self.old.tags.items }
         ensures exchanged { Exchanged
@@ -163,7 +163,7 @@ impl<'a> Lanes<'a> {
         self.free(lane);
     }
 
-    /// A lane with this value in this role.
+    /// Returns a lane with this value in this role.
     fn find(&self, value: u32, role: Role) -> u32
         requires { 1 ≤ count value role self.now.tags.items }
         ensures within { result < length self.now.tags.items }
@@ -231,7 +231,8 @@ impl<'a> Lanes<'a> {
         Ok(())
     }
 
-    /// Where two lanes meet first by their clocks: the upper of the two lanes that they come to.
+    /// Returns where two lanes meet first by their clocks, as the upper of the two lanes to which
+    /// they come, and when.
     fn meeting(&self, upper: u32, lower: u32) -> (u32, u64)
         requires order { upper < lower }
         requires within { lower < length self.now.tags.items }
@@ -275,7 +276,7 @@ impl<'a> Lanes<'a> {
         Ok(())
     }
 
-    /// The nearest free lane below.
+    /// Returns the nearest free lane below.
     fn free_below(&self, lane: u32) -> Option<u32>
         ensures within { IfSome result (λ r. r < length self.now.tags.items) }
         ensures here { IfSome result (λ r. tag_on self.now.tags.items r ≡ free_tag) }
@@ -290,7 +291,7 @@ impl<'a> Lanes<'a> {
         None
     }
 
-    /// The nearest free lane above.
+    /// Returns the nearest free lane above.
     fn free_above(&self, lane: u32) -> Option<u32>
         requires { lane < length self.now.tags.items }
         ensures within { IfSome result (λ r. r < length self.now.tags.items) }
@@ -306,7 +307,7 @@ impl<'a> Lanes<'a> {
         None
     }
 
-    // When a lane could meet another one.
+    // When a lane can meet another one.
     fn time_to(&self, lane: u32, other: u32) -> u64
         requires lane { lane < length self.now.tags.items }
         requires other { other < length self.now.tags.items }
@@ -320,7 +321,7 @@ impl<'a> Lanes<'a> {
         }
     }
 
-    /// A free lane, the one that the lane can meet first.
+    /// Returns the free lane that the lane can meet first.
     fn choose_free(&self, lane: u32) -> u32
         requires within { lane < length self.now.tags.items }
         requires free { 1 ≤ count 0 Free self.now.tags.items }
@@ -341,7 +342,8 @@ impl<'a> Lanes<'a> {
         }
     }
 
-    /// A second copy of what stands on a lane: the upper one of the two lanes that then have it.
+    /// Makes a second copy of what stands on a lane, and returns the upper one of the two lanes
+    /// that then have it.
     fn copy(&mut self, lane: u32) -> Result<u32, PlaceError>
         requires within { lane < length self.old.tags.items }
         requires some { 0 < role_code (tag_on self.old.tags.items lane).role }
@@ -366,7 +368,8 @@ impl<'a> Lanes<'a> {
         }
     }
 
-    /// Gives a role to a kept value: to its lane, or to a copy, the one on the partner's side.
+    /// Gives a role to a kept value: on its lane at the last use, and else on a copy, the one on
+    /// the partner's side.
     fn fetch(&mut self, value: u32, role: Role, last: bool, partner: u32) -> Result<(), PlaceError>
         requires has { 1 ≤ count value Kept self.old.tags.items }
         requires free { last ≡ false → 1 ≤ count 0 Free self.old.tags.items }
@@ -412,8 +415,8 @@ impl<'a> Lanes<'a> {
         Ok(())
     }
 
-    /// Makes the next gate of two neighbouring lanes; `turned` where the second operand is on the
-    /// upper one.
+    /// Makes the next gate from two neighbouring lanes. `turned` says that the second operand is on
+    /// the upper one.
     fn make(&mut self, lane: u32, gate: NumberedCell, turned: bool) -> Result<(), PlaceError>
         requires lane { lane + 1 < length self.old.tags.items }
         requires next { IsNextGate self.old gate }
@@ -441,7 +444,7 @@ impl<'a> Lanes<'a> {
         Ok(())
     }
 
-    /// Makes the next gate of its operands.
+    /// Makes the next gate from its operands.
     fn gate(&mut self, gate: NumberedCell) -> Result<(), PlaceError>
         requires next { IsNextGate self.old gate }
         requires first { 1 ≤ count gate.first First self.old.tags.items }
@@ -471,7 +474,7 @@ impl<'a> Lanes<'a> {
         }
     }
 
-    /// One use of a kept value: it gets a role, or a copy of it does where there are later uses.
+    /// Uses a kept value once: it gets a role, or a copy of it does if there are later uses.
     fn use_value(
         &mut self,
         value: u32,
@@ -497,7 +500,7 @@ impl<'a> Lanes<'a> {
         Ok(())
     }
 
-    // The first lane with this value in this role, if there is one.
+    // The first lane with this value in this role, or lane 0 if there is none.
     fn lane_of_partner(&self, value: u32, role: Role) -> u32 {
         let mut lane = 0;
         while (lane as usize) < self.tags.len() {
@@ -601,7 +604,7 @@ impl<'a> Lanes<'a> {
         Ok(())
     }
 
-    /// The lanes of the ports that are no loops.
+    /// Returns the lanes of the ports that are no loops.
     pub fn find_outs(&self, alloc: Global, loops: u32) -> Result<Vec<u32>, PlaceError>
         requires loops { loops ≤ length self.now.job.now.ports }
         requires held { HoldAllPorts self.now.job.now self.now.tags.items }

@@ -13,6 +13,7 @@ mod start;
 
 use job::{CellKind, Job, NumberedCell};
 use lanes::Lanes;
+// The answer of `place` and `place_at` when memory runs out.
 pub use lists::OutOfMemory as PlaceError;
 pub use placing::{place, place_at};
 use roles::{Role, Tag};

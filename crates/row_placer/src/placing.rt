@@ -17,7 +17,7 @@ use lane_homes::homes_of;
 use lists::List;
 use std::alloc::Global;
 
-/// The numbers of the ports: of the loops' data, and then of the outputs.
+/// Returns the numbers of the ports: of the loops' data, and then of the outputs.
 pub fn ports_of(alloc: Global, list: &CellList, loops: u32) -> Result<Vec<u32>, PlaceError>
     requires loops { loops ≡ loop_count list.now }
     requires sound { ReadsWhatIsThere list.now }
@@ -46,7 +46,7 @@ fn push_one(list: &CellList, ports: &mut Vec<u32>) -> Result<(), PlaceError>
     Ok(())
 }
 
-/// A job, with what was found out on the way.
+/// A job, how often each of its values is used, and the homes of its values.
 #[derive(Drop)]
 pub struct Prepared {
     pub job: Job,
@@ -54,8 +54,8 @@ pub struct Prepared {
     pub homes: Vec<u32>,
 }
 
-/// The job of a list, with some spare lanes. The inputs, and then the dark lane, stand on the
-/// wanted lanes, if these are apart and above the loops.
+/// Prepares the job of a list, with `spare` spare lanes. The inputs, and then the dark lane, stand
+/// on the wanted lanes, if these are distinct and above the loops.
 pub fn prepare(
     alloc: Global,
     list: &CellList,
@@ -96,8 +96,8 @@ fn one_if(flag: bool) -> u32
     if flag { 1 } else { 0 }
 }
 
-// How many lanes stand above the homes of inputs and loops: as many as must be free, less those
-// homes that are, and `dark` at least.
+// How many lanes stand above the homes of inputs and loops: as many as must be free, less the homes
+// that are free, and at least `dark`.
 fn first_home(owed: u32, idle: u32, dark: u32) -> u32
     requires { owed + dark < 2 ^ 32 }
     ensures enough { owed + dark ≤ result + idle }
@@ -107,7 +107,7 @@ fn first_home(owed: u32, idle: u32, dark: u32) -> u32
     (owed + dark).saturating_sub(idle).max(dark)
 }
 
-// Whether constant 0 is used, or shown by a net.
+// Whether constant 0 is used, or a net shows it.
 fn wants_zero(list: &CellList, left: &Vec<u32>, zero: u32) -> bool
     requires { zero < length left.now.items }
     ensures used { 1 ≤ number_at left.now.items zero → result ≡ true }
@@ -128,7 +128,7 @@ pub struct Placed {
 }
 
 impl Placed {
-    // The cells of its drawing, in tiles.
+    // The size of its drawing, in tiles.
     fn area(&self) -> u64 {
         let loops = self.program.latches.len() as u64;
         let width = self.columns.saturating_add(loops).saturating_add(loops);
@@ -136,7 +136,7 @@ impl Placed {
     }
 }
 
-// The one with the smaller drawing; the first where they are equal.
+// The program with the smaller drawing, and the first if both are equal.
 fn smaller(best: Placed, next: Placed) -> Placed
     ensures { (result ≡ best) ⊎ (result ≡ next) }
 {
@@ -164,7 +164,7 @@ struct Ends {
     latches: Vec<bool>,
 }
 
-// Where outputs and nets are found, when all is placed, and how the loops start.
+// Where outputs and nets are found when all is placed, and how the loops start.
 fn ends_of(
     alloc: Global,
     list: &CellList,
@@ -196,7 +196,7 @@ fn ends_of(
     })
 }
 
-// The program of a job that is prepared.
+// The program of a prepared job.
 fn place_job(
     alloc: Global,
     list: &CellList,
@@ -232,8 +232,8 @@ fn place_job(
     Ok(Placed { program, columns })
 }
 
-// A program with so many spare lanes that computes the list, with inputs on the wanted lanes, if
-// these will do.
+// A program that computes the list, with so many spare lanes, and with inputs on the wanted lanes
+// if these will do.
 fn place_with(
     alloc: Global,
     list: &CellList,
@@ -251,7 +251,7 @@ fn place_with(
     place_job(alloc, list, loops, &job, left.as_mut_slice(), homes)
 }
 
-// The most spare lanes: as many as there are inputs or outputs.
+// The most spare lanes: as many as there are inputs or as there are outputs, whichever are more.
 fn most_spare(list: &CellList) -> u32
     requires { list.now.inputs + length list.now.outs < 2 ^ 20 }
     ensures { result ≡ max list.now.inputs (length list.now.outs) }
@@ -259,8 +259,9 @@ fn most_spare(list: &CellList) -> u32
     list.inputs.max(list.outs.len() as u32)
 }
 
-/// A program that computes the list. It is tried with up to 4 spare lanes; which of the programs is
-/// kept is free.
+/// Places a list on lanes: returns a program that computes it. It tries 0 to 4 spare lanes, but no
+/// more than there are inputs or outputs, whichever are more. The contract leaves open which of the
+/// programs is kept.
 pub fn place(alloc: Global, list: &CellList) -> Result<Program, PlaceError>
     requires small { IsPlaceable list.now }
     ensures { IfOk result (IsPlacedWithin list.now (max list.now.inputs (length list.now.outs))) }
@@ -274,10 +275,10 @@ pub fn place(alloc: Global, list: &CellList) -> Result<Program, PlaceError>
     Ok(best.program)
 }
 
-/// A program that computes the list, with so many lanes more than the fewest, but no more than
-/// there are inputs or outputs. `wanted` has lanes of the inputs, and then one that stays dark
-/// where constant 0 is read or shown by a net: they are taken if they are apart and above the
-/// loops.
+/// Places a list on lanes: returns a program that computes it, on `spare` more lanes than the
+/// fewest. No more spare lanes are taken than there are inputs or outputs, whichever are more.
+/// `wanted` has the lanes of the inputs, and then one that stays dark if constant 0 is read or
+/// shown by a net: they are taken if they are as many, distinct and above the loops.
 pub fn place_at(
     alloc: Global,
     list: &CellList,

@@ -10,7 +10,7 @@ use cell_core::{Cell, CellList, Src};
 use lane_core::NetPlace;
 use std::alloc::Global;
 
-/// How many loops there are: one for each latch, and one for constant 1 where it is named.
+/// Returns how many loops there are: one for each latch, and one for constant 1 if it is named.
 pub fn count_loops(list: &CellList) -> u32
     requires { loop_count list.now < 2 ^ 32 }
     ensures { result ≡ loop_count list.now }
@@ -19,7 +19,7 @@ pub fn count_loops(list: &CellList) -> u32
     list.starts.len() as u32 + one
 }
 
-/// The number of a source, of a list with so many loops.
+/// Returns the number of a source in a list with so many loops.
 pub fn number_of(list: &CellList, loops: u32, src: Src) -> u32
     requires loops { loops ≡ loop_count list.now }
     requires small { list.now.inputs + loop_count list.now < 2 ^ 32 }
@@ -35,7 +35,7 @@ pub fn number_of(list: &CellList, loops: u32, src: Src) -> u32
     }
 }
 
-/// The gates of the cells.
+/// Returns the gates of the cells.
 pub fn gates_of(alloc: Global, list: &CellList, loops: u32) -> Result<Vec<NumberedCell>, PlaceError>
     requires loops { loops ≡ loop_count list.now }
     requires sound { ReadsWhatIsThere list.now }
@@ -69,7 +69,7 @@ fn find_gate(list: &CellList, loops: u32, cell: Cell) -> NumberedCell
     }
 }
 
-/// The numbers of sources, after those that are there.
+/// Adds the numbers of sources to the end of `numbers`.
 pub fn push_numbers(
     list: &CellList,
     loops: u32,
@@ -91,7 +91,7 @@ pub fn push_numbers(
     Ok(())
 }
 
-/// Whether constant 0 is among the sources.
+/// Returns whether constant 0 is among the sources.
 pub fn names_zero(srcs: &[Src]) -> bool
     ensures named { NamesZero srcs.now result }
     ensures none { length srcs.now ≡ 0 → result ≡ false }
@@ -115,7 +115,7 @@ fn is_zero(src: Src) -> bool
     }
 }
 
-/// The places of nets.
+/// Returns the places of the nets.
 pub fn places_of(
     alloc: Global,
     list: &CellList,

@@ -1,19 +1,19 @@
-// What stands on lanes, and what it is there for.
+// What stands on lanes, and for what purpose.
 ghost use Rattle.std.specs.Prelude.{◌≡◌, ◌==◌};
 ghost use Rattle.row_placer.specs.Told.{role_code, is_tag};
 
-/// What the value on a lane is there for.
+/// The purpose of the value on a lane.
 #[derive(Clone, Copy)]
 pub enum Role {
-    /// For nothing: the lane is free.
+    /// No purpose: the lane is free.
     Free,
-    /// For later uses.
+    /// The value is kept for later uses.
     Kept,
-    /// As the first operand of the gate in hand.
+    /// The value is the first operand of the gate in hand.
     First,
-    /// As the second one.
+    /// The value is the second operand of the gate in hand.
     Second,
-    /// For the port of this number.
+    /// The value is for the port with this number.
     Port(u32),
 }
 
@@ -40,7 +40,7 @@ pub struct Tag {
 }
 
 impl Tag {
-    /// Whether it is this value in this role.
+    /// Returns whether the tag is of this value in this role.
     pub fn is(self, value: u32, role: Role) -> bool
         ensures { result ≡ is_tag value role self }
     {

@@ -9,7 +9,7 @@ pub record Cell : Type 0 where
   pub x : ℤ
   pub y : ℤ
 
--- is the cell at x, y one of these?
+-- whether the cell at x, y is one of these
 abbrev pub is_cell_of : ℤ → ℤ → List Cell → Bool
 is_cell_of x y [] = false
 is_cell_of x y (c ∷ cs) = (int_eq x c.x && int_eq y c.y) || is_cell_of x y cs
@@ -18,8 +18,8 @@ is_cell_of x y (c ∷ cs) = (int_eq x c.x && int_eq y c.y) || is_cell_of x y cs
 abbrev pub Drawing : Type 0
 Drawing = ℤ → ℤ → Bool
 
--- the drawing alone on the plane: at its cells the heads and the tails that are listed, and
--- conductors else
+-- the drawing alone on the plane: those of its cells that are listed are heads and tails, and the
+-- others conductors
 abbrev pub picture : Drawing → List Cell → List Cell → Plane
 picture drawing heads tails x y =
     cond (drawing x y) (cond (is_cell_of x y heads) Head

@@ -31,7 +31,7 @@ chosen (c ∷ cs) (b ∷ bs) = cond b (c ∷ chosen cs bs) (chosen cs bs)
 abbrev pub lit_entries : Interface → Bool → Bool → List Cell
 lit_entries tile a b = chosen (entry_cells tile) (a ∷ b ∷ [])
 
--- the exits that the tile is to light
+-- the exits that the answer lights
 abbrev pub lit_exits : Interface → Bool → Bool → List Cell
 lit_exits tile a b = chosen (exit_cells tile) (tile.answer a b)
 
@@ -58,8 +58,8 @@ abbrev pub AreSidePorts : ℕ → List (ℕ × ℕ) → Type 0
 AreSidePorts lanes ports =
     (lane : ℕ) → lane < lanes → Contains (side_ports lane) (get_or ports lane (0, 0))
 
--- Two ports and two bits for two lanes. Of one lane the second port is (0, 0), and the second bit
--- false. Each lane's ports lie in the middles of its sides.
+-- There are two entries, two exits and two bits. In a tile of one lane the second port is (0, 0),
+-- and the second bit false. Each lane's ports lie in the middles of its sides.
 pub record IsInterface (tile : Interface) : Type 0 where
   pub height : (tile.lanes ≡ 1) ⊎ (tile.lanes ≡ 2)
   pub two_entries : length tile.entries ≡ 2

@@ -64,7 +64,7 @@ entries NorthEast = one south_side
 entries West = one east_side
 entries WestSwap = east_sides
 
--- where it is left
+-- where the kind is left
 abbrev pub exits : Kind → List (ℕ × ℕ)
 exits Swap = east_sides
 exits Xor = east_sides
@@ -81,7 +81,7 @@ exits NorthEast = one east_side
 exits West = one west_side
 exits WestSwap = west_sides
 
--- which exits are lit, the upper first, where a says whether the upper entry is lit and b whether
+-- which exits are lit, the upper first, if `a` says whether the upper entry is lit and `b` whether
 -- the lower one is
 abbrev pub answer : Kind → Bool → Bool → List Bool
 answer Swap a b = b ∷ a ∷ []
@@ -99,7 +99,7 @@ answer NorthEast a b = a ∷ false ∷ []
 answer West a b = a ∷ false ∷ []
 answer WestSwap a b = b ∷ a ∷ []
 
--- all of it together
+-- the interface of the kind: its height, its ports and its answer
 abbrev pub interface : Kind → Interface
 interface kind =
     record { lanes = lanes kind; entries = entries kind; exits = exits kind; answer = answer kind }

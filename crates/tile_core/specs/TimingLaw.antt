@@ -10,8 +10,8 @@ use Rattle.tile_core.specs.Interface.{Interface, entry_cells, exit_cells, lit_en
 abbrev pub started : Interface → Drawing → Bool → Bool → Plane
 started tile drawing a b = picture drawing (lit_entries tile a b) []
 
--- What the law says of one choice of entries. A cell is dark where it is no head, though a tail may
--- stand there. A tile of one lane has one entry, so that b says nothing there.
+-- What the law says about one choice of entries. A cell is dark if it is no head, even if a tail
+-- stands there. A tile of one lane has one entry, so `b` means nothing there.
 pub record KeepsTime (tile : Interface) (drawing : Drawing) (a b : Bool) : Type 0 where
   -- no entry cell is a head at generations 1 to 32
   pub entries_stay_dark : (g : ℕ) (x y : ℤ) → 1 ≤ g → g ≤ 32
@@ -20,7 +20,7 @@ pub record KeepsTime (tile : Interface) (drawing : Drawing) (a b : Bool) : Type 
   pub exits_answer : (x y : ℤ) → is_cell_of x y (exit_cells tile) ≡ true
       → (evolve 31 (started tile drawing a b) x y ≡ Head)
       ↔ (is_cell_of x y (lit_exits tile a b) ≡ true)
-  -- and at no other of the generations 0 to 32
+  -- no exit cell is a head at any other of the generations 0 to 32
   pub exits_stay_dark : (g : ℕ) (x y : ℤ) → g ≤ 32 → g ≢ 31
       → is_cell_of x y (exit_cells tile) ≡ true → evolve g (started tile drawing a b) x y ≢ Head
   -- at generation 32 every cell is a conductor, but the exit cells that were heads at 31, which are

@@ -1,11 +1,11 @@
-// The kinds of tiles, and what the surroundings of a tile know of each.
+// The kinds of tiles, and what a tile's surroundings know of each.
 ghost use Rattle.std.specs.Prelude.{◌≡◌};
 ghost use Rattle.lists.specs.Items.{flag_at};
 ghost use Rattle.tile_core.specs.Kinds.{lanes, entries, exits, answer};
 
 /// The kinds of tiles. The first five and `WestSwap` are two lanes high and work on two signals.
-/// The others are one lane high and carry one signal: their names say which way it goes, and where
-/// there are two, which way it is turned.
+/// The others are one lane high and carry one signal: the name gives its direction, or its
+/// directions before and after a turn.
 #[derive(Clone, Copy, Debug, PartialEq, Eq)]
 pub enum Kind {
     Swap,
@@ -25,7 +25,7 @@ pub enum Kind {
 }
 
 impl Kind {
-    /// The height in lanes of 16 rows, 1 or 2. Every tile is 32 columns wide.
+    /// Returns the height in lanes of 16 rows, 1 or 2. Every tile is 32 columns wide.
     pub fn lanes(self) -> u32
         ensures { result ≡ lanes self }
     {
@@ -42,8 +42,8 @@ impl Kind {
         }
     }
 
-    /// The cells (x, y) where the tile is entered, the upper first; (0, 0) stands for the second of
-    /// a tile of one lane.
+    /// Returns the cells (x, y) where the tile is entered, the upper one first. The second is (0,
+    /// 0) in a tile of one lane.
     pub fn entries(self) -> [(u32, u32); 2]
         ensures { result ≡ entries self }
     {
@@ -57,8 +57,8 @@ impl Kind {
         }
     }
 
-    /// The cells (x, y) where the tile is left, the upper first; (0, 0) stands for the second of a
-    /// tile of one lane.
+    /// Returns the cells (x, y) where the tile is left, the upper one first. The second is (0, 0)
+    /// in a tile of one lane.
     pub fn exits(self) -> [(u32, u32); 2]
         ensures { result ≡ exits self }
     {
@@ -72,8 +72,9 @@ impl Kind {
         }
     }
 
-    /// Which exits are lit 31 generations after the entries that `lit` names; the second bits of a
-    /// tile of one lane are not looked at, and false.
+    /// Returns which exits are lit 31 generations after the entries that `lit` names, the upper
+    /// ones first. In a tile of one lane the second bit of `lit` is ignored, and that of the result
+    /// is false.
     pub fn answer(self, lit: [bool; 2]) -> [bool; 2]
         ensures { result ≡ answer self (flag_at lit 0) (flag_at lit 1) }
     {

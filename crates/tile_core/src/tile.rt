@@ -29,11 +29,12 @@ pub trait Tile {
 
     ghost answers: { Bool → Bool → List Bool };
 
-    /// Whether the drawing has a conductor at column `x` and row `y`; it has none outside its box.
+    /// Returns whether the drawing has a conductor at column `x` and row `y`; it has none outside
+    /// its box.
     fn cell(&self, x: u32, y: u32) -> bool
         ensures { result ≡ drawing (pos x) (pos y) };
 
-    /// Which exits are heads at generation 31, if the entries that `lit` names are heads at
+    /// Returns which exits are heads at generation 31, if the entries that `lit` names are heads at
     /// generation 0.
     fn answer(&self, lit: [bool; 2]) -> [bool; 2]
         ensures { result ≡ answers (flag_at lit 0) (flag_at lit 1) };
@@ -51,8 +52,8 @@ pub trait Library {
 
     ghost drawing: { Self → Kind → Drawing };
 
-    /// Whether the drawing of `kind` has a conductor at column `x` and row `y`; it has none outside
-    /// its box.
+    /// Returns whether the drawing of `kind` has a conductor at column `x` and row `y`; it has none
+    /// outside its box.
     fn cell(&self, kind: Kind, x: u32, y: u32) -> bool
         ensures { result ≡ drawing self.now kind (pos x) (pos y) };
 

@@ -38,7 +38,7 @@ drawn_within rows m x y h t e = (
   ],
 )
 
--- what they draw lies in the box
+-- what rows that fit the box draw lies in the box
 pub drawn_in_box : (tile : Interface) (rows : List (List ℕ)) → fits_box tile rows ≡ true → (x y : ℤ)
     → drawn_rows rows x y ≡ true → is_in_box tile x y ≡ true
 drawn_in_box tile rows fits (pos x) (pos y) e =

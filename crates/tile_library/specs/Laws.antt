@@ -53,7 +53,7 @@ single_form kind height entries exits bits entered left entry exit bit =
       unused_bit = λ single. bit;
     }
 
--- the ports of two lanes, and of one, by the sides in whose middles they lie
+-- the ports of tiles of two lanes and of one lane, by the sides in whose middles they lie
 two_sides : (ports : List (ℕ × ℕ)) → Contains (side_ports 0) (get_or ports 0 (0, 0))
     → Contains (side_ports 1) (get_or ports 1 (0, 0)) → AreSidePorts 2 ports
 two_sides ports upper lower zero lt = upper
@@ -103,8 +103,8 @@ has_form NorthEast =
 has_form West = single_form West refl refl refl (λ a b. refl) east west refl refl (λ a b. refl)
 has_form WestSwap = pair_form WestSwap refl refl refl (λ a b. refl) easts wests
 
--- what computes for rows of text that keep the law: a run of 32 generations for each choice of
--- entries, and the ports
+-- the test that rows of text keep the law: a run of 32 generations for each choice of entries, and
+-- a look at the ports
 abbrev pub passes : Interface → List (List ℕ) → Bool
 passes tile rows =
     law_test (drawn_rows rows) tile false false
@@ -137,7 +137,7 @@ meets_law tile rows t =
     choices dark lower upper both true false = keeps_time (drawn_rows rows) tile true false upper
     choices dark lower upper both true true = keeps_time (drawn_rows rows) tile true true both
 
--- the West Swap by the law of Swap
+-- the law of `Swap` gives that of `WestSwap`
 pub west_swap_meets : passes (interface Swap) SWAP ≡ true
     → MeetsTimingLaw (interface WestSwap) (mirrored_drawing (drawn_rows SWAP))
 west_swap_meets t =

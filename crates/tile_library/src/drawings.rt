@@ -8,7 +8,7 @@
 //
 // are a diode: within a wire it lets a signal pass eastward, and none westward.
 
-/// Swap: the signals change places.
+/// Swap: the two signals are exchanged.
 pub const SWAP: [[u8; 32]; 32] = [
     *b"................................",
     *b"................................",
@@ -44,7 +44,7 @@ pub const SWAP: [[u8; 32]; 32] = [
     *b"................................",
 ];
 
-/// Xor: the upper exit is lit where one entry alone is.
+/// Xor: the upper exit is lit if exactly one entry is.
 pub const XOR: [[u8; 32]; 32] = [
     *b"................................",
     *b"................................",
@@ -80,7 +80,7 @@ pub const XOR: [[u8; 32]; 32] = [
     *b"................................",
 ];
 
-/// Or: the upper exit is lit where an entry is.
+/// Or: the upper exit is lit if an entry is.
 pub const OR: [[u8; 32]; 32] = [
     *b"................................",
     *b"................................",
@@ -116,7 +116,7 @@ pub const OR: [[u8; 32]; 32] = [
     *b"................................",
 ];
 
-/// AndNot: the upper exit is lit where the upper entry is and the lower is not.
+/// AndNot: the upper exit is lit if the upper entry is and the lower is not.
 pub const AND_NOT: [[u8; 32]; 32] = [
     *b"................................",
     *b"................................",
@@ -152,7 +152,7 @@ pub const AND_NOT: [[u8; 32]; 32] = [
     *b"................................",
 ];
 
-/// Fork: both exits are lit where the upper entry is; the lower entry is a lone conductor.
+/// Fork: both exits are lit if the upper entry is; the lower entry is a lone conductor.
 pub const FORK: [[u8; 32]; 32] = [
     *b"................................",
     *b"................................",
@@ -188,7 +188,7 @@ pub const FORK: [[u8; 32]; 32] = [
     *b"................................",
 ];
 
-/// East, and backwards West: straight on.
+/// East, and West in the other direction: straight on.
 pub const EAST: [[u8; 32]; 16] = [
     *b"................................",
     *b"................................",
@@ -208,7 +208,8 @@ pub const EAST: [[u8; 32]; 16] = [
     *b"................................",
 ];
 
-/// South, and backwards North: straight on, with a bend that makes the way 32 cells long.
+/// South, and North in the other direction: straight on, with a bend that makes the way 32 cells
+/// long.
 pub const SOUTH: [[u8; 32]; 16] = [
     *b"................C...............",
     *b"................C...............",

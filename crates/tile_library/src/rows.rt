@@ -4,6 +4,7 @@ ghost use Rattle.tile_library.specs.Drawings.{drawn_rows};
 ghost use Rattle.tile_library.specs.RowRuns.{IsRowRun};
 ghost use Rattle.tile_timing.specs.Mirror.{mirrored_drawing};
 
+/// Returns whether the rows have a conductor at column `x` and row `y`.
 pub fn is_drawn(rows: &[[u8; 32]], x: u32, y: u32) -> bool
     ensures { result ≡ drawn_rows rows.now (pos x) (pos y) }
 {
@@ -13,14 +14,15 @@ pub fn is_drawn(rows: &[[u8; 32]], x: u32, y: u32) -> bool
     }
 }
 
+/// Does what `is_drawn` does for the rows with west and east exchanged.
 pub fn is_drawn_mirrored(rows: &[[u8; 32]], x: u32, y: u32) -> bool
     ensures { result ≡ mirrored_drawing (drawn_rows rows.now) (pos x) (pos y) }
 {
     x <= 31 && is_drawn(rows, 31 - x, y)
 }
 
-/// Whether a cell is a conductor, and for how many cells from it on, up to the eastern side of the
-/// box, this is so.
+/// Returns whether a cell is a conductor, and how many cells from it eastward, within the box, are
+/// all so.
 pub fn run_from(rows: &[[u8; 32]], x: u32, y: u32) -> (bool, u32)
     requires { x < 32 }
     ensures { IsRowRun (λ x. drawn_rows rows.now (pos x) (pos y)) x (32 - x) result }
@@ -38,7 +40,7 @@ pub fn run_from(rows: &[[u8; 32]], x: u32, y: u32) -> (bool, u32)
     (first == b'C', 32 - x)
 }
 
-/// The same of the rows with west and east changed.
+/// Does what `run_from` does for the rows with west and east exchanged.
 pub fn run_from_mirrored(rows: &[[u8; 32]], x: u32, y: u32) -> (bool, u32)
     requires { x < 32 }
     ensures { IsRowRun (λ x. mirrored_drawing (drawn_rows rows.now) (pos x) (pos y)) x

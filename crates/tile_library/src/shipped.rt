@@ -6,7 +6,7 @@ use crate::rows::{run_from, run_from_mirrored};
 use crate::{drawings, tiles};
 use tile_core::{Kind, Library, Tile};
 
-/// The shipped drawings: for each kind that of its tile in `tiles`.
+/// The shipped drawings: for each kind the one of its tile in `tiles`.
 #[derive(Clone, Copy)]
 pub struct Shipped;
 
@@ -60,7 +60,7 @@ impl Shipped {
     ghost use Rattle.std.specs.Prelude.{◌≡◌, ◌-◌, ◌<◌, true, false, ℕ, pos};
     ghost use Rattle.tile_library.specs.RowRuns.{IsRowRun};
 
-    /// Whether row y of a tile has no conductor.
+    /// Returns whether row `y` lies above or below all rows of a tile that have conductors.
     pub fn is_row_blank(self, kind: Kind, y: u32) -> bool
         ensures { result ≡ true → (x : ℕ) → shipped_drawing kind (pos x) (pos y) ≡ false }
     {
@@ -68,8 +68,8 @@ impl Shipped {
         y < first || last < y
     }
 
-    /// Whether a cell of a tile is a conductor, and for how many cells from it on, up to the
-    /// eastern side of its box, this is so.
+    /// Returns whether a cell of a tile is a conductor, and how many cells from it eastward, within
+    /// the box, are all so.
     pub fn run_at(self, kind: Kind, x: u32, y: u32) -> (bool, u32)
         requires { x < 32 }
         ensures { IsRowRun (λ x. shipped_drawing kind (pos x) (pos y)) x (32 - x) result }

@@ -10,7 +10,7 @@ use crate::drawings::{
 use crate::rows::{is_drawn, is_drawn_mirrored};
 use tile_core::{Kind, Tile};
 
-/// Two signals from the west side to the east side, where they change places.
+/// A tile that carries two signals from the west side to the east side and exchanges them.
 #[derive(Clone, Copy)]
 pub struct Swap;
 
@@ -47,7 +47,7 @@ impl Tile for Swap {
     ghost law = { meets_law (interface Swap) SWAP refl };
 }
 
-/// The upper exit is lit where one of the entries is lit and the other is not.
+/// A tile whose upper exit is lit if exactly one entry is lit.
 #[derive(Clone, Copy)]
 pub struct Xor;
 
@@ -84,7 +84,7 @@ impl Tile for Xor {
     ghost law = { meets_law (interface Xor) XOR refl };
 }
 
-/// The upper exit is lit where one of the entries is lit, or both.
+/// A tile whose upper exit is lit if at least one entry is lit.
 #[derive(Clone, Copy)]
 pub struct Or;
 
@@ -121,7 +121,7 @@ impl Tile for Or {
     ghost law = { meets_law (interface Or) OR refl };
 }
 
-/// The upper exit is lit where the upper entry is lit and the lower one is not.
+/// A tile whose upper exit is lit if the upper entry is lit and the lower one is not.
 #[derive(Clone, Copy)]
 pub struct AndNot;
 
@@ -158,7 +158,7 @@ impl Tile for AndNot {
     ghost law = { meets_law (interface AndNot) AND_NOT refl };
 }
 
-/// Both exits are lit where the upper entry is lit.
+/// A tile whose exits are both lit if the upper entry is lit.
 #[derive(Clone, Copy)]
 pub struct Fork;
 
@@ -195,7 +195,7 @@ impl Tile for Fork {
     ghost law = { meets_law (interface Fork) FORK refl };
 }
 
-/// One signal from the west side to the east side.
+/// A tile that carries one signal from the west side to the east side.
 #[derive(Clone, Copy)]
 pub struct East;
 
@@ -232,7 +232,7 @@ impl Tile for East {
     ghost law = { meets_law (interface East) EAST refl };
 }
 
-/// One signal from the north side to the south side.
+/// A tile that carries one signal from the north side to the south side.
 #[derive(Clone, Copy)]
 pub struct South;
 
@@ -269,7 +269,7 @@ impl Tile for South {
     ghost law = { meets_law (interface South) SOUTH refl };
 }
 
-/// One signal from the south side to the north side.
+/// A tile that carries one signal from the south side to the north side.
 #[derive(Clone, Copy)]
 pub struct North;
 
@@ -306,7 +306,7 @@ impl Tile for North {
     ghost law = { meets_law (interface North) SOUTH refl };
 }
 
-/// One signal from the west side to the south side.
+/// A tile that carries one signal from the west side to the south side.
 #[derive(Clone, Copy)]
 pub struct EastSouth;
 
@@ -343,7 +343,7 @@ impl Tile for EastSouth {
     ghost law = { meets_law (interface EastSouth) EAST_SOUTH refl };
 }
 
-/// One signal from the north side to the west side.
+/// A tile that carries one signal from the north side to the west side.
 #[derive(Clone, Copy)]
 pub struct SouthWest;
 
@@ -380,7 +380,7 @@ impl Tile for SouthWest {
     ghost law = { meets_law (interface SouthWest) SOUTH_WEST refl };
 }
 
-/// One signal from the east side to the north side.
+/// A tile that carries one signal from the east side to the north side.
 #[derive(Clone, Copy)]
 pub struct WestNorth;
 
@@ -417,7 +417,7 @@ impl Tile for WestNorth {
     ghost law = { meets_law (interface WestNorth) WEST_NORTH refl };
 }
 
-/// One signal from the south side to the east side.
+/// A tile that carries one signal from the south side to the east side.
 #[derive(Clone, Copy)]
 pub struct NorthEast;
 
@@ -454,7 +454,7 @@ impl Tile for NorthEast {
     ghost law = { meets_law (interface NorthEast) NORTH_EAST refl };
 }
 
-/// One signal from the east side to the west side.
+/// A tile that carries one signal from the east side to the west side.
 #[derive(Clone, Copy)]
 pub struct West;
 
@@ -491,7 +491,8 @@ impl Tile for West {
     ghost law = { meets_law (interface West) EAST refl };
 }
 
-/// Swap with west and east changed: two signals from the east side to the west side.
+/// Swap with west and east exchanged: a tile that carries two signals from the east side to the
+/// west side and exchanges them.
 #[derive(Clone, Copy)]
 pub struct WestSwap;
 

@@ -26,7 +26,7 @@ pub record IsDrawingOf (kind : Kind) (cells : List State) : Type 0 where
   pub size : length cells ≡ 512 * lanes kind
   pub unlit : All (λ cell. (cell ≡ Empty) ⊎ (cell ≡ Conductor)) cells
 
--- the timing law of the slice as a drawing of the kind's size
+-- the slice is a drawing of the kind's size that keeps the timing law
 pub record HoldsLaw (kind : Kind) (cells : List State) : Type 0 where
   pub is_drawing : IsDrawingOf kind cells
   pub law : MeetsTimingLaw (interface kind) (drawing_of cells)
@@ -43,17 +43,17 @@ marked drawing cells mark x y =
 abbrev pub AreDark : List Cell → Plane → Type 0
 AreDark cells p = (x y : ℤ) → is_cell_of x y cells ≡ true → p x y ≢ Head
 
--- of these cells those are heads that are lit
+-- of these cells those are heads that are among the lit ones
 abbrev pub AreLitAs : List Cell → List Cell → Plane → Type 0
 AreLitAs cells lit p =
     (x y : ℤ) → is_cell_of x y cells ≡ true → (p x y ≡ Head) ↔ (is_cell_of x y lit ≡ true)
 
--- what the timing law says of the exits at generation g
+-- the exits keep the timing law at generation g
 pub record ExitsInTime (tile : Interface) (a b : Bool) (g : ℕ) (p : Plane) : Type 0 where
   pub dark : g ≢ 31 → AreDark (exit_cells tile) p
   pub answer : g ≡ 31 → AreLitAs (exit_cells tile) (lit_exits tile a b) p
 
--- and of all ports
+-- all ports keep the timing law at generation g
 pub record IsInTime (tile : Interface) (a b : Bool) (g : ℕ) (p : Plane) : Type 0 where
   pub entries : 1 ≤ g → AreDark (entry_cells tile) p
   pub exits : ExitsInTime tile a b g p

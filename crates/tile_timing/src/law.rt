@@ -1,4 +1,4 @@
-// The timing law of a slice of cells, tried out choice by choice.
+// The timing law of a slice of cells, tested for each choice of entries.
 ghost use Rattle.std.specs.Prelude.{◌⊎◌, [], Bool, ◌++◌, ◌≡◌, ◌*◌, ◌/◌, ◌%◌, ◌<◌, ◌≤◌, ◌↔◌, pos, length, IsTrue, true, map, All, take, drop, ◌≢◌};
 ghost use Rattle.lists.specs.Items.{flag_at};
 ghost use Rattle.std.specs.List.{list_any};
@@ -32,7 +32,7 @@ fn is_port(ports: &[(u32, u32)], x: usize, y: usize) -> bool
     ports.iter().any(|port| is_at(*port, x, y))
 }
 
-// Whether the cell is the port of that number.
+// Whether the cell is the port with this number.
 fn is_port_number(ports: &[(u32, u32)], number: usize, x: usize, y: usize) -> bool
     ensures { result ≡ list_any (λ port. is_at port x y) (take 1 (drop number ports.now)) }
 {
@@ -113,7 +113,7 @@ fn exits_are_in_time(cells: &[State], kind: Kind, lit: [bool; 2], generation: us
     }
 }
 
-// What the timing law says of the ports at one generation.
+// Whether the ports keep the timing law at one generation.
 fn is_in_time(cells: &[State], kind: Kind, lit: [bool; 2], generation: usize) -> bool
     ensures { IsTrue result
         ↔ IsInTime (interface kind) (flag_at lit 0) (flag_at lit 1) generation (
@@ -126,7 +126,7 @@ fn is_in_time(cells: &[State], kind: Kind, lit: [bool; 2], generation: usize) ->
     generation == 0 || entries_are_dark(cells, kind)
 }
 
-// The cell of that number, of a drawing in which the ports whose bits are true are in the state
+// The cell with number `i` of the drawing, if the ports whose bits are true are in the state
 // `mark`.
 fn marked_at(base: &[State], ports: &[(u32, u32)], bits: [bool; 2], mark: State, i: usize) -> State
     requires few { length ports.now ≤ 2 }
@@ -146,7 +146,7 @@ fn marked_at(base: &[State], ports: &[(u32, u32)], bits: [bool; 2], mark: State,
     }
 }
 
-// The drawing, with the ports whose bits are true in the state `mark`.
+// Draws the drawing, with the ports whose bits are true in the state `mark`.
 fn draw_marked(
     base: &[State],
     cells: &mut [State],
@@ -195,7 +195,7 @@ fn is_marked(
     true
 }
 
-// The drawing with the chosen entries lit.
+// Draws the drawing with the chosen entries lit.
 fn light(base: &[State], cells: &mut [State], kind: Kind, lit: [bool; 2])
     requires same_length { length cells.old ≡ length base.now }
     ensures shows { shown cells.new 32
@@ -223,7 +223,7 @@ fn is_at_rest(base: &[State], cells: &[State], kind: Kind, lit: [bool; 2]) -> bo
     is_marked(base, cells, &exits[..lanes], kind.answer(lit), State::Tail)
 }
 
-// The timing law for one choice of entries; `now` and `next` are overwritten.
+// Whether the timing law holds for one choice of entries; `now` and `next` are overwritten.
 fn keeps_time(
     base: &[State],
     kind: Kind,
@@ -252,7 +252,7 @@ fn keeps_time(
 
 const CHOICES: [[bool; 2]; 4] = [[false, false], [false, true], [true, false], [true, true]];
 
-// The timing law for every choice of entries; `now` and `next` are overwritten.
+// Whether the timing law holds for every choice of entries; `now` and `next` are overwritten.
 fn always_keeps_time(base: &[State], kind: Kind, now: &mut [State], next: &mut [State]) -> bool
     requires whole { length base.now % 32 ≡ 0 }
     requires now_length { length now.old ≡ length base.now }
@@ -305,7 +305,7 @@ fn is_any_port(kind: Kind, x: usize, y: usize) -> bool
     is_port(&entries[..lanes], x, y) || is_port(&exits[..lanes], x, y)
 }
 
-// Whether the border's cells that are no ports are empty.
+// Whether the cells on the border that are no ports are empty.
 fn is_border_clear(cells: &[State], kind: Kind) -> bool
     ensures { IsTrue result ↔ IsBorderClear kind cells.now }
 {
@@ -357,9 +357,9 @@ fn is_unlit(cells: &[State]) -> bool
     cells.iter().all(|cell| is_same(*cell, State::Empty) || is_same(*cell, State::Conductor))
 }
 
-/// Whether `cells` are a drawing of `kind` that keeps the timing law: 16 rows of 32 cells for each
-/// of the kind's lanes, row after row, each cell empty or a conductor. A slice of another length,
-/// or with a head or a tail, is none.
+/// Returns whether `cells` are a drawing of `kind` that keeps the timing law: 16 rows of 32 cells
+/// for each of the kind's lanes, row after row, each cell empty or a conductor. A slice of another
+/// length, or with a head or a tail, is no drawing.
 pub fn law_holds(cells: &[State], kind: Kind) -> bool
     ensures { IsTrue result ↔ HoldsLaw kind cells.now }
 {

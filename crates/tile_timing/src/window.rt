@@ -5,7 +5,7 @@ ghost use Rattle.tile_timing.specs.Window.{shown};
 
 use ww_rule::State;
 
-// 1 where the cell before column x and row y, which are counted from 1, is a head.
+// 1 if the cell before column x and row y, which are counted from 1, is a head, and else 0.
 fn head_before(cells: &[State], width: usize, x: usize, y: usize) -> usize
     requires wide { 0 < width }
     requires whole { length cells.now % width ≡ 0 }
@@ -52,8 +52,8 @@ fn next_at(cells: &[State], width: usize, x: usize, y: usize) -> State
     cells[y * width + x].next(heads_near(cells, width, x, y))
 }
 
-/// One generation of Wireworld in a window: `old` has rows of `width` cells, row after row, all
-/// cells outside it are empty, and `new` is overwritten with the next generation.
+/// Computes one generation of Wireworld in a window. `old` has rows of `width` cells, row after
+/// row, and all cells outside it are empty; `new` is overwritten with the next generation.
 pub fn window_step(old: &[State], new: &mut [State], width: usize)
     requires wide { 0 < width }
     requires whole { length old.now % width ≡ 0 }

@@ -7,21 +7,21 @@ use Rattle.tiling.specs.Tiling.Slot.{Nothing, Whole, Upper, Lower}
 use Rattle.tiling.specs.Tiling.Edge.{Beside, Above}
 
 -- the piece whose first block is (q, l) has an exit at this place of its box, and its answer to its
--- entry edges gives 1 there
+-- lit entry edges is 1 there
 abbrev pub piece_answers : Lit → ℕ → ℕ → Piece → ℕ → ℕ → Bool
 piece_answers lit q l piece x y =
     is_cell_of (pos x) (pos y) (lit_exits (interface_of piece)
     (is_entry_lit lit q l (interface_of piece) 0) (is_entry_lit lit q l (interface_of piece) 1))
 
--- the same of what stands in the block (q, l), by the place in the block
+-- the same for what stands in the block (q, l), by the place in the block
 abbrev pub slot_answers : Lit → ℕ → ℕ → Slot → ℕ → ℕ → Bool
 slot_answers lit q l Nothing x y = false
 slot_answers lit q l (Whole piece) x y = piece_answers lit q l piece x y
 slot_answers lit q l (Upper piece) x y = piece_answers lit q l piece x y
 slot_answers lit q l (Lower piece) x y = piece_answers lit q (l - 1) piece x (y + 16)
 
--- an edge is lit afterwards exactly when it is an exit of a tile whose answer to its entry edges
--- gives 1 there
+-- an edge is lit afterwards exactly when it is an exit of a tile whose answer to its lit entry
+-- edges is 1 there
 abbrev pub macro_step : Tiling → Lit → Lit
 macro_step tiling lit (Beside zero l) = slot_answers lit 0 l (tiling 0 l) 0 8
 macro_step tiling lit (Beside (suc q) l) =

@@ -12,7 +12,7 @@ is_entered (Whole piece) x y = is_cell_of (pos x) (pos y) (entry_cells (interfac
 is_entered (Upper piece) x y = is_cell_of (pos x) (pos y) (entry_cells (interface_of piece))
 is_entered (Lower piece) x y = is_cell_of (pos x) (pos (y + 16)) (entry_cells (interface_of piece))
 
--- whether it is left there
+-- whether the block's piece is left at this place of the block
 abbrev pub is_left : Slot → ℕ → ℕ → Bool
 is_left Nothing x y = false
 is_left (Whole piece) x y = is_cell_of (pos x) (pos y) (exit_cells (interface_of piece))
@@ -27,7 +27,7 @@ pub record HasWholePieces (tiling : Tiling) : Type 0 where
   pub above : (q l : ℕ) (p : Piece) → tiling q (l + 1) ≡ Lower p → tiling q l ≡ Upper p
   pub first : (q : ℕ) (p : Piece) → tiling q 0 ≡ Lower p → ⊥
 
--- where two blocks meet there is never an entry against an entry, nor an exit against an exit
+-- where two blocks meet, an entry never faces an entry, and an exit never faces an exit
 pub record IsMatched (tiling : Tiling) : Type 0 where
   pub pieces : HasWholePieces tiling
   pub entries_beside : (q l : ℕ) → (is_entered (tiling q l) 31 8

@@ -1,4 +1,4 @@
--- What thirty-two generations do to a matched tiling.
+-- What 32 generations do to a matched tiling.
 use Rattle.std.specs.Prelude.{ℤ, pos, ℕ, zero, suc, ◌+◌, ◌-◌, ◌*◌, ◌%◌, ◌/◌, ◌<◌, ◌≡◌, ◌↔◌, ◌⊎◌, Bool, true, false, ◌||◌}
 use Rattle.ww_rule.specs.declared.pattern.State.TheVariants.{Head, Tail, Conductor}
 use Rattle.ww_rule.specs.Wireworld.{Plane, Due, next_plane, evolve, driven}
@@ -26,7 +26,7 @@ abbrev pub piece_is_lit : Lit → ℕ → ℕ → Piece → Bool
 piece_is_lit lit q l piece =
     is_entry_lit lit q l (interface_of piece) 0 || is_entry_lit lit q l (interface_of piece) 1
 
--- the same of what stands in a block
+-- the same for what stands in a block
 abbrev pub slot_is_lit : Lit → ℕ → ℕ → Slot → Bool
 slot_is_lit lit q l Nothing = false
 slot_is_lit lit q l (Whole piece) = piece_is_lit lit q l piece
@@ -40,8 +40,8 @@ LiesInLitPieces tiling lit p =
     → (X : ℕ) × (Y : ℕ) × (x ≡ pos X) × (y ≡ pos Y)
     × (slot_is_lit lit (X / 32) (Y / 16) (tiling (X / 32) (Y / 16)) ≡ true)
 
--- at generation 32 m the plane is drawn with the edges after m macro steps,
--- and at the generations between electrons are in lit pieces only
+-- at generation 32 m the plane is drawn with the edges after m macro steps, and at the generations
+-- between heads and tails are in lit pieces only
 pub record StepsByMacro (library : Kind → Drawing) (tiling : Tiling) (lit : Lit) : Type 0 where
   pub whole : (m : ℕ) → evolve (32 * m) (drawn library tiling lit) ≡ drawn library tiling
       (after_steps tiling lit m)
@@ -49,14 +49,14 @@ pub record StepsByMacro (library : Kind → Drawing) (tiling : Tiling) (lit : Li
       → LiesInLitPieces tiling (after_steps tiling lit m)
       (evolve (32 * m + g) (drawn library tiling lit))
 
--- thirty-two generations are one macro step, for every library, matched tiling and set of lit edges
+-- 32 generations are one macro step, for every library, matched tiling and set of lit edges
 abbrev pub MacroLaw : Type 0
 MacroLaw =
     (library : Kind → Drawing) → KeepsLaw library → (tiling : Tiling) → IsMatched tiling
     → (lit : Lit) → StepsByMacro library tiling lit
 
--- heads are injected every 32 generations at most, at the west sides of blocks that are entered
--- there and that nothing is left towards
+-- heads are injected only at multiples of 32 generations, at the west sides of blocks that are
+-- entered there, if no exit faces that side
 pub record DrivesEntries (tiling : Tiling) (due : Due) : Type 0 where
   pub on_time : (g : ℕ) (x y : ℤ) → due g x y ≡ true → g % 32 ≡ 0
   pub at_entries : (g : ℕ) (x y : ℤ) → due g x y ≡ true
@@ -74,15 +74,15 @@ injected_edges due g (Above q l) = false
 abbrev pub with_injected : Due → ℕ → Lit → Lit
 with_injected due g lit edge = lit edge || injected_edges due g edge
 
--- the edges at generation 32 m of a driven tiling, its injections among them
+-- the lit edges at generation 32 m of a driven tiling, its injections among them
 abbrev pub driven_edges : Tiling → Due → Lit → ℕ → Lit
 driven_edges tiling due lit zero = with_injected due 0 lit
 driven_edges tiling due lit (suc m) =
     with_injected due (32 * suc m) (macro_step tiling (driven_edges tiling due lit m))
 
 -- in a run of the plane from lit edges on: the entry cell at a block's west side is a head at none
--- of the 32 generations but the first, and there exactly when its edge is lit; the exit cell at its
--- east side at none but the last, and there exactly when the piece answers 1
+-- of the 32 generations but the first, and there exactly if its edge is lit; the exit cell at its
+-- east side is a head at none but the last, and there exactly if the piece answers 1
 pub record ShowsEdges (library : Kind → Drawing) (tiling : Tiling) (lit : Lit) : Type 0 where
   pub entry : (q l r : ℕ) → r < 32 → is_entered (tiling q l) 0 8 ≡ true
       → (evolve r (drawn library tiling lit) (pos (32 * q)) (pos (16 * l + 8)) ≡ Head)
@@ -91,7 +91,7 @@ pub record ShowsEdges (library : Kind → Drawing) (tiling : Tiling) (lit : Lit)
       → (evolve r (drawn library tiling lit) (pos (32 * q + 31)) (pos (16 * l + 8)) ≡ Head)
       ↔ ((r ≡ 31) × (slot_answers lit q l (tiling q l) 31 8 ≡ true))
 
--- for every library, matched tiling and lit edges
+-- every matched tiling shows its edges, with every library and all lit edges
 abbrev pub EdgesLaw : Type 0
 EdgesLaw =
     (library : Kind → Drawing) → KeepsLaw library → (tiling : Tiling) → IsMatched tiling
@@ -99,7 +99,7 @@ EdgesLaw =
 
 -- a driven tiling: at generation 32 m it is drawn with the edges of m macro steps and of the
 -- injections, it runs on for 32 generations, and each injection meets a cell that is a conductor
--- before that generation's injections
+-- just before that generation's injections
 pub record IsDriven (library : Kind → Drawing) (tiling : Tiling) (due : Due)
     (lit : Lit) : Type 0 where
   pub whole : (m r : ℕ) → r < 32 → driven due (drawn library tiling lit) (32 * m + r) ≡ evolve r
@@ -110,7 +110,8 @@ pub record IsDriven (library : Kind → Drawing) (tiling : Tiling) (due : Due)
       → lit (Beside q l) ≡ false → drawn library tiling lit (pos (32 * q)) (pos (16 * l + 8))
       ≡ Conductor
 
--- for every library, matched tiling, lit edges and injections at its free entries
+-- every matched tiling is driven so, with every library, all lit edges and all injections at its
+-- free entries
 abbrev pub DrivenLaw : Type 0
 DrivenLaw =
     (library : Kind → Drawing) → KeepsLaw library → (tiling : Tiling) → IsMatched tiling

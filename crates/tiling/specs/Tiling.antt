@@ -1,4 +1,4 @@
--- A plane that is cut into blocks of 32 columns and 16 rows, and what stands in each of them.
+-- The plane cut into blocks of 32 columns and 16 rows, and what stands in each block.
 use Rattle.std.specs.Prelude.{pos, negsuc, ℕ, ◌+◌, ◌-◌, ◌/◌, ◌%◌, ◌==◌, Bool, ◌&&◌, if◌then◌else◌, ltb, List, [], ◌∷◌, get_or}
 use Rattle.ww_rule.specs.declared.pattern.State.{State}
 use Rattle.ww_rule.specs.declared.pattern.State.TheVariants.{Empty}
@@ -36,12 +36,12 @@ pub data Slot : Type 0 where
   Upper : (piece : Piece) → Slot
   Lower : (piece : Piece) → Slot
 
--- what stands where: by tile column and lane, the block of column q and lane l having
--- the cells with x from 32 q to 32 q + 31 and y from 16 l to 16 l + 15
+-- what stands in each block, by tile column and lane: the block of column q and lane l has the
+-- cells with x from 32 q to 32 q + 31 and y from 16 l to 16 l + 15
 abbrev pub Tiling : Type 0
 Tiling = ℕ → ℕ → Slot
 
--- an edge is a side at which blocks meet: the west side of a block, or its north side
+-- an edge is a side at which two blocks meet: the west side of a block, or its north side
 pub data Edge : Type 0 where
   Beside : (column lane : ℕ) → Edge
   Above : (column lane : ℕ) → Edge
@@ -50,7 +50,8 @@ pub data Edge : Type 0 where
 abbrev pub Lit : Type 0
 Lit = Edge → Bool
 
--- the edge at which a port lies, by its place in the box of a piece whose first block is (q, l)
+-- the edge at which a port lies, by the port's place in the box of a piece whose first block is (q,
+-- l)
 abbrev pub edge_of : ℕ → ℕ → ℕ × ℕ → Edge
 edge_of q l port =
     if port.0 == 0 then Beside q (l + port.1 / 16)
@@ -90,8 +91,8 @@ drawn_slot library lit q l (Whole piece) x y = drawn_piece library lit q l piece
 drawn_slot library lit q l (Upper piece) x y = drawn_piece library lit q l piece x y
 drawn_slot library lit q l (Lower piece) x y = drawn_piece library lit q (l - 1) piece x (y + 16)
 
--- the plane of a tiling whose edges are lit so: a lit edge has a head at its entry cell and a tail
--- at its exit cell, where each exists, and all other drawn cells are conductors
+-- the plane of a tiling with these edges lit: a lit edge has a head at its entry cell and a tail at
+-- its exit cell, if these exist, and all other drawn cells are conductors
 abbrev pub drawn : (Kind → Drawing) → Tiling → Lit → Plane
 drawn library tiling lit (pos x) (pos y) =
     drawn_slot library lit (x / 32) (y / 16) (tiling (x / 32) (y / 16)) (x % 32) (y % 16)
