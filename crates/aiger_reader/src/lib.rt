@@ -14,6 +14,6 @@ mod reading;
 mod sections;
 mod symbols;
 
-pub use aiger_text::{Aig, AigAnd, AigFault, AigFaultKind, AigLatch};
+pub use aiger_text::{Aig, AigAnd, AigFault, AigLatch};
 pub use error::AigReadError;
 pub use reading::read;

@@ -11,5 +11,4 @@ mod rules;
 pub use checking::check;
 pub use clock_check::check_clock;
 pub use error::CheckError;
-pub use netlist_core::{Design, Model};
-pub use netlist_rules::{Fault, FaultKind};
+pub use netlist_core::Design;

@@ -14,4 +14,4 @@ mod loops;
 
 pub use lifting::cells_of;
 pub use lists::OutOfMemory as LiftError;
-pub use loops::{first_bits, loop_start, starts_of_bits};
+pub use loops::{first_bits, starts_of_bits};

@@ -10,8 +10,6 @@ mod ports;
 mod word;
 
 pub use earliest::Earliest;
-pub use model_index::NamedModels;
-pub use netlist_core::Model;
 pub use netlist_rules::{Fault, FaultKind};
 pub use placed::PlacedPorts;
 pub use ports::PortNames;

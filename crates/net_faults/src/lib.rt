@@ -17,5 +17,3 @@ mod undriven_nets;
 mod words;
 
 pub use faults::{NetFaults, net_faults};
-pub use model_words::{Fault, FaultKind, PlacedPorts};
-pub use netlist_core::Model;

@@ -13,8 +13,5 @@ mod repeated;
 
 pub use formals::unknown_formal;
 pub use missing::pin_missing;
-pub use model_index::NamedModels;
-pub use model_words::{Fault, FaultKind, PlacedPorts};
-pub use netlist_core::Model;
 pub use placed::missing_model;
 pub use repeated::pin_twice;

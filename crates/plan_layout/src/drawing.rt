@@ -8,7 +8,8 @@ ghost use Rattle.plan_layout.specs.Edges.{as_edge, column_in, lane_in};
 ghost use Rattle.plan_layout.specs.Slots.{slot_of};
 ghost use Rattle.plan_layout.specs.Tape.{drawn_edges, drawn_tiling, is_on_tape, is_taped};
 
-use crate::{Edge, Piece, Slot, is_start, slot_at};
+use crate::starts::is_start;
+use crate::{Edge, Piece, Slot, slot_at};
 use lane_core::{Plan, tape_bit, tape_shift, tape_tiles};
 use tile_core::Kind;
 

@@ -15,6 +15,6 @@ mod starts;
 pub use drawing::{body_column, is_lit, slot_drawn_at};
 pub use edge::Edge;
 pub use layout::slot_at;
-pub use ports::{is_entered, is_left};
+pub use ports::is_left;
 pub use slot::{Piece, Slot};
-pub use starts::{edge_name, is_passed, is_start};
+pub use starts::{edge_name, is_passed};

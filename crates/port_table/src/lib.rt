@@ -14,7 +14,7 @@ mod seen;
 mod table;
 
 pub use faults::PortFault;
-pub use pattern_reading::{NetLine, PortFaultKind, PortLine, Ports};
+pub use pattern_reading::{NetLine, PortLine, Ports};
 pub use plan_ports::{PortsError, of_plan};
 pub use port_writing::write_line;
 pub use reading::{PortReadError, read};

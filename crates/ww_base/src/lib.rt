@@ -15,7 +15,7 @@ mod whole;
 pub use fakes::{MemSink, MemSource};
 pub use lists::OutOfMemory as FakeError;
 pub use page::Page;
-pub use pieces::{put_pieces, write_pieces};
+pub use pieces::write_pieces;
 pub use standard::{StdSink, StdSource};
 pub use streams::{Failed, Sink, Source};
 pub use wanted::expect;
