@@ -48,6 +48,6 @@ abbrev pub MeetsConductors : Due → Plane → Type 0
 MeetsConductors due p =
     (g : ℕ) (x y : ℤ) → due g x y ≡ true → before_injections due p g x y ≡ Conductor
 
--- injections at cells of a box
+-- all injections are at cells of the box
 abbrev pub AreInside : (width height : ℕ) → List Injection → Type 0
 AreInside width height injections = All (λ i. (i.x < width) × (i.y < height)) injections
