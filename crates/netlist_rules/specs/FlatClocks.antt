@@ -67,7 +67,7 @@ pub record IsFlatClockRead (flat : Flat) (line : ℕ) (word : Name) : Type 0 whe
 abbrev pub HasOneFlatClock : Flat → Type 0
 HasOneFlatClock flat = (line : ℕ) (word : Name) → ¬ IsFlatTwoClocks flat line word
 
--- the clock fault of a flat netlist, with its line and word: B20, or where there is none B21
+-- the clock fault of a flat netlist, with its line and word: B20, or B21 if there is no B20
 pub data IsFlatClockFault (flat : Flat) : Fault → Type 0 where
   two_clocks : {line : ℕ} {word : Name} → IsFlatTwoClocks flat line word
     → IsFlatClockFault flat (fault_on TwoClocks line word)
