@@ -33,8 +33,8 @@ pub record IsFirstLineFault (lines : List Logical) (fault : Fault) : Type 0 wher
   pub is_earliest : (front : List Logical) (earlier : Logical) (back : List Logical)
     → before ≡ front ++ earlier ∷ back → BreaksNone (reverse front) earlier
 
--- Lines have a fault by a rule on lines exactly if it is that of the earliest line that breaks one,
--- given the lines before it, by the rule of the lowest number.
+-- The fault of lines by a rule on lines is exactly that of the earliest line that breaks one, given
+-- the lines before it, by the rule of the lowest number.
 abbrev pub LineFaultIsFirst : Type 0
 LineFaultIsFirst =
     (lines : List Logical) (fault : Fault) → (line_fault lines ≡ Some fault)
@@ -147,7 +147,7 @@ pub record WordsAreRuns : Type 0 where
     → words_of (blank ∷ rest) ≡ words_of rest
   pub of_nothing : words_of [] ≡ []
 
--- The models of a design have different names.
+-- The models of a design have distinct names.
 abbrev pub ModelsAreDistinct : Type 0
 ModelsAreDistinct =
     (text : List ℕ) (design : Design) → IsDesignOf text design

@@ -115,7 +115,8 @@ differs_from l row = not (bytes_eq (output_part row.words) (output_part l.words)
 abbrev pub is_mixed : List Logical → Logical → Bool
 is_mixed before l = option_map_or (differs_from l) (first_row before) false
 
--- 8: `.latch` does not have 2 to 5 operands, or its type or init is none
+-- 8: `.latch` does not have 2 to 5 operands, or has a type other than the five or an init other
+-- than the four
 abbrev pub is_latch : List (List ℕ) → Bool
 is_latch (input ∷ output ∷ []) = true
 is_latch (input ∷ output ∷ init ∷ []) = is_among init latch_inits

@@ -13,7 +13,7 @@ pub enum Src {
     Cell(u32),
 }
 
-/// A cell of two inputs.
+/// A cell of two inputs, which are the sources that it names.
 #[derive(Clone, Copy, Debug, PartialEq, Eq, PartialOrd, Ord)]
 pub enum Cell {
     /// 1 if at least one of the two is 1.

@@ -8,10 +8,10 @@ use lists::List;
 use std::alloc::Global;
 use std::mem;
 
-/// A list of two-input cells, each of which reads only inputs, latches, constants and earlier
-/// cells. `inputs` is the number of inputs. `outs` are the sources of the outputs, `latches` those
-/// of the latches' next bits, and `nets` those of the nets; `starts` are the bits with which the
-/// latches begin. Each input, latch and cell that is named is there.
+/// A list of two-input cells. Each reads only inputs, latches, constants and earlier cells.
+/// `inputs` is the number of inputs. `outs` are the sources of the outputs, `latches` those of the
+/// latches' next bits, and `nets` those of the nets; `starts` are the bits with which the latches
+/// begin. Each input, latch and cell that is named is there.
 #[derive(Drop)]
 pub struct CellList {
     pub inputs: u32,

@@ -41,7 +41,7 @@ abbrev pub earlier : Option NetUse → NetUse → NetUse
 earlier None next = next
 earlier (Some found) next = cond (stands_before next found) next found
 
--- the earliest use of a clock net so far, or one more use if that is earlier
+-- the earliest use of a clock net so far, or one more use if that is of a clock net and earlier
 abbrev pub earliest_with : Flat → Option NetUse → NetUse → Option NetUse
 earliest_with flat found next =
     cond (is_clock_class flat (class_of flat next.net)) (Some (earlier found next)) found

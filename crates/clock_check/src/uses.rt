@@ -36,7 +36,7 @@ fn earlier(found: Option<NetUse>, next: NetUse) -> NetUse
     }
 }
 
-// The earliest use of a clock net so far, or one more use if that is earlier.
+// The earliest use of a clock net so far, or one more use if that is of a clock net and earlier.
 fn earliest_with(clocks: &ClockClasses, found: Option<NetUse>, next: NetUse) -> Option<NetUse>
     requires { IsNetId clocks.now next.net }
     ensures { result ≡ earliest_with clocks.now found next }

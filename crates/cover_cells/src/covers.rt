@@ -39,7 +39,7 @@ fn has_positive(row: &[u8]) -> bool
     row.iter().any(|character| *character == b'1')
 }
 
-// Whether the row has a `1` under none of the sources.
+// Whether the row has no `1` under the sources.
 fn has_no_positive(count: usize, row: &[u8]) -> bool
     ensures { result ≡ has_no_positive count row.now }
 {

@@ -13,19 +13,19 @@ use Rattle.design_walks.specs.Places.{IsModelAt, HasParent}
 abbrev pub main_placed : PlacedModel
 main_placed = record { place = []; model = 0; parent = None }
 
--- a model by its number, at the place of a line inside a place, which is given with its number
+-- the model of number `model`, at the place that a line leads to from the place of number `number`
 abbrev pub inner_at : PlacedModel → ℕ → ℕ → ℕ → PlacedModel
 inner_at outer number line model =
     record { place = outer.place ++ line ∷ []; model = model;
       parent = Some (record { number = number; line = line }) }
 
--- the place of a line, if there is a model of the name that it has
+-- the place that a line leads to, if there is a model of the name on the line
 abbrev pub placed_by : List Model → PlacedModel → ℕ → ℕ → Subckt → List PlacedModel
 placed_by models outer number line subckt =
     option_to_list (option_map (inner_at outer number line)
       (position (is_model_named subckt.model) models))
 
--- the places of some lines, the last line's first; the first line has number `first`
+-- the places that some lines lead to, the last line's first; the first line has number `first`
 abbrev pub placed_by_lines : List Model → PlacedModel → ℕ → ℕ → List Subckt → List PlacedModel
 placed_by_lines models outer number first [] = []
 placed_by_lines models outer number first (line ∷ lines) =

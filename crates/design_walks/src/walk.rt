@@ -11,7 +11,7 @@ use model_index::NamedModels;
 use netlist_core::{Design, Subckt};
 use std::alloc::{AllocError, Global};
 
-// The place of a line inside a place.
+// The place that a line of the model at a place leads to.
 fn inner_place(alloc: Global, place: &[u32], line: u32) -> Result<List<u32>, AllocError>
     ensures { IfOk result (λ inner. inner ≡ place.now ++ line ∷ []) }
 {
@@ -20,7 +20,7 @@ fn inner_place(alloc: Global, place: &[u32], line: u32) -> Result<List<u32>, All
     Ok(List::of(inner))
 }
 
-// Puts the place of a line on the stack, if there is a model of the name that it has.
+// Puts the place that a line leads to on the stack, if there is a model of the name on the line.
 fn push_line(
     to_come: &mut Vec<PlacedModel>,
     alloc: Global,
@@ -50,7 +50,8 @@ fn push_line(
     }
 }
 
-// Puts the places of the lines inside a place on the stack, the last line's first.
+// Puts the places that the lines of the model at a place lead to on the stack, the last line's
+// first.
 fn push_inside(
     to_come: &mut Vec<PlacedModel>,
     alloc: Global,

@@ -87,7 +87,8 @@ ClassesAreJoined =
     (design : Design) (flat : Flat) → AreFaultless design.models → IsFlatOf design flat
     → HasClasses design flat
 
--- a net is the first of its class exactly if it is its own root, which is nearest the main model
+-- a net is the first of its class exactly if it is its own root: of all nets joined with it, the
+-- one nearest the main model
 abbrev pub FirstsAreRoots : Type 0
 FirstsAreRoots =
     (design : Design) (flat : Flat) → AreFaultless design.models → IsFlatOf design flat

@@ -18,8 +18,8 @@ use std::alloc::{AllocError, AllocFailed, Global};
 pub enum OrderError {
     /// Memory ran out.
     NoMemory,
-    /// The nets of a loop: a node reads each and drives the next, and a node reads the last and
-    /// drives the first. Each is the first net of its class.
+    /// The nets of a loop, each the first of its class: a node reads the class of each and drives
+    /// that of the next, and a node reads the class of the last and drives that of the first.
     Loop(List<NetId>),
 }
 

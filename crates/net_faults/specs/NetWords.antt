@@ -23,7 +23,8 @@ pub record ArePortsOf (words : NetWords) (m : Model) : Type 0 where
   pub inputs : numbered_ports words.inputs.items ≡ m.ins ++ m.clocks
   pub outputs : numbered_ports words.outputs.items ≡ m.outs
 
--- the words of the other drivers are those of this model among these
+-- the words of the other drivers, and of pins of an unknown model or formal, are those of this
+-- model among these models
 pub record AreDriverWords (words : NetWords) (models : List Model) (m : Model) : Type 0 where
   pub others : numbered_ports words.others.items ≡ other_drivers models m
   pub unknown : numbered_ports words.unknown.items ≡ actuals models is_unknown_pin m

@@ -1,4 +1,5 @@
--- Words of a list whose names stand earlier in the models' text.
+-- Words of a list whose names stand earlier in it: on an earlier line, or before them on the same
+-- line.
 use Rattle.std.specs.Prelude.{List, ◌++◌}
 use Rattle.netlist_core.specs.declared.model.Port.{Port}
 use Rattle.net_faults.specs.declared.numbering.Numbering.{Numbering}

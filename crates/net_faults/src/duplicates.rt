@@ -20,9 +20,9 @@ use std::alloc::{AllocError, Global};
 /// The other list of ports in which a port's name may stand as well.
 #[derive(Clone, Copy)]
 pub enum Elsewhere<'l> {
-    /// It counts if it stands there on a line before the port's.
+    /// A list in which the name counts if it stands on a line before the port's.
     Before(&'l FirstLines),
-    /// It counts if it stands there on a line up to the port's.
+    /// A list in which the name counts if it stands on a line up to the port's.
     UpTo(&'l FirstLines),
 }
 

@@ -100,7 +100,7 @@ impl<'a> Numbering<'a> {
         Ok(numbered)
     }
 
-    /// Numbers words that are passed on as a result, whose error it returns.
+    /// Gives each word of a result the number of its name, or returns the result's error.
     pub fn number_found(
         &mut self,
         alloc: Global,

@@ -1,4 +1,5 @@
-// Words of a list whose names stand earlier in the models' text.
+// Words of a list whose names stand earlier in it: on an earlier line, or before them on the same
+// line.
 ghost use Rattle.std.specs.Prelude.{◌≡◌, List, [], ◌∷◌, IfOk, OnOk};
 ghost use Rattle.netlist_core.specs.declared.model.Port.{Port};
 ghost use Rattle.netlist_rules.specs.Drivers.{stands_earlier, firsts, repeats};

@@ -2,7 +2,7 @@
 use crate::model::{Name, Trigger};
 use lists::{Bytes, List};
 
-/// A net, by its position in the nets of a flat netlist.
+/// The number of a net: its position in the nets of a flat netlist.
 #[derive(Clone, Copy)]
 pub struct NetId(pub u32);
 

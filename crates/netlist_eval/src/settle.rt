@@ -10,7 +10,7 @@ use netlist_core::Flat;
 use netlist_meaning::class_of;
 use std::alloc::{AllocError, Global};
 
-/// Puts the bits of the inputs.
+/// Puts the bits of the inputs at the classes of their nets.
 pub fn put_inputs(flat: &Flat, inputs: &[bool], bits: &mut [bool])
     requires in_range { IsInRange flat.now }
     requires inputs { length inputs.now ≡ length flat.now.ins }
@@ -22,7 +22,7 @@ pub fn put_inputs(flat: &Flat, inputs: &[bool], bits: &mut [bool])
     }
 }
 
-/// Puts the bits of the latches' outputs.
+/// Puts the bits of the state at the classes of the latches' outputs.
 pub fn put_state(flat: &Flat, state: &[bool], bits: &mut [bool])
     requires in_range { IsInRange flat.now }
     requires state { length state.now ≡ length flat.now.latches }
@@ -34,7 +34,7 @@ pub fn put_state(flat: &Flat, state: &[bool], bits: &mut [bool])
     }
 }
 
-/// Computes the bits of the nodes, along the order.
+/// Computes the bits of the nodes along the order, each at the class of its output.
 pub fn settle(flat: &Flat, order: &[u32], bits: &mut [bool])
     requires in_range { IsInRange flat.now }
     requires order { All (λ n. n < length flat.now.nodes) order.now }

@@ -59,8 +59,8 @@ pub record IsTwoClocks (design : Design) (line : ℕ) (word : Name) : Type 0 whe
   pub is_line : line ≡ found.latch.line
   pub is_word : word ≡ control_word found.latch.control
 
--- a word on a line that reads or drives a net as a cover, as a latch's data or as a main output
--- does: the line's number, a position that rises along the line's words, and the net
+-- a word on a line that reads or drives a net as a cover, as a latch's input or output, or as a
+-- main output does: the line's number, a position that rises along the line's words, and the net
 pub data IsUse (design : Design) : ℕ → ℕ → Net → Type 0 where
   by_cover : {place : Place} {model : Model} {cover : Cover} {position : ℕ} {name : Name}
     → model_at design place ≡ Some model → Contains model.covers cover

@@ -23,8 +23,8 @@ abbrev pub stands_earlier : List Port → Port → List Port → Bool
 stands_earlier before p after =
     list_any (same_name_up_to p) before || list_any (same_name_before p) after
 
--- A list is cut into the names before and the names after: of those after, the ones that stand
--- earlier in the text, and the ones that do not.
+-- A list is cut into the names before and the names after: these are the names after that stand
+-- earlier too, and those that do not.
 abbrev pub repeats_after : List Port → List Port → List Port
 repeats_after before [] = []
 repeats_after before (p ∷ after) =

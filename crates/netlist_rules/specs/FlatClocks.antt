@@ -38,7 +38,8 @@ pub record IsFlatTwoClocks (flat : Flat) (line : ℕ) (word : Name) : Type 0 whe
   pub is_line : line ≡ found.line
   pub is_word : word ≡ flat_control_word flat found.control
 
--- a word on a line that reads or drives a net as a node, a latch's data or an output does
+-- a word on a line that reads or drives a net as a node, as a latch's input or output, or as an
+-- output does
 pub data IsFlatUse (flat : Flat) : ℕ → ℕ → NetId → Type 0 where
   by_node : {node : Node} {position : ℕ} {id : NetId} → Contains flat.nodes node
     → slice_get (node.ins ++ node.out ∷ []) position ≡ Some id

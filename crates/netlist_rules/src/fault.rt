@@ -96,7 +96,7 @@ impl FaultKind {
     }
 }
 
-/// A fault with the number of its line and the word that it names.
+/// A fault: its kind, the number of its line, and the word that it names.
 #[derive(Drop)]
 pub struct Fault {
     pub kind: FaultKind,

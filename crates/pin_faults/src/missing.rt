@@ -35,7 +35,7 @@ fn offer_others<'a>(earliest: &mut Earliest<'a>, names: &BTreeSet<&[u8]>, ports:
     }
 }
 
-// The same fault on another line.
+// The fault, put on another line.
 fn moved_to(line: u64, fault: Option<Fault>) -> Option<Fault>
     ensures { result ≡ option_map (λ (fault : text.Fault). record fault { line = line }) fault }
 {

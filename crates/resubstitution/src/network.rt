@@ -246,7 +246,7 @@ impl Network {
         Ok(())
     }
 
-    // Takes a use from each source that a cell reads.
+    // Takes a use from each source that a cell reads; those that are no longer read go too.
     fn release_operands(&mut self, gone: &mut Vec<u32>, number: u32) -> Result<(), CellError> {
         let Some((a, b)) = self.operands(number) else {
             return Ok(());

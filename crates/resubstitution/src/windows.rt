@@ -131,7 +131,7 @@ impl Window {
         Ok(())
     }
 
-    // Adds the words of the cells inside the cut, each of which is a function of the leaves.
+    // Adds the words of the cells inside the cut, which are functions of the leaves.
     fn add_inside(&mut self, network: &Network, inside: &[u32]) -> Result<(), CellError> {
         for _ in 0..inside.len() {
             self.add_all(network, inside)?;

@@ -27,8 +27,8 @@ injections_of_row g (cell ∷ cells) (bit ∷ bits) =
     cond bit (record { generation = g; x = cell.0; y = cell.1 } ∷ []) []
       ++ injections_of_row g cells bits
 
--- the injections of rows of bits, one row a cycle, where the first cycle is at a generation
--- and each later one `period` generations after the one before
+-- the injections of rows of bits, one row a cycle: the first cycle is at this generation, and each
+-- later one `period` generations after the one before
 abbrev pub injections_from : ℕ → ℕ → List (ℕ × ℕ) → List (List Bool) → List Injection
 injections_from g period cells [] = []
 injections_from g period cells (row ∷ rows) =
