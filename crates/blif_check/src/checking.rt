@@ -11,10 +11,11 @@ use lists::List;
 use netlist_core::{Design, Model};
 use std::alloc::Global;
 
-/// The design that models are, where they break no rule; the first is the main one.
+/// Checks models against the rules on models, and returns their design if they break none; its
+/// first model is the main one.
 ///
-/// `Fault` has the rule of the lowest number that the models break, and of the words at which they
-/// break it the earliest. Rules on lines are not looked at.
+/// `Fault` has the rule of the lowest number that the models break, and the earliest of the words
+/// at which they break it. The rules on lines are not checked.
 pub fn check(alloc: Global, models: List<Model>) -> Result<Design, CheckError>
     ensures design { IfOk result (λ design. design.models ≡ models) }
     ensures faultless { OnOk result (models ≢ [] × AreFaultless models) }

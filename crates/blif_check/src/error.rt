@@ -1,4 +1,4 @@
-// What the check answers where it gives no design.
+// What the check answers if there is no design.
 ghost use Rattle.std.specs.Prelude.{◌≡◌};
 ghost use Rattle.blif_check.specs.declared.error.CheckError.TheVariants.{NoMemory};
 
@@ -6,7 +6,7 @@ use netlist_rules::Fault;
 use std::alloc::{AllocError, AllocFailed};
 use thiserror::Error;
 
-/// Why there is no design.
+/// Why models are no design.
 #[derive(Debug, Drop, Error)]
 pub enum CheckError {
     /// The fault by the rule of the lowest number that the models break, at its earliest word.

@@ -12,7 +12,7 @@ use netlist_rules::{Fault, FaultKind};
 use pin_faults::{missing_model, pin_missing, pin_twice, unknown_formal};
 use std::alloc::{AllocError, Global};
 
-// The fault where there is no model.
+// The fault if there is no model.
 fn no_model(alloc: Global, models: &[Model]) -> Result<Option<Fault>, AllocError>
     ensures { IfOk result (λ found. found ≡ no_model models.now) }
 {
@@ -26,7 +26,7 @@ fn no_model(alloc: Global, models: &[Model]) -> Result<Option<Fault>, AllocError
     }))
 }
 
-// The fault by the first rule that the models break, the one on circles aside.
+// The fault by the first rule that the models break, other than the rule on circles.
 fn broken_rule<'a>(
     alloc: Global,
     models: &'a [Model],
@@ -62,7 +62,7 @@ fn broken_rule<'a>(
     pin_missing(alloc, models, named)
 }
 
-/// The fault of models, if they have one.
+/// Returns the fault of models by the rules on models, if they have one.
 pub fn first_fault(alloc: Global, models: &[Model]) -> Result<Option<Fault>, AllocError>
     ensures { IfOk result (λ found.
         MatchOption found (AreFaultless models.now) (HasModelFault models.now)

@@ -19,12 +19,12 @@ use Rattle.blif_reader.specs.declared.faults.Broken.{Broken}
 abbrev pub is_model_of : List ℕ → Logical → Bool
 is_model_of name l = begins_model l && bytes_eq (first_operand l) name
 
--- A set has the names of the models that lines begin.
+-- The set has the names of the models that these lines begin, and no others.
 abbrev pub KnowsNames : BTreeSet (Bor (List ℕ)) → List Logical → Type 0
 KnowsNames names before =
     (name : List ℕ) → holds_name names name ≡ list_any (is_model_of name) before
 
--- how each line changes the rest
+-- how each line changes what is kept
 abbrev pub ended_after : Logical → Bool → Bool
 ended_after l ended = cond (is_end_or_model l) (has_directive (codes ".end") l) ended
 
@@ -38,7 +38,7 @@ first_or l (Some row) = Some row
 abbrev pub first_row_after : Logical → Option Logical → Option Logical
 first_row_after l row = cond (is_directive l) None (first_or l row)
 
--- What is kept is that of these lines.
+-- The state is what is kept of these lines.
 pub record HasRead (state : Before) (before : List Logical) : Type 0 where
   pub model : state.has_model ≡ list_any begins_model before
   pub ended : state.has_ended ≡ option_map_or (has_directive (codes ".end"))
@@ -47,7 +47,7 @@ pub record HasRead (state : Before) (before : List Logical) : Type 0 where
   pub row : option_copied state.row ≡ first_row before
   pub names : KnowsNames state.names before
 
--- The words at fault inside a model, over the last directive and the first row after it.
+-- The words at fault inside a model, given the last directive and the first row after it.
 abbrev pub is_cover : Option Logical → Bool
 is_cover directive = option_map_or (has_directive (codes ".names")) directive false
 
@@ -82,7 +82,7 @@ pin_word l = cond (has_directive (codes ".subckt") l) (find is_bad_pin (pin_word
 abbrev pub name_word : Bool → Logical → Option (List ℕ)
 name_word is_named l = then_some (begins_model l && is_named) (first_operand l)
 
--- the first of these rules that the line breaks
+-- the fault by the first of these rules that the line breaks
 abbrev pub inside_fault : Option Logical → Option Logical → Bool → Logical → Option Fault
 inside_fault directive row is_named l =
     option_or (option_map (fault_on UnknownDirective l.line) (unknown_directive l))

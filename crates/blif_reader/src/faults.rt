@@ -132,7 +132,7 @@ fn name_word(is_named: bool, line: &Logical) -> Option<&[u8]>
     }
 }
 
-// A rule that is broken where it names a word, and otherwise one of a higher number.
+// This rule if it names a word, and otherwise the broken one of a higher number, if there is one.
 fn broken_or<'a>(
     kind: FaultKind,
     word: Option<&'a [u8]>,
@@ -172,7 +172,7 @@ fn broken_inside<'a>(before: &Before<'a>, line: &'a Logical) -> Option<Broken<'a
     broken_or(FaultKind::UnknownDirective, unknown_directive(line), broken)
 }
 
-// The rule of the lowest number that a line breaks after others.
+// The rule of the lowest number that a line breaks, given the lines before it.
 fn broken_rule<'a>(before: &Before<'a>, line: &'a Logical) -> Option<Broken<'a>>
     ensures { (lines : List Logical) → HasRead before.now lines →
         option_map (broken_fault line.now.line) result ≡ first_broken line_rules lines line.now }
@@ -206,7 +206,7 @@ fn fault_of(alloc: Global, line: u64, broken: Broken<'_>) -> Result<Fault, Alloc
     })
 }
 
-// The first fault of some lines, over what is kept of those before.
+// The first fault of some lines; `before` starts as the state of no lines.
 fn first_fault<'a>(
     alloc: Global,
     before: &mut Before<'a>,
@@ -224,7 +224,8 @@ fn first_fault<'a>(
     Ok(None)
 }
 
-/// The fault of the earliest line that breaks a rule on lines, by the rule of the lowest number.
+/// Returns the fault of the earliest line that breaks a rule on lines, by the rule of the lowest
+/// number, if a line breaks one.
 pub fn line_fault(alloc: Global, lines: &[Logical]) -> Result<Option<Fault>, AllocError>
     ensures { IfOk result (λ fault. fault ≡ line_fault lines.now) }
 {

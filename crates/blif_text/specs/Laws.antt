@@ -15,12 +15,12 @@ use Rattle.blif_text.specs.Models.{models_of}
 use Rattle.blif_text.specs.LineFaults.{word_at_fault, line_fault}
 use Rattle.blif_text.specs.Faults.{HasModels, HasFault, IsDesignOf}
 
--- the line breaks no rule over the lines before it, the nearest first
+-- the line breaks no rule, given the lines before it, the nearest first
 abbrev pub BreaksNone : List Logical → Logical → Type 0
 BreaksNone before line = (kind : FaultKind) → word_at_fault kind before line ≡ None
 
--- The fault is that of a line which breaks its rule, and none of a lower number, over the lines
--- before it, of which none breaks one.
+-- The fault is that of a line which, given the lines before it, breaks this rule and none of a
+-- lower number; and none of the lines before it breaks a rule.
 pub record IsFirstLineFault (lines : List Logical) (fault : Fault) : Type 0 where
   pub before : List Logical
   pub line : Logical
@@ -33,22 +33,23 @@ pub record IsFirstLineFault (lines : List Logical) (fault : Fault) : Type 0 wher
   pub is_earliest : (front : List Logical) (earlier : Logical) (back : List Logical)
       → before ≡ front ++ earlier ∷ back → BreaksNone (reverse front) earlier
 
--- The fault of the lines by a rule on lines is that of the earliest line which breaks one over the
--- lines before it, by the rule of the lowest number.
+-- The fault of lines by a rule on lines is exactly that of the earliest line that breaks one, given
+-- the lines before it, by the rule of the lowest number.
 abbrev pub LineFaultIsFirst : Type 0
 LineFaultIsFirst =
     (lines : List Logical) (fault : Fault) → (line_fault lines ≡ Some fault)
     ↔ IsFirstLineFault lines fault
 
--- Lines have no such fault where each of them breaks no rule over the lines before it.
+-- Lines have no fault by a rule on lines exactly if each line breaks no rule, given the lines
+-- before it.
 abbrev pub NoLineFault : Type 0
 NoLineFault =
     (lines : List Logical) → (line_fault lines ≡ None)
     ↔ ((before : List Logical) (line : Logical) (after : List Logical)
     → lines ≡ before ++ line ∷ after → BreaksNone (reverse before) line)
 
--- Two faults of the same lines are of one kind, at one line, and the same, but that one line may
--- lie on several circles.
+-- Two faults of the same lines have one kind and one line, and are the same unless their kind is
+-- `Recursive`: one line may lie on several circles.
 pub record AreSameFault (f g : Fault) : Type 0 where
   pub kind : f.kind ≡ g.kind
   pub line : f.line ≡ g.line
@@ -66,7 +67,7 @@ NeverBoth =
     (text : List ℕ) (d : Design) (f : Fault) → IsDesignOf text d
     → ¬ (HasFault (logical_lines text) f)
 
--- Lines that break no rule on lines describe no model only if there are none.
+-- Lines that break no rule on lines have no model only if there are no lines.
 abbrev pub NoModelNoLine : Type 0
 NoModelNoLine = (lines : List Logical) → HasModels lines [] → lines ≡ []
 
@@ -80,8 +81,8 @@ DesignOrFault =
 abbrev pub LinesAreKnown : Type 0
 LinesAreKnown = (text : List ℕ) → physical_lines text ≡ lines text
 
--- A line ends with byte 10, or with bytes 13 and 10; a comment is cut; what stands before a last
--- `\` is joined to the next line.
+-- A physical line ends with byte 10, or with bytes 13 and 10; a comment is cut; what stands before
+-- a last `\` is joined to the next line.
 pub record LinesAreJoined : Type 0 where
   pub of_nothing : physical_lines [] ≡ []
   pub at_the_end : (line : List ℕ) → line ≢ [] → list_any is_newline line ≡ false
@@ -117,12 +118,12 @@ HasWords l =
     (l.words ≢ []) × AllByRecursion (λ (word : List ℕ). (word ≢ [])
     × (list_any is_space word ≡ false)) l.words
 
--- The numbers of the lines rise, from at least this one on.
+-- The numbers of the lines rise, and the first is at least this one.
 abbrev pub Rises : ℕ → List Logical → Type 0
 Rises least [] = ⊤
 Rises least (l ∷ lines) = (least ≤ l.line) × Rises (l.line + 1) lines
 
--- and none is past the number of the physical lines
+-- The number of a logical line is at most the number of physical lines.
 abbrev pub NumbersAreBounded : Type 0
 NumbersAreBounded =
     (text : List ℕ) → AllByRecursion (λ (l : Logical). l.line ≤ length (physical_lines text))
@@ -146,8 +147,7 @@ pub record WordsAreRuns : Type 0 where
       → words_of (blank ∷ rest) ≡ words_of rest
   pub of_nothing : words_of [] ≡ []
 
--- What a design without a fault has: models of distinct names, pins of distinct formals, no model
--- that places itself by way of others.
+-- The models of a design have distinct names.
 abbrev pub ModelsAreDistinct : Type 0
 ModelsAreDistinct =
     (text : List ℕ) (design : Design) → IsDesignOf text design

@@ -1,5 +1,5 @@
--- The rules on lines, 1 to 11. Whether a line breaks one is said over the lines before it, the
--- nearest first.
+-- The rules on lines, 1 to 11. Whether a line breaks one depends on it and on the lines before it,
+-- which are listed nearest first.
 use Rattle.netlist_rules.specs.FaultNames.{fault_on}
 use Rattle.lists.specs.Names.{is_among}
 use Rattle.std.specs.Prelude.{ℕ, Bool, true, false, not, cond, ◌-◌, ◌==◌, ◌&&◌, ◌||◌, List, [], ◌∷◌, length, codes, bytes_eq, Option, None, option_map, find, take_while, nat_eq}
@@ -18,7 +18,7 @@ netlist_directives =
     codes ".model" ∷ codes ".inputs" ∷ codes ".outputs" ∷ codes ".clock" ∷ codes ".names"
     ∷ codes ".latch" ∷ codes ".subckt" ∷ codes ".end" ∷ []
 
--- the directives that annotate it, and are skipped, as is each that begins with `.default_`
+-- the directives that annotate a netlist and are skipped, as is each that begins with `.default_`
 abbrev pub annotations : List (List ℕ)
 annotations =
     codes ".area" ∷ codes ".delay" ∷ codes ".wire_load_slope" ∷ codes ".wire"
@@ -29,7 +29,7 @@ annotations =
 abbrev pub is_annotation : List ℕ → Bool
 is_annotation word = is_among word annotations || starts_with nat_eq word (codes ".default_")
 
--- the directives and types of latch that change what nets mean, or need another file
+-- the unsupported directives and types of latch: they change what nets mean, or need another file
 abbrev pub unsupported_directives : List (List ℕ)
 unsupported_directives =
     codes ".gate" ∷ codes ".mlatch" ∷ codes ".exdc" ∷ codes ".search" ∷ codes ".start_kiss"
@@ -48,14 +48,16 @@ latch_inits = codes "0" ∷ codes "1" ∷ codes "2" ∷ codes "3" ∷ []
 abbrev pub is_before_models : List Logical → Logical → Bool
 is_before_models before l = not (list_any begins_model (l ∷ before))
 
--- 2: the first word begins with `.` and is no directive that is known or left out
+-- 2: the first word begins with `.` and is no directive that is known or unsupported
 abbrev pub is_known : List ℕ → Bool
-is_known word = is_among word netlist_directives || is_annotation word || is_among word unsupported_directives
+is_known word =
+    is_among word netlist_directives || is_annotation word
+    || is_among word unsupported_directives
 
 abbrev pub unknown_directive : Logical → Option (List ℕ)
 unknown_directive l = then_some (is_directive l && not (is_known (first_word l))) (first_word l)
 
--- 3: a directive that is left out, or a `.latch` of 4 or 5 operands with a type that is
+-- 3: an unsupported directive, or a `.latch` of 4 or 5 operands with an unsupported type
 abbrev pub type_if_unsupported : List ℕ → Option (List ℕ)
 type_if_unsupported type = then_some (is_among type unsupported_types) type
 
@@ -69,7 +71,7 @@ unsupported l =
     option_or (then_some (is_among (first_word l) unsupported_directives) (first_word l))
     (cond (has_directive (codes ".latch") l) (unsupported_type (operands l)) None)
 
--- 4: `.model` has not one operand, `.end` has any, `.names` or `.subckt` has none
+-- 4: `.model` does not have one operand, `.end` has any, or `.names` or `.subckt` has none
 abbrev pub has_bad_count : Logical → Bool
 has_bad_count l =
     (begins_model l && not (length (operands l) == 1))
@@ -77,7 +79,7 @@ has_bad_count l =
     || ((has_directive (codes ".names") l || has_directive (codes ".subckt") l)
     && length (operands l) == 0)
 
--- 5: a row where the last directive is not `.names`
+-- 5: a row stands where the last directive is not `.names`
 abbrev pub last_directive : List Logical → Option Logical
 last_directive before = find is_directive before
 
@@ -114,7 +116,8 @@ differs_from l row = not (bytes_eq (output_part row.words) (output_part l.words)
 abbrev pub is_mixed : List Logical → Logical → Bool
 is_mixed before l = option_map_or (differs_from l) (first_row before) false
 
--- 8: `.latch` has not 2 to 5 operands, or a type or an init that is none
+-- 8: `.latch` does not have 2 to 5 operands, or has a type other than the five or an init other
+-- than the four
 abbrev pub is_latch : List (List ℕ) → Bool
 is_latch (input ∷ output ∷ []) = true
 is_latch (input ∷ output ∷ init ∷ []) = is_among init latch_inits
@@ -145,12 +148,12 @@ abbrev pub names_same_model : Logical → Logical → Bool
 names_same_model l earlier =
     begins_model earlier && bytes_eq (first_operand earlier) (first_operand l)
 
--- Before the first `.model` only rule 1 is looked at; after `.end`, up to the next `.model`, only
--- rule 10.
+-- Before the first `.model` only rule 1 applies; after `.end`, up to the next `.model`, only rule
+-- 10.
 abbrev pub inside : List Logical → Logical → Option (List ℕ) → Option (List ℕ)
 inside before l word = cond (is_before_models before l || follows_end before l) None word
 
--- the word at which the line breaks this rule over the lines before it, if it does
+-- the word that is at fault if the line breaks this rule, given the lines before it
 abbrev pub word_at_fault : FaultKind → List Logical → Logical → Option (List ℕ)
 word_at_fault NoModelYet before l = then_some (is_before_models before l) (first_word l)
 word_at_fault UnknownDirective before l = inside before l (unknown_directive l)
@@ -180,14 +183,14 @@ line_rules =
     NoModelYet ∷ UnknownDirective ∷ Unsupported ∷ BadCount ∷ RowOutside ∷ BadRow ∷ MixedCover
     ∷ BadLatch ∷ BadPin ∷ AfterEnd ∷ DuplicateModel ∷ []
 
--- the first of these rules that the line breaks
+-- the fault by the first of these rules that the line breaks
 abbrev pub first_broken : List FaultKind → List Logical → Logical → Option Fault
 first_broken [] before l = None
 first_broken (kind ∷ kinds) before l =
     option_or (option_map (fault_on kind l.line) (word_at_fault kind before l))
     (first_broken kinds before l)
 
--- The fault of the earliest line that breaks a rule over the lines before it, by the rule of the
+-- The fault of the earliest line that breaks a rule, given the lines before it, by the rule of the
 -- lowest number.
 abbrev pub fault_after : List Logical → List Logical → Option Fault
 fault_after before [] = None

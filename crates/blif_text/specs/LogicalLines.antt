@@ -5,7 +5,7 @@ use Rattle.std.specs.Str.Lines.{lines_of_parts}
 use Rattle.blif_text.specs.declared.logical.Logical.{Logical}
 use Rattle.lists.specs.Bytes.{non_empty}
 
--- the parts of a list of bytes that stand before, between and after those that pass the test
+-- the parts of a list of bytes before, between and after the bytes that pass the test
 abbrev pub cut_or_kept : Bool → ℕ → List (List ℕ) → List (List ℕ)
 cut_or_kept true b parts = [] ∷ parts
 cut_or_kept false b parts = onto_first b parts
@@ -33,7 +33,7 @@ is_hash b = b == 35
 abbrev pub without_comment : List ℕ → List ℕ
 without_comment line = before_first is_hash line
 
--- what stands before a `\` that is the last byte but for blanks, if there is one
+-- the bytes before a `\` that only blanks follow, if there is one
 abbrev pub found_or_later : Bool → ℕ → Option (List ℕ) → Option (List ℕ)
 found_or_later true b later = Some []
 found_or_later false b later = option_map (λ front. b ∷ front) later
@@ -50,8 +50,8 @@ pub record JoinedLine : Type 0 where
 abbrev pub joined_line : ℕ → List ℕ → JoinedLine
 joined_line n bytes = record { line = n; bytes = bytes }
 
--- Where a `\` ends the physical line of this number, the next line is joined on, with nothing
--- between; at the end of the text there is nothing to join.
+-- If a `\` ends the physical line of this number, the next line is joined on, with nothing between;
+-- at the end of the text there is nothing to join.
 abbrev pub joined_to : ℕ → List ℕ → List JoinedLine → List JoinedLine
 joined_to n front [] = joined_line n front ∷ []
 joined_to n front (next ∷ later) = joined_line n (front ++ next.bytes) ∷ later
@@ -60,7 +60,7 @@ abbrev pub continued_by : ℕ → List ℕ → Option (List ℕ) → List Joined
 continued_by n bytes None later = joined_line n bytes ∷ later
 continued_by n bytes (Some front) later = joined_to n front later
 
--- the lines from number n on, without their comments, each joined to the next where it is continued
+-- the lines from number n on, without their comments, each joined to the next if it is continued
 abbrev pub joined_lines : ℕ → List (List ℕ) → List JoinedLine
 joined_lines n [] = []
 joined_lines n (line ∷ lines) =
@@ -71,7 +71,7 @@ joined_lines n (line ∷ lines) =
 abbrev pub words_of : List ℕ → List (List ℕ)
 words_of line = filter_map non_empty (parts_between is_space line)
 
--- a line with these words; one with no word is skipped
+-- the line of these words; a line without a word is skipped
 abbrev pub with_words : ℕ → List (List ℕ) → Option Logical
 with_words n [] = None
 with_words n (word ∷ words) = Some (record { line = n; words = word ∷ words })

@@ -1,4 +1,4 @@
--- The models that a list of logical lines describes, by the BLIF report of Berkeley. Where no line
+-- The models that a list of logical lines describes, by the BLIF report of Berkeley. If no line
 -- breaks a rule on lines, these are what the lines say.
 use Rattle.std.specs.Prelude.{ℕ, Bool, true, false, not, ◌-◌, ◌==◌, List, [], ◌∷◌, ◌++◌, map, length, take, drop, get_or, codes, bytes_eq, Option, None, filter_map, flat_map, take_while, cond}
 use Rattle.std.specs.Bool.{then_some}
@@ -45,7 +45,7 @@ begins_model l = has_directive (codes ".model") l
 abbrev pub stays_in_model : Logical → Bool
 stays_in_model l = not (begins_model l)
 
--- `.inputs`, `.outputs` and `.clock` take lists, over any number of lines, which are joined in
+-- `.inputs`, `.outputs` and `.clock` take lists over any number of lines, which are joined in
 -- order.
 abbrev pub ports_on : Logical → List Port
 ports_on l = map (λ (name : List ℕ). let port : Port = record { line = l.line; name = name } in port) (operands l)

@@ -6,7 +6,7 @@ use Rattle.cell_core.specs.declared.list.CellList.{CellList}
 use Rattle.cell_core.specs.Sources.{is_there}
 use Rattle.cell_core.specs.Meaning.{bit_in}
 
--- the list has these cells more, and all else is as before
+-- the new list has these cells more, and all else is as before
 pub record Adds (old new : CellList) (more : List Cell) : Type 0 where
   pub inputs : new.inputs ≡ old.inputs
   pub cells : new.cells ≡ old.cells ++ more
@@ -15,7 +15,7 @@ pub record Adds (old new : CellList) (more : List Cell) : Type 0 where
   pub starts : new.starts ≡ old.starts
   pub nets : new.nets ≡ old.nets
 
--- appending changes no earlier source
+-- appending cells changes the bit of no source that is there
 abbrev pub AppendingKeepsBits : Type 0
 AppendingKeepsBits =
     (cells more : List Cell) (inputs state : List Bool) (latches count : ℕ) (src : Src)

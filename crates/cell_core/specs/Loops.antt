@@ -1,5 +1,5 @@
--- The loops of a circuit: one for each latch, and, where the list names constant 1, a last one that
--- begins with 1 and brings it again and again.
+-- The loops of a circuit: one for each latch and, if the list names constant 1, a last one that
+-- starts with 1 and brings it in each cycle.
 use Rattle.std.specs.Prelude.{ℕ, ◌+◌, Bool, true, ◌||◌, cond, List, [], ◌∷◌, ◌++◌, length}
 use Rattle.std.specs.List.{list_any}
 use Rattle.cell_core.specs.declared.cells.Src.{Src}
@@ -17,7 +17,7 @@ names_one list =
 abbrev pub loop_count : CellList → ℕ
 loop_count list = length list.starts + cond (names_one list) 1 0
 
--- the bits of the loops, where the latches have these
+-- the bits of the loops, if the latches have these
 abbrev pub loop_state : CellList → List Bool → List Bool
 loop_state list state = state ++ cond (names_one list) (true ∷ []) []
 

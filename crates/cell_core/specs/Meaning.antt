@@ -6,7 +6,7 @@ use Rattle.cell_core.specs.declared.cells.Cell.{Cell}
 use Rattle.cell_core.specs.declared.cells.Cell.TheVariants.{Or, Xor, AndNot}
 use Rattle.cell_core.specs.declared.list.CellList.{CellList}
 
--- the bit of a source, where the first cells have made these bits
+-- the bit of a source, if the first cells have made these bits
 abbrev pub source_bit : List Bool → List Bool → List Bool → Src → Bool
 source_bit inputs state made (Input i) = get_or inputs i false
 source_bit inputs state made (Latch i) = get_or state i false
@@ -14,7 +14,7 @@ source_bit inputs state made One = true
 source_bit inputs state made Zero = false
 source_bit inputs state made (Made i) = get_or made i false
 
--- the bit that a cell makes of them
+-- the bit that a cell makes, if the cells before it have made these bits
 abbrev pub cell_bit : List Bool → List Bool → List Bool → Cell → Bool
 cell_bit inputs state made (Or a b) =
     source_bit inputs state made a || source_bit inputs state made b

@@ -6,7 +6,7 @@ use Rattle.cell_core.specs.declared.cells.Src.TheVariants.{Input, Latch, One, Ze
 use Rattle.cell_core.specs.declared.cells.Cell.{Cell}
 use Rattle.cell_core.specs.declared.cells.Cell.TheVariants.{Or, Xor, AndNot}
 
--- the source is there, where there are so many inputs, latches and cells
+-- the source is there, if there are so many inputs, latches and cells
 abbrev pub is_there : ℕ → ℕ → ℕ → Src → Bool
 is_there inputs latches made (Input i) = nat_lt i inputs
 is_there inputs latches made (Latch i) = nat_lt i latches
@@ -23,7 +23,7 @@ reads_there inputs latches made (Xor a b) =
 reads_there inputs latches made (AndNot a b) =
     is_there inputs latches made a && is_there inputs latches made b
 
--- each of the cells, the first of which has so many before it, reads only what is there before it
+-- each of the cells reads only what is there before it; so many cells stand before the first
 abbrev pub are_in_order : ℕ → ℕ → ℕ → List Cell → Bool
 are_in_order inputs latches made [] = true
 are_in_order inputs latches made (cell ∷ cells) =
@@ -47,6 +47,6 @@ reads_one (Or a b) = is_one a || is_one b
 reads_one (Xor a b) = is_one a || is_one b
 reads_one (AndNot a b) = is_one a || is_one b
 
--- some of the cells reads constant 1
+-- some cell reads constant 1
 abbrev pub read_one : List Cell → Bool
 read_one cells = list_any reads_one cells

@@ -13,19 +13,19 @@ pub enum Src {
     Cell(u32),
 }
 
-/// A cell of two inputs.
+/// A cell of two inputs, which are the sources that it names.
 #[derive(Clone, Copy, Debug, PartialEq, Eq, PartialOrd, Ord)]
 pub enum Cell {
-    /// 1 where one of the two is 1.
+    /// 1 if at least one of the two is 1.
     Or(Src, Src),
-    /// 1 where exactly one of the two is 1.
+    /// 1 if exactly one of the two is 1.
     Xor(Src, Src),
-    /// 1 where the first is 1 and the second is not.
+    /// 1 if the first is 1 and the second is 0.
     AndNot(Src, Src),
 }
 
 impl Src {
-    /// Whether the source is there, where there are so many inputs, latches and cells.
+    /// Returns whether the source is there, if there are so many inputs, latches and cells.
     pub fn is_there(self, inputs: usize, latches: usize, cells: usize) -> bool
         ensures { result ≡ is_there inputs latches cells self }
     {
@@ -37,7 +37,7 @@ impl Src {
         }
     }
 
-    /// Whether it is constant 1.
+    /// Returns whether the source is constant 1.
     pub fn is_one(self) -> bool
         ensures { result ≡ is_one self }
     {
@@ -49,7 +49,8 @@ impl Src {
 }
 
 impl Cell {
-    /// Whether both of its sources are there.
+    /// Returns whether both sources of the cell are there, if there are so many inputs, latches and
+    /// cells.
     pub fn reads_there(self, inputs: usize, latches: usize, cells: usize) -> bool
         ensures { result ≡ reads_there inputs latches cells self }
     {
@@ -60,7 +61,7 @@ impl Cell {
         }
     }
 
-    /// Whether it reads constant 1.
+    /// Returns whether the cell reads constant 1.
     pub fn reads_one(self) -> bool
         ensures { result ≡ reads_one self }
     {

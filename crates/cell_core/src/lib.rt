@@ -9,4 +9,5 @@ mod list;
 
 pub use cells::{Cell, Src};
 pub use list::CellList;
+// The answer of `CellList::push` when memory runs out.
 pub use lists::OutOfMemory as CellError;

@@ -8,9 +8,10 @@ use lists::List;
 use std::alloc::Global;
 use std::mem;
 
-/// Cells, each of which reads only what stands before it. `outs` are the sources of the outputs,
-/// `latches` those of the latches' next bits and `nets` those of the nets; `starts` are the bits
-/// with which the latches begin. Each input, latch and cell that is named is there.
+/// A list of two-input cells. Each reads only inputs, latches, constants and earlier cells.
+/// `inputs` is the number of inputs. `outs` are the sources of the outputs, `latches` those of the
+/// latches' next bits, and `nets` those of the nets; `starts` are the bits with which the latches
+/// begin. Each input, latch and cell that is named is there.
 #[derive(Drop)]
 pub struct CellList {
     pub inputs: u32,
@@ -32,8 +33,7 @@ impl CellList {
     ghost use Rattle.cell_core.specs.Loops.{names_one};
     ghost use Rattle.cell_core.specs.Adding.{Adds};
 
-    /// Adds a cell at the end, whose sources are there. Where there is no memory the list is as
-    /// before.
+    /// Adds a cell, whose sources are there, at the end. If memory runs out, the list is as before.
     pub fn push(&mut self, alloc: Global, cell: Cell) -> Result<(), CellError>
         requires { IsTrue (reads_there self.old.inputs (length self.old.starts)
             (length self.old.cells) cell) }
@@ -49,7 +49,8 @@ impl CellList {
         }
     }
 
-    /// Whether the list names constant 1: as what a cell, an output, a latch or a net reads.
+    /// Returns whether the list names constant 1: whether a cell, an output, a latch or a net reads
+    /// it.
     pub fn names_one(&self) -> bool
         ensures { result ≡ names_one self.now }
     {

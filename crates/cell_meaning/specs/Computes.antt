@@ -10,9 +10,10 @@ use Rattle.lane_core.specs.Instrs.{bit_on, after_instrs}
 use Rattle.lane_core.specs.Columns.{after_columns}
 use Rattle.lane_core.specs.Entering.{first_loop_lane, entry_bits, leaving, bits_after}
 
--- The bits of inputs enter on the lanes `ins`, of the first `free` ones, and those of loops on the
--- lanes below. At the end of all steps, the outputs have their bits on the lanes `outs`, and the
--- loops leave with theirs; and the nets have theirs on their lanes after the steps of their places.
+-- The bits of inputs enter on the lanes `ins`, which are among the first `free` lanes, and those of
+-- loops on the lanes below. After all steps the outputs have their bits on the lanes `outs`, and
+-- the loops leave with theirs. The nets have their bits on their lanes, each after the step of its
+-- place.
 pub record ComputeOnLanes (list : CellList) (free : ℕ) (ins outs : List ℕ) (nets : List NetPlace)
     (after : Option ℕ → List Bool → List Bool) (end : List Bool → List Bool) : Type 0 where
   pub outs_have : (inputs state : List Bool) → Fits list inputs state
@@ -26,8 +27,8 @@ pub record ComputeOnLanes (list : CellList) (free : ℕ) (ins outs : List ℕ) (
       (entry_bits free ins inputs (loop_state list state))) place.lane) nets
       ≡ map (bit_of list inputs state) list.nets
 
--- a program computes the list: it has a lane for each input and a loop for each latch, and for
--- constant 1 where it is named
+-- a program computes the list: it has a lane for each input, a loop for each latch, and one more
+-- loop for constant 1 if the list names it
 pub record ComputesByProgram (list : CellList) (program : Program) : Type 0 where
   pub starts : program.latches ≡ loop_state list list.starts
   pub inputs : length program.ins ≡ list.inputs
@@ -35,7 +36,7 @@ pub record ComputesByProgram (list : CellList) (program : Program) : Type 0 wher
       (length program.latches)) program.ins program.outs program.nets
       (bits_after after_instrs program.instrs) (after_instrs program.instrs)
 
--- and so does a plan, whichever bits its loops start with
+-- a plan computes the list, whichever bits its loops start with
 pub record ComputesByPlan (list : CellList) (plan : Plan) : Type 0 where
   pub loops : plan.latches ≡ loop_count list
   pub inputs : length plan.ins ≡ list.inputs

@@ -13,7 +13,7 @@ use Rattle.cell_core.specs.Loops.{names_one}
 use Rattle.cell_meaning.specs.Singles.{constant_source, single_cell}
 use Rattle.cell_meaning.specs.Needs.{any_needs_one, covers_weight}
 
--- the source is a cell of the list, and this one
+-- the source is this cell of the list
 abbrev pub IsCell : CellList → Src → Cell → Type 0
 IsCell list src cell = (k : ℕ) × (src ≡ Made k) × (slice_get list.cells k ≡ Some cell)
 
@@ -23,13 +23,13 @@ IsOwn (FlatDriver.input i) src = src ≡ Input i
 IsOwn (FlatDriver.latch i) src = src ≡ Latch i
 IsOwn (FlatDriver.node n) src = ⊤
 
--- the constant that the cover of a node is by its text
+-- the constant that the cover of a node is by its text, if it is one
 abbrev pub constant_of : Flat → ℕ → Option Src
 constant_of flat n =
     constant_source (length (node_at flat n).ins) (node_at flat n).rows (node_at flat n).on
 
--- under the bits of a valuation the sources of outputs, of latches' data and of the listed nets
--- have theirs
+-- the sources of outputs, of latches' data and of the listed nets have the bits that these have in
+-- the valuation
 pub record HasBits (flat : Flat) (list : CellList) (inputs state : List Bool)
     (bits : ℕ → Bool) : Type 0 where
   pub outs : map (bit_of list inputs state) list.outs ≡ map bits (port_classes flat flat.outs)
@@ -37,9 +37,9 @@ pub record HasBits (flat : Flat) (list : CellList) (inputs state : List Bool)
       ≡ map (λ latch. bits (class_of flat latch.input)) flat.latches
   pub nets : map (bit_of list inputs state) list.nets ≡ map bits (listed_classes flat)
 
--- Each class of nets that is driven has one source; that of an input or a latch is its own. Where
--- the nets are listed, it has the class's bit in each valuation, and that of a cover of one cell is
--- this cell.
+-- Each class of nets that is driven has one source; that of an input or a latch is its own. If the
+-- nets are listed, the source has the class's bit in each valuation, and the source of a cover that
+-- is one cell is this cell.
 pub record IsMapped (flat : Flat) (list : CellList) : Type 0 where
   pub sources : ℕ → Src
   pub inputs : list.inputs ≡ length flat.ins
@@ -60,7 +60,7 @@ pub record IsMapped (flat : Flat) (list : CellList) : Type 0 where
   pub few : length list.cells ≤ 2 * covers_weight flat
   pub one : names_one list ≡ true → any_needs_one flat ≡ true
 
--- where the nets are listed, the source of each cover that is one cell is among these
+-- if the nets are listed, the source of each cover that is one cell is among these
 abbrev pub AreSinglesAmong : Flat → (ℕ → Src) → List Src → Type 0
 AreSinglesAmong flat sources singles =
     flat.listed ≡ true → (n : ℕ) (cell : Cell) → n < length flat.nodes
@@ -68,8 +68,8 @@ AreSinglesAmong flat sources singles =
     ≡ Some cell
     → Contains singles (sources (out_class flat n))
 
--- the list is mapped from the netlist, and where the nets are listed, the source of each cover that
--- is one cell is among these
+-- the list is mapped from the netlist and, if the nets are listed, the source of each cover that is
+-- one cell is among these
 pub record IsMappedWith (flat : Flat) (list : CellList) (singles : List Src) : Type 0 where
   pub mapped : IsMapped flat list
   pub among : AreSinglesAmong flat mapped.sources singles

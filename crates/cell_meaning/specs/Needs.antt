@@ -5,7 +5,7 @@ use Rattle.netlist_core.specs.declared.flat.Node.{Node}
 use Rattle.netlist_core.specs.declared.flat.Flat.{Flat}
 use Rattle.netlist_core.specs.OwnWeight.{rows_weight}
 
--- the row has a `1` under none of so many nets
+-- the row has no `1` under the first so many nets
 abbrev pub has_no_positive : ℕ → List ℕ → Bool
 has_no_positive count row = not (list_any (λ character. character == 49) (take count row))
 
@@ -15,7 +15,7 @@ needs_one node =
     list_any (has_no_positive (length node.ins)) node.rows
     || (not node.on && not (length node.rows == 0))
 
--- some of the covers does
+-- some cover needs constant 1
 abbrev pub any_needs_one : Flat → Bool
 any_needs_one flat = list_any needs_one flat.nodes
 

@@ -7,7 +7,7 @@ use Rattle.cell_core.specs.declared.cells.Cell.TheVariants.{Or, Xor, AndNot}
 use Rattle.lane_core.specs.declared.instr.Instr.{Instr}
 use Rattle.lane_core.specs.declared.instr.Instr.TheVariants as instrs
 
--- the source, where no cell makes it
+-- the source, if no cell makes it
 abbrev pub entry_source : Src → Option Src
 entry_source (Input i) = Some (Input i)
 entry_source (Latch i) = Some (Latch i)
@@ -21,7 +21,7 @@ cell_instr lane (Or a b) = instrs.Or lane
 cell_instr lane (Xor a b) = instrs.Xor lane
 cell_instr lane (AndNot a b) = instrs.AndNot lane
 
--- the one that makes the source, where a cell does
+-- the instruction that makes the source, if a cell does
 abbrev pub maker_on : List Cell → ℕ → Src → Option Instr
 maker_on cells lane (Input i) = None
 maker_on cells lane (Latch i) = None

@@ -5,8 +5,8 @@ use Rattle.cell_core.specs.declared.cells.Src.TheVariants.{One, Zero}
 use Rattle.cell_core.specs.declared.cells.Cell.{Cell}
 use Rattle.cell_core.specs.declared.cells.Cell.TheVariants.{Or, Xor, AndNot}
 
--- the constant that a cover of so many nets is by its text: 0 without rows; of no nets, what its
--- rows end in
+-- the constant that a cover of so many nets is by its text, if it is one: 0 without rows, and
+-- without nets what its rows end in
 abbrev pub constant_source : ℕ → List (List ℕ) → Bool → Option Src
 constant_source nets [] on = Some Zero
 constant_source zero (row ∷ rows) on = Some (cond on One Zero)

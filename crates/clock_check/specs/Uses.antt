@@ -1,4 +1,4 @@
--- The uses of nets in a flat netlist, and the earliest of a clock's.
+-- The uses of nets in a flat netlist, and the earliest use of a clock net.
 use Rattle.std.specs.Prelude.{ℕ, suc, ◌==◌, ◌&&◌, ◌||◌, nat_lt, Bool, cond, List, [], ◌∷◌, ◌++◌, flat_map, Option, Some, None}
 use Rattle.netlist_core.specs.declared.flat.NetId.{NetId}
 use Rattle.netlist_core.specs.declared.flat.Node.{Node}
@@ -8,7 +8,7 @@ use Rattle.netlist_core.specs.declared.flat.Flat.{Flat}
 use Rattle.netlist_meaning.specs.Flat.{class_of, is_clock_class}
 use Rattle.clock_check.specs.declared.uses.NetUse.{NetUse}
 
--- the uses of some words of a line, of which the first has that position
+-- the uses by some words of a line; the first word has that position
 abbrev pub uses_on : ℕ → ℕ → List NetId → List NetUse
 uses_on line position [] = []
 uses_on line position (net ∷ nets) =
@@ -20,7 +20,7 @@ uses_of_node node = uses_on node.line 0 (node.ins ++ node.out ∷ [])
 abbrev pub uses_of_latch : FlatLatch → List NetUse
 uses_of_latch latch = uses_on latch.line 0 (latch.input ∷ latch.output ∷ [])
 
--- those of outputs, of which the first has that position
+-- the uses by outputs; the first output has that position
 abbrev pub uses_of_outs : ℕ → List FlatPort → List NetUse
 uses_of_outs position [] = []
 uses_of_outs position (port ∷ ports) =
@@ -41,12 +41,12 @@ abbrev pub earlier : Option NetUse → NetUse → NetUse
 earlier None next = next
 earlier (Some found) next = cond (stands_before next found) next found
 
--- the earliest use of a clock, with one more use
+-- the earliest use of a clock net so far, or one more use if that is of a clock net and earlier
 abbrev pub earliest_with : Flat → Option NetUse → NetUse → Option NetUse
 earliest_with flat found next =
     cond (is_clock_class flat (class_of flat next.net)) (Some (earlier found next)) found
 
--- with more uses
+-- the earliest use of a clock net so far and among more uses
 abbrev pub earliest_among : Flat → Option NetUse → List NetUse → Option NetUse
 earliest_among flat found [] = found
 earliest_among flat found (next ∷ uses) = earliest_among flat (earliest_with flat found next) uses

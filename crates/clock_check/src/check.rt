@@ -14,7 +14,7 @@ use netlist_meaning::{ClockClasses, name_of_net};
 use netlist_rules::FaultKind;
 use std::alloc::Global;
 
-// Whether all latches have one clock.
+// Checks that all latches have one clock.
 fn check_latches(alloc: Global, flat: &Flat) -> Result<(), ClockError>
     requires { IsInRange flat.now }
     ensures fault { (fault : rules.Fault)
@@ -31,7 +31,7 @@ fn check_latches(alloc: Global, flat: &Flat) -> Result<(), ClockError>
     }
 }
 
-// Whether nothing but latches' controls uses a clock net.
+// Checks that nothing but the latches' controls uses a clock net.
 fn check_uses(alloc: Global, flat: &Flat) -> Result<(), ClockError>
     requires in_range { IsInRange flat.now }
     requires one_clock { HasOneFlatClock flat.now }
@@ -50,9 +50,9 @@ fn check_uses(alloc: Global, flat: &Flat) -> Result<(), ClockError>
     }
 }
 
-/// The check of a flat netlist's clocks. `Fault` has the first latch that differs from the first
-/// one in type or control; where there is none, the earliest use of a clock net by a node, as a
-/// latch's data or as an output.
+/// Checks the clocks of a flat netlist. `Fault` has the first latch that differs from the first one
+/// in type or control; if there is none, it has the earliest use of a clock net by a node, as a
+/// latch's input or output, or as a main output.
 pub fn check_clock(alloc: Global, flat: &Flat) -> Result<(), ClockError>
     requires in_range { IsInRange flat.now }
     ensures fault { (fault : rules.Fault)

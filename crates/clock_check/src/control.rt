@@ -39,7 +39,7 @@ fn has_same_clock(flat: &Flat, a: &FlatLatch, b: &FlatLatch) -> bool
     is_same_kind(a.kind, b.kind) && is_same_control(flat, a.control, b.control)
 }
 
-/// The first latch that differs from the first one in type or control.
+/// Returns the first latch that differs from the first one in type or control, if there is one.
 pub fn other_clock(flat: &Flat) -> Option<FlatLatch>
     requires { IsInRange flat.now }
     ensures found { MatchOption result (HasOneFlatClock flat.now) (λ found.
@@ -57,7 +57,7 @@ pub fn other_clock(flat: &Flat) -> Option<FlatLatch>
     None
 }
 
-/// The name of a control, `-` where there is none.
+/// Returns the name of a control, or `-` if there is none.
 pub fn control_word(alloc: Global, flat: &Flat, control: Option<NetId>) -> Result<Bytes, AllocError>
     requires { MatchOption control ⊤ (IsNetId flat.now) }
     ensures { IfOk result (λ word. word ≡ flat_control_word flat.now control) }

@@ -1,4 +1,4 @@
-// What the check answers where a netlist breaks a rule on clocks.
+// What the check answers if a netlist breaks a rule on clocks.
 ghost use Rattle.std.specs.Prelude.{◌≡◌};
 ghost use Rattle.netlist_rules.specs.FaultNames.{fault_on};
 ghost use Rattle.clock_check.specs.declared.error.ClockError.TheVariants.{NoMemory};
@@ -8,10 +8,11 @@ use netlist_rules::{Fault, FaultKind};
 use std::alloc::{AllocError, AllocFailed};
 use thiserror::Error;
 
-/// Why a netlist does not pass.
+/// Why a flat netlist does not pass the check of its clocks.
 #[derive(Debug, Drop, Error)]
 pub enum ClockError {
-    /// Latches of two clocks, or where there are none the earliest use of a clock net.
+    /// The fault of latches with two clocks or, if there is none, of the earliest use of a clock
+    /// net.
     #[error("a clock of the netlist is at fault")]
     Fault(Fault),
     #[error("out of memory")]
@@ -19,7 +20,7 @@ pub enum ClockError {
 }
 
 impl ClockError {
-    /// A fault on a line, at a word.
+    /// Makes the error for a fault on a line, at a word.
     pub fn at_word(kind: FaultKind, line: u64, word: Bytes) -> ClockError
         ensures { result ≡ ClockError.Fault (fault_on kind line word) }
     {

@@ -1,4 +1,4 @@
-// The uses of nets, and the earliest of a clock's.
+// The uses of nets, and the earliest use of a clock net.
 ghost use Rattle.std.specs.Prelude.{◌≡◌, ◌<◌, flat_map, All, None};
 ghost use Rattle.netlist_core.specs.declared.flat.Node as flat_node;
 ghost use Rattle.netlist_meaning.specs.Flat.{IsNetId};
@@ -7,7 +7,7 @@ ghost use Rattle.clock_check.specs.Uses.{uses_on, uses_of_node, uses_of_latch, u
 use netlist_core::{FlatLatch, FlatPort, NetId, Node};
 use netlist_meaning::ClockClasses;
 
-/// A net that a line names, with the position of the word.
+/// A word of a line that names a net: the line's number, the word's position, and the net.
 #[derive(Clone, Copy)]
 pub struct NetUse {
     pub line: u64,
@@ -36,7 +36,7 @@ fn earlier(found: Option<NetUse>, next: NetUse) -> NetUse
     }
 }
 
-// The earliest use of a clock, with one more use.
+// The earliest use of a clock net so far, or one more use if that is of a clock net and earlier.
 fn earliest_with(clocks: &ClockClasses, found: Option<NetUse>, next: NetUse) -> Option<NetUse>
     requires { IsNetId clocks.now next.net }
     ensures { result ≡ earliest_with clocks.now found next }
@@ -48,7 +48,7 @@ fn earliest_with(clocks: &ClockClasses, found: Option<NetUse>, next: NetUse) -> 
     }
 }
 
-// With words of a line.
+// The earliest use of a clock net so far and among the words of a line.
 fn earliest_on(
     clocks: &ClockClasses,
     found: Option<NetUse>,
@@ -132,7 +132,8 @@ fn earliest_in_outs(
     found
 }
 
-/// The earliest use of a clock net by a node, as a latch's data or as an output.
+/// Finds the earliest use of a clock net by a node, as a latch's input or output, or as a main
+/// output.
 pub fn earliest_use(clocks: &ClockClasses) -> Option<NetUse>
     ensures { result ≡ earliest_among clocks.now None (flat_uses clocks.now) }
 {

@@ -1,4 +1,4 @@
--- What is said of the cells of a cover.
+-- What contracts claim of the cells of a cover.
 use Rattle.std.specs.Prelude.{ℕ, ◌+◌, ◌*◌, ◌≡◌, ◌≢◌, ◌⊎◌, Bool, true, false, not, List, [], length, sum_by, get_or, nat_lt, cond}
 use Rattle.std.specs.List.{list_any}
 use Rattle.netlist_core.specs.OwnWeight.{literals, rows_weight}
@@ -10,14 +10,14 @@ use Rattle.cell_core.specs.Sources.{is_one}
 use Rattle.cell_meaning.specs.Needs.{has_no_positive}
 use Rattle.cover_cells.specs.Grown.{bits_of, Answers}
 
--- the source at a place, or constant 1 where it is not among the first so many
+-- the source at a place, or constant 1 if it is not among the first so many
 abbrev pub start_of : List Src → ℕ → ℕ → Src
 start_of sources first width = cond (nat_lt first width) (get_or sources first One) One
 
 abbrev pub some_is_one : List Src → Bool
 some_is_one sources = list_any is_one sources
 
--- constant 1 is needed for a row
+-- the row needs constant 1: a source is constant 1, or the row has no `1`
 abbrev pub RowNeedsOne : List Src → List ℕ → Type 0
 RowNeedsOne sources row =
     (some_is_one sources ≡ true) ⊎ (has_no_positive (length sources) row ≡ true)
@@ -29,19 +29,20 @@ RowsNeedOne sources rows =
 abbrev pub CoverNeedsOne : List Src → List (List ℕ) → Bool → Type 0
 CoverNeedsOne sources rows on = RowsNeedOne sources rows ⊎ ((on ≡ false) × (rows ≢ []))
 
--- the source has the value of the row, with no more than two cells for each literal
+-- the source has the value of the row, with at most two new cells for each literal
 abbrev pub AnswersRow : CellList → CellList → List Src → List ℕ → Src → Type 0
 AnswersRow old new sources row src =
     Answers old new (2 * literals row) (RowNeedsOne sources row) src
     (λ inputs state. product_holds row (bits_of old sources inputs state))
 
--- the value of some of the rows, with a cell more for each row
+-- the source is 1 exactly if a row's product holds, with at most one new cell for each row and two
+-- for each literal
 abbrev pub AnswersRows : CellList → CellList → List Src → List (List ℕ) → Src → Type 0
 AnswersRows old new sources rows src =
     Answers old new (length rows + 2 * sum_by literals rows) (RowsNeedOne sources rows) src
     (λ inputs state. any_holds rows (bits_of old sources inputs state))
 
--- the value of the cover, with no more cells than twice its weight
+-- the source has the value of the cover, with at most twice as many new cells as its weight
 abbrev pub AnswersCover : CellList → CellList → List Src → List (List ℕ) → Bool → Src → Type 0
 AnswersCover old new sources rows on src =
     Answers old new (2 * rows_weight rows) (CoverNeedsOne sources rows on) src

@@ -1,4 +1,4 @@
--- What is said of a list to which cells were added.
+-- What contracts claim of a list to which cells were added.
 use Rattle.std.specs.Prelude.{ℕ, ◌≤◌, ◌≡◌, Bool, true, IsTrue, List, map, length}
 use Rattle.cell_core.specs.declared.cells.Src.{Src}
 use Rattle.cell_core.specs.declared.cells.Cell.{Cell}
@@ -17,14 +17,15 @@ HasSources list sources =
 abbrev pub bits_of : CellList → List Src → List Bool → List Bool → List Bool
 bits_of list sources inputs state = map (bit_in list.cells inputs state) sources
 
--- at most so many cells were added, and one that reads constant 1 only for this reason
+-- at most so many cells were added, and one of them reads constant 1 only for this reason
 pub record Grows (old new : CellList) (count : ℕ) (reason : Type 0) : Type 0 where
   pub more : List Cell
   pub adds : Adds old new more
   pub few : length more ≤ count
   pub ones : read_one more ≡ true → reason
 
--- besides, the source has the bit that is wanted, under all inputs and states
+-- besides, the source is there, is constant 1 only for the reason, and has the wanted bit under all
+-- inputs and states
 pub record Answers (old new : CellList) (count : ℕ) (reason : Type 0) (src : Src)
     (wanted : List Bool → List Bool → Bool) : Type 0 where
   pub grows : Grows old new count reason

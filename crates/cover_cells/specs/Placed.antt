@@ -28,7 +28,7 @@ relocated_cell sources made (AndNot a b) =
 abbrev pub ReadsOne : List Src → List Cell → Type 0
 ReadsOne sources cells = (list_any is_one sources ≡ true) ⊎ (read_one cells ≡ true)
 
--- the first so many cells are in the list, each with its bit
+-- each of the first `count` cells has a source in the list with its bit
 pub record ArePlaced (old new : CellList) (sources : List Src) (cells : List Cell) (count : ℕ)
     (made : List Src) : Type 0 where
   pub long : length made ≡ count

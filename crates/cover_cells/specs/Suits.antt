@@ -17,7 +17,7 @@ pub record StandsAlone (nets : ℕ) (found : Found) : Type 0 where
 abbrev pub ReadsOneRoot : Found → Type 0
 ReadsOneRoot found = (read_one found.cells ≡ true) ⊎ (is_one found.root ≡ true)
 
--- they have the cover's value, are few, and use constant 1 only where the cover needs it
+-- the cells have the cover's value, are few, and use constant 1 only if the cover needs it
 pub record Suits (sources : List Src) (rows : List (List ℕ)) (on : Bool)
     (found : Found) : Type 0 where
   pub alone : StandsAlone (length sources) found

@@ -1,4 +1,4 @@
--- Words of 64 bits as tables: the bit at a number is the value where the nets' bits make that
+-- Words of 64 bits as tables: the bit at a number is the value for the nets' bits that make this
 -- number.
 use Rattle.std.specs.Prelude.{ℕ, ◌+◌, ◌*◌, ◌≡◌, Bool, true, cond, List, [], ◌∷◌, map, length}
 use Rattle.cell_core.specs.declared.cells.Src.{Src}
@@ -12,11 +12,11 @@ abbrev pub bits_number : List Bool → ℕ
 bits_number [] = 0
 bits_number (bit ∷ bits) = cond bit 1 0 + 2 * bits_number bits
 
--- what a word says where the nets have these bits
+-- the value of a table, if the nets have these bits
 abbrev pub table_bit : List Bool → ℕ → Bool
 table_bit bits word = has_bit word (bits_number bits)
 
--- the words say these bits
+-- the tables have these values, if the nets have these bits
 abbrev pub ShowTables : List Bool → List ℕ → List Bool → Type 0
 ShowTables bits words made = map (table_bit bits) words ≡ made
 

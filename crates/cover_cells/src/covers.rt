@@ -1,4 +1,4 @@
-// A cover as cells: a constant, one cell, or cells that a search found, or its rows.
+// A cover as cells: a constant, one cell, cells that a search found, or its rows.
 ghost use Rattle.std.specs.Prelude.{◌≡◌, ◌==◌, [], ◌⊎◌, ◌≤◌, ◌*◌, min, true, length, IsTrue, IfOk, IfSome, Some};
 ghost use Rattle.std.specs.List.{list_any};
 ghost use Rattle.netlist_core.specs.OwnWeight.{rows_weight};
@@ -39,7 +39,7 @@ fn has_positive(row: &[u8]) -> bool
     row.iter().any(|character| *character == b'1')
 }
 
-// Whether the row has a `1` under none of the sources.
+// Whether the row has no `1` under the sources.
 fn has_no_positive(count: usize, row: &[u8]) -> bool
     ensures { result ≡ has_no_positive count row.now }
 {
@@ -65,7 +65,7 @@ fn needs_one(sources: &[Src], rows: &[Bytes], on: bool) -> bool
     !rows.is_empty()
 }
 
-// Whether what was found is no larger than it may be, and uses constant 1 only where it may.
+// Whether what was found is no larger than it may be, and uses constant 1 only if it may.
 fn is_small(found: &Found, sources: &[Src], rows: &[Bytes], on: bool) -> bool
     ensures few { IsTrue result → length found.now.cells ≤ 2 * rows_weight rows.now }
     ensures one { IsTrue result → ReadsOneRoot found.now → CoverNeedsOne sources.now rows.now on }
@@ -106,7 +106,7 @@ fn suiting(
     Ok(Some(found))
 }
 
-// The source of what was found, when it is put into the list.
+// Puts what was found into the list, and returns its source there.
 fn put(
     list: &mut CellList,
     places: &mut Places,
@@ -125,7 +125,8 @@ fn put(
     Ok(relocated(found.root, sources, &made))
 }
 
-/// Adds cells for a cover, and says which source has its value.
+/// Adds cells for a cover, and returns the source that has its value. `sources` are those of the
+/// cover's nets, in order; `rows` and `on` are as in `Cover`.
 pub fn map_cover(
     list: &mut CellList,
     places: &mut Places,

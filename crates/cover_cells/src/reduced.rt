@@ -1,5 +1,5 @@
-// Cells that need not be made: one of their operands or constant 0 has their bit, or a cell that is
-// there.
+// Cells that need not be made: one of their operands, constant 0 or a cell that is there has their
+// bit.
 ghost use Rattle.std.specs.Prelude.{◌≡◌, true, length, IsTrue, IfOk, IfSome};
 ghost use Rattle.cell_core.specs.declared.cells.Src.TheVariants.{Zero};
 ghost use Rattle.cell_core.specs.declared.cells.Cell.TheVariants.{Or, Xor, AndNot};
@@ -72,7 +72,7 @@ fn reduced_and_not(a: Src, b: Src) -> Option<Src>
     None
 }
 
-// An operand or constant 0, where it has the cell's bit.
+// An operand or constant 0, if it has the cell's bit.
 fn reduced(cell: Cell) -> Option<Src>
     ensures { IfSome result (StandsFor cell) }
 {
@@ -83,7 +83,7 @@ fn reduced(cell: Cell) -> Option<Src>
     }
 }
 
-// The cell with its operands turned, where that makes no difference.
+// The cell with its operands exchanged, if that makes no difference.
 #[tactic(auto, using(crate::proofs::Spared::turned_or, crate::proofs::Spared::turned_xor))]
 fn turned(cell: Cell) -> Cell
     ensures { HaveSameBit result cell }
@@ -95,7 +95,7 @@ fn turned(cell: Cell) -> Cell
     }
 }
 
-// A source with the bit of a cell, which is added only where nothing that is there has it.
+// A source with the bit of a cell, which is added only if nothing that is known to be there has it.
 pub fn settle(
     list: &mut CellList,
     places: &mut Places,

@@ -23,7 +23,7 @@ fn first_positive(row: &[u8]) -> usize
     row.len()
 }
 
-// The source at the place, or constant 1 where it is not among the first so many.
+// The source at the place, or constant 1 if it is not among the first so many.
 fn start(sources: &[Src], first: usize, width: usize) -> Src
     requires { width ≤ length sources.now }
     ensures { result ≡ start_of sources.now first width }
@@ -77,7 +77,7 @@ fn sum(
     Ok(sum)
 }
 
-/// A source with the value of the cover, row by row.
+/// Adds cells for a cover row by row, and returns the source that has its value.
 pub fn map_rows(
     list: &mut CellList,
     places: &mut Places,

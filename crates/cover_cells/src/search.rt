@@ -1,4 +1,5 @@
-// Cells for a table of up to six nets. Nothing is said of what is found: who takes it checks it.
+// Cells for a table of up to six nets. Nothing is proved of what is found: whoever takes it checks
+// it.
 ghost use Rattle.std.specs.Prelude.{◌<◌, ◌≤◌};
 
 use crate::words::NETS;
@@ -6,7 +7,7 @@ use cell_core::{Cell, CellError, Src};
 use lists::List;
 use std::alloc::Global;
 
-/// Cells that read only nets and each other, and the source that they are for.
+/// Cells that read only nets and each other, and the source that has the table (`root`).
 #[derive(Drop)]
 pub struct Found {
     pub cells: List<Cell>,
@@ -64,7 +65,8 @@ fn support(table: u64) -> usize
     count
 }
 
-// The net at which to split: its two parts read the fewest nets.
+// The net at which to split: the table where it is 1, and its difference from the table where it is
+// 0, then read the fewest nets.
 fn split_at(table: u64) -> usize
     ensures { result < 6 }
 {
@@ -84,8 +86,8 @@ fn split_at(table: u64) -> usize
     best
 }
 
-// The cell of a net and of the table where it is 0, where its table at 1 is none, all, or the other
-// one's complement.
+// The cell of a net and of a source for the table where it is 0, if the table where it is 1 is all
+// 0, all 1, or the complement of the other.
 fn joined(net: Src, zero: Src, one: u64) -> Cell {
     match one {
         0 => Cell::AndNot(zero, net),
@@ -104,7 +106,7 @@ fn place_of(cells: &[Cell], cell: Cell) -> Option<usize> {
     None
 }
 
-// The place of a cell, which is added where it is new.
+// The source of a cell, which is added if it is new.
 fn push_new(cells: &mut Vec<Cell>, cell: Cell) -> Result<Src, CellError> {
     let place = match place_of(cells, cell) {
         Some(place) => place,
@@ -119,13 +121,13 @@ fn push_new(cells: &mut Vec<Cell>, cell: Cell) -> Result<Src, CellError> {
     }
 }
 
-// Both of two sources.
+// A source for the AND of two sources.
 fn both(cells: &mut Vec<Cell>, a: Src, b: Src) -> Result<Src, CellError> {
     let rest = push_new(cells, Cell::AndNot(a, b))?;
     push_new(cells, Cell::AndNot(a, rest))
 }
 
-// The first where the net is 0; where it is 1, what the second is not.
+// A source with the bit of `zero` if the net is 0, and the complement of `not_one` if it is 1.
 fn either(cells: &mut Vec<Cell>, net: Src, zero: Src, not_one: Src) -> Result<Src, CellError> {
     let second = push_new(cells, Cell::AndNot(net, not_one))?;
     if zero == Src::Zero {
@@ -135,13 +137,13 @@ fn either(cells: &mut Vec<Cell>, net: Src, zero: Src, not_one: Src) -> Result<Sr
     push_new(cells, Cell::Or(first, second))
 }
 
-// A source that changes where the net is 0.
+// A source with the bit of `one`, changed by `change` if the net is 0.
 fn changed(cells: &mut Vec<Cell>, net: Src, one: Src, change: Src) -> Result<Src, CellError> {
     let kept = push_new(cells, Cell::AndNot(change, net))?;
     push_new(cells, Cell::Xor(one, kept))
 }
 
-// A source for a table that is 0 where all nets are.
+// A source for a table that is 0 if all nets are 0.
 fn build(cells: &mut Vec<Cell>, table: u64, depth: usize) -> Result<Src, CellError> {
     if table == 0 || depth == 0 {
         return Ok(Src::Zero);
@@ -170,7 +172,7 @@ fn build(cells: &mut Vec<Cell>, table: u64, depth: usize) -> Result<Src, CellErr
     changed(cells, net, source, change)
 }
 
-/// Looks for cells with this table.
+/// Looks for cells whose root has this table.
 pub fn search(alloc: Global, table: u64) -> Result<Found, CellError> {
     let mut cells = Vec::new(alloc);
     if table & 1 == 0 {

@@ -11,8 +11,8 @@ use cell_core::{Cell, CellError, CellList, Src};
 use std::alloc::Global;
 use std::collections::BTreeMap;
 
-/// Where cells were put. It is a place to look first: what stands there is compared before it is
-/// used.
+/// The places of cells in a list, as notes of where to look: the cell at a place is compared before
+/// it is used.
 #[derive(Drop)]
 pub struct Places {
     by_cell: BTreeMap<Cell, u32>,
@@ -21,7 +21,7 @@ pub struct Places {
 impl Places {
     ghost use Rattle.cover_cells.specs.Noted.{place_in};
 
-    /// Of no cells.
+    /// Makes the notes of no cells.
     pub fn new(alloc: Global) -> Places
         ensures { (cell : Cell) → place_in ⟦<Cell as Ord>⟧.cmp result cell ≡ None }
     {
@@ -30,7 +30,7 @@ impl Places {
         }
     }
 
-    /// Notes where a cell was put.
+    /// Notes the place of a cell.
     pub fn note(&mut self, cell: Cell, place: u32) -> Result<(), CellError>
         ensures noted { OnOk result (place_in ⟦<Cell as Ord>⟧.cmp self.new cell ≡ Some place) }
         ensures others { OnOk result ((other : Cell) →
@@ -50,7 +50,7 @@ impl Places {
     }
 }
 
-/// Whether the two are one source.
+/// Returns whether the two are one source.
 pub fn is_same_src(a: Src, b: Src) -> bool
     ensures { IsTrue result → a ≡ b }
 {
@@ -64,7 +64,7 @@ pub fn is_same_src(a: Src, b: Src) -> bool
     }
 }
 
-/// Whether the two are one cell: the same operator, over the same sources.
+/// Returns whether the two are one cell: the same operator, over the same sources.
 pub fn is_same_cell(a: Cell, b: Cell) -> bool
     ensures { IsTrue result → a ≡ b }
 {
@@ -76,7 +76,7 @@ pub fn is_same_cell(a: Cell, b: Cell) -> bool
     }
 }
 
-// Where the cell stands, if it is known to be there.
+// The source of a cell, if it is known to be there.
 pub fn find_cell(list: &CellList, places: &Places, cell: Cell) -> Option<Src>
     ensures { IfSome result (λ src. IsCell list.now src cell) }
 {
@@ -87,7 +87,7 @@ pub fn find_cell(list: &CellList, places: &Places, cell: Cell) -> Option<Src>
     }
 }
 
-// The source of a cell, which is added where it is not there yet.
+// The source of a cell, which is added if it is not known to be there.
 pub fn share(
     list: &mut CellList,
     places: &mut Places,

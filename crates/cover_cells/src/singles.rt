@@ -5,7 +5,7 @@ ghost use Rattle.cell_meaning.specs.Singles.{is_only, are_both, are_pair, cell_o
 use cell_core::{Cell, Src};
 use lists::Bytes;
 
-// The constant that a cover of so many nets is by its text.
+// The constant that a cover of so many nets is by its text, if it is one.
 pub fn constant_source(nets: usize, rows: &[Bytes], on: bool) -> Option<Src>
     ensures { result ≡ constant_source nets rows.now on }
 {
@@ -54,8 +54,8 @@ fn cell_of_rows(a: Src, b: Src, rows: &[Bytes]) -> Option<Cell>
     None
 }
 
-/// The one cell of a cover of two nets with the rows of an OR, an XOR or an AND-NOT, where it reads
-/// these sources.
+/// Returns the one cell, over these sources, of a cover of two nets with the rows of an OR, an XOR
+/// or an AND-NOT. `None` comes for any other cover.
 pub fn single_cell(sources: &[Src], rows: &[Bytes], on: bool) -> Option<Cell>
     ensures { result ≡ single_cell sources.now rows.now on }
 {

@@ -21,14 +21,14 @@ pub const NETS: [u64; 6] = [
     0xffff_ffff_0000_0000,
 ];
 
-/// The table of what is 1 where one of the two is.
+/// Returns the table that is 1 where at least one of the two is 1.
 pub fn or_words(a: u64, b: u64) -> u64
     ensures { (n : ℕ) → has_bit result n ≡ (has_bit a n || has_bit b n) }
 {
     a | b
 }
 
-/// The table of what is 1 where exactly one of the two is.
+/// Returns the table that is 1 where exactly one of the two is 1.
 pub fn xor_words(a: u64, b: u64) -> u64
     ensures { (n : ℕ) → has_bit result n ≡
         ((has_bit a n || has_bit b n) && not (has_bit a n && has_bit b n)) }
@@ -42,14 +42,14 @@ fn and_words(a: u64, b: u64) -> u64
     a & b
 }
 
-/// The table of what is 1 where the first is and the second is not.
+/// Returns the table that is 1 where the first is 1 and the second is 0.
 pub fn and_not_words(a: u64, b: u64) -> u64
     ensures { (n : ℕ) → n < 64 → has_bit result n ≡ (has_bit a n && not (has_bit b n)) }
 {
     a & !b
 }
 
-/// The table of the bit at place i.
+/// Returns the table of the net at place i.
 pub fn net_word(i: usize) -> u64
     requires { i < 6 }
     ensures { (bits : List Bool) → length bits ≤ 6 → table_bit bits result ≡ flag_at bits i }
@@ -101,7 +101,7 @@ pub fn rows_word(rows: &[Bytes], on: bool, nets: usize) -> u64
     and_not_words(u64::MAX, word)
 }
 
-// The word of a source, where the cells before have these words.
+// The word of a source, if the cells before have these words.
 fn source_word(src: Src, nets: usize, words: &[u64]) -> u64
     requires few { nets ≤ 6 }
     requires there { IsTrue (is_there nets 0 (length words.now) src) }
@@ -147,7 +147,7 @@ fn list_words(alloc: Global, cells: &[Cell], nets: usize) -> Result<Vec<u64>, Ce
     Ok(words)
 }
 
-// Whether each of the cells, which so many stand before, reads only what is there.
+// Whether each cell reads only nets and cells before it.
 fn are_in_order(cells: &[Cell], nets: usize) -> bool
     ensures { result ≡ are_in_order nets 0 0 cells.now }
 {

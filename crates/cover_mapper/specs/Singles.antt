@@ -13,7 +13,7 @@ abbrev pub is_single : Node → Bool
 is_single node =
     (length node.ins == 2) && is_some (single_cell (Zero ∷ Zero ∷ []) node.rows node.on)
 
--- its source, if it is
+-- the source of a node's class, if its cover is one cell
 abbrev pub single_source : Flat → ClassSources → Node → Option Src
 single_source flat sources node =
     cond (is_single node) (Some (source_at sources (class_of flat node.out))) None

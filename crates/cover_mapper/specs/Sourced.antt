@@ -53,18 +53,18 @@ pub record AreSourced (flat : Flat) (made : FlatDriver → Type 0) (list : CellL
       → (class : ℕ) (src : Src) → get_or sources class None ≡ Some src
       → bit_in list.cells inputs state src ≡ bits class
 
--- the cover of a node that is a single cell has it as its source
+-- if the cover of a node is a single cell, this cell is the source of its class
 abbrev pub HasSingle : Flat → CellList → ClassSources → ℕ → Type 0
 HasSingle flat list sources n =
     (cell : Cell) → single_cell (map (source_at sources) (in_classes flat n)) (node_at flat n).rows
     (node_at flat n).on ≡ Some cell → IsCell list (source_at sources (out_class flat n)) cell
 
--- the cover of a node that is a constant by its text has it as its source
+-- if the cover of a node is a constant by its text, this is the source of its class
 abbrev pub HasConstant : Flat → ClassSources → ℕ → Type 0
 HasConstant flat sources n =
     (src : Src) → constant_of flat n ≡ Some src → source_at sources (out_class flat n) ≡ src
 
--- these nodes are mapped
+-- these nodes are mapped: their covers' cells are in the list, and their classes have sources
 pub record AreMapped (flat : Flat) (old new : CellList) (sources : ClassSources)
     (nodes : List ℕ) : Type 0 where
   pub sourced : AreSourced flat (IsAmongFirst (length flat.ins)

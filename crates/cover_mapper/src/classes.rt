@@ -11,7 +11,7 @@ use netlist_core::{Flat, FlatLatch, FlatPort, Net, NetId};
 use netlist_meaning::class_of;
 use std::alloc::Global;
 
-/// The source of a class, if it has one.
+/// Returns the source of a class, if it has one.
 pub fn source_of(sources: &[Option<Src>], class: usize) -> Option<Src>
     ensures { result ≡ get_or sources.now class None }
 {
@@ -33,7 +33,7 @@ fn push_source(found: &mut Vec<Src>, sources: &[Option<Src>], class: usize) -> R
     Ok(())
 }
 
-/// The sources of nets.
+/// Returns the sources of nets, in order; a net whose class has none is left out.
 pub fn sources_of_nets(
     alloc: Global,
     flat: &Flat,
@@ -51,7 +51,7 @@ pub fn sources_of_nets(
     Ok(found)
 }
 
-/// The sources of ports.
+/// Returns the sources of ports, in order; a port whose class has none is left out.
 pub fn sources_of_ports(
     alloc: Global,
     flat: &Flat,
@@ -69,7 +69,8 @@ pub fn sources_of_ports(
     Ok(found)
 }
 
-/// The sources of what latches read.
+/// Returns the sources of what latches read, in order; a latch whose data's class has none is left
+/// out.
 pub fn sources_of_data(
     alloc: Global,
     flat: &Flat,
@@ -105,7 +106,7 @@ fn sources_of_all(
     Ok(found)
 }
 
-/// The sources of the nets that port tables list.
+/// Returns the sources of the nets that port tables list, in order, or nothing if they list none.
 pub fn sources_of_listed(
     alloc: Global,
     flat: &Flat,

@@ -9,5 +9,6 @@ mod nodes;
 mod singles;
 mod start;
 
+// The answer of `map` when memory runs out.
 pub use lists::OutOfMemory as MapError;
 pub use mapping::{Mapped, map};

@@ -16,8 +16,8 @@ use lists::List;
 use netlist_core::{Flat, Order};
 use std::alloc::Global;
 
-/// The cells of a flat netlist, and where its nets are listed, the sources of those of its covers
-/// that are one cell each.
+/// The cells of a flat netlist and, if its nets are listed, the sources of those of its covers that
+/// are one cell each.
 #[derive(Drop)]
 pub struct Mapped {
     pub list: CellList,
@@ -52,7 +52,7 @@ fn with_ports(
     Ok(Mapped { list, singles })
 }
 
-// The cells, where no class has a source yet.
+// The cells, from sources among which no class has one yet.
 fn map_from(
     alloc: Global,
     flat: &Flat,
@@ -74,13 +74,13 @@ fn map_from(
     with_ports(alloc, flat, list, sources)
 }
 
-/// The cells of a sound flat netlist, for an order of its covers in which each comes after those
+/// Maps a sound flat netlist to cells, along an order of its covers in which each comes after those
 /// that it reads.
 ///
 /// A cover without rows, or of no nets, is a constant. A cover of two nets that is an OR, an XOR or
-/// an AND-NOT is one cell, which other covers may share, and where port tables list the nets, its
-/// source is among the singles; how the products of other covers are formed is free. Where they
-/// list none, neither does the list of cells, and there are no singles.
+/// an AND-NOT is one cell, which other covers may share; if port tables list the nets, its source
+/// is among the singles. How the products of other covers are formed is free. If port tables list
+/// no nets, the list of cells has none either, and there are no singles.
 pub fn map(alloc: Global, flat: &Flat, order: &Order) -> Result<Mapped, MapError>
     requires sound { IsSound flat.now }
     requires weighed { IsWeighed flat.now }

@@ -12,7 +12,7 @@ use netlist_core::Flat;
 use netlist_meaning::class_of;
 use std::alloc::Global;
 
-/// Adds the cells of all covers, and gives the classes of their outputs sources.
+/// Adds the cells of all covers along the order, and gives the classes of their outputs sources.
 pub fn map_nodes(
     list: &mut CellList,
     alloc: Global,

@@ -69,7 +69,8 @@ fn sources_of_singles(
     Ok(found)
 }
 
-/// The sources of all covers that are one cell, in order, where port tables list the nets.
+/// Returns the sources of all covers that are one cell, in order, if port tables list the nets, and
+/// nothing otherwise.
 pub fn listed_singles(
     alloc: Global,
     flat: &Flat,

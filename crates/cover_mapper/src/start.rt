@@ -11,7 +11,7 @@ use netlist_core::{Flat, FlatLatch};
 use netlist_meaning::class_of;
 use std::alloc::Global;
 
-// How the latches begin: 1 where the init is 1.
+// How the latches begin: with 1 if the init is 1, else with 0.
 fn starts_of(alloc: Global, latches: &[FlatLatch]) -> Result<Vec<bool>, MapError>
     ensures { IfOk result (λ starts. starts.items ≡ map (λ latch. latch.init == 1) latches.now) }
 {
@@ -22,7 +22,7 @@ fn starts_of(alloc: Global, latches: &[FlatLatch]) -> Result<Vec<bool>, MapError
     Ok(starts)
 }
 
-/// A list of no cells, whose latches read constant 0 until their data are known.
+/// Makes a list of no cells, whose latches read constant 0 until their data are known.
 pub fn start_list(alloc: Global, flat: &Flat) -> Result<CellList, MapError>
     requires { length flat.now.ins < 2 ^ 32 }
     ensures inputs { IfOk result (λ list. list.inputs ≡ length flat.now.ins) }

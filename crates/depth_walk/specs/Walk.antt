@@ -18,8 +18,9 @@ is_unseen Unseen = true
 is_unseen (Open i) = false
 is_unseen (Done i) = false
 
--- the stack is a path on which each number leads to the next, by the step up to which what it leads
--- to is done. Marks say where on the stack, or where in the order, a number stands
+-- the stack is a path: each number on it leads to the next by its step `next`. What a number's
+-- steps below `next` lead to is done, and what a done number leads to stands before it in the
+-- order. A mark tells where on the stack, or where in the order, its number stands
 pub record IsWalk (links : Links) (marks : List Mark) (next stack order : List ℕ) : Type 0 where
   pub marks_fit : length marks ≡ length links
   pub next_fit : length next ≡ length links
@@ -39,12 +40,13 @@ pub record IsWalk (links : Links) (marks : List Mark) (next stack order : List �
 abbrev pub work : List Mark → List ℕ → ℕ
 work marks stack = 2 * count_by is_unseen marks + length stack
 
--- what the steps from a number lead to, from one on and below another, is done
+-- all that the steps from a number lead to is done, for the steps from `from` on and below `to`
 abbrev pub AreDoneWithin : Links → List Mark → ℕ → ℕ → ℕ → Type 0
 AreDoneWithin links marks n from to =
     (k b : ℕ) → from ≤ k → k < to → LeadsTo links n k b → IsMarkedDone (mark_of marks b)
 
--- the first step from a number, from one on, that leads to one which is not done
+-- what the steps from a number meet, from `from` on: nothing that is not done; as the first such
+-- number one that is unseen; or one that is open, at its place on the stack
 abbrev pub IsMet : Links → List Mark → ℕ → ℕ → Met → Type 0
 IsMet links marks n from Nothing =
     (k b : ℕ) → from ≤ k → LeadsTo links n k b → IsMarkedDone (mark_of marks b)
@@ -58,10 +60,10 @@ abbrev pub IsWalkOf : Links → Walk → Type 0
 IsWalkOf links walk =
     IsWalk links walk.marks.items walk.next.items walk.stack.items walk.order.items
 
--- what was seen still is
+-- each number that was seen before is still seen after
 abbrev pub AreStillSeen : List Mark → List Mark → Type 0
 AreStillSeen before after = (n : ℕ) → mark_of before n ≢ Unseen → mark_of after n ≢ Unseen
 
--- the number on top of the path
+-- the number stands on top of the path: it is the last on the stack
 abbrev pub IsTop : List ℕ → ℕ → Type 0
 IsTop stack n = (0 < length stack) × (get_or stack (length stack - 1) 0 ≡ n)

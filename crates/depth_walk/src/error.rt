@@ -5,12 +5,12 @@ ghost use Rattle.depth_walk.specs.declared.error.WalkError.TheVariants.{NoMemory
 use lists::List;
 use std::alloc::{AllocError, AllocFailed};
 
-/// Why there is no order.
+/// The reasons for which numbers have no order.
 #[derive(Drop)]
 pub enum WalkError {
-    /// There is no memory for it.
+    /// Memory ran out.
     NoMemory,
-    /// Numbers of which each leads to the next, and the last to the first.
+    /// A circle: each of these numbers leads to the next, and the last leads to the first.
     Circle(List<usize>),
 }
 

@@ -9,7 +9,9 @@ use crate::walk::Walk;
 use lists::List;
 use std::alloc::Global;
 
-/// An order of the numbers of these lists in which each comes after those that its list leads to.
+/// Orders numbers so that each comes after those that it leads to. `links` has a list of steps for
+/// each number, from 0 on: a step leads to a number, or to none. `Circle` comes if numbers lead to
+/// each other in a circle.
 pub fn order(alloc: Global, links: &[List<Option<usize>>]) -> Result<List<usize>, WalkError>
     requires { StayWithin links.now }
     ensures order { IfOk result (IsOrderOf links.now) }

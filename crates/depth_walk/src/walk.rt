@@ -1,4 +1,4 @@
-// A walk over numbers, depth first, with a path of open numbers in the place of recursion.
+// A depth-first walk over numbers, with a path of open numbers in place of recursion.
 ghost use Rattle.std.specs.Prelude.{◌≡◌, ◌≢◌, ◌+◌, ◌-◌, ◌<◌, ◌++◌, [], ◌∷◌, length, take, drop, slice_set, OnOk, IfOk, IfErr};
 ghost use Rattle.depth_walk.specs.Links.{StayWithin};
 ghost use Rattle.depth_walk.specs.Reasons.{IsWalkRefusal};
@@ -9,7 +9,8 @@ use crate::error::WalkError;
 use lists::List;
 use std::alloc::{AllocError, Global};
 
-/// What is known of a number: it stands on the path, or in the order, at a place.
+/// What is known of a number: it is unseen, or it stands at a place on the path (`Open`) or in the
+/// order (`Done`).
 #[derive(Clone, Copy)]
 pub enum Mark {
     Unseen,
@@ -17,7 +18,8 @@ pub enum Mark {
     Done(usize),
 }
 
-/// What the steps from a number, from one on, meet first that is not done.
+/// The first number that is not done among those that some steps lead to: none, one that is unseen,
+/// or one that stands at a place on the path.
 #[derive(Clone, Copy)]
 pub enum Met {
     Nothing,
@@ -25,7 +27,8 @@ pub enum Met {
     Again { step: usize, place: usize },
 }
 
-/// The first step from a number, from `from` on, that leads to one which is not done.
+/// Finds the first step from number `n`, from step `from` on, that leads to a number which is not
+/// done.
 pub fn first_met(links: &[List<Option<usize>>], marks: &[Mark], n: usize, from: usize) -> Met
     requires within { StayWithin links.now }
     requires marks { length marks.now ≡ length links.now }
@@ -53,8 +56,8 @@ fn path_from(alloc: Global, path: &[usize], place: usize) -> Result<List<usize>,
     Ok(List::of(path[place..].to_vec(alloc)?))
 }
 
-/// The walk: a mark for each number, the step up to which what it leads to is done, the path of
-/// open numbers, and the order so far.
+/// The state of a walk: for each number its mark, and the step below which all that it leads to is
+/// done (`next`); the path of open numbers (`stack`); and the order so far.
 #[derive(Drop)]
 pub struct Walk {
     pub marks: Vec<Mark>,
@@ -64,7 +67,7 @@ pub struct Walk {
 }
 
 impl Walk {
-    /// The walk before its first step.
+    /// Makes the walk before its first step.
     pub fn start(alloc: Global, links: &[List<Option<usize>>]) -> Result<Walk, AllocError>
         ensures walk { IfOk result (IsWalkOf links.now) }
         ensures idle { IfOk result (λ walk. walk.stack.items ≡ []) }
@@ -96,7 +99,7 @@ impl Walk {
         Ok(())
     }
 
-    // Takes the number on top of the path to the order.
+    // Moves the number on top of the path to the end of the order.
     fn close(&mut self, n: usize) -> Result<(), WalkError>
         requires { n < length self.old.marks.items }
         ensures marks { OnOk result (
@@ -117,8 +120,8 @@ impl Walk {
         Ok(())
     }
 
-    // One step, at the number on top of the path: another is opened, or it is closed, or it is on a
-    // circle.
+    // Takes one step at the number on top of the path: it opens another number, closes this one, or
+    // finds a circle.
     fn step(
         &mut self,
         alloc: Global,
@@ -148,7 +151,8 @@ impl Walk {
         }
     }
 
-    /// Goes on until a number and all that it leads to, near and far, stand in the order.
+    /// Walks on until a number, and all that it leads to by any number of steps, stand in the
+    /// order.
     pub fn reach(
         &mut self,
         alloc: Global,

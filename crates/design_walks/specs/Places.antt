@@ -19,7 +19,8 @@ pub record IsModelAt (design : Design) (placed : PlacedModel) : Type 0 where
   pub is_there : placed.model < length design.models
   pub is_placed : model_at design placed.place ≡ slice_get design.models placed.model
 
--- the places in order, each with its model and its parent, which only the main model's has not
+-- the places in order, each with its model and its parent; only the main model's place has no
+-- parent
 pub record ArePlaces (design : Design) (places : List PlacedModel) : Type 0 where
   pub in_order : map (λ placed. placed.place) places ≡ places_in_order design
   pub models : (k : ℕ) (placed : PlacedModel) → slice_get places k ≡ Some placed

@@ -1,4 +1,4 @@
--- Where names stand in a list, as a map knows it.
+-- Where names stand in a list, as kept in a map.
 use Rattle.std.specs.Prelude.{◌≡◌, ℕ, List, map, Option, bytes_eq}
 use Rattle.std.specs.List.{position_from}
 use Rattle.std.specs.BTreeMap.{BTreeMap, get_by}
@@ -7,7 +7,7 @@ use Rattle.std.specs.Ordering.{nat_cmp}
 use denote.Ref.{Bor}
 use Rattle.netlist_core.specs.Names.{Name}
 
--- borrowed names, without where their bytes lie in memory
+-- borrowed names, without the place of their bytes in memory
 abbrev pub bytes_of : List (Bor (List ℕ)) → List Name
 bytes_of names = map (λ name. name.now) names
 
@@ -15,7 +15,7 @@ bytes_of names = map (λ name. name.now) names
 abbrev pub position_in : BTreeMap (Bor (List ℕ)) ℕ → Name → Option ℕ
 position_in positions name = get_by (λ k. slice_cmp nat_cmp name k.now) positions
 
--- A map has the first position of each name of a list, and of no others.
+-- The map has the first position of each name of the list, and no other names.
 abbrev pub HasPositions : BTreeMap (Bor (List ℕ)) ℕ → List Name → Type 0
 HasPositions positions names =
     (name : Name) → position_in positions name ≡ position_from (bytes_eq name) 0 names

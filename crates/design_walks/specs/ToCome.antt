@@ -13,7 +13,7 @@ use Rattle.design_walks.specs.Places.{IsModelAt, HasParent}
 abbrev pub main_placed : PlacedModel
 main_placed = record { place = []; model = 0; parent = None }
 
--- the model of that number, at the place of a line inside the place of that number
+-- the model of number `model`, at the place that a line leads to from the place of number `number`
 abbrev pub inner_at : PlacedModel → ℕ → ℕ → ℕ → PlacedModel
 inner_at outer number line model =
     record {
@@ -22,21 +22,21 @@ inner_at outer number line model =
       parent = Some (record { number = number; line = line });
     }
 
--- the place of a line, if the model that it names is there
+-- the place that a line leads to, if there is a model of the name on the line
 abbrev pub placed_by : List Model → PlacedModel → ℕ → ℕ → Subckt → List PlacedModel
 placed_by models outer number line subckt =
     option_to_list (option_map (inner_at outer number line)
     (position (is_model_named subckt.model) models))
 
--- those of some lines, of which the first has that number, the last line's first
+-- the places that some lines lead to, the last line's first; the first line has number `first`
 abbrev pub placed_by_lines : List Model → PlacedModel → ℕ → ℕ → List Subckt → List PlacedModel
 placed_by_lines models outer number first [] = []
 placed_by_lines models outer number first (line ∷ lines) =
     placed_by_lines models outer number (suc first) lines
     ++ placed_by models outer number first line
 
--- the places inside a place, as seen from the main model: those inside some lines of its model, of
--- which the first has that number
+-- the places inside a place that some lines of its model lead to, counted from the main model; the
+-- first line has number `first`
 abbrev pub places_of_lines : Design → Place → ℕ → List Subckt → List Place
 places_of_lines design place first lines =
     map (λ inner. place ++ inner) (places_in_lines (λ line. of_some
@@ -49,7 +49,7 @@ places_inside design placed =
     of_some (λ (model : Model). places_of_lines design placed.place 0 model.subckts)
     (slice_get design.models placed.model)
 
--- those on a stack, from its top, each with those inside it
+-- the places on a stack, from its top, each followed by those inside it
 abbrev pub places_to_come : Design → List PlacedModel → List Place
 places_to_come design [] = []
 places_to_come design (placed ∷ stack) =

@@ -1,4 +1,4 @@
--- Words as ports, without where their bytes lie in memory.
+-- Words as ports, without the place of their bytes in memory.
 use Rattle.std.specs.Prelude.{List, map}
 use Rattle.netlist_core.specs.declared.model.Port.{Port}
 use Rattle.netlist_core.specs.Names.{at_line}

@@ -12,7 +12,8 @@ use netlist_core::Model;
 use std::alloc::{AllocError, Global};
 use std::collections::BTreeMap;
 
-/// The names of a model, each once. Contracts see the names in their order.
+/// The names of a model, each once, in the order in which they first stand in its text. Contracts
+/// see the list of the names.
 #[derive(Drop)]
 pub struct ModelNames<'a> {
     names: List<&'a [u8]>,
@@ -31,7 +32,7 @@ impl<'a> std::marker::Model for ModelNames<'a> {
 }
 
 impl<'a> ModelNames<'a> {
-    /// The names of a model, by where they first stand in its text.
+    /// Collects the names of a model, in the order in which they first stand in its text.
     pub fn of(alloc: Global, model: &'a Model) -> Result<ModelNames<'a>, AllocError>
         ensures { IfOk result (λ names. names ≡ names_in_order model.now) }
     {
@@ -45,14 +46,14 @@ impl<'a> ModelNames<'a> {
         })
     }
 
-    /// The names, in order.
+    /// Returns the names, in order.
     pub fn as_slice(&self) -> &[&'a [u8]]
         ensures { bytes_of result.now ≡ self.now }
     {
         self.names.as_slice()
     }
 
-    /// Where a name stands among the names.
+    /// Returns the position of a name among the names, if it is one of them.
     pub fn position(&self, name: &[u8]) -> Option<usize>
         ensures { MatchOption result (¬ Contains self.now name.now) (λ position.
             slice_get self.now position ≡ Some name.now
@@ -62,7 +63,7 @@ impl<'a> ModelNames<'a> {
     }
 }
 
-// The words by line; those of one line stand as they stood.
+// The words of a model by line; those of one line keep their order.
 fn words_by_line(alloc: Global, model: &Model) -> Result<Vec<Word<'_>>, AllocError>
     ensures { IfOk result (λ words. as_ports words.items ≡ by_line (model_words model.now)) }
 {

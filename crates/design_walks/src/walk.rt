@@ -1,4 +1,4 @@
-// A walk over the places, with a stack of those to come in the place of recursion.
+// A walk over the places, with a stack of those to come instead of recursion.
 ghost use Rattle.std.specs.Prelude.{◌≡◌, ◌<◌, ◌≤◌, ◌^◌, ◌++◌, [], ◌∷◌, length, IfOk, OnOk};
 ghost use Rattle.netlist_meaning.specs.Weight.{weight};
 ghost use Rattle.netlist_rules.specs.ModelFaults.{AreFaultless};
@@ -11,7 +11,7 @@ use model_index::NamedModels;
 use netlist_core::{Design, Subckt};
 use std::alloc::{AllocError, Global};
 
-// The place of a line inside a place.
+// The place that a line of the model at a place leads to.
 fn inner_place(alloc: Global, place: &[u32], line: u32) -> Result<List<u32>, AllocError>
     ensures { IfOk result (λ inner. inner ≡ place.now ++ line ∷ []) }
 {
@@ -20,7 +20,7 @@ fn inner_place(alloc: Global, place: &[u32], line: u32) -> Result<List<u32>, All
     Ok(List::of(inner))
 }
 
-// Puts the place of a line on the stack, if the model that it names is there.
+// Puts the place that a line leads to on the stack, if there is a model of the name on the line.
 fn push_line(
     to_come: &mut Vec<PlacedModel>,
     alloc: Global,
@@ -50,7 +50,8 @@ fn push_line(
     }
 }
 
-// Puts the places inside a place on the stack, the last line's first.
+// Puts the places that the lines of the model at a place lead to on the stack, the last line's
+// first.
 fn push_inside(
     to_come: &mut Vec<PlacedModel>,
     alloc: Global,
@@ -78,7 +79,7 @@ fn push_inside(
     Ok(())
 }
 
-// Lists the places that a stack has still to give, each before those inside it.
+// Lists the places on the stack and inside them, each before those inside it.
 fn list_places(
     listed: &mut Vec<PlacedModel>,
     to_come: &mut Vec<PlacedModel>,
@@ -101,7 +102,8 @@ fn list_places(
     Ok(())
 }
 
-/// The places of a design, each before those inside it.
+/// Lists the places of a design in order, each before those inside it. `named` is the index of the
+/// design's models.
 pub fn places(
     alloc: Global,
     design: &Design,

@@ -55,7 +55,8 @@ fn weights(
     Ok(weights)
 }
 
-// The weight of a design, at most the greatest u64, where no model leads back to itself.
+// Returns the weight of a design, or the greatest u64 if it is more. `Circle` comes if a model
+// leads back to itself.
 pub fn weight_or_circle(alloc: Global, design: &Design) -> Result<u64, ModelOrderError>
     ensures weight { IfOk result (λ w. w ≡ min (weight design.now) u64.MAX) }
     ensures refused { IfErr result (IsModelOrderRefusal design.now.models) }
@@ -67,7 +68,7 @@ pub fn weight_or_circle(alloc: Global, design: &Design) -> Result<u64, ModelOrde
     Ok(weights.first().copied().unwrap_or(0))
 }
 
-/// The weight of a design without a fault, at most the greatest u64.
+/// Returns the weight of a design without a fault, or the greatest u64 if it is more.
 pub fn weight(alloc: Global, design: &Design) -> Result<u64, AllocError>
     requires { AreFaultless design.now.models }
     ensures { IfOk result (λ w. w ≡ min (weight design.now) u64.MAX) }

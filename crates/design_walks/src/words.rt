@@ -1,4 +1,4 @@
-// The names that the lines of a model name, each with its line.
+// The names on the lines of a model, each with its line.
 ghost use Rattle.std.specs.Prelude.{◌≡◌, ◌++◌, [], ◌∷◌, map, flat_map, IfOk, OnOk};
 ghost use Rattle.netlist_core.specs.Names.{at_line};
 ghost use Rattle.netlist_meaning.specs.InOrder.{cover_words, latch_words, subckt_words, model_words};
@@ -125,7 +125,7 @@ fn push_model_words<'a>(words: &mut Vec<Word<'a>>, model: &'a Model) -> Result<(
     Ok(())
 }
 
-/// The words of a model's lines, list by list.
+/// Collects the names on a model's lines, list by list.
 pub fn words_of(alloc: Global, model: &Model) -> Result<Vec<Word<'_>>, AllocError>
     ensures { IfOk result (λ words. as_ports words.items ≡ model_words model.now) }
 {

@@ -29,7 +29,7 @@ pub record ListsPlacesInOrder (design : Design) : Type 0 where
   pub all : (place : Place) → Contains (places_in_order design) place ↔ IsPlace design place
   pub ascend : AllPairs IsBefore (places_in_order design)
 
--- The list of places has each place once, in order.
+-- If the design is not recursive, the list of places has each place once, in order.
 abbrev pub PlacesAreListed : Type 0
 PlacesAreListed = (design : Design) → IsNotRecursive design → ListsPlacesInOrder design
 
@@ -48,7 +48,7 @@ pub record StandByLine (words sorted : List Port) : Type 0 where
   pub ascend : AllPairs (λ (p q : Port). p.line ≤ q.line) sorted
   pub stable : (line : ℕ) → words_on_line line sorted ≡ words_on_line line words
 
--- such a list is one
+-- a list is the words by line exactly if it is `by_line` of them
 abbrev pub WordsStandByLine : Type 0
 WordsStandByLine = (words sorted : List Port) → StandByLine words sorted ↔ (sorted ≡ by_line words)
 
@@ -56,7 +56,7 @@ abbrev pub append_unless : Bool → List Name → Name → List Name
 append_unless true names name = names
 append_unless false names name = names ++ name ∷ []
 
--- read word by word, a name comes last in the list unless it has stood before
+-- when names are read one by one, a name is put last in the list unless it has stood before
 abbrev pub NamesComeWhereFirst : Type 0
 NamesComeWhereFirst =
     (names : List Name) (name : Name) → first_names (names ++ name ∷ []) ≡ append_unless
@@ -67,11 +67,11 @@ pub record ListsNets (design : Design) : Type 0 where
   pub all : (net : Net) → Contains (nets_in_order design) net ↔ IsNet design net
   pub once : AllPairs (λ a b. a ≢ b) (nets_in_order design)
 
--- The list of nets has each net of the design once.
+-- If the design is not recursive, the list of nets has each net of the design once.
 abbrev pub NetsAreListed : Type 0
 NetsAreListed = (design : Design) → IsNotRecursive design → ListsNets design
 
--- nets are one class exactly where they are joined
+-- nets are of one class exactly if they are joined
 pub record HasClasses (design : Design) (flat : Flat) : Type 0 where
   pub is_there : (net : Net) → IsNet design net
       → slice_get (nets_in_order design) (id_of design net.place net.name).0 ≡ Some net
@@ -81,13 +81,14 @@ pub record HasClasses (design : Design) (flat : Flat) : Type 0 where
       → (class_of flat (id_of design a.place a.name) ≡ class_of flat (id_of design b.place b.name))
       ↔ Joined design a b
 
--- Nets are of one class exactly where they are joined.
+-- In a design without a fault, nets are of one class exactly if they are joined.
 abbrev pub ClassesAreJoined : Type 0
 ClassesAreJoined =
     (design : Design) (flat : Flat) → AreFaultless design.models → IsFlatOf design flat
     → HasClasses design flat
 
--- the net that is first in its class is the one nearest the main model
+-- a net is the first of its class exactly if it is its own root: of all nets joined with it, the
+-- one nearest the main model
 abbrev pub FirstsAreRoots : Type 0
 FirstsAreRoots =
     (design : Design) (flat : Flat) → AreFaultless design.models → IsFlatOf design flat
@@ -105,7 +106,7 @@ state_in_order design state =
     flat_map (λ place. latch_bits_from (state place) 0
     (of_some (λ (model : Model). model.latches) (model_at design place))) (places_in_order design)
 
--- bits by class, from those of nets; and the other way round
+-- bits of classes from those of nets; and bits of nets from those of classes
 abbrev pub bit_of_net : Valuation → Net → Bool
 bit_of_net bits net = bits net.place net.name
 
@@ -116,7 +117,8 @@ class_bits design bits class =
 abbrev pub net_bits : Design → Flat → (ℕ → Bool) → Valuation
 net_bits design flat bits place name = bits (class_of flat (id_of design place name))
 
--- a valuation of the design is one of the flat netlist, with the same bits, outputs and next state
+-- a valuation of the design is one of the flat netlist and the other way round, with the same bits,
+-- outputs and next state
 pub record HasValuations (design : Design) (flat : Flat) : Type 0 where
   pub is_flat : (inputs : List Bool) (state : LatchState) (bits : Valuation)
       → IsValuation design inputs state bits
@@ -145,7 +147,7 @@ FlatIsSound =
     (design : Design) (flat : Flat) → AreFaultless design.models → HasNoClockFault design
     → IsFlatOf design flat → weight design < 2 ^ 32 → IsSound flat
 
--- its numbers are in range, whatever its clocks are
+-- the numbers of the flat netlist are in range, whatever its clocks are
 abbrev pub FlatIsInRange : Type 0
 FlatIsInRange =
     (design : Design) (flat : Flat) → AreFaultless design.models → IsFlatOf design flat
@@ -174,11 +176,11 @@ abbrev pub NetsAreFew : Type 0
 NetsAreFew =
     (design : Design) → AreFaultless design.models → length (nets_in_order design) ≤ weight design
 
--- the flat netlist of a design without a fault is there
+-- a design without a fault has a flat netlist
 abbrev pub FlatIsThere : Type 0
 FlatIsThere = (design : Design) → AreFaultless design.models → (flat : Flat) × IsFlatOf design flat
 
--- and is one
+-- a design has at most one flat netlist
 abbrev pub FlatIsOne : Type 0
 FlatIsOne =
     (design : Design) (flat other : Flat) → IsFlatOf design flat → IsFlatOf design other
@@ -203,7 +205,8 @@ PortsAreFlat =
     (design : Design) (flat : Flat) → AreFaultless design.models → IsFlatOf design flat
     → HasFlatPorts design flat
 
--- along an order of the flat nodes the design has exactly one valuation
+-- if the flat nodes have an order, the design has exactly one valuation for given input bits and a
+-- given state
 abbrev pub DesignsHaveOneValuation : Type 0
 DesignsHaveOneValuation =
     (design : Design) (flat : Flat) → AreFaultless design.models → HasNoClockFault design
@@ -231,20 +234,20 @@ PartsAreFew =
     → length flat.ins + length flat.outs + 2 * length flat.latches + sum_by
     (λ node. rows_weight node.rows) flat.nodes ≤ weight design
 
--- so the weight bounds the nets and the parts
+-- the weight of a design without a fault bounds the nets and the parts of its flat netlist
 abbrev pub FlatIsWeighed : Type 0
 FlatIsWeighed =
     (design : Design) (flat : Flat) → AreFaultless design.models → IsFlatOf design flat
     → weight design < 2 ^ 31 → IsWeighed flat
 
--- the names of inputs are distinct, and so are those of outputs
+-- the inputs of the flat netlist have distinct names, and so have its outputs
 abbrev pub FlatIsNamed : Type 0
 FlatIsNamed =
     (design : Design) (flat : Flat) → AreFaultless design.models → IsFlatOf design flat
     → IsNamed flat
 
 -- roots by pins, outermost first: a net of the main model is its own root, a formal that a pin
--- names has its actual's, and one that none names is its own
+-- names has the root of its actual, and one that no pin names is its own root
 pub record HasRootsByPins (design : Design) : Type 0 where
   pub main : (name : Name) → root design (net_at [] name) ≡ net_at [] name
   pub pinned : (outer inner : Net) → IsPinned design outer inner

@@ -9,14 +9,14 @@ use Rattle.netlist_meaning.specs.Places.{Place, main_model, model_at}
 use Rattle.netlist_meaning.specs.Nets.{Net, net_at, IsNet, Joined}
 use Rattle.netlist_rules.specs.ModelFaults.{AreFaultless}
 
--- a name of the main model's `.inputs` or `.clock`; a cover or a latch of a place, by its number
--- there
+-- a driver: a name of the main model's `.inputs` or `.clock`, or a cover or a latch of a place, by
+-- its number there
 pub data Driver : Type 0 where
   port : Name → Driver
   cover : Place → ℕ → Driver
   latch : Place → ℕ → Driver
 
--- the net that it drives by itself
+-- the driver drives this net by itself
 pub data Drives (design : Design) : Driver → Net → Type 0 where
   of_port : {main : Model} {name : Name} → main_model design ≡ Some main
       → Contains (port_names (main.ins ++ main.clocks)) name
@@ -28,7 +28,7 @@ pub data Drives (design : Design) : Driver → Net → Type 0 where
       → model_at design place ≡ Some model → slice_get model.latches number ≡ Some l
       → Drives design (latch place number) (net_at place l.output)
 
--- of all nets that are joined with a net exactly one has a driver of its own, and that is one
+-- nets that are joined have at most one driver among them
 abbrev pub AtMostOneDriver : Design → Type 0
 AtMostOneDriver design =
     (a b : Net) (d e : Driver) → Joined design a b → Drives design d a → Drives design e b → d ≡ e
@@ -37,7 +37,7 @@ abbrev pub FaultlessHaveAtMostOneDriver : Type 0
 FaultlessHaveAtMostOneDriver =
     (design : Design) → AreFaultless design.models → AtMostOneDriver design
 
--- and each net has one
+-- in a design without a fault each net is joined with one that has a driver
 abbrev pub FaultlessHaveDrivers : Type 0
 FaultlessHaveDrivers =
     (design : Design) → AreFaultless design.models → (net : Net) → IsNet design net

@@ -30,7 +30,8 @@ pub record IsCoverOrder (design : Design) (order : List CoverAt) : Type 0 where
       → IsCoverAt design other read → Joined design (net_at other.place read.out)
       (net_at at.place input) → Contains front other
 
--- where there is such an order there is at most one valuation
+-- a design without a fault that has such an order has at most one valuation for given input bits
+-- and a given state
 abbrev pub OrderedHaveAtMostOneValuation : Type 0
 OrderedHaveAtMostOneValuation =
     (design : Design) → AreFaultless design.models → HasNoClockFault design → (order : List CoverAt)
@@ -39,13 +40,14 @@ OrderedHaveAtMostOneValuation =
     → IsValuation design inputs state bits → IsValuation design inputs state others
     → AgreeOnNets design bits others
 
--- and no loop
+-- a design with such an order has no loop
 abbrev pub OrderedHaveNoLoop : Type 0
 OrderedHaveNoLoop =
     (design : Design) (order : List CoverAt) → IsCoverOrder design order → (nets : List Net)
     → ¬ IsCombinationalLoop design nets
 
--- and there is one, for each bits of the IN names and each state
+-- a design without a fault that has such an order has a valuation for all bits of the IN names and
+-- each state
 abbrev pub OrderedHaveAValuation : Type 0
 OrderedHaveAValuation =
     (design : Design) → AreFaultless design.models → HasNoClockFault design → (order : List CoverAt)

@@ -12,18 +12,19 @@ ghost use Rattle.flat_designs.specs.Faultless.{FaultlessAreNotRecursive};
 ghost use Rattle.flat_designs.specs.Laws.{ValuationsAreFlat, FlatIsSound, FlatIsInRange, LoopsAreFlat, FlatIsWeighed, FlatIsNamed, FlatIsThere, FlatIsOne, CyclesAreFlat};
 ghost use Rattle.flat_designs.specs.OneDriver.{FaultlessHaveAtMostOneDriver, FaultlessHaveDrivers};
 
-/// No model stands inside a place of itself.
+/// In a design without a fault, no model stands inside a place of itself.
 #[tactic(auto, using(crate::proofs::Faultless::not_recursive))]
 pub fn faultless_are_not_recursive()
     ensures { FaultlessAreNotRecursive }
 {}
 
-/// Nets that are joined have at most one driver: a port of the main model, a cover or a latch.
+/// In a design without a fault, joined nets have at most one driver: a port of the main model, a
+/// cover or a latch.
 pub fn faultless_have_at_most_one_driver()
     ensures { FaultlessHaveAtMostOneDriver }
 {}
 
-/// Each net is joined with one that has a driver.
+/// In a design without a fault, each net is joined with one that has a driver.
 pub fn faultless_have_drivers()
     ensures { FaultlessHaveDrivers }
 {}
@@ -69,7 +70,8 @@ pub fn flat_is_weighed()
     ensures { FlatIsWeighed }
 {}
 
-/// The flat netlist's inputs have distinct names, and so have its outputs, at the main model.
+/// The inputs of the flat netlist are nets of the main model with distinct names, and so are its
+/// outputs.
 pub fn flat_is_named()
     ensures { FlatIsNamed }
 {}

@@ -11,10 +11,10 @@ after_column bits column = after_instrs column.instrs bits
 abbrev pub after_columns : List Column → List Bool → List Bool
 after_columns columns bits = fold after_column bits columns
 
--- the lanes of all its instructions are among this many
+-- the lanes of all instructions of the column are among the first so many
 abbrev pub IsColumnOnLanes : ℕ → Column → Type 0
 IsColumnOnLanes lanes column = All (IsOnLanes lanes) column.instrs
 
--- no two of its instructions share a lane
+-- no two instructions of the column share a lane
 abbrev pub IsColumnApart : Column → Type 0
 IsColumnApart column = AllPairs AreApart column.instrs

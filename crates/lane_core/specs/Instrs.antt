@@ -12,7 +12,7 @@ lane_of (Xor i) = i
 lane_of (Or i) = i
 lane_of (AndNot i) = i
 
--- what an instruction puts on its upper lane, where it finds a there and b below
+-- what an instruction puts on its upper lane, if it finds a there and b below
 abbrev pub upper_bit : Instr → Bool → Bool → Bool
 upper_bit (Swap i) a b = b
 upper_bit (Fork i) a b = a
@@ -20,7 +20,7 @@ upper_bit (Xor i) a b = (a || b) && not (a && b)
 upper_bit (Or i) a b = a || b
 upper_bit (AndNot i) a b = a && not b
 
--- what it puts on its lower lane
+-- what an instruction puts on its lower lane, if it finds a above and b there
 abbrev pub lower_bit : Instr → Bool → Bool → Bool
 lower_bit (Swap i) a b = a
 lower_bit (Fork i) a b = a
@@ -44,7 +44,7 @@ after_instr bits instr =
 abbrev pub after_instrs : List Instr → List Bool → List Bool
 after_instrs instrs bits = fold after_instr bits instrs
 
--- both lanes of the instruction are among this many
+-- both lanes of the instruction are among the first so many
 abbrev pub IsOnLanes : ℕ → Instr → Type 0
 IsOnLanes lanes instr = lane_of instr + 1 < lanes
 

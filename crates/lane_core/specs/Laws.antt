@@ -1,9 +1,9 @@
--- What instructions that share no lane have in common.
+-- A law of instructions that share no lane.
 use Rattle.std.specs.Prelude.{◌≡◌, Bool, List}
 use Rattle.lane_core.specs.declared.instr.Instr.{Instr}
 use Rattle.lane_core.specs.Instrs.{after_instr, AreApart}
 
--- they may be done in either order
+-- two instructions that share no lane may be done in either order
 abbrev pub CommuteWhenApart : Type 0
 CommuteWhenApart =
     (i j : Instr) → AreApart i j → (bits : List Bool)

@@ -8,7 +8,7 @@ pub record AreDistinctBelow (limit : ℕ) (lanes : List ℕ) : Type 0 where
   pub below : All (λ lane. lane < limit) lanes
   pub distinct : AllPairs (λ a b. a ≢ b) lanes
 
--- one of the lanes, at the start or after one of the steps
+-- the place is on one of the lanes, at the start or after one of the steps
 pub record IsPlaceWithin (lanes steps : ℕ) (place : NetPlace) : Type 0 where
   pub lane : place.lane < lanes
   pub after : ForSome place.after (λ step. step < steps)

@@ -9,7 +9,7 @@ use Rattle.lane_core.specs.Places.{AreDistinctBelow, IsPlaceWithin}
 use Rattle.lane_core.specs.Tape.{HasFittingTape, tape_shift}
 pub use Rattle.lane_core.specs.Times.{latency_of, period_of}
 
--- how many lanes, columns and loops there may be; without lanes there are no columns
+-- how many lanes, columns and loops a plan may have; it has no columns exactly if it has no lanes
 pub record HasFittingSize (plan : Plan) : Type 0 where
   pub lanes : plan.lanes < 2 ^ 32
   pub columns : length plan.columns < 2 ^ 40
@@ -17,8 +17,8 @@ pub record HasFittingSize (plan : Plan) : Type 0 where
   pub loops_on_lanes : plan.latches ≤ plan.lanes
   pub loops_in_columns : plan.latches ≤ length plan.columns
 
--- The plan can be drawn, wherever it starts. Where it has no lanes, these rules leave no columns,
--- ports or nets.
+-- The plan can be drawn, whichever edges are lit at its start. If it has no lanes, these rules
+-- leave no columns, ports or nets.
 pub record IsAdmissible (plan : Plan) : Type 0 where
   pub size : HasFittingSize plan
   pub instrs : All (IsColumnOnLanes plan.lanes) plan.columns
@@ -32,8 +32,8 @@ pub record IsAdmissible (plan : Plan) : Type 0 where
 abbrev pub row_of : ℕ → ℕ
 row_of lane = 16 * lane + 8
 
--- the columns of a plan stand right of the turns of its loops, which take one column of cells for
--- each loop
+-- x of the west side of a column: the columns of a plan stand right of the turns of its loops,
+-- which take one tile column for each loop
 abbrev pub left_of : Plan → ℕ → ℕ
 left_of plan column = 32 * (plan.latches + column)
 
@@ -47,8 +47,8 @@ abbrev pub out_cell_of : Plan → ℕ → ℕ × ℕ × ℕ
 out_cell_of plan i =
     (left_of plan (length plan.columns), row_of (slice_index plan.outs i), latency_of plan)
 
--- x and y of the entry of the first column, or of the exit of a column, and the generations from
--- the inputs to it
+-- x and y on a lane of the entry of the first column, or of the exit of a column, and the
+-- generations from the inputs to it
 abbrev pub cell_after : Plan → ℕ → Option ℕ → ℕ × ℕ × ℕ
 cell_after plan lane None = (left_of plan 0, row_of lane, 0)
 cell_after plan lane (Some column) = (left_of plan column + 31, row_of lane, 32 * column + 31)

@@ -6,7 +6,7 @@ use Rattle.lane_core.specs.declared.plan.Plan.{Plan}
 use Rattle.lane_core.specs.Entering.{lane_bit}
 use Rattle.lane_core.specs.Times.{period_of}
 
--- how many bits each of these lists has, and 0 where there is no list
+-- how many bits the first of these lists has, and 0 if there is no list
 abbrev pub cycles_of : List (List Bool) → ℕ
 cycles_of lists = length (slice_index_or lists 0 [])
 
@@ -28,7 +28,7 @@ tape_cycles plan = cycles_of plan.tape
 abbrev pub tape_row : Plan → ℕ → List Bool
 tape_row plan cycle = map (λ bits. unwrap_or (slice_get bits cycle) false) plan.tape
 
--- and a row of them for each cycle
+-- the bits of all inputs, with a row for each cycle
 abbrev pub tape_rows : Plan → List (List Bool)
 tape_rows plan = map (tape_row plan) (range_with_len 0 (tape_cycles plan))
 

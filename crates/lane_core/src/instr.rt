@@ -13,16 +13,16 @@ pub enum Instr {
     Swap(u32),
     /// The upper bit is copied to the lower lane.
     Fork(u32),
-    /// The upper lane gets 1 where exactly one of the two bits is 1; the lower lane gets 0.
+    /// The upper lane gets 1 if exactly one of the two bits is 1; the lower lane gets 0.
     Xor(u32),
-    /// The upper lane gets 1 where one of the two bits is 1; the lower lane gets 0.
+    /// The upper lane gets 1 if at least one of the two bits is 1; the lower lane gets 0.
     Or(u32),
-    /// The upper lane gets 1 where its bit is 1 and the lower one is not; the lower lane gets 0.
+    /// The upper lane gets 1 if its bit is 1 and the lower one is 0; the lower lane gets 0.
     AndNot(u32),
 }
 
 impl Instr {
-    /// The upper of its two lanes.
+    /// Returns the upper of its two lanes.
     pub fn lane(self) -> u32
         ensures { result ≡ lane_of self }
     {
@@ -35,7 +35,8 @@ impl Instr {
         }
     }
 
-    /// The bits that it puts on its upper and its lower lane, from those that it finds there.
+    /// Returns the bits that it puts on its upper and its lower lane, given those that it finds
+    /// there.
     pub fn answer(self, upper: bool, lower: bool) -> (bool, bool)
         ensures above { result.0 ≡ upper_bit self upper lower }
         ensures below { result.1 ≡ lower_bit self upper lower }
@@ -59,7 +60,7 @@ pub struct Column {
 }
 
 impl Column {
-    /// The instruction that works on a lane.
+    /// Returns the instruction that works on a lane, if there is one.
     pub fn instr_on(&self, lane: u32) -> Option<Instr>
         ensures { result ≡ instr_on self.now.instrs lane }
     {
@@ -73,7 +74,7 @@ impl Column {
     }
 }
 
-// How many of the instructions, which are sorted, work on lanes above this one only.
+// How many of the instructions, which are sorted, work only on lanes above this one.
 fn ending_above(instrs: &[Instr], lane: u32) -> usize
     requires { IsTrue (are_sorted_apart instrs.now) }
     ensures within { result ≤ length instrs.now }

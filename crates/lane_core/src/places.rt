@@ -13,7 +13,7 @@ fn row_of(lane: u32) -> u64
     16 * lane as u64 + 8
 }
 
-// x of the west side of a column, where the plan is drawn.
+// x of the west side of a column, in the drawing of the plan.
 fn left_of(plan: &Plan, column: u64) -> u64
     requires admissible { IsAdmissible plan.now }
     requires near { column < 2 ^ 42 }
@@ -23,7 +23,7 @@ fn left_of(plan: &Plan, column: u64) -> u64
     32 * (tape_shift(plan) + plan.latches as u64 + column)
 }
 
-/// The generations from an input to the outputs that depend on it.
+/// Returns the generations from an input to the outputs that depend on it.
 pub fn latency(plan: &Plan) -> u64
     requires { IsAdmissible plan.now }
     ensures { result ≡ latency_of plan.now }
@@ -31,7 +31,7 @@ pub fn latency(plan: &Plan) -> u64
     32 * plan.columns.len() as u64
 }
 
-/// The generations from one cycle to the next.
+/// Returns the generations from one cycle to the next.
 pub fn period(plan: &Plan) -> u64
     requires { IsAdmissible plan.now }
     ensures { result ≡ period_of plan.now }
@@ -43,7 +43,7 @@ pub fn period(plan: &Plan) -> u64
     }
 }
 
-/// x, y and the offset 0 of the cell of input `i`.
+/// Returns x, y and the offset 0 of the cell of input `i`.
 pub fn in_cell(plan: &Plan, i: usize) -> (u64, u64, u64)
     requires admissible { IsAdmissible plan.now }
     requires known { i < length plan.now.ins }
@@ -52,7 +52,7 @@ pub fn in_cell(plan: &Plan, i: usize) -> (u64, u64, u64)
     (left_of(plan, 0), row_of(*plan.ins.get(i)), 0)
 }
 
-/// x, y and the offset of the cell of output `i`; the offset is the latency.
+/// Returns x, y and the offset of the cell of output `i`; the offset is the latency.
 pub fn out_cell(plan: &Plan, i: usize) -> (u64, u64, u64)
     requires admissible { IsAdmissible plan.now }
     requires known { i < length plan.now.outs }
@@ -66,8 +66,8 @@ pub fn out_cell(plan: &Plan, i: usize) -> (u64, u64, u64)
     )
 }
 
-/// x, y and the offset of the cell of net `i`: an entry of the first column, or an exit of a
-/// column.
+/// Returns x, y and the offset of the cell of net `i`: an entry of the first column, or an exit of
+/// a column.
 pub fn net_cell(plan: &Plan, i: usize) -> (u64, u64, u64)
     requires admissible { IsAdmissible plan.now }
     requires known { i < length plan.now.nets }

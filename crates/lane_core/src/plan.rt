@@ -6,18 +6,18 @@ ghost use Rattle.lane_core.specs.Places.{AreDistinctBelow, IsPlaceWithin};
 use crate::{Column, Instr, Starts};
 use lists::List;
 
-/// Where the bit of a net is found: a lane, at the start (`None`) or after the instruction (of a
-/// program) or the column (of a plan) of this number.
+/// The place where the bit of a net is found: a lane, at the start (`None`) or after the
+/// instruction (of a program) or the column (of a plan) of this number.
 #[derive(Clone, Copy, Debug, PartialEq, Eq)]
 pub struct NetPlace {
     pub lane: u32,
     pub after: Option<u64>,
 }
 
-/// Instructions in the order in which they are done. There is a loop for each of `latches`, true
-/// where it starts with 1; loop s of k enters in lane `lanes - k + s` and leaves in lane
-/// `lanes - 1 - s`. The inputs are on the lanes `ins`, and the outputs are found on the lanes
-/// `outs`.
+/// A program: instructions on `lanes` lanes, in the order in which they are done. There is a loop
+/// for each of `latches`, true if it starts with 1; loop s of k enters on lane `lanes - k + s` and
+/// leaves on lane `lanes - 1 - s`. The inputs are on the lanes `ins`, and the outputs are found on
+/// the lanes `outs`.
 #[derive(Drop)]
 pub struct Program {
     pub lanes: u32,
@@ -33,9 +33,10 @@ pub struct Program {
     pub ghost nets_fit: { All (IsPlaceWithin lanes (length instrs)) nets },
 }
 
-/// Columns of instructions, with the ports as of a program. `latches` is the number of loops, and
-/// `starts` names the edges that are lit at generation 0. `tape` has the bits that run in by
-/// themselves, one list for each input with a bit for each cycle; without a list no bits do.
+/// A plan: columns of instructions, with the ports and nets of a program. `latches` is the number
+/// of loops, and `starts` names the edges that are lit at generation 0. `tape` has the bits that
+/// run in by themselves: one list for each input, with a bit for each cycle, or no list if no bits
+/// run in.
 #[derive(Drop)]
 pub struct Plan {
     pub lanes: u32,

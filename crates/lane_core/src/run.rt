@@ -15,7 +15,7 @@ fn run_instr(instr: Instr, bits: &mut [bool])
     bits[lane + 1] = lower;
 }
 
-/// Does the instructions in order on the bits of all lanes.
+/// Carries out the instructions in order on the bits of all lanes.
 pub fn run_instrs(instrs: &[Instr], bits: &mut [bool])
     requires { All (IsOnLanes (length bits.old)) instrs.now }
     ensures { bits.new ≡ after_instrs instrs.now bits.old }
@@ -25,7 +25,7 @@ pub fn run_instrs(instrs: &[Instr], bits: &mut [bool])
     }
 }
 
-/// Does the columns in order on the bits of all lanes.
+/// Carries out the columns in order on the bits of all lanes.
 pub fn run_columns(columns: &[Column], bits: &mut [bool])
     requires { All (IsColumnOnLanes (length bits.old)) columns.now }
     ensures { bits.new ≡ after_columns columns.now bits.old }

@@ -13,7 +13,7 @@ pub struct Start {
     pub x: u64,
 }
 
-/// Names in order, each of them once, so that one is found by binary search.
+/// Names in order, each of them once, so that binary search finds them.
 #[derive(Drop)]
 pub struct Starts {
     pub list: List<Start>,
@@ -21,7 +21,8 @@ pub struct Starts {
 }
 
 impl Starts {
-    /// The names of a list, in whatever order they stand there, and however often.
+    /// Puts the names of a list in order, whatever their order in the list and however often they
+    /// stand there.
     pub fn of(names: Vec<Start>) -> Starts
         ensures { (x y : ℕ) → is_start_at result.list x y ≡ is_start_at names.items x y }
     {
@@ -33,7 +34,7 @@ impl Starts {
         }
     }
 
-    /// Whether the cell at `x` and `y` is one of the names.
+    /// Returns whether the cell at `x` and `y` is one of the names.
     pub fn has(&self, x: u64, y: u64) -> bool
         ensures { result ≡ is_start_at self.now.list x y }
     {

@@ -8,7 +8,7 @@ ghost use Rattle.lane_core.specs.Tape.{cycle_tiles, tape_cycles, tape_tiles, tap
 use crate::{Plan, period};
 use lists::List;
 
-/// The cycles for which a plan has bits on its tape, 0 without a tape.
+/// Returns the number of cycles for which a plan has bits on its tape, which is 0 without a tape.
 pub fn tape_cycles(plan: &Plan) -> usize
     ensures { result ≡ tape_cycles plan.now }
 {
@@ -18,7 +18,7 @@ pub fn tape_cycles(plan: &Plan) -> usize
     }
 }
 
-/// The tiles that a signal goes through from cycle to cycle.
+/// Returns the number of tiles that a signal goes through from cycle to cycle.
 pub fn cycle_tiles(plan: &Plan) -> u64
     requires { IsAdmissible plan.now }
     ensures exact { result ≡ cycle_tiles plan.now }
@@ -28,7 +28,7 @@ pub fn cycle_tiles(plan: &Plan) -> u64
     period(plan) / 32
 }
 
-/// The tiles of the tape on the lane of an input, 0 without a tape.
+/// Returns the number of tiles of the tape on the lane of an input, which is 0 without a tape.
 pub fn tape_tiles(plan: &Plan) -> u64
     requires { IsAdmissible plan.now }
     ensures exact { result ≡ tape_tiles plan.now }
@@ -37,7 +37,7 @@ pub fn tape_tiles(plan: &Plan) -> u64
     tape_cycles(plan).saturating_sub(1) as u64 * cycle_tiles(plan)
 }
 
-/// How many tile columns further east a plan is drawn, so that its tape has room.
+/// Returns how many tile columns further east a plan is drawn, so that its tape has room.
 pub fn tape_shift(plan: &Plan) -> u64
     requires { IsAdmissible plan.now }
     ensures exact { result ≡ tape_shift plan.now }
@@ -74,8 +74,8 @@ fn has_bit(ins: &[u32], tape: &[List<bool>], lane: u64, cycle: u64) -> bool
     false
 }
 
-/// Whether the electron of a bit 1 of the tape lies on a lane at the edge that is so many tiles
-/// before the body.
+/// Returns whether the electron of a bit 1 of the tape lies on a lane at the edge that is so many
+/// tiles before the body.
 pub fn tape_bit(plan: &Plan, tiles: u64, lane: u64) -> bool
     requires { IsAdmissible plan.now }
     ensures { result ≡ tape_bit plan.now tiles lane }

@@ -1,4 +1,4 @@
--- Bytes that may be none.
+-- Lists of bytes that may be empty.
 use Rattle.std.specs.Prelude.{ℕ, List, [], ◌∷◌, Option, Some, None}
 
 -- the bytes, if there is at least one

@@ -11,6 +11,6 @@ use denote.Ref.{Bor}
 abbrev pub is_among : List ℕ → List (List ℕ) → Bool
 is_among name names = list_any (bytes_eq name) names
 
--- whether a set of names has one
+-- whether a set of names has this name
 abbrev pub holds_name : BTreeSet (Bor (List ℕ)) → List ℕ → Bool
 holds_name names name = contains_by (λ k. slice_cmp nat_cmp name k.now) names

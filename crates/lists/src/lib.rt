@@ -13,7 +13,7 @@ pub use memory::OutOfMemory;
 use std::alloc::{AllocError, Global};
 use std::marker::Model;
 
-/// Items in order. Making it from a `Vec`, and giving it back, takes no memory.
+/// A list of items in order. Making it from a `Vec`, and giving the `Vec` back, takes no memory.
 #[derive(Drop)]
 pub struct List<T> {
     items: Vec<T>,
@@ -31,21 +31,21 @@ impl<T> Model for List<T> {
 impl<T> List<T> {
     ghost use Rattle.lists.specs.contracts.List.{the_row};
 
-    /// The items of the vector.
+    /// Makes the list of the vector's items.
     pub fn of(items: Vec<T>) -> List<T>
         ensures { result ≡ items.items }
     {
         List { items }
     }
 
-    /// How many items there are.
+    /// Returns how many items there are.
     pub fn len(&self) -> usize
         ensures { result ≡ length self.now }
     {
         self.items.len()
     }
 
-    /// The item at a place below the length.
+    /// Returns the item at place `i`, which is counted from 0 and below the length.
     pub fn get(&self, i: usize) -> &T
         requires { i < length self.now }
         ensures { slice_get self.now i ≡ Some result.now }
@@ -53,14 +53,14 @@ impl<T> List<T> {
         &self.items[i]
     }
 
-    /// The items, as a slice.
+    /// Returns the items as a slice.
     pub fn as_slice(&self) -> &[T]
         ensures { result.now ≡ self.now }
     {
         &self.items
     }
 
-    /// The items, to be changed in their places.
+    /// Returns the items as a slice in which each can be changed in its place.
     pub fn as_mut_slice(&mut self) -> &mut [T]
         ensures* writes_back { sem 𝓛 (Lends (the_row T.row) (Array T.row 0) self.entry result
             (λ w. take (length self.entry.now) (w ++ drop (length w) self.entry.now))) }
@@ -69,7 +69,7 @@ impl<T> List<T> {
         &mut self.items
     }
 
-    /// The vector of the items.
+    /// Returns the vector of the items.
     pub fn into_vec(self) -> Vec<T>
         ensures { result.items ≡ self }
     {
@@ -77,7 +77,7 @@ impl<T> List<T> {
     }
 }
 
-/// A copy of some bytes.
+/// Copies some bytes into a list of their own.
 pub fn copied(alloc: Global, bytes: &[u8]) -> Result<Bytes, AllocError>
     ensures { IfOk result (λ copy. copy ≡ bytes.now) }
 {

@@ -1,11 +1,12 @@
-// What a call answers that fails for want of memory alone.
+// The error of calls that can fail only when memory runs out.
 ghost use Rattle.std.specs.Prelude.{◌≡◌};
 ghost use Rattle.lists.specs.declared.memory.OutOfMemory.TheVariants.{NoMemory};
 
 use std::alloc::{AllocError, AllocFailed};
 use thiserror::Error;
 
-/// There is no memory for what a call was to make. Crates answer it under names of their own.
+/// The error of a call that can fail only when memory runs out. Crates export it under names of
+/// their own.
 #[derive(Clone, Copy, Debug, Error)]
 pub enum OutOfMemory {
     #[error("out of memory")]

@@ -4,7 +4,7 @@ use Rattle.netlist_meaning.specs.FlatOrder.{IsNetLoop}
 use Rattle.loop_check.specs.declared.ordering.OrderError.{OrderError}
 use Rattle.loop_check.specs.declared.ordering.OrderError.TheVariants.{NoMemory, Loop}
 
--- a refusal for another reason than memory names a loop
+-- a refusal names a loop, unless memory ran out
 abbrev pub IsOrderRefusal : Flat → OrderError → Type 0
 IsOrderRefusal flat NoMemory = Unit {0}
 IsOrderRefusal flat (Loop nets) = IsNetLoop flat nets

@@ -29,7 +29,7 @@ fn drivers_of(
     Ok(List::of(drivers))
 }
 
-/// For each node the nodes that drive its inputs.
+/// Returns for each node the nodes that drive its inputs, in order.
 pub fn links_of(
     alloc: Global,
     flat: &Flat,

@@ -13,13 +13,13 @@ use lists::List;
 use netlist_core::{Flat, NetId, Order};
 use std::alloc::{AllocError, AllocFailed, Global};
 
-/// Why there is no order.
+/// Why the nodes of a flat netlist have no order.
 #[derive(Drop)]
 pub enum OrderError {
-    /// There is no memory for it.
+    /// Memory ran out.
     NoMemory,
-    /// Nets of which each is read by a node whose output is the next, and the last by one whose
-    /// output is the first.
+    /// The nets of a loop, each the first of its class: a node reads the class of each and drives
+    /// that of the next, and a node reads the class of the last and drives that of the first.
     Loop(List<NetId>),
 }
 
@@ -43,7 +43,8 @@ impl<T: Drop> From<AllocFailed<T>> for OrderError {
     }
 }
 
-/// An order in which each node comes after those that drive what it reads.
+/// Orders the nodes of a flat netlist so that each comes after those that drive what it reads.
+/// `Loop` comes if nodes read each other in a circle.
 pub fn order(alloc: Global, flat: &Flat) -> Result<Order, OrderError>
     requires { IsSound flat.now }
     ensures order { IfOk result (λ order. IsOrder flat.now order.nodes) }

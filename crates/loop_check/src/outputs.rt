@@ -25,7 +25,7 @@ fn outputs_of(alloc: Global, flat: &Flat, nodes: &[usize]) -> Result<Vec<NetId>,
     nodes.iter().map(|n| output_of(flat, *n)).collect(alloc)
 }
 
-/// The first nets of the outputs of nodes, the last first.
+/// Returns the first net of the class of each node's output, from the last node to the first.
 pub fn outputs_back(alloc: Global, flat: &Flat, nodes: &[usize]) -> Result<List<NetId>, AllocError>
     requires in_range { IsInRange flat.now }
     requires nodes { All (λ n. n < length flat.now.nodes) nodes.now }
@@ -40,7 +40,7 @@ pub fn outputs_back(alloc: Global, flat: &Flat, nodes: &[usize]) -> Result<List<
     Ok(List::of(nets))
 }
 
-/// Numbers of nodes as an order has them.
+/// Converts the numbers of nodes to those of an order.
 pub fn as_nodes(alloc: Global, numbers: &[usize]) -> Result<List<u32>, AllocError>
     requires { All (λ n. n < 2 ^ 32) numbers.now }
     ensures { IfOk result (λ nodes. nodes ≡ numbers.now) }

@@ -8,7 +8,7 @@ use netlist_core::{Flat, NetId};
 use netlist_meaning::class_of;
 use std::alloc::{AllocError, Global};
 
-/// The table of drivers, by class.
+/// Makes the table of the node that drives each class.
 pub fn drivers(alloc: Global, flat: &Flat) -> Result<Vec<Option<usize>>, AllocError>
     requires { IsInRange flat.now }
     ensures { IfOk result (λ table. IsTable flat.now table.items) }
@@ -21,7 +21,7 @@ pub fn drivers(alloc: Global, flat: &Flat) -> Result<Vec<Option<usize>>, AllocEr
     Ok(table)
 }
 
-/// The node that drives the k-th input of a node, where one does.
+/// Returns the node that drives the k-th input of node n, if one does.
 pub fn driver_at(flat: &Flat, table: &[Option<usize>], n: usize, k: usize) -> Option<usize>
     requires sound { IsInRange flat.now }
     requires table { IsTable flat.now table.now }
@@ -34,7 +34,7 @@ pub fn driver_at(flat: &Flat, table: &[Option<usize>], n: usize, k: usize) -> Op
     table[class_of(flat, net)]
 }
 
-/// The first net of each class.
+/// Returns the first net of each class.
 pub fn first_nets(alloc: Global, flat: &Flat) -> Result<Vec<Option<usize>>, AllocError>
     requires { IsInRange flat.now }
     ensures { IfOk result (λ firsts. AreFirsts flat.now firsts.items) }
@@ -49,7 +49,7 @@ pub fn first_nets(alloc: Global, flat: &Flat) -> Result<Vec<Option<usize>>, Allo
     Ok(firsts)
 }
 
-/// The first net of the class of a net.
+/// Returns the first net of the class of a net.
 pub fn first_for(flat: &Flat, firsts: &[Option<usize>], net: NetId) -> NetId
     requires in_range { IsInRange flat.now }
     requires firsts { AreFirsts flat.now firsts.now }
@@ -62,7 +62,7 @@ pub fn first_for(flat: &Flat, firsts: &[Option<usize>], net: NetId) -> NetId
     }
 }
 
-/// Puts the first net of its class in the place of each net.
+/// Replaces each net by the first net of its class.
 pub fn put_firsts(flat: &Flat, firsts: &[Option<usize>], nets: &mut [NetId])
     requires in_range { IsInRange flat.now }
     requires firsts { AreFirsts flat.now firsts.now }

@@ -1,4 +1,4 @@
--- The earliest line on a circle, among the lines looked at.
+-- The earliest line on a circle, among the lines checked so far.
 use Rattle.model_circles.specs.declared.circle.Circle.{Circle}
 use Rattle.std.specs.Prelude.{ℕ, ◌≡◌, ◌<◌, ◌≤◌, List, ◌∷◌, length, map, Option, Some, MatchOption, slice_get, ⊤}
 use Rattle.std.specs.List.{join_with_byte}
@@ -9,7 +9,7 @@ use Rattle.netlist_core.specs.declared.model.Subckt.{Subckt}
 use Rattle.model_index.specs.Numbers.{name_at, subckts_of, Places}
 use Rattle.model_circles.specs.Ways.{IsWayBack, LiesOnCircle}
 
--- a circle of a line of its first model
+-- a circle on which a line of its first model lies
 pub record IsCircle (models : List Model) (circle : Circle) : Type 0 where
   pub k : ℕ
   pub subckt : Subckt
@@ -19,7 +19,7 @@ pub record IsCircle (models : List Model) (circle : Circle) : Type 0 where
   pub placed : Places models circle.first k inner
   pub way : IsWayBack models inner circle.first circle.others
 
--- the fault of a circle has its line and the names of its models
+-- the fault has the circle's line and the names of its models
 pub record IsFaultOf (models : List Model) (circle : Circle) (fault : Fault) : Type 0 where
   pub kind : fault.kind ≡ Recursive
   pub line : fault.line ≡ circle.line
@@ -32,19 +32,20 @@ IsCircleIfAny models best = MatchOption best ⊤ (IsCircle models)
 abbrev pub IsNoLater : Option Circle → ℕ → Type 0
 IsNoLater best line = MatchOption best ⊥ (λ circle. circle.line ≤ line)
 
--- the line, if it lies on a circle, is no earlier
+-- the k-th line of model n, if it lies on a circle, is no earlier than the circle that is kept
 abbrev pub Covers : List Model → Option Circle → ℕ → ℕ → Type 0
 Covers models best n k =
     (subckt : Subckt) → slice_get (subckts_of models n) k ≡ Some subckt → LiesOnCircle models n k
     → IsNoLater best subckt.line
 
--- the earlier of a circle and one of the k-th line of a model
+-- the new circle is the earlier of the old one and one of the k-th line of a model
 pub record IsLookedAt (models : List Model) (n k : ℕ) (old new : Option Circle) : Type 0 where
   pub kept : IsCircleIfAny models old → IsCircleIfAny models new
   pub no_later : (line : ℕ) → IsNoLater old line → IsNoLater new line
   pub covers : Covers models new n k
 
--- the earliest circle of the lines of the models before one, and of its own before the k-th
+-- the earliest circle among those of the lines of the models before n, and of n's own lines before
+-- the k-th
 pub record IsEarliestUpTo (models : List Model) (n k : ℕ) (best : Option Circle) : Type 0 where
   pub is_circle : IsCircleIfAny models best
   pub models_before : (m j : ℕ) → m < n → Covers models best m j

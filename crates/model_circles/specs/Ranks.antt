@@ -4,13 +4,13 @@ use Rattle.std.specs.Prelude.{ℕ, ◌≡◌, ◌<◌, ◌≤◌, List, length, 
 use Rattle.netlist_core.specs.declared.model.Model.{Model}
 use Rattle.model_index.specs.Numbers.{Places}
 
--- so many models, and each number below that
+-- there are so many models, and each number is below that
 pub record AreWithin (count : ℕ) (components : Components) : Type 0 where
   pub notes : length components.notes.items ≡ count
   pub path : All (λ n. n < count) components.path.items
   pub open_models : All (λ n. n < count) components.open.items
 
--- the rank of what a model's lines place is no greater than its own
+-- the models that a model's lines place have no greater rank than it
 abbrev pub NeverRisesAt : List Model → List ℕ → ℕ → Type 0
 NeverRisesAt models ranks n =
     (k inner : ℕ) → Places models n k inner → get_or ranks inner 0 ≤ get_or ranks n 0

@@ -4,12 +4,12 @@ use Rattle.std.specs.Prelude.{ℕ, ◌≡◌, ◌<◌, ◌+◌, List, [], ◌∷
 use Rattle.netlist_core.specs.declared.model.Model.{Model}
 use Rattle.model_index.specs.Numbers.{PlacesSomewhere}
 
--- a model was found
+-- the model has been found
 abbrev pub IsFound : List (Option ℕ) → ℕ → Type 0
 IsFound places n = (p : ℕ) × (get_or places n None ≡ Some p)
 
--- where models stand among those found, and of each but the first the place of one before it that
--- places it
+-- `places` tells where each model stands among those found, and `parents` gives for each but the
+-- first the place of an earlier one that places it
 pub record IsSearch (models : List Model) (first : ℕ) (places : List (Option ℕ))
     (found parents : List ℕ) : Type 0 where
   pub fit : length places ≡ length models
@@ -29,11 +29,11 @@ abbrev pub IsSearchOf : List Model → ℕ → Search → Type 0
 IsSearchOf models first search =
     IsSearch models first search.places.items search.found.items search.parents.items
 
--- what was found keeps its place
+-- each model that was found keeps its place
 abbrev pub StillFound : List (Option ℕ) → List (Option ℕ) → Type 0
 StillFound before after = (n p : ℕ) → get_or before n None ≡ Some p → get_or after n None ≡ Some p
 
--- what the models found before a place place is found
+-- all that the models found before a place place is found
 abbrev pub AreMetBefore : List Model → List (Option ℕ) → List ℕ → ℕ → Type 0
 AreMetBefore models places found at =
     (i inner : ℕ) → i < at → PlacesSomewhere models (get_or found i 0) inner → IsFound places inner
@@ -44,7 +44,7 @@ pub record IsWholeSearch (models : List Model) (first : ℕ) (search : Search) :
   pub closed : AreMetBefore models search.places.items search.found.items
       (length search.found.items)
 
--- a model that is met has a place, the next one where it had none
+-- a model that is met keeps its place, or gets the next place if it had none
 abbrev pub IsMetAs : Option ℕ → Search → ℕ → ℕ → Search → Type 0
 IsMetAs (Some p) old inner at new =
     (new.places.items ≡ old.places.items) × (new.found.items ≡ old.found.items)

@@ -11,8 +11,9 @@ use model_index::{NamedModels, placed};
 use netlist_core::Model;
 use std::alloc::{AllocError, Global};
 
-/// A circle of models by their numbers: the one in which the line stands, and the others, of which
-/// the line places the first and the last places the one in which it stands.
+/// A circle of models, by number: `first` is the model in which the line stands. The line places
+/// the first of `others`, each of these places the next, and the last places `first`; if there are
+/// no others, the line places `first`.
 #[derive(Drop)]
 pub struct Circle {
     pub line: u64,
@@ -30,7 +31,7 @@ fn is_no_later(best: &Option<Circle>, line: u64) -> bool
     }
 }
 
-// The earlier of a circle, and one of the k-th line of a model.
+// The earlier of a circle and one of the k-th line of a model.
 fn look_at(
     alloc: Global,
     models: &[Model],
@@ -66,7 +67,7 @@ fn look_at(
     }
 }
 
-// The earliest of a circle, and those of the lines of a model.
+// The earliest of a circle and those of the lines of a model.
 fn look_in(
     alloc: Global,
     models: &[Model],
@@ -88,7 +89,7 @@ fn look_in(
     Ok(best)
 }
 
-/// The circle of the earliest line that is on one, where a line is on a circle.
+/// Finds a circle of the earliest line that lies on one, if a line does.
 pub fn earliest(
     alloc: Global,
     models: &[Model],

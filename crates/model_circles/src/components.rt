@@ -1,5 +1,5 @@
-// Ranks of models by strongly connected components. Nothing is proved of the ranks here: whoever
-// uses them checks them.
+// Ranks of models by strongly connected components. Nothing is proved of the ranks here: their user
+// checks them.
 ghost use Rattle.std.specs.Prelude.{◌≡◌, ◌<◌, length, IfOk, OnOk};
 ghost use Rattle.model_circles.specs.Ranks.{AreWithin};
 
@@ -7,9 +7,9 @@ use model_index::{NamedModels, placed};
 use netlist_core::Model;
 use std::alloc::{AllocError, Global};
 
-// What the walk knows of a model: its number in the order of opening, from 1; the least number of
-// an open model that is reached from it; the line to look at next; and its rank, once its component
-// is whole.
+// What the walk knows of a model: its number in the order of opening, from 1 (0 if it is unseen);
+// the least number of an open model that is reached from it; the next line to follow; and its rank,
+// once its component is whole.
 #[derive(Clone, Copy)]
 struct Note {
     number: usize,
@@ -18,7 +18,7 @@ struct Note {
     rank: Option<usize>,
 }
 
-// A walk over the models, depth first, that ranks components as it leaves them (Tarjan's).
+// A depth-first walk over the models that ranks components as it leaves them (Tarjan's).
 #[derive(Drop)]
 struct Components {
     notes: Vec<Note>,
@@ -69,7 +69,7 @@ impl Components {
         self.notes[n].low = low;
     }
 
-    // A model that another places.
+    // Meets a model that another places.
     fn meet(&mut self, outer: usize, inner: usize) -> Result<(), AllocError>
         requires within { AreWithin (length self.old.notes.items) self.old }
         requires outer { outer < length self.old.notes.items }
@@ -86,7 +86,7 @@ impl Components {
         Ok(())
     }
 
-    // Ranks the component of a model, which are the models opened since.
+    // Ranks the component of a model: it and the models opened since.
     fn rank(&mut self, n: usize)
         requires { AreWithin (length self.old.notes.items) self.old }
         ensures { AreWithin (length self.old.notes.items) self.new }
@@ -117,7 +117,7 @@ impl Components {
         }
     }
 
-    // One step, at the model on top of the path: its next line, or it is left.
+    // Takes one step at the model on top of the path: follows its next line, or leaves it.
     fn step(&mut self, models: &[Model], named: &NamedModels, n: usize) -> Result<(), AllocError>
         requires index { named.now ≡ models.now }
         requires within { AreWithin (length models.now) self.old }
@@ -136,7 +136,7 @@ impl Components {
         }
     }
 
-    // All that a model leads to, in so many steps at most.
+    // Walks over all that a model leads to, in so many steps at most.
     fn reach(
         &mut self,
         models: &[Model],
@@ -171,7 +171,7 @@ fn steps_of(models: &[Model]) -> usize {
     steps
 }
 
-/// The rank of each model's component.
+/// Returns the rank of each model's component.
 pub fn component_ranks(
     alloc: Global,
     models: &[Model],

@@ -45,8 +45,8 @@ fn fault_of(alloc: Global, models: &[Model], circle: &Circle) -> Result<Fault, A
     })
 }
 
-/// The fault of the earliest subckt line that lies on a circle of models, with the names of one
-/// such circle, or `None` where no line does.
+/// Returns the fault of the earliest subckt line that lies on a circle of models, with the names of
+/// the models of one such circle, or `None` if no line does. `named` is the index of the models.
 pub fn circle_fault(
     alloc: Global,
     models: &[Model],

@@ -1,4 +1,4 @@
-// Ranks that were checked.
+// Ranks that are checked.
 ghost use Rattle.std.specs.Prelude.{◌≡◌, ◌<◌, length, IsTrue, IfOk};
 ghost use Rattle.model_circles.specs.Ranks.{NeverRisesAt, AreRanks};
 
@@ -38,8 +38,8 @@ fn never_rise(models: &[Model], named: &NamedModels, ranks: &[usize]) -> bool
     true
 }
 
-/// Ranks of which none rises along a line, by components, so that lines on no circle mostly lead to
-/// a lower rank.
+/// Returns ranks that do not rise along any line. They go by components, so most lines on no circle
+/// lead to a lower rank.
 pub fn ranks(alloc: Global, models: &[Model], named: &NamedModels) -> Result<Vec<usize>, AllocError>
     requires { named.now ≡ models.now }
     ensures { IfOk result (λ ranks. AreRanks models.now ranks.items) }

@@ -1,4 +1,4 @@
-// A search among models, breadth first, along the subckt lines that lead on from one of them.
+// A breadth-first search among models, along the subckt lines that lead on from one of them.
 ghost use Rattle.std.specs.Prelude.{◌≡◌, ◌<◌, ℕ, List, length, MatchOption, IfOk, OnOk};
 ghost use Rattle.lists.specs.Items.{number_at};
 ghost use Rattle.model_index.specs.Numbers.{PlacesSomewhere};
@@ -9,8 +9,8 @@ use model_index::{NamedModels, placed};
 use netlist_core::Model;
 use std::alloc::{AllocError, Global};
 
-/// The models found so far, in the order in which they were, each with the place there of the one
-/// that places it; and the place of each model.
+/// A search so far: the models found, in this order (`found`); for each of them the place there of
+/// the one that places it (`parents`); and for each model its place among those found (`places`).
 #[derive(Drop)]
 pub struct Search {
     pub places: Vec<Option<usize>>,
@@ -37,7 +37,7 @@ impl Search {
         })
     }
 
-    // A model that the one at a place places.
+    // Meets a model that the one at a place places.
     fn meet(&mut self, inner: usize, at: usize) -> Result<(), AllocError>
         requires { inner < length self.old.places.items }
         ensures { OnOk result (Meets self.old inner at self.new) }
@@ -50,7 +50,7 @@ impl Search {
         Ok(())
     }
 
-    // All models that the one at a place places.
+    // Meets all models that the one at a place places.
     fn visit(
         &mut self,
         models: &[Model],
@@ -76,7 +76,7 @@ impl Search {
         Ok(())
     }
 
-    /// All models to which one leads by subckt lines.
+    /// Finds all models to which `first` leads by subckt lines, and `first` itself.
     pub fn from(
         alloc: Global,
         models: &[Model],
@@ -96,7 +96,7 @@ impl Search {
         Ok(search)
     }
 
-    // The models on the way from the first to the one at a place, but the last.
+    // The models on the way from the first to the one at a place, without the last.
     fn way(
         &self,
         alloc: Global,
@@ -120,7 +120,7 @@ impl Search {
         Ok(way)
     }
 
-    /// The models on a way from the first to a goal, but the goal, where there is a way.
+    /// Returns the models on a way from the first to a goal, without the goal, if there is a way.
     pub fn way_to(
         &self,
         alloc: Global,
@@ -141,7 +141,7 @@ impl Search {
     }
 }
 
-/// The models on a way from one to a goal, but the goal, where there is a way.
+/// Returns the models on a way from one to a goal, without the goal, if there is a way.
 pub fn way_between(
     alloc: Global,
     models: &[Model],

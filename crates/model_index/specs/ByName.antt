@@ -8,7 +8,7 @@ use denote.Ref.{Bor}
 use Rattle.netlist_core.specs.declared.model.Model.{Model}
 use Rattle.netlist_core.specs.Names.{Name, is_model_named, model_named}
 
--- the first model of this name has this number
+-- the number is that of the first model of this name
 pub record IsNumberOf (models : List Model) (name : Name) (number : ℕ) : Type 0 where
   pub model : Model
   pub is_there : slice_get models number ≡ Some model
@@ -20,8 +20,8 @@ pub record IsNumberOf (models : List Model) (name : Name) (number : ℕ) : Type 
 abbrev pub number_kept : BTreeMap (Bor (List ℕ)) ℕ → Name → Option ℕ
 number_kept numbers name = get_by (λ k. slice_cmp nat_cmp name k.now) numbers
 
--- A map has the number of the first model of each name, where the models are numbered from this one
--- on.
+-- The map has the number of the first model of each name, if the models are numbered from this
+-- number on.
 abbrev pub HasNumbersFrom : BTreeMap (Bor (List ℕ)) ℕ → ℕ → List Model → Type 0
 HasNumbersFrom numbers number models =
     (name : Name) → number_kept numbers name ≡ position_from (is_model_named name) number models

@@ -4,7 +4,7 @@ use Rattle.netlist_core.specs.declared.model.Model.{Model}
 use Rattle.depth_walk.specs.Links.{Links}
 use Rattle.model_index.specs.Numbers.{number_placed}
 
--- the steps of the model of a number are its subckt lines, in order
+-- the steps of each model are what its subckt lines place, in order
 pub record AreLines (models : List Model) (links : Links) : Type 0 where
   pub long : length links ≡ length models
   pub each : (n k : ℕ) → get_or (get_or links n []) k None ≡ number_placed models n k

@@ -17,7 +17,7 @@ name_at models n = option_map_or (λ model. model.name) (slice_get models n) []
 abbrev pub subckts_of : List Model → ℕ → List Subckt
 subckts_of models n = option_map_or (λ model. model.subckts) (slice_get models n) []
 
--- the number of the model that a model's subckt line of that number names
+-- the number of the model that the k-th subckt line of a model names
 unfoldable pub number_placed : List Model → ℕ → ℕ → Option ℕ
 number_placed models n k =
     option_and_then (λ line. first_named models line.model) (slice_get (subckts_of models n) k)
@@ -30,7 +30,7 @@ Places models n k inner = number_placed models n k ≡ Some inner
 abbrev pub PlacesSomewhere : List Model → ℕ → ℕ → Type 0
 PlacesSomewhere models n inner = (k : ℕ) × Places models n k inner
 
--- each model places the next, and the last the one at the end
+-- each model places the next, and the last places the model at the end
 abbrev pub LeadsBy : List Model → ℕ → List ℕ → ℕ → Type 0
 LeadsBy models n [] end = PlacesSomewhere models n end
 LeadsBy models n (next ∷ numbers) end =

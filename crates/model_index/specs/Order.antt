@@ -3,7 +3,8 @@ use Rattle.std.specs.Prelude.{ℕ, ◌≡◌, ◌≢◌, ◌<◌, ◌≤◌, Lis
 use Rattle.netlist_core.specs.declared.model.Model.{Model}
 use Rattle.model_index.specs.Numbers.{Places}
 
--- an order: all models by number, each once, after those that its subckt lines place
+-- an order: it has all models by number, each of them once and after those that its subckt lines
+-- place
 pub record IsModelOrder (models : List Model) (order : List ℕ) : Type 0 where
   pub numbers : All (λ n. n < length models) order
   pub once : AllPairs (λ a b. a ≢ b) order

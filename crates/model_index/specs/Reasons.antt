@@ -10,7 +10,7 @@ use Rattle.model_index.specs.declared.error.ModelOrderError.TheVariants.{NoMemor
 abbrev pub IsCircular : List Model → Type 0
 IsCircular models = (name : Name) × (names : List Name) × Leads models name names name
 
--- a refusal for another reason than memory is right
+-- a refusal comes only if a model leads back to itself, unless memory ran out
 abbrev pub IsModelOrderRefusal : List Model → ModelOrderError → Type 0
 IsModelOrderRefusal models NoMemory = Unit {0}
 IsModelOrderRefusal models Circle = IsCircular models

@@ -5,11 +5,13 @@ ghost use Rattle.model_index.specs.declared.error.ModelOrderError.TheVariants.{N
 use std::alloc::{AllocError, AllocFailed};
 use thiserror::Error;
 
-/// Why there is no order.
+/// Why models have no order in which each comes after those that it places.
 #[derive(Clone, Copy, Debug, Error)]
 pub enum ModelOrderError {
+    /// Memory ran out.
     #[error("out of memory")]
     NoMemory,
+    /// A model leads back to itself by subckt lines.
     #[error("a model leads back to itself")]
     Circle,
 }

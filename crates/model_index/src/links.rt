@@ -9,7 +9,7 @@ use lists::List;
 use netlist_core::Model;
 use std::alloc::{AllocError, Global};
 
-// The numbers that the subckt lines of a model place, in order.
+// The numbers of the models that the subckt lines of a model place, in order.
 fn lines_of(
     alloc: Global,
     models: &[Model],
@@ -29,7 +29,7 @@ fn lines_of(
     Ok(List::of(numbers))
 }
 
-/// The numbers that the lines of each model place.
+/// Returns the numbers of the models that the subckt lines of each model place.
 pub fn links_of(
     alloc: Global,
     models: &[Model],

@@ -8,7 +8,7 @@ use netlist_core::Model;
 use std::alloc::{AllocError, Global};
 use std::collections::BTreeMap;
 
-/// Models, and where the first of each name stands among them. Contracts see the models.
+/// Models, with an index of the first model of each name. Contracts see the models.
 #[derive(Drop)]
 pub struct NamedModels<'a> {
     models: &'a [Model],
@@ -39,7 +39,7 @@ fn numbers_of(alloc: Global, models: &[Model]) -> Result<BTreeMap<&[u8], usize>,
 }
 
 impl<'a> NamedModels<'a> {
-    /// The index of these models.
+    /// Makes the index of these models.
     pub fn new(alloc: Global, models: &'a [Model]) -> Result<NamedModels<'a>, AllocError>
         ensures { IfOk result (λ named. named ≡ models.now) }
     {
@@ -49,7 +49,7 @@ impl<'a> NamedModels<'a> {
         })
     }
 
-    /// The number of the first model of this name.
+    /// Returns the number of the first model of this name, counted from 0, if there is one.
     pub fn find(&self, name: &[u8]) -> Option<usize>
         ensures number { result ≡ position (is_model_named name.now) self.now }
         ensures found { MatchOption result (model_named self.now name.now ≡ None)
@@ -58,7 +58,7 @@ impl<'a> NamedModels<'a> {
         self.numbers.get(name).copied()
     }
 
-    /// The first model of this name.
+    /// Returns the first model of this name, if there is one.
     pub fn model(&self, name: &[u8]) -> Option<&'a Model>
         ensures { option_copied result ≡ model_named self.now name.now }
     {

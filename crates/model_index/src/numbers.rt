@@ -5,8 +5,8 @@ ghost use Rattle.model_index.specs.Numbers.{number_placed};
 use crate::named::NamedModels;
 use netlist_core::Model;
 
-/// The number of the model that a subckt line names, by the number of its model and its own place
-/// there.
+/// Returns the number of the model that the k-th subckt line of model n names, if there is one.
+/// `named` is the index of the models.
 pub fn placed(models: &[Model], named: &NamedModels, n: usize, k: usize) -> Option<usize>
     requires { named.now ≡ models.now }
     ensures number { result ≡ number_placed models.now n k }

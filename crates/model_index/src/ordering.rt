@@ -11,8 +11,9 @@ use lists::List;
 use netlist_core::Model;
 use std::alloc::Global;
 
-/// An order of the models' numbers in which each comes after those of the models that its subckt
-/// lines place. Each line's name is looked up once.
+/// Orders the models' numbers so that each comes after those of the models that its subckt lines
+/// place. `named` is the index of the models; each line's name is looked up once. `Circle` comes if
+/// a model leads back to itself.
 #[tactic(auto, using(crate::proofs::Linked::stay, crate::proofs::Linked::model_order, crate::proofs::Circling::circular))]
 pub fn order(
     alloc: Global,

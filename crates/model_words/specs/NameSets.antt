@@ -5,6 +5,6 @@ use denote.Ref.{Bor}
 use Rattle.lists.specs.Names.{holds_name}
 use Rattle.netlist_core.specs.Names.{Name}
 
--- A set has the names that pass the test, and no others.
+-- The set has the names that pass the test, and no others.
 abbrev pub HasNames : BTreeSet (Bor (List ℕ)) → (Name → Bool) → Type 0
 HasNames names test = (name : Name) → holds_name names name ≡ test name

@@ -12,7 +12,7 @@ use Rattle.model_words.specs.NameSets.{HasNames}
 abbrev pub has_port : Name → Model → Bool
 has_port name m = has_input name m || has_output name m
 
--- the names are those of this model's ports
+-- these are the names of this model's ports
 pub record AreNamesOfPorts (names : PortNames) (m : Model) : Type 0 where
   pub inputs : HasNames names.inputs (λ name. has_input name m)
   pub outputs : HasNames names.outputs (λ name. has_output name m)
@@ -21,17 +21,18 @@ pub record AreNamesOfPorts (names : PortNames) (m : Model) : Type 0 where
 abbrev pub ArePlain : List Model → Type 0
 ArePlain models = All (λ m. length m.subckts ≡ 0) models
 
--- each of these models has its ports' names, unless there is no subckt line that asks for them
+-- the names of each model's ports are kept, unless no model has a subckt line that would look them
+-- up
 pub record KnowsPorts (placed : PlacedPorts) (models : List Model) : Type 0 where
   pub named : placed.named.now ≡ models
   pub ports : AllZip AreNamesOfPorts placed.ports models ⊎ ArePlain models
 
--- so the subckt lines of this model, which is one of these, find the names
+-- so the subckt lines of this model, which is one of these, find the names that they look up
 pub record KnowsPlaced (placed : PlacedPorts) (models : List Model) (m : Model) : Type 0 where
   pub ports : KnowsPorts placed models
   pub plain : ArePlain models → length m.subckts ≡ 0
 
--- the names of a model that is placed, where there is one
+-- these are the names of the model's ports; without a model there are no names
 abbrev pub ArePlacedNames : Option Model → Option PortNames → Type 0
 ArePlacedNames None None = Unit {0}
 ArePlacedNames None (Some names) = ⊥

@@ -8,13 +8,14 @@ use lists::List;
 use netlist_rules::{Fault, FaultKind};
 use std::alloc::{AllocError, Global};
 
-/// The word on the earliest line of those that were offered, there the one that was offered first.
+/// The word on the earliest line of those offered so far; on one line the word that was offered
+/// first.
 #[derive(Clone, Copy)]
 pub struct Earliest<'a> {
     word: Option<Word<'a>>,
 }
 
-// The earlier of two words, the first of two on one line.
+// The earlier of two words, or the first of two on one line.
 fn earlier<'a>(first: Word<'a>, second: Word<'a>) -> Word<'a>
     ensures { word_port result
         ≡ cond (nat_le first.entry.line second.entry.line) (word_port first.entry) (
@@ -29,14 +30,14 @@ fn earlier<'a>(first: Word<'a>, second: Word<'a>) -> Word<'a>
 }
 
 impl<'a> Earliest<'a> {
-    /// Of no words.
+    /// Makes the state in which no word has been offered.
     pub fn new() -> Earliest<'a>
         ensures { earliest_word result ≡ None }
     {
         Earliest { word: None }
     }
 
-    /// Offers one more word.
+    /// Offers one more word, which is kept if it is on an earlier line than the one so far.
     pub fn offer(&mut self, word: Word<'a>)
         ensures { earliest_word self.new ≡ earliest_after (earliest_word self.old)
             (word_port word.entry ∷ []) }
@@ -47,7 +48,8 @@ impl<'a> Earliest<'a> {
         };
     }
 
-    /// The fault of this kind at the word, with a copy of its name.
+    /// Returns the fault of this kind at the word that is kept, with a copy of its name. `None`
+    /// comes if no word was offered.
     pub fn fault(&self, alloc: Global, kind: FaultKind) -> Result<Option<Fault>, AllocError>
         ensures { IfOk result (λ found. found ≡
             option_map (fault_of_port kind) (earliest_word self.now)) }

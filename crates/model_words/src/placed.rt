@@ -12,7 +12,7 @@ use model_index::NamedModels;
 use netlist_core::Model;
 use std::alloc::{AllocError, Global};
 
-/// The names of the ports of each model, unless no model has a subckt line, and the models by name.
+/// The models by name, with the names of the ports of each, unless no model has a subckt line.
 #[derive(Drop)]
 pub struct PlacedPorts<'n, 'a> {
     named: &'n NamedModels<'a>,
@@ -42,7 +42,7 @@ fn ports_of<'a>(alloc: Global, models: &'a [Model]) -> Result<Vec<PortNames<'a>>
     Ok(ports)
 }
 
-// The names of the ports of each model, or none where no model has a subckt line.
+// The names of the ports of each model, or nothing if no model has a subckt line.
 fn needed_ports<'a>(alloc: Global, models: &'a [Model]) -> Result<Vec<PortNames<'a>>, AllocError>
     ensures { IfOk result (λ ports. AllZip AreNamesOfPorts ports.items models.now ⊎
         ArePlain models.now) }
@@ -54,7 +54,7 @@ fn needed_ports<'a>(alloc: Global, models: &'a [Model]) -> Result<Vec<PortNames<
 }
 
 impl<'n, 'a> PlacedPorts<'n, 'a> {
-    /// Of these models.
+    /// Collects the names of the ports of these models. `named` is the index of the models.
     pub fn new(
         alloc: Global,
         models: &'a [Model],
@@ -69,7 +69,8 @@ impl<'n, 'a> PlacedPorts<'n, 'a> {
         })
     }
 
-    /// Of the first model of this name, where some model has a subckt line.
+    /// Returns the names of the ports of the first model of this name, if there is such a model and
+    /// some model has a subckt line.
     pub fn find(&self, name: &[u8]) -> Option<&PortNames<'a>>
         ensures { (models : List Model) → KnowsPorts self.now models → ¬ ArePlain models
             → ArePlacedNames (model_named models name.now) (option_copied result) }

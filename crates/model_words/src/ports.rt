@@ -10,7 +10,7 @@ use netlist_core::{Model, Port};
 use std::alloc::{AllocError, Global};
 use std::collections::BTreeSet;
 
-/// The names of a model's inputs, among which its clocks count, and of its outputs.
+/// The names of a model's inputs, clocks among them, and of its outputs.
 #[derive(Drop)]
 pub struct PortNames<'a> {
     inputs: BTreeSet<&'a [u8]>,
@@ -31,7 +31,7 @@ fn push_ports<'a>(names: &mut BTreeSet<&'a [u8]>, ports: &'a [Port]) -> Result<(
 }
 
 impl<'a> PortNames<'a> {
-    /// Of this model.
+    /// Collects the names of this model's ports.
     pub fn of(alloc: Global, model: &'a Model) -> Result<PortNames<'a>, AllocError>
         ensures { IfOk result (λ names. AreNamesOfPorts names model.now) }
     {
@@ -43,7 +43,7 @@ impl<'a> PortNames<'a> {
         Ok(PortNames { inputs, outputs })
     }
 
-    /// Whether an input has this name.
+    /// Returns whether an input or a clock has this name.
     pub fn has_input(&self, name: &[u8]) -> bool
         ensures { (model : Model) → AreNamesOfPorts self.now model →
             result ≡ has_input name.now model }
@@ -51,7 +51,7 @@ impl<'a> PortNames<'a> {
         self.inputs.contains(name)
     }
 
-    /// Whether an output has this name.
+    /// Returns whether an output has this name.
     pub fn has_output(&self, name: &[u8]) -> bool
         ensures { (model : Model) → AreNamesOfPorts self.now model →
             result ≡ has_output name.now model }
@@ -59,7 +59,7 @@ impl<'a> PortNames<'a> {
         self.outputs.contains(name)
     }
 
-    /// Whether a port has this name.
+    /// Returns whether a port has this name.
     pub fn has_port(&self, name: &[u8]) -> bool
         ensures { (model : Model) → AreNamesOfPorts self.now model →
             result ≡ has_port name.now model }

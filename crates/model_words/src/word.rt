@@ -1,6 +1,6 @@
 // Words with the numbers of their lines.
 
-/// A name where it stands in the models, with the number of its line.
+/// A name that stands in the models, with the number of its line.
 #[derive(Clone, Copy)]
 pub struct Word<'a> {
     pub line: u64,

@@ -9,7 +9,7 @@ use Rattle.net_faults.specs.declared.numbering.Numbering.{Numbering}
 use Rattle.net_faults.specs.declared.first_lines.FirstLines.{FirstLines}
 use Rattle.net_faults.specs.Numbering.{count_of, name_number}
 
--- these many lines, none of them known
+-- so many lines, none of them known
 abbrev pub HasNoLine : ℕ → List (Option ℕ) → Type 0
 HasNoLine count lines = (length lines ≡ count) × ((k : ℕ) → slice_index_or lines k None ≡ None)
 
@@ -21,8 +21,8 @@ line_in lines number = slice_index_or lines.lines.items number None
 abbrev pub has_line : (ℕ → Bool) → FirstLines → ℕ → Bool
 has_line test lines number = option_map_or test (line_in lines number) false
 
--- They tell of these words whether a name stands on a line before another, on a line up to another,
--- or at all.
+-- These lines tell whether a name stands among the words on a line before a port's, on a line up to
+-- it, or at all.
 pub record AreFirstLines (names : Numbering) (lines : FirstLines) (ports : List Port) : Type 0 where
   pub room : length lines.lines.items ≡ count_of names
   pub before : (p : Port) (number : ℕ) → name_number names p.name ≡ Some number

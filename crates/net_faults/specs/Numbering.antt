@@ -27,12 +27,12 @@ abbrev pub StandsAt : Numbering → Name → ℕ → Type 0
 StandsAt names name number =
     (number < count_of names) × (slice_index_or (numbered_names names) number [] ≡ name)
 
--- each name that has a number stands there, so no two names have one number
+-- each name that has a number stands at it, so no two names have one number
 abbrev pub IsNumbering : Numbering → Type 0
 IsNumbering names =
     (name : Name) (number : ℕ) → name_number names name ≡ Some number → StandsAt names name number
 
--- a name is given this number, and every other name has what it had
+-- the name has this number now, and every other name has the number that it had
 abbrev pub GivesNumber : Numbering → Numbering → Name → ℕ → Type 0
 GivesNumber old new name number =
     (other : Name) → name_number new other ≡ cond (bytes_eq name other) (Some number)
@@ -44,7 +44,7 @@ KeepsNumbers old new =
     (name : Name) (number : ℕ) → name_number old name ≡ Some number
     → name_number new name ≡ Some number
 
--- words without their numbers and without where their bytes lie in memory
+-- words without their numbers, and without the place of their bytes in memory
 abbrev pub numbered_port : NumberedWord → Port
 numbered_port w = word_port w.word
 

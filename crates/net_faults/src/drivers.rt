@@ -44,7 +44,7 @@ fn push_latch_outputs<'a>(
     Ok(())
 }
 
-/// The drivers of a model's nets that are no inputs.
+/// Collects the drivers of a model's nets other than its inputs.
 pub fn other_drivers<'a>(
     alloc: Global,
     model: &'a Model,

@@ -17,12 +17,12 @@ use model_words::Earliest;
 use netlist_core::Model;
 use std::alloc::{AllocError, Global};
 
-/// The other list in which a port's name makes it a double.
+/// The other list of ports in which a port's name may stand as well.
 #[derive(Clone, Copy)]
 pub enum Elsewhere<'l> {
-    /// On a line before the port's.
+    /// A list in which the name counts if it stands on a line before the port's.
     Before(&'l FirstLines),
-    /// On a line up to the port's.
+    /// A list in which the name counts if it stands on a line up to the port's.
     UpTo(&'l FirstLines),
 }
 
@@ -38,7 +38,7 @@ fn stands_elsewhere(elsewhere: Elsewhere<'_>, word: NumberedWord<'_>) -> bool
     }
 }
 
-// Offers the words of a list that stand earlier in it, or in the other list.
+// Offers the words of a list whose names stand earlier in it, or count in the other list.
 fn offer_doubles<'a>(
     alloc: Global,
     names: &Numbering<'a>,
@@ -61,7 +61,7 @@ fn offer_doubles<'a>(
     Ok(())
 }
 
-// Offers the names of a model that are twice a port, by the lines of its inputs and clocks and
+// Offers the names of a model that are twice a port, given the lines of its inputs and clocks and
 // those of its outputs.
 fn offer_duplicates_by<'a>(
     alloc: Global,

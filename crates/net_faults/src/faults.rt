@@ -15,21 +15,21 @@ use model_words::{Earliest, Fault, FaultKind, PlacedPorts};
 use netlist_core::Model;
 use std::alloc::{AllocError, Global};
 
-/// The fault by each rule on how nets are named, driven and read, at the earliest word that breaks
-/// it.
+/// The first fault by each rule on how nets are named, driven and read: at the earliest word that
+/// breaks the rule.
 #[derive(Drop)]
 pub struct NetFaults {
-    /// Of a name that is twice a port of a model: twice in `.inputs`, twice in `.clock`, twice in
-    /// `.outputs`, or among the inputs and in `.outputs`.
+    /// The fault of a name that is twice a port of a model: twice in `.inputs`, twice in `.clock`,
+    /// twice in `.outputs`, or among the inputs and in `.outputs`.
     pub duplicate_port: Option<Fault>,
-    /// Of a net that has two drivers.
+    /// The fault of a net that has two drivers.
     pub second_driver: Option<Fault>,
-    /// Of a net that is read and has no driver. A pin of an unknown model or formal counts as a
-    /// driver here.
+    /// The fault of a net that is read and has no driver. A pin of an unknown model or formal
+    /// counts as a driver here.
     pub undriven: Option<Fault>,
 }
 
-/// The earliest word so far that breaks each rule.
+/// The earliest word so far that breaks each of the rules.
 #[derive(Clone, Copy)]
 pub struct EarliestWords<'a> {
     duplicate_port: Earliest<'a>,
@@ -91,7 +91,8 @@ fn earliest_words<'a>(
     Ok(earliest)
 }
 
-/// The faults of models, whose ports are these.
+/// Finds the first fault of models by each rule on their nets. `placed` has the names of the
+/// models' ports.
 pub fn net_faults<'a>(
     alloc: Global,
     models: &'a [Model],

@@ -18,7 +18,7 @@ pub struct FirstLines {
     lines: Vec<Option<u64>>,
 }
 
-// A line for each of these many numbers, none of them known.
+// Room for the lines of so many numbers, none of them known.
 fn no_lines(alloc: Global, count: usize) -> Result<Vec<Option<u64>>, AllocError>
     ensures { IfOk result (λ lines. HasNoLine count lines.items) }
 {
@@ -58,7 +58,7 @@ fn is_up_to(known: Option<u64>, line: u64) -> bool
 }
 
 impl FirstLines {
-    /// Of no words, with room for the lines of these names.
+    /// Makes the lines of no words, with room for the lines of these names.
     pub fn new(alloc: Global, names: &Numbering<'_>) -> Result<FirstLines, AllocError>
         ensures { IfOk result (λ lines. AreFirstLines names.now lines []) }
     {
@@ -87,7 +87,7 @@ impl FirstLines {
         }
     }
 
-    /// Adds a word, and answers whether its name stood on a line up to the word's.
+    /// Adds a word, and returns whether its name stood before on a line up to the word's.
     pub fn insert(&mut self, word: NumberedWord<'_>) -> bool
         ensures stood { (names : numbered.Numbering) (ports : List Port) →
             IsNumbered names word.entry → AreFirstLines names self.old ports →
@@ -101,7 +101,7 @@ impl FirstLines {
         is_up_to(known, word.word.line)
     }
 
-    /// Whether the word's name stands on a line before the word's.
+    /// Returns whether the word's name stands on a line before the word's.
     pub fn has_before(&self, word: NumberedWord<'_>) -> bool
         ensures { (names : numbered.Numbering) (ports : List Port) → IsNumbered names word.entry →
             AreFirstLines names self.now ports →
@@ -110,7 +110,7 @@ impl FirstLines {
         is_before(self.line(word.number), word.word.line)
     }
 
-    /// Whether the word's name stands on a line up to the word's.
+    /// Returns whether the word's name stands on a line up to the word's.
     pub fn has_up_to(&self, word: NumberedWord<'_>) -> bool
         ensures { (names : numbered.Numbering) (ports : List Port) → IsNumbered names word.entry →
             AreFirstLines names self.now ports →
@@ -119,7 +119,7 @@ impl FirstLines {
         is_up_to(self.line(word.number), word.word.line)
     }
 
-    /// Whether the name stands on any line.
+    /// Returns whether the name stands on any line.
     pub fn has_name(&self, names: &Numbering<'_>, name: &[u8]) -> bool
         ensures { (ports : List Port)
             → AreFirstLines names.now self.now ports
@@ -131,7 +131,7 @@ impl FirstLines {
         }
     }
 
-    /// Of these words.
+    /// Collects the earliest lines of the names of these words.
     pub fn of(
         alloc: Global,
         names: &Numbering<'_>,

@@ -1,4 +1,4 @@
-// The words of a model that name its nets where they are driven, and its outputs.
+// The words that name a model's nets where they are driven, and the words of its outputs.
 ghost use Rattle.std.specs.Prelude.{◌≡◌, ◌++◌, List, IfOk, OnOk};
 ghost use Rattle.netlist_core.specs.declared.model.Model.{Model};
 ghost use Rattle.netlist_rules.specs.Drivers.{drivers_of};
@@ -15,17 +15,17 @@ use model_words::PlacedPorts;
 use netlist_core::Model;
 use std::alloc::{AllocError, Global};
 
-/// The words of a model that name its nets where they are driven, and its outputs, each with the
-/// number of its name.
+/// The words that name a model's nets where they are driven, and the words of its outputs, each
+/// with the number of its name.
 #[derive(Drop)]
 pub struct NetWords<'a> {
     pub names: Numbering<'a>,
     /// The inputs, then the clocks.
     pub inputs: Vec<NumberedWord<'a>>,
     pub outputs: Vec<NumberedWord<'a>>,
-    /// The drivers that are no inputs.
+    /// The drivers other than the inputs.
     pub others: Vec<NumberedWord<'a>>,
-    /// The actuals of pins of an unknown model or formal.
+    /// The actuals of the pins of an unknown model or formal.
     pub unknown: Vec<NumberedWord<'a>>,
 }
 
@@ -43,7 +43,7 @@ pub fn push_words<'a>(
 }
 
 impl<'a> NetWords<'a> {
-    /// Of this model.
+    /// Collects the words of this model. `placed` has the names of the models' ports.
     pub fn of(
         alloc: Global,
         model: &'a Model,
@@ -72,7 +72,8 @@ impl<'a> NetWords<'a> {
         })
     }
 
-    /// The drivers of the model's nets.
+    /// Returns the drivers of the model's nets: each input and clock by its first word, then the
+    /// others.
     pub fn drivers(&self, alloc: Global) -> Result<Vec<NumberedWord<'a>>, AllocError>
         requires { HaveNumbers self.now }
         ensures words { IfOk result (λ words. (models : List Model) (model : Model) →

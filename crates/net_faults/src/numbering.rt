@@ -8,7 +8,7 @@ use model_words::Word;
 use std::alloc::{AllocError, Global};
 use std::collections::BTreeMap;
 
-/// Names, each with its number: they are counted from 0, in the order in which they first come.
+/// Names, each with a number: they are counted from 0, in the order in which they first come.
 #[derive(Drop)]
 pub struct Numbering<'a> {
     numbers: BTreeMap<&'a [u8], usize>,
@@ -23,7 +23,7 @@ pub struct NumberedWord<'a> {
 }
 
 impl<'a> Numbering<'a> {
-    /// Of no names.
+    /// Makes the numbering of no names.
     pub fn new(alloc: Global) -> Numbering<'a>
         ensures { IsNumbering result }
     {
@@ -33,21 +33,21 @@ impl<'a> Numbering<'a> {
         }
     }
 
-    /// How many names there are.
+    /// Returns how many names there are.
     pub fn len(&self) -> usize
         ensures { result ≡ count_of self.now }
     {
         self.names.len()
     }
 
-    /// The number of a name, if it has one.
+    /// Returns the number of a name, if it has one.
     pub fn find(&self, name: &[u8]) -> Option<usize>
         ensures { result ≡ name_number self.now name.now }
     {
         self.numbers.get(name).copied()
     }
 
-    // Puts a number in the place of what is kept for a name, and answers what was kept.
+    // Gives a name this number, and returns the one that it had.
     fn put(&mut self, name: &'a [u8], number: usize) -> Result<Option<usize>, AllocError>
         ensures old { IfOk result (λ known. known ≡ name_number self.old name.now) }
         ensures new { OnOk result (GivesNumber self.old self.new name.now number) }
@@ -56,7 +56,7 @@ impl<'a> Numbering<'a> {
         Ok(self.numbers.insert(name, number)?)
     }
 
-    // The number of a name, the next one where it had none.
+    // The number of a name: the next one if it had none.
     fn number(&mut self, name: &'a [u8]) -> Result<usize, AllocError>
         requires { IsNumbering self.old }
         ensures number { IfOk result (λ number. name_number self.new name.now ≡ Some number) }
@@ -76,7 +76,7 @@ impl<'a> Numbering<'a> {
         }
     }
 
-    /// The words, each with the number of its name.
+    /// Gives each word the number of its name; new names are numbered next.
     pub fn number_words(
         &mut self,
         alloc: Global,
@@ -100,7 +100,7 @@ impl<'a> Numbering<'a> {
         Ok(numbered)
     }
 
-    /// The same for words that were to be found.
+    /// Gives each word of a result the number of its name, or returns the result's error.
     pub fn number_found(
         &mut self,
         alloc: Global,

@@ -16,7 +16,7 @@ use std::alloc::{AllocError, Global};
 pub enum PinKind {
     Input,
     Output,
-    /// Neither, or there is no such model.
+    /// Neither an input nor an output, or there is no such model.
     Unknown,
 }
 
@@ -93,7 +93,7 @@ pub fn push_actuals<'a>(
     Ok(())
 }
 
-/// The actuals of a model's pins of one kind.
+/// Collects the actuals of a model's pins of one kind.
 pub fn actual_words<'a>(
     alloc: Global,
     kind: PinKind,

@@ -71,7 +71,7 @@ fn push_latches<'a>(words: &mut Vec<Word<'a>>, latches: &'a [LatchRow]) -> Resul
     Ok(())
 }
 
-/// The readings of a model's nets.
+/// Collects the words at which a model's nets are read.
 pub fn reading_words<'a>(
     alloc: Global,
     model: &'a Model,

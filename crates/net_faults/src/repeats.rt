@@ -1,4 +1,5 @@
-// Words of a list whose names stand earlier in it.
+// Words of a list whose names stand earlier in it: on an earlier line, or before them on the same
+// line.
 ghost use Rattle.std.specs.Prelude.{◌≡◌, List, [], ◌∷◌, IfOk, OnOk};
 ghost use Rattle.netlist_core.specs.declared.model.Port.{Port};
 ghost use Rattle.netlist_rules.specs.Drivers.{stands_earlier, firsts, repeats};
@@ -12,7 +13,7 @@ use crate::numbering::{NumberedWord, Numbering};
 use model_words::Earliest;
 use std::alloc::{AllocError, Global};
 
-/// Tells of the words of a list, one after another, whether their names stand earlier.
+/// A pass over the words of a list, which tells of each whether its name stands earlier.
 #[derive(Drop)]
 pub struct Repeats {
     all: FirstLines,
@@ -20,7 +21,7 @@ pub struct Repeats {
 }
 
 impl Repeats {
-    /// In front of the first of these words.
+    /// Makes the pass before the first of these words.
     pub fn new(
         alloc: Global,
         names: &Numbering<'_>,
@@ -36,7 +37,7 @@ impl Repeats {
         })
     }
 
-    /// Passes the next word, and answers whether its name stands earlier.
+    /// Passes the next word, and returns whether its name stands earlier.
     pub fn pass(&mut self, word: NumberedWord<'_>) -> bool
         ensures told { (names : numbered.Numbering) (before after : List Port) →
             IsNumbered names word.entry →
@@ -52,7 +53,7 @@ impl Repeats {
     }
 }
 
-/// The words of the list whose names do not stand earlier.
+/// Collects the words of the list whose names do not stand earlier.
 pub fn firsts<'a>(
     alloc: Global,
     names: &Numbering<'a>,

@@ -10,7 +10,7 @@ use crate::repeats::offer_repeats;
 use model_words::Earliest;
 use std::alloc::{AllocError, Global};
 
-/// Offers the drivers of a model's nets that have one already.
+/// Offers the drivers of a model's nets that have an earlier driver.
 pub fn offer_second_drivers<'a>(
     alloc: Global,
     words: &NetWords<'a>,

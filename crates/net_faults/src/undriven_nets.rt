@@ -17,7 +17,7 @@ use model_words::{Earliest, PlacedPorts, Word};
 use netlist_core::Model;
 use std::alloc::{AllocError, Global};
 
-// Offers the words whose names are not among those of the drivers.
+// Offers the words whose names are not among the drivers' names.
 fn offer_unnamed<'a>(
     words: &[Word<'a>],
     names: &Numbering<'_>,
@@ -36,7 +36,7 @@ fn offer_unnamed<'a>(
     }
 }
 
-// The lines of the drivers of a model's nets, among which the actuals of unknown pins count here.
+// The lines of the drivers of a model's nets; the actuals of unknown pins count as drivers here.
 fn driver_lines(alloc: Global, words: &NetWords<'_>) -> Result<FirstLines, AllocError>
     requires numbers { HaveNumbers words.now }
     ensures { IfOk result (λ lines. (models : List Model) (model : Model) →

@@ -19,7 +19,7 @@ pub fn push_ports<'a>(words: &mut Vec<Word<'a>>, ports: &'a [Port]) -> Result<()
     Ok(())
 }
 
-/// The words of some ports.
+/// Collects the words of some ports.
 pub fn port_words<'a>(alloc: Global, ports: &'a [Port]) -> Result<Vec<Word<'a>>, AllocError>
     ensures { IfOk result (λ words. word_ports words.items ≡ ports.now) }
 {
@@ -28,7 +28,7 @@ pub fn port_words<'a>(alloc: Global, ports: &'a [Port]) -> Result<Vec<Word<'a>>,
     Ok(words)
 }
 
-/// The words of a model's inputs, among which its clocks count.
+/// Collects the words of a model's inputs, then those of its clocks.
 pub fn input_words<'a>(alloc: Global, model: &'a Model) -> Result<Vec<Word<'a>>, AllocError>
     ensures { IfOk result (λ words. word_ports words.items ≡ model.now.ins ++ model.now.clocks) }
 {

@@ -19,8 +19,8 @@ abbrev pub drives_class : List Net → ℕ → FlatLatch → Bool
 drives_class nets class latch =
     option_map_or (λ net. net.class == class) (slice_get nets latch.output.0) false
 
--- the position of the latch whose output is joined with the net of that name in the main model,
--- where there is one; of several the first
+-- the position of the first latch whose output is joined with the net of that name in the main
+-- model, if there is one
 abbrev pub latch_named : Flat → Name → Option ℕ
 latch_named flat name =
     option_and_then (λ class. position (drives_class flat.nets class) flat.latches)

@@ -8,7 +8,7 @@ use Rattle.netlist_core.specs.declared.model.Model.{Model}
 abbrev pub Name : Type 0
 Name = List ℕ
 
--- A name with the number of its line is a `Port`, whatever the name stands for there.
+-- A `Port` is any name with the number of its line, whatever the name stands for.
 abbrev pub at_line : ℕ → Name → Port
 at_line line name = record { line = line; name = name }
 
@@ -16,14 +16,14 @@ at_line line name = record { line = line; name = name }
 abbrev pub port_names : List Port → List Name
 port_names ports = map (λ port. port.name) ports
 
--- whether this is the name; whether the list has it
+-- whether the port has the name; whether a port of the list has it
 abbrev pub has_name : Name → Port → Bool
 has_name name port = bytes_eq port.name name
 
 abbrev pub is_named : List Port → Name → Bool
 is_named ports name = list_any (has_name name) ports
 
--- a name finds the first model of that name
+-- whether the model has the name; the first model that has it
 abbrev pub is_model_named : Name → Model → Bool
 is_model_named name model = bytes_eq model.name name
 

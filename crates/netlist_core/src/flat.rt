@@ -2,12 +2,12 @@
 use crate::model::{Name, Trigger};
 use lists::{Bytes, List};
 
-/// A net, by its position in the nets of a flat netlist.
+/// The number of a net: its position in the nets of a flat netlist.
 #[derive(Clone, Copy)]
 pub struct NetId(pub u32);
 
 /// A net: its place in the design, its name there, and the number of its class of joined nets. In
-/// the flat netlist of a design that is the position of the net of the class that is nearest the
+/// the flat netlist of a design this number is the position of the class's net that is nearest the
 /// main model.
 #[derive(Drop)]
 pub struct Net {
@@ -23,7 +23,8 @@ pub struct FlatPort {
     pub net: NetId,
 }
 
-/// A cover in one of its places.
+/// A cover in one of its places: it reads the nets `ins` and drives the net `out`. `rows` and `on`
+/// are as in `Cover`.
 #[derive(Drop)]
 pub struct Node {
     pub line: u64,
@@ -33,7 +34,8 @@ pub struct Node {
     pub on: bool,
 }
 
-/// A latch in one of its places: `kind` and `control` are `None` where it has no control.
+/// A latch in one of its places. `kind` and `control` are `None` if it has no control, and `init`
+/// is 0 to 3.
 #[derive(Clone, Copy)]
 pub struct FlatLatch {
     pub line: u64,
@@ -44,11 +46,11 @@ pub struct FlatLatch {
     pub init: u8,
 }
 
-/// A flat netlist: `ins` are the nets of the IN names, `outs` those of the main outputs, `clocks`
-/// those of the main model's `.clock` names, and `control` is the first latch's. Nets stand by
-/// place, and there by where the name first stands in the model's text; nodes and latches stand by
-/// place and line. Port tables list the nets where `listed` is true, as it is for the flat netlist
-/// of a design.
+/// A flat netlist. `ins` are the nets of the IN names, `outs` those of the main model's outputs,
+/// `clocks` those of its `.clock` names, and `control` is that of the first latch. Nets are in the
+/// order of their places, and in one place in the order in which the model's text first names them;
+/// nodes and latches are in the order of their places and lines. Port tables list the nets if
+/// `listed` is true, as it is for the flat netlist of a design.
 #[derive(Drop)]
 pub struct Flat {
     pub nets: List<Net>,
@@ -62,7 +64,7 @@ pub struct Flat {
     pub listed: bool,
 }
 
-/// The positions of a flat netlist's nodes, each after those that drive what it reads.
+/// The positions of a flat netlist's nodes, each after the nodes that drive what it reads.
 #[derive(Drop)]
 pub struct Order {
     pub nodes: List<u32>,

@@ -39,9 +39,8 @@ fn driver_of(nets: &[Net], latches: &[FlatLatch], class: u32) -> Option<usize>
         .position(|latch| drives_class(nets, class, latch))
 }
 
-/// The position among the flat latches of the one whose output is joined with the net of this name
-/// in the main model. `None` comes where the main model has no such net, and where no latch's
-/// output is joined with it.
+/// Returns the position of the first latch whose output is joined with the main model's net of this
+/// name. `None` comes if the main model has no such net, or if no latch's output is joined with it.
 pub fn latch_named(flat: &Flat, name: &[u8]) -> Option<u32>
     requires { length flat.now.latches < 2 ^ 32 }
     ensures { result ≡ latch_named flat.now name.now }

@@ -4,7 +4,8 @@ use lists::{Bytes, List};
 /// A name, as the bytes of its word.
 pub type Name = Bytes;
 
-/// The edge at which a latch takes its data. It changes nothing in what the latch means.
+/// The edge at which a latch takes its data, by its type: `Rise` for `re`, `Fall` for `fe`. It
+/// changes nothing in the meaning of the latch.
 #[derive(Clone, Copy)]
 pub enum Trigger {
     Rise,
@@ -25,8 +26,8 @@ pub struct Pin {
     pub actual: Name,
 }
 
-/// A `.names` line with its rows: `rows` has the characters before the output column, and `on` is
-/// true where the rows end in `1` or there are none.
+/// A `.names` line with its rows. `rows` has the characters before the output column, and `on` is
+/// true if the rows end in `1` or there are none.
 #[derive(Drop)]
 pub struct Cover {
     pub line: u64,
@@ -36,8 +37,8 @@ pub struct Cover {
     pub on: bool,
 }
 
-/// A `.latch` line: `kind` is `None` where there is no control (or it is `NIL`), and `init` is 0 to
-/// 3, 3 where it is left out.
+/// A `.latch` line. `kind` and `control` are `None` if there is no control (or it is `NIL`), and
+/// `init` is 0 to 3, or 3 if it is left out.
 #[derive(Drop)]
 pub struct LatchRow {
     pub line: u64,
@@ -48,7 +49,7 @@ pub struct LatchRow {
     pub init: u8,
 }
 
-/// A `.subckt` line.
+/// A `.subckt` line: the name of the model that it places, and its pins.
 #[derive(Drop)]
 pub struct Subckt {
     pub line: u64,
@@ -56,7 +57,8 @@ pub struct Subckt {
     pub pins: List<Pin>,
 }
 
-/// A `.model`, with the lines up to its end. Each list is in the order of the text.
+/// A model: its `.model` line, and what the lines up to its end say. Each list is in the order of
+/// the text.
 #[derive(Drop)]
 pub struct Model {
     pub line: u64,

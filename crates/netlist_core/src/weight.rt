@@ -7,7 +7,7 @@ ghost use Rattle.netlist_core.specs.OwnWeight.{port_weight, literals, rows_weigh
 use crate::model::{Model, Port};
 use lists::Bytes;
 
-/// The greatest weight of a netlist.
+/// The greatest weight that a netlist may have.
 pub const WEIGHT_LIMIT: u64 = 8192;
 
 // Whether a port has the name.
@@ -26,8 +26,8 @@ fn literals(row: &[u8]) -> usize
         .count()
 }
 
-/// The weight of a cover with these rows, at most the greatest u64: one for the cover, one for each
-/// row and one for each `0` and `1` in it.
+/// Returns the weight of a cover with these rows, or the greatest u64 if it is more: one for the
+/// cover, one for each row, and one for each `0` and `1` in them.
 pub fn rows_weight(rows: &[Bytes]) -> u64
     ensures { result ≡ min (rows_weight rows.now) u64.MAX }
 {
@@ -38,7 +38,7 @@ pub fn rows_weight(rows: &[Bytes]) -> u64
     weight
 }
 
-// One for each port name.
+// The weight of the ports: one for each port name.
 fn port_weight(model: &Model) -> u64
     ensures { result ≡ min (port_weight model.now) u64.MAX }
 {
@@ -54,9 +54,9 @@ fn port_weight(model: &Model) -> u64
         .saturating_add(clocks as u64)
 }
 
-/// The part of the weight that is the model's own, at most the greatest u64: one for each port
-/// name, two for each latch, one for each subckt line, and for each cover one, one for each row and
-/// one for each `0` and `1` in its rows.
+/// Returns the part of the weight that is the model's own, or the greatest u64 if it is more: one
+/// for each port name, two for each latch, one for each subckt line, and for each cover one, one
+/// for each row, and one for each `0` and `1` in its rows.
 pub fn weight_of(model: &Model) -> u64
     ensures { result ≡ min (own_weight model.now) u64.MAX }
 {

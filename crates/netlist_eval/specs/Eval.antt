@@ -7,7 +7,8 @@ use Rattle.netlist_core.specs.declared.flat.Flat.{Flat}
 use Rattle.netlist_meaning.specs.Flat.{class_of, out_class, IsSound, port_classes}
 use Rattle.netlist_meaning.specs.FlatOrder.{IsOrder}
 
--- along an order there is exactly one
+-- if its nodes have an order, a sound flat netlist has exactly one valuation for given inputs and a
+-- given state
 abbrev pub OrderedHaveOneValuation : Type 0
 OrderedHaveOneValuation =
     (flat : Flat) → IsSound flat → (order : List ℕ) → IsOrder flat order
@@ -43,7 +44,8 @@ abbrev pub evaluated : Flat → List ℕ → List Bool → List Bool → List Bo
 evaluated flat order inputs state bits =
     settled flat order (with_state flat state (with_inputs flat inputs bits))
 
--- what a cycle gives is told by the inputs and the state
+-- if the nodes have an order, the inputs and the state determine the outputs of a cycle and the
+-- next state
 abbrev pub CyclesAreOne : Type 0
 CyclesAreOne =
     (flat : Flat) → IsSound flat → (order : List ℕ) → IsOrder flat order
@@ -51,7 +53,7 @@ CyclesAreOne =
     → IsCycle flat inputs state outputs next → IsCycle flat inputs state outputs' next'
     → (outputs ≡ outputs') × (next ≡ next')
 
--- what a machine shows: its netlist, and the state of the latches
+-- what contracts see of a machine: its netlist, and the state of the latches
 pub record Held : Type 0 where
   pub flat : Flat
   pub state : List Bool

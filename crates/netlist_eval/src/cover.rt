@@ -9,7 +9,7 @@ use lists::Bytes;
 use netlist_core::{Flat, NetId};
 use netlist_meaning::{class_of, fits};
 
-/// The bit of a net.
+/// Returns the bit of a net, which is that of its class.
 pub fn net_bit(flat: &Flat, bits: &[bool], net: NetId) -> bool
     requires in_range { IsInRange flat.now }
     requires bits { length bits.now ≡ length flat.now.nets }
@@ -58,7 +58,7 @@ fn cover_bit(flat: &Flat, bits: &[bool], ins: &[NetId], rows: &[Bytes], on: bool
     any_holds(flat, bits, ins, rows) == on
 }
 
-/// The value of a node.
+/// Computes the value of a node's cover.
 pub fn node_bit(flat: &Flat, bits: &[bool], n: usize) -> bool
     requires in_range { IsInRange flat.now }
     requires bits { length bits.now ≡ length flat.now.nets }

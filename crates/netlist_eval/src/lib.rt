@@ -9,5 +9,6 @@ mod machine;
 mod settle;
 
 pub use laws::ordered_have_one_valuation;
+// The answer of `Machine::new` when memory runs out.
 pub use lists::OutOfMemory as MachineError;
 pub use machine::Machine;

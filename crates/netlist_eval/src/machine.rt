@@ -11,7 +11,7 @@ use netlist_core::{Flat, Order};
 use std::alloc::Global;
 use std::marker::Model;
 
-/// A machine holds the state of the latches.
+/// A machine, which runs a flat netlist cycle by cycle and holds the state of its latches.
 #[derive(Drop)]
 pub struct Machine<'a> {
     flat: &'a Flat,
@@ -36,7 +36,7 @@ impl<'a> Model for Machine<'a> {
 }
 
 impl<'a> Machine<'a> {
-    /// The machine in its first state: a latch with init 1 is 1.
+    /// Makes the machine in its first state, in which a latch with init 1 is 1 and each other is 0.
     pub fn new(alloc: Global, flat: &'a Flat, order: Order) -> Result<Machine<'a>, MachineError>
         requires sound { IsSound flat.now }
         requires ordered { IsOrder flat.now order.nodes }
@@ -53,7 +53,8 @@ impl<'a> Machine<'a> {
         })
     }
 
-    /// One cycle. It takes no memory.
+    /// Runs one cycle: writes the bits of the main outputs for these bits of the inputs, both in
+    /// the order of the flat netlist, and goes on to the next state. It takes no memory.
     pub fn cycle(&mut self, inputs: &[bool], outputs: &mut [bool])
         requires inputs { length inputs.now ≡ length self.old.flat.ins }
         requires outputs { length outputs.old ≡ length self.old.flat.outs }

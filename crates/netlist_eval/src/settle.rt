@@ -10,7 +10,7 @@ use netlist_core::Flat;
 use netlist_meaning::class_of;
 use std::alloc::{AllocError, Global};
 
-/// The bits of the inputs.
+/// Puts the bits of the inputs at the classes of their nets.
 pub fn put_inputs(flat: &Flat, inputs: &[bool], bits: &mut [bool])
     requires in_range { IsInRange flat.now }
     requires inputs { length inputs.now ≡ length flat.now.ins }
@@ -22,7 +22,7 @@ pub fn put_inputs(flat: &Flat, inputs: &[bool], bits: &mut [bool])
     }
 }
 
-/// The bits of the latches' outputs.
+/// Puts the bits of the state at the classes of the latches' outputs.
 pub fn put_state(flat: &Flat, state: &[bool], bits: &mut [bool])
     requires in_range { IsInRange flat.now }
     requires state { length state.now ≡ length flat.now.latches }
@@ -34,7 +34,7 @@ pub fn put_state(flat: &Flat, state: &[bool], bits: &mut [bool])
     }
 }
 
-/// The bits of the nodes, along the order.
+/// Computes the bits of the nodes along the order, each at the class of its output.
 pub fn settle(flat: &Flat, order: &[u32], bits: &mut [bool])
     requires in_range { IsInRange flat.now }
     requires order { All (λ n. n < length flat.now.nodes) order.now }
@@ -48,7 +48,7 @@ pub fn settle(flat: &Flat, order: &[u32], bits: &mut [bool])
     }
 }
 
-/// The bits of the main outputs.
+/// Reads the bits of the main outputs.
 pub fn read_outputs(flat: &Flat, bits: &[bool], outputs: &mut [bool])
     requires in_range { IsInRange flat.now }
     requires bits { length bits.now ≡ length flat.now.nets }
@@ -61,7 +61,7 @@ pub fn read_outputs(flat: &Flat, bits: &[bool], outputs: &mut [bool])
     }
 }
 
-/// The bits of the latches' inputs.
+/// Reads the bits of the latches' inputs.
 pub fn read_state(flat: &Flat, bits: &[bool], state: &mut [bool])
     requires in_range { IsInRange flat.now }
     requires bits { length bits.now ≡ length flat.now.nets }
@@ -74,7 +74,8 @@ pub fn read_state(flat: &Flat, bits: &[bool], state: &mut [bool])
     }
 }
 
-/// One cycle: from the state the outputs, and the next state in its place.
+/// Runs one cycle: computes the outputs from the inputs and the state, and puts the next state in
+/// the place of the state.
 pub fn run_cycle(
     flat: &Flat,
     order: &[u32],
@@ -107,7 +108,7 @@ pub fn run_cycle(
     read_state(flat, bits, state);
 }
 
-/// The first state.
+/// Returns the first state of the latches.
 pub fn first_state(alloc: Global, flat: &Flat) -> Result<Vec<bool>, AllocError>
     ensures { IfOk result (λ state. state.items ≡ start_bits flat.now) }
 {

@@ -7,7 +7,7 @@ use Rattle.netlist_core.specs.declared.flat.FlatPort.{FlatPort}
 use Rattle.netlist_core.specs.declared.flat.FlatLatch.{FlatLatch}
 use Rattle.netlist_meaning.specs.FlatOf.{PortsWithoutControl, flat_port}
 
--- the flat ports are those of the ports that are not the control
+-- the flat inputs are those of the ports that are not the control
 pub record AreInputs (design : Design) (ports : List Port) (inputs : List FlatPort) : Type 0 where
   pub in_ports : List Port
   pub are_in_ports : PortsWithoutControl design ports in_ports

@@ -9,6 +9,6 @@ use Rattle.netlist_meaning.specs.InOrder.{places_in_order, nets_at}
 abbrev pub place_at : Design → ℕ → Place
 place_at design k = get_or (places_in_order design) k []
 
--- the nets at the places before it: their count is the number of its first net
+-- the nets at the places before place k: their count is the number of its first net
 abbrev pub nets_before : Design → ℕ → List Net
 nets_before design k = flat_map (nets_at design) (take k (places_in_order design))

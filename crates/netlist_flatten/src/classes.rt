@@ -1,5 +1,5 @@
 // The class of each net, place by place: a net has the class of its actual, which stands at an
-// earlier place, or is its own.
+// earlier place, or a class of its own.
 ghost use Rattle.std.specs.Prelude.{◌≡◌, ◌<◌, ◌^◌, Some, length, map, IfOk};
 ghost use Rattle.netlist_core.specs.declared.model.Subckt.{Subckt};
 ghost use Rattle.netlist_core.specs.declared.model.Model as models;
@@ -30,7 +30,7 @@ fn own_numbers(alloc: Global, numbers: &Numbers<'_>, at: usize) -> Result<Vec<u3
     Ok(own)
 }
 
-// Gives each net at a place that a pin of its line names the class of its actual.
+// Gives each net at a place that a pin of the line to it names the class of its actual.
 fn join_pins(
     numbers: &Numbers<'_>,
     at: usize,
@@ -55,7 +55,7 @@ fn join_pins(
     }
 }
 
-// The classes of the nets at a place, where those before it are known.
+// The classes of the nets at a place, if those of the nets before it are known.
 fn classes_at(
     alloc: Global,
     numbers: &Numbers<'_>,
@@ -82,7 +82,7 @@ fn classes_at(
     }
 }
 
-/// The class of each net, by its number.
+/// Finds the class of each net, by the net's number.
 pub fn classes_of(alloc: Global, numbers: &Numbers<'_>) -> Result<Vec<u32>, AllocError>
     requires faultless { AreFaultless numbers.now.models }
     requires few { weight numbers.now < 2 ^ 32 }

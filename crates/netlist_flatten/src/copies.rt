@@ -4,14 +4,14 @@ ghost use Rattle.std.specs.Prelude.{◌≡◌, IfOk};
 use lists::{Bytes, List, copied};
 use std::alloc::{AllocError, Global};
 
-/// A copy of a place.
+/// Copies a place.
 pub fn copied_place(alloc: Global, place: &[u32]) -> Result<List<u32>, AllocError>
     ensures { IfOk result (λ copy. copy ≡ place.now) }
 {
     Ok(List::of(place.to_vec(alloc)?))
 }
 
-/// A copy of rows.
+/// Copies rows.
 pub fn copied_rows(alloc: Global, rows: &[Bytes]) -> Result<List<Bytes>, AllocError>
     ensures { IfOk result (λ copy. copy ≡ rows.now) }
 {

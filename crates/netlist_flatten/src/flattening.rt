@@ -43,7 +43,7 @@ fn flat_of(alloc: Global, numbers: &Numbers<'_>, found: u64) -> Result<Flat, All
     })
 }
 
-// The same, where its nets are numbered first.
+// The flat netlist of a design of a known weight, whose nets are numbered first.
 fn numbered_flat(alloc: Global, design: &Design, found: u64) -> Result<Flat, AllocError>
     requires faultless { AreFaultless design.now.models }
     requires few { weight design.now ≤ weight_limit }
@@ -54,9 +54,10 @@ fn numbered_flat(alloc: Global, design: &Design, found: u64) -> Result<Flat, All
     flat_of(alloc, &numbers, found)
 }
 
-/// The flat netlist of a design without a fault.
+/// Makes the flat netlist of a design without a fault.
 ///
-/// `TooLarge` has the design's weight, or the greatest u64 where it weighs more.
+/// `TooLarge` comes if the design weighs more than `WEIGHT_LIMIT`. It has the design's weight, or
+/// the greatest u64 if the design weighs more.
 pub fn flatten(alloc: Global, design: &Design) -> Result<Flat, FlattenError>
     requires faultless { AreFaultless design.now.models }
     ensures flat { IfOk result (IsFlatOf design.now) }

@@ -56,7 +56,7 @@ fn push_latches(
     Ok(())
 }
 
-/// The latches of all places.
+/// Makes the flat latches of all places, in order.
 pub fn latches_of(alloc: Global, numbers: &Numbers<'_>) -> Result<Vec<FlatLatch>, AllocError>
     ensures { IfOk result (λ latches.
         latches.items ≡ at_places numbers.now (λ model. model.latches) (flat_latch numbers.now)
@@ -69,7 +69,7 @@ pub fn latches_of(alloc: Global, numbers: &Numbers<'_>) -> Result<Vec<FlatLatch>
     Ok(latches)
 }
 
-/// The control of the first latch.
+/// Returns the control of the first latch, if there is one.
 pub fn first_control(latches: &[FlatLatch]) -> Option<NetId>
     ensures { result ≡ first_control latches.now }
 {

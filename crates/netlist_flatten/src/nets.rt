@@ -50,7 +50,7 @@ fn push_nets(
     Ok(())
 }
 
-/// The nets, where the class of each is known.
+/// Makes the flat nets, in order, from the class of each net.
 pub fn nets_of(
     alloc: Global,
     numbers: &Numbers<'_>,

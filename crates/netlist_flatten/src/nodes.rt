@@ -81,7 +81,7 @@ fn push_nodes(
     Ok(())
 }
 
-/// The covers of all places.
+/// Makes the nodes: the covers of all places, in order.
 pub fn nodes_of(alloc: Global, numbers: &Numbers<'_>) -> Result<Vec<Node>, AllocError>
     ensures { IfOk result (λ nodes.
         nodes.items ≡ at_places numbers.now (λ model. model.covers) (flat_node numbers.now)

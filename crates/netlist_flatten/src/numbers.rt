@@ -48,7 +48,7 @@ fn placed_models(alloc: Global, design: &Design) -> Result<List<PlacedModel>, Al
 }
 
 impl<'a> Numbers<'a> {
-    /// The numbers of a design.
+    /// Numbers the places of a design and their nets.
     pub fn new(alloc: Global, design: &'a Design) -> Result<Numbers<'a>, AllocError>
         requires faultless { AreFaultless design.now.models }
         requires few { weight design.now < 2 ^ 32 }
@@ -65,14 +65,14 @@ impl<'a> Numbers<'a> {
         })
     }
 
-    /// How many places there are.
+    /// Returns how many places there are.
     pub fn len(&self) -> usize
         ensures { result ≡ length (places_in_order self.now) }
     {
         self.placed.len()
     }
 
-    /// The place of a number.
+    /// Returns the place of a number.
     pub fn place(&self, at: usize) -> &[u32]
         requires { at < length (places_in_order self.now) }
         ensures { result.now ≡ place_at self.now at }
@@ -80,7 +80,8 @@ impl<'a> Numbers<'a> {
         self.placed.get(at).place.as_slice()
     }
 
-    /// The line that leads to a place, and the number of the place in whose model it stands.
+    /// Returns the number of the line that leads to a place, and that of the place in whose model
+    /// it stands. The main model's place has no parent.
     pub fn parent(&self, at: usize) -> Option<Parent>
         requires { at < length (places_in_order self.now) }
         ensures { MatchOption result (place_at self.now at ≡ []) (λ up. (up.number < at)
@@ -89,7 +90,7 @@ impl<'a> Numbers<'a> {
         self.placed.get(at).parent
     }
 
-    /// The model at a place.
+    /// Returns the model at a place.
     pub fn model(&self, at: usize) -> &'a Model
         requires { at < length (places_in_order self.now) }
         ensures { model_at self.now (place_at self.now at) ≡ Some result.now }
@@ -109,7 +110,7 @@ impl<'a> Numbers<'a> {
         }
     }
 
-    /// The names of the nets at a place, in order.
+    /// Returns the names of the nets at a place, in order.
     pub fn names(&self, at: usize) -> &[&'a [u8]]
         requires { at < length (places_in_order self.now) }
         ensures { nets_at self.now (place_at self.now at)
@@ -118,7 +119,7 @@ impl<'a> Numbers<'a> {
         self.model_names(at).as_slice()
     }
 
-    /// The number of a place's first net.
+    /// Returns the number of a place's first net.
     pub fn first(&self, at: usize) -> u32
         requires { at < length (places_in_order self.now) }
         ensures { result ≡ length (nets_before self.now at) }
@@ -126,7 +127,7 @@ impl<'a> Numbers<'a> {
         *self.firsts.get(at)
     }
 
-    /// Where the net of a name stands among those at a place.
+    /// Returns the position of the net of this name among the nets at a place.
     pub fn position(&self, at: usize, name: &[u8]) -> usize
         requires place { at < length (places_in_order self.now) }
         requires net { IsNet self.now (net_at (place_at self.now at) name.now) }
@@ -136,7 +137,7 @@ impl<'a> Numbers<'a> {
         self.model_names(at).position(name).unwrap_or(0)
     }
 
-    /// The number of the net of a name at a place.
+    /// Returns the number of the net of this name at a place.
     pub fn id(&self, at: usize, name: &[u8]) -> NetId
         requires place { at < length (places_in_order self.now) }
         requires net { IsNet self.now (net_at (place_at self.now at) name.now) }

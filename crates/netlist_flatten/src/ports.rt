@@ -100,7 +100,7 @@ fn inputs_of(
     Ok(inputs)
 }
 
-/// The ports of a flat netlist.
+/// The ports of a flat netlist: its inputs, its outputs and its clocks.
 #[derive(Drop)]
 pub struct FlatPorts {
     pub ins: List<FlatPort>,
@@ -108,7 +108,8 @@ pub struct FlatPorts {
     pub clocks: List<FlatPort>,
 }
 
-/// The ports of the main model.
+/// Makes the ports of the flat netlist from those of the main model. Inputs that are joined with a
+/// latch's control are left out.
 pub fn flat_ports(
     alloc: Global,
     numbers: &Numbers<'_>,

@@ -11,7 +11,7 @@ use design_walks::{ModelNames, PlacedModel};
 use netlist_core::Design;
 use std::alloc::{AllocError, Global};
 
-// No names are known of any model.
+// Makes a table in which no model's names are known.
 fn no_names<'a>(alloc: Global, count: usize) -> Result<Vec<Option<ModelNames<'a>>>, AllocError>
     ensures { IfOk result (λ names. names.items ≡ replicate count None) }
 {
@@ -22,7 +22,7 @@ fn no_names<'a>(alloc: Global, count: usize) -> Result<Vec<Option<ModelNames<'a>
     Ok(names)
 }
 
-/// The names of each model that is placed, by the model's number.
+/// Collects the names of each model that is placed, by the model's number.
 pub fn names_by_model<'a>(
     alloc: Global,
     design: &'a Design,
@@ -52,7 +52,7 @@ fn count_of(names: &[Option<ModelNames<'_>>], model: usize) -> usize
     }
 }
 
-/// The number of each place's first net.
+/// Returns the number of each place's first net.
 pub fn firsts_of(
     alloc: Global,
     design: &Design,

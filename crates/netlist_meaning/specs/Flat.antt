@@ -11,7 +11,7 @@ use Rattle.netlist_core.specs.declared.flat.Flat.{Flat}
 use Rattle.netlist_core.specs.Names.{Name}
 use Rattle.netlist_core.specs.OwnWeight.{rows_weight}
 
--- what stands where there is no net or node of that number
+-- the net and the node that stand for a number past the last
 abbrev pub no_net : FlatNet
 no_net = record { place = []; name = []; class = 0 }
 
@@ -57,14 +57,14 @@ FlatDrives flat (latch i) class =
     (l : FlatLatch) × (slice_get flat.latches i ≡ Some l) × (class_of flat l.output ≡ class)
 FlatDrives flat (node n) class = (n < length flat.nodes) × (out_class flat n ≡ class)
 
--- a clock's class: the control's, or that of one of the clocks which is no input's
+-- a clock's class: that of the control, or that of one of the clocks if no input has it
 abbrev pub IsClockClass : Flat → ℕ → Type 0
 IsClockClass flat class =
     MatchOption flat.control ⊥ (λ id. class_of flat id ≡ class)
     ⊎ (Contains (port_classes flat flat.clocks) class
     × ¬ Contains (port_classes flat flat.ins) class)
 
--- the same as a test (`is_clock_class-Decides`), and the nets but the clock nets, in order
+-- `IsClockClass` as a test (`is_clock_class-Decides`), and all nets but the clock nets, in order
 abbrev pub is_clock_class : Flat → ℕ → Bool
 is_clock_class flat class =
     option_map_or (λ id. class_of flat id == class) flat.control false
@@ -78,8 +78,8 @@ nets_but_clocks flat = filter (λ net. not (is_clock_class flat net.class)) flat
 abbrev pub listed_nets : Flat → List FlatNet
 listed_nets flat = cond flat.listed (nets_but_clocks flat) []
 
--- every number is in range, and the numbers of nodes are u32, as an order has them. Class numbers
--- are below the number of nets, so that a table of classes is no longer than the nets
+-- every number is in range. The numbers of nodes are u32, as in an order, and those of classes are
+-- below the number of nets, so that a table of classes is no longer than the nets
 pub record IsInRange (flat : Flat) : Type 0 where
   pub few : length flat.nodes < 2 ^ 32
   pub classes : All (λ net. net.class < length flat.nets) flat.nets

@@ -1,6 +1,6 @@
--- The flat netlist of a design: its nets in order, and its covers and latches at each place,
--- between them. It is said by structure, so that a design has one flat netlist whether or not its
--- bits can be told.
+-- The flat netlist of a design: its nets in order, and between them its covers and latches, place
+-- by place. It is defined by structure alone, so a design has one flat netlist whether or not its
+-- bits are determined.
 use Rattle.std.specs.Prelude.{ℕ, suc, ◌≡◌, List, [], ◌∷◌, Bool, true, false, ◌&&◌, map, flat_map, Option, slice_get, option_map, option_and_then, bytes_eq}
 use Rattle.netlist_core.specs.declared.model.Design.{Design}
 use Rattle.netlist_core.specs.declared.model.Model.{Model}
@@ -20,7 +20,7 @@ use Rattle.netlist_meaning.specs.Roots.{root}
 use Rattle.netlist_meaning.specs.Weight.{weight}
 use Rattle.netlist_meaning.specs.InOrder.{of_some, places_in_order, nets_in_order}
 
--- the position of a net among nets, or the length of the list where it is none of them
+-- the position of a net among nets, or the length of the list if it is none of them
 abbrev pub is_same_net : Net → Net → Bool
 is_same_net a b = bytes_eq a.place b.place && bytes_eq a.name b.name
 
@@ -41,8 +41,8 @@ id_of design place name = record { 0 = position_of (nets_in_order design) (net_a
 abbrev pub class_of_net : Design → Net → ℕ
 class_of_net design net = position_of (nets_in_order design) (root design net)
 
--- a net, a cover, a latch and a port of the design in its flat netlist, each with its own name,
--- place or line
+-- the flat forms of a net, a cover, a latch and a port of the design, with their own names, places
+-- and lines
 abbrev pub flat_net : Design → Net → FlatNet
 flat_net design net = record { place = net.place; name = net.name; class = class_of_net design net }
 
@@ -68,14 +68,14 @@ flat_latch design place latch = record {
 abbrev pub flat_port : Design → Port → FlatPort
 flat_port design port = record { line = port.line; net = id_of design [] port.name }
 
--- what the model at each place lists of some kind, in order: a model's covers and latches stand by
--- line
+-- the items of some kind that the model at each place has, in order; the covers and latches of a
+-- model are in the order of their lines
 abbrev pub at_places : {X Y : Type 0} → Design → (Model → List X) → (Place → X → Y) → List Y
 at_places design items f =
     flat_map (λ place. map (f place) (of_some items (model_at design place)))
     (places_in_order design)
 
--- the ports of a list that are not the control at the main model, in order
+-- the ports of a list whose nets in the main model are not the control, in order
 pub data PortsWithoutControl (design : Design) : List Port → List Port → Type 0 where
   none : PortsWithoutControl design [] []
   kept : {port : Port} {ports rest : List Port} → ¬ IsControl design (net_at [] port.name)
@@ -88,9 +88,9 @@ pub data PortsWithoutControl (design : Design) : List Port → List Port → Typ
 abbrev pub first_control : List FlatLatch → Option NetId
 first_control latches = option_and_then (λ latch. latch.control) (slice_get latches 0)
 
--- What is joined with the control of any latch is left out of the inputs, and the flat netlist's
--- control is the first latch's: these agree where all latches have one clock, and with latches of
--- two clocks no command uses them.
+-- The inputs leave out what is joined with the control of any latch, while `control` is that of the
+-- first latch. These agree if all latches have one clock, and no command uses them if latches have
+-- two clocks.
 pub record IsFlatOf (design : Design) (flat : Flat) : Type 0 where
   pub in_ports : List Port
   pub are_in_ports : PortsWithoutControl design (main_ports (λ model. model.ins) design) in_ports

@@ -11,30 +11,30 @@ use Rattle.netlist_core.specs.Names.{Name, at_line, port_names, model_named}
 use Rattle.netlist_meaning.specs.Places.{Place, main_model, model_at}
 use Rattle.netlist_meaning.specs.Nets.{Net, net_at}
 
--- what a function lists of a value, and nothing where there is none
+-- the list that a function gives for a value, and the empty list if there is no value
 abbrev pub of_some : {X Y : Type 0} → (X → List Y) → Option X → List Y
 of_some f None = []
 of_some f (Some x) = f x
 
--- the places inside the models of some subckt lines, of which the first has that number
+-- the places inside the models that some subckt lines place; the first line has this number
 abbrev pub places_in_lines : (Subckt → List Place) → ℕ → List Subckt → List Place
 places_in_lines places number [] = []
 places_in_lines places number (line ∷ lines) =
     map (λ place. number ∷ place) (places line) ++ places_in_lines places (suc number) lines
 
--- the place of a model, and after it those inside, fewer than so many lines deep
+-- the place of a model, and after it the places inside, fewer than so many lines deep
 abbrev pub places_below : Design → ℕ → Model → List Place
 places_below design zero model = []
 places_below design (suc depth) model =
     [] ∷ places_in_lines (λ line. of_some (places_below design depth)
     (model_named design.models line.model)) 0 model.subckts
 
--- the places in order. Where no model stands inside a place of itself, none is as deep as there are
--- models
+-- the places in order. If no model stands inside a place of itself, each place is fewer lines deep
+-- than there are models
 abbrev pub places_in_order : Design → List Place
 places_in_order design = of_some (places_below design (length design.models)) (main_model design)
 
--- the names that a model's lines name, each with its line; those of one line stand as on the line
+-- the names on a model's lines, each with its line; names of one line stand as on the line
 abbrev pub cover_words : Cover → List Port
 cover_words cover = map (at_line cover.line) (cover.ins ++ cover.out ∷ [])
 
@@ -54,13 +54,14 @@ model_words model =
     ++ flat_map latch_words model.latches
     ++ flat_map subckt_words model.subckts
 
--- a word among others that stand by line: before the first that is on no earlier line
+-- the words, which stand by line, with one more: it is put before the first that is on no earlier
+-- line
 abbrev pub put_by_line : Port → List Port → List Port
 put_by_line word [] = word ∷ []
 put_by_line word (next ∷ words) =
     cond (nat_le word.line next.line) (word ∷ next ∷ words) (next ∷ put_by_line word words)
 
--- words by line, and those of one line as they stood: the order of the text
+-- the words by line, and those of one line as they stood: the order of the text
 abbrev pub by_line : List Port → List Port
 by_line [] = []
 by_line (word ∷ words) = put_by_line word (by_line words)
@@ -74,7 +75,7 @@ abbrev pub words_on_line : ℕ → List Port → List Port
 words_on_line line [] = []
 words_on_line line (word ∷ words) = cons_when (word.line == line) word (words_on_line line words)
 
--- the names of a list that are not this one
+-- the names of a list but this one
 abbrev pub cons_unless : Bool → Name → List Name → List Name
 cons_unless true name names = names
 cons_unless false name names = name ∷ names
@@ -84,12 +85,12 @@ without_name name [] = []
 without_name name (other ∷ names) =
     cons_unless (bytes_eq name other) other (without_name name names)
 
--- each name where it first stands
+-- the names of a list, each only where it first stands
 abbrev pub first_names : List Name → List Name
 first_names [] = []
 first_names (name ∷ names) = name ∷ without_name name (first_names names)
 
--- the names of a model, by where they first stand in its text
+-- the names of a model, in the order in which they first stand in its text
 abbrev pub names_in_order : Model → List Name
 names_in_order model = first_names (port_names (by_line (model_words model)))
 

@@ -13,7 +13,7 @@ use Rattle.netlist_meaning.specs.Weight.{weight, of_model}
 use Rattle.netlist_core.specs.OwnWeight.{own_weight}
 use Rattle.netlist_meaning.specs.Valuation.{Valuation}
 
--- joined nets are an equivalence that holds at each pin, and any test that is such an equivalence
+-- being joined is an equivalence that holds at each pin, and any test that is such an equivalence
 -- holds of joined nets
 pub record IsLeastEquivalence (design : Design) : Type 0 where
   pub holds_at_pins : (outer inner : Net) → IsPinned design outer inner → Joined design outer inner
@@ -24,19 +24,19 @@ pub record IsLeastEquivalence (design : Design) : Type 0 where
       → ((outer inner : Net) → IsPinned design outer inner → IsTrue (test outer inner)) → (a b : Net)
       → Joined design a b → IsTrue (test a b)
 
--- the bits of each pin's actual and formal agree, where these are no clock nets
+-- the bits of each pin's actual and formal agree, unless these are clock nets
 abbrev pub AgreeAtPins : Design → Valuation → Type 0
 AgreeAtPins design bits =
     (outer inner : Net) → IsPinned design outer inner → ¬ IsClockNet design outer
     → bits outer.place outer.name ≡ bits inner.place inner.name
 
--- the bits of joined nets agree, where these are no clock nets
+-- the bits of joined nets agree, unless these are clock nets
 abbrev pub AgreeWhereJoined : Design → Valuation → Type 0
 AgreeWhereJoined design bits =
     (a b : Net) → Joined design a b → ¬ IsClockNet design a
     → bits a.place a.name ≡ bits b.place b.name
 
--- it is enough that pins agree
+-- bits agree at all pins exactly if they agree on all joined nets
 abbrev pub PinsAreEnough : Type 0
 PinsAreEnough =
     (design : Design) (bits : Valuation) → AgreeAtPins design bits ↔ AgreeWhereJoined design bits
@@ -47,7 +47,7 @@ InNamesAreOne =
     (design : Design) (names others : List Name) → IsInNames design names → IsInNames design others
     → names ≡ others
 
--- a list has each place that is fewer than so many lines deep once, and nothing else
+-- the list has each place that is fewer than so many lines deep exactly once, and nothing else
 abbrev pub ListsPlaces : Design → ℕ → List Place → Type 0
 ListsPlaces design depth places =
     (place : Place) → count_by (bytes_eq place) places ≡ cond
@@ -60,20 +60,21 @@ WeightIsSum =
     (design : Design) → (places : List Place) × ListsPlaces design (length design.models) places
     × (weight design ≡ sum_by (λ place. of_model own_weight (model_at design place)) places)
 
--- no model stands, by its name, inside a place of itself: in a design without a circle of subckt
+-- no model stands, by its name, inside a place of itself, as in a design without a circle of subckt
 -- lines
 abbrev pub IsNotRecursive : Design → Type 0
 IsNotRecursive design =
     (outer inner : Place) (a b : Model) → inner ≢ [] → model_at design outer ≡ Some a
     → model_at design (outer ++ inner) ≡ Some b → a.name ≢ b.name
 
--- then each place is fewer lines deep than there are models
+-- in a design that is not recursive each place is fewer lines deep than there are models
 abbrev pub PlacesAreShallow : Type 0
 PlacesAreShallow =
     (design : Design) → IsNotRecursive design → (place : Place) → IsPlace design place
     → length place < length design.models
 
--- and the weight is the sum over a list that has each place once
+-- in a design that is not recursive the weight is the sum of the own weights over a list that has
+-- each place once
 abbrev pub WeightIsSumOverAll : Type 0
 WeightIsSumOverAll =
     (design : Design) → IsNotRecursive design → (places : List Place)
@@ -81,20 +82,21 @@ WeightIsSumOverAll =
     (is_some (model_at design place)) 1 0)
     × (weight design ≡ sum_by (λ place. of_model own_weight (model_at design place)) places)
 
--- of two places exactly one is true: the first is before the other, they are one, or it is after it
+-- of two places exactly one is true: the first is before the other, they are the same, or the first
+-- is after the other
 pub record PlacesAreOrdered : Type 0 where
   pub one_of_three : (p q : Place) → IsBefore p q ⊎ (p ≡ q) ⊎ IsBefore q p
   pub never_itself : (p : Place) → ¬ IsBefore p p
   pub goes_on : (p q r : Place) → IsBefore p q → IsBefore q r → IsBefore p r
 
--- where no line names a formal with two actuals and no model stands inside a place of itself, there
--- is a list of IN names
+-- if no line names a formal with two actuals and no model stands inside a place of itself, there is
+-- a list of IN names
 abbrev pub InNamesAreThere : Type 0
 InNamesAreThere =
     (design : Design) → NamesFormalsOnce design → IsNotRecursive design
     → (names : List Name) × IsInNames design names
 
--- the test of clock classes is right
+-- the test of clock classes holds exactly of the clock classes
 abbrev pub ClockClassesAreTested : Type 0
 ClockClassesAreTested =
     (flat : Flat) (class : ℕ) → (is_clock_class flat class ≡ true) ↔ IsClockClass flat class

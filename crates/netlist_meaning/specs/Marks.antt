@@ -1,4 +1,4 @@
--- A mark for each class, whether it is a clock's.
+-- A mark for each class that tells whether it is a clock's.
 use Rattle.std.specs.Prelude.{ℕ, ◌≡◌, ◌<◌, Bool, false, List, length, get_or}
 use Rattle.netlist_core.specs.declared.flat.Flat.{Flat}
 use Rattle.netlist_meaning.specs.Flat.{is_clock_class}

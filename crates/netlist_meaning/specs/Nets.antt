@@ -18,7 +18,7 @@ pub record Net : Type 0 where
 abbrev pub net_at : Place → Name → Net
 net_at place name = record { place = place; name = name }
 
--- the names that a model's lines name, in no order that means anything, and perhaps more than once
+-- the names on a model's lines, in an order without meaning, and perhaps more than once
 abbrev pub model_names : Model → List Name
 model_names model =
     port_names model.ins
@@ -67,7 +67,8 @@ pub record IsMainClock (design : Design) (net : Net) : Type 0 where
   pub is_clock : Contains (main_clocks design) net.name
   pub is_no_input : ¬ Contains (main_inputs design) net.name
 
--- the latches' control, with all nets joined to it (one, where the latches have one clock)
+-- the latches' control, with all nets joined to it (it is one control if the latches have one
+-- clock)
 abbrev pub IsControl : Design → Net → Type 0
 IsControl design net = (source : Net) × IsLatchControl design source × Joined design source net
 
@@ -78,7 +79,7 @@ IsClockNet design net =
     (source : Net) × (IsLatchControl design source ⊎ IsMainClock design source)
     × Joined design source net
 
--- the names of a list that are not the control at the main model, in order
+-- the names of a list whose nets in the main model are not the control, in order
 pub data WithoutControl (design : Design) : List Name → List Name → Type 0 where
   none : WithoutControl design [] []
   kept : {name : Name} {names rest : List Name} → ¬ IsControl design (net_at [] name)
@@ -86,7 +87,7 @@ pub data WithoutControl (design : Design) : List Name → List Name → Type 0 w
   left_out : {name : Name} {names rest : List Name} → IsControl design (net_at [] name)
       → WithoutControl design names rest → WithoutControl design (name ∷ names) rest
 
--- the IN names: those of the main model's `.inputs`, in order, but the control. The OUT names are
--- `main_outputs`
+-- the IN names: the names of the main model's `.inputs` without the control, in order. The OUT
+-- names are `main_outputs`
 abbrev pub IsInNames : Design → List Name → Type 0
 IsInNames design names = WithoutControl design (main_inputs design) names

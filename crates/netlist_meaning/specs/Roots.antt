@@ -12,8 +12,8 @@ use Rattle.netlist_meaning.specs.Nets.{Net, net_at, Joined}
 abbrev pub pin_named : Name → Subckt → Option Pin
 pin_named formal line = find (λ pin. bytes_eq pin.formal formal) line.pins
 
--- the actual of a pin, in the model of its line, or else the net of that name in the model that the
--- line places
+-- the actual of a pin, in the model of its line; without a pin, the net of that name in the model
+-- that the line places
 abbrev pub actual_or_formal : ℕ → Name → Option Pin → Net
 actual_or_formal number formal None = net_at (number ∷ []) formal
 actual_or_formal number formal (Some pin) = net_at [] pin.actual
@@ -44,20 +44,20 @@ NamesFormalsOnce design =
     → model_at design place ≡ Some model → slice_get model.subckts number ≡ Some line
     → Contains line.pins p → Contains line.pins q → p.formal ≡ q.formal → p.actual ≡ q.actual
 
--- there joined nets are those of one root
+-- if no line names a formal with two actuals, nets are joined exactly if they have the same root
 abbrev pub JoinedIsSameRoot : Type 0
 JoinedIsSameRoot =
     (design : Design) → NamesFormalsOnce design → (a b : Net) → Joined design a b
     ↔ (root design a ≡ root design b)
 
--- there a net is joined with its root, which is the net of its class that is nearest the main
--- model: any other lies deeper
+-- each net is joined with its root, which is the net of its class that is nearest the main model:
+-- any other lies deeper
 pub record RootIsNearest (design : Design) : Type 0 where
   pub joined : (net : Net) → Joined design net (root design net)
   pub nearest : (a b : Net) → Joined design a b
       → (b ≡ root design a) ⊎ (length (root design a).place < length b.place)
 
--- There the root of a net is joined with it, and any other net that is joined with it lies deeper
--- than the root.
+-- If no line names a formal with two actuals, the root of a net is joined with it, and any other
+-- net that is joined with it lies deeper than the root.
 abbrev pub RootsAreNearest : Type 0
 RootsAreNearest = (design : Design) → NamesFormalsOnce design → RootIsNearest design

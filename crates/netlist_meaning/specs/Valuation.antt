@@ -9,8 +9,8 @@ use Rattle.netlist_meaning.specs.Places.{Place, model_at, latch_at, main_outputs
 use Rattle.netlist_meaning.specs.Nets.{Net, IsNet, Joined, IsClockNet, IsInNames}
 use Rattle.netlist_meaning.specs.CoverValue.{cover_value}
 
--- a bit for each net: for each place and name. What it gives at a clock net, and where there is no
--- net, means nothing
+-- a bit for each net, by its place and name. At a clock net, and where there is no net, the bit
+-- means nothing
 abbrev pub Valuation : Type 0
 Valuation = Place → Name → Bool
 
@@ -26,8 +26,8 @@ pub record IsValuation (design : Design) (inputs : List Bool) (state : LatchStat
   pub in_names : List Name
   pub are_in_names : IsInNames design in_names
   pub inputs_given : map (bits []) in_names ≡ inputs
-  -- joined nets agree, but for clock nets, of which no equation speaks in a design whose clock nets
-  -- are not read or driven
+  -- joined nets agree, except clock nets: no equation is about these in a design whose clock nets
+  -- are neither read nor driven
   pub joined_agree : (a b : Net) → Joined design a b → ¬ IsClockNet design a
       → bits a.place a.name ≡ bits b.place b.name
   -- the output of each cover, in each place, is the cover's value
@@ -38,8 +38,7 @@ pub record IsValuation (design : Design) (inputs : List Bool) (state : LatchStat
   pub latches_hold : (place : Place) (number : ℕ) (latch : LatchRow)
       → latch_at design place number ≡ Some latch → bits place latch.output ≡ state place number
 
--- two valuations are one and the same where they agree on each net of the design that is no clock
--- net
+-- two valuations count as the same if they agree on each net of the design that is no clock net
 abbrev pub AgreeOnNets : Design → Valuation → Valuation → Type 0
 AgreeOnNets design bits others =
     (net : Net) → IsNet design net → ¬ IsClockNet design net
@@ -63,19 +62,19 @@ data_bit bits (Some latch) = bits latch.input
 abbrev pub latches_after : Design → Valuation → LatchState
 latches_after design bits place number = data_bit (bits place) (latch_at design place number)
 
--- the state of a cycle: at first the given one, and later the next state of the cycle before
+-- the state of a cycle: in cycle 0 the given one, and later the next state of the cycle before
 abbrev pub latches_in : Design → LatchState → (ℕ → Valuation) → ℕ → LatchState
 latches_in design start run zero = start
 latches_in design start run (suc cycle) = latches_after design (run cycle)
 
--- a valuation for each row of input bits, from a state on
+-- a valuation for each row of input bits, from a given state on
 abbrev pub IsRunFrom : Design → LatchState → List (List Bool) → (ℕ → Valuation) → Type 0
 IsRunFrom design start rows run =
     (cycle : ℕ) (row : List Bool) → slice_get rows cycle ≡ Some row
     → IsValuation design row (latches_in design start run cycle) (run cycle)
 
--- a run: from the start state on. `run cycle` is the valuation of the cycle, from 0; from the
--- number of rows on it means nothing
+-- a run from the start state on. `run cycle` is the valuation of that cycle, counted from 0; from
+-- the number of rows on it means nothing
 abbrev pub IsRun : Design → List (List Bool) → (ℕ → Valuation) → Type 0
 IsRun design rows run = IsRunFrom design (start_state design) rows run
 
@@ -84,8 +83,8 @@ abbrev pub AreInputRows : Design → List (List Bool) → Type 0
 AreInputRows design rows =
     (names : List Name) × IsInNames design names × All (λ row. length row ≡ length names) rows
 
--- the bits of the main outputs, in order, and the bit of the one of that number, from 0, which
--- below the number of outputs means something
+-- the bits of the main outputs, in order; and the bit of one of them by its number from 0, which
+-- means something only below the number of outputs
 abbrev pub output_bits : Design → Valuation → List Bool
 output_bits design bits = map (bits []) (main_outputs design)
 

@@ -9,7 +9,8 @@ use crate::class_of;
 use netlist_core::{Flat, FlatPort, NetId};
 use std::alloc::{AllocError, Global};
 
-/// A flat netlist with a mark for each class, whether it is a clock's. Contracts see the netlist.
+/// A flat netlist with a mark for each class that tells whether it is a clock's. Contracts see the
+/// netlist.
 #[derive(Drop)]
 pub struct ClockClasses<'a> {
     flat: &'a Flat,
@@ -46,7 +47,7 @@ fn mark_ports(flat: &Flat, marks: &mut [bool], ports: &[FlatPort], mark: bool)
     }
 }
 
-// The marks of all classes: clocks that are no inputs, and the control.
+// Marks all classes: those of clocks that are no inputs, and that of the control.
 fn mark_clocks(flat: &Flat, marks: &mut [bool])
     requires in_range { IsInRange flat.now }
     requires marks { marks.old ≡ replicate (length flat.now.nets) false }
@@ -60,7 +61,7 @@ fn mark_clocks(flat: &Flat, marks: &mut [bool])
 }
 
 impl<'a> ClockClasses<'a> {
-    /// The clock classes of a netlist.
+    /// Marks the clock classes of a netlist.
     pub fn new(alloc: Global, flat: &'a Flat) -> Result<ClockClasses<'a>, AllocError>
         requires { IsInRange flat.now }
         ensures { IfOk result (λ clocks. clocks ≡ flat.now) }
@@ -70,7 +71,7 @@ impl<'a> ClockClasses<'a> {
         Ok(ClockClasses { flat, marks })
     }
 
-    /// The netlist.
+    /// Returns the netlist.
     pub fn flat(&self) -> &'a Flat
         ensures flat { result.now ≡ self.now }
         ensures in_range { IsInRange self.now }
@@ -78,7 +79,7 @@ impl<'a> ClockClasses<'a> {
         self.flat
     }
 
-    /// Whether a class of nets is a clock's.
+    /// Returns whether a class of nets is a clock's.
     pub fn is_clock_class(&self, class: usize) -> bool
         requires { class < length self.now.nets }
         ensures { result ≡ is_clock_class self.now class }
@@ -86,7 +87,7 @@ impl<'a> ClockClasses<'a> {
         self.marks[class]
     }
 
-    /// Whether a net is a clock's.
+    /// Returns whether a net is of a clock's class.
     pub fn is_clock(&self, net: NetId) -> bool
         requires { IsNetId self.now net }
         ensures { result ≡ is_clock_class self.now (class_of self.now net) }

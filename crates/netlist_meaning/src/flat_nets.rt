@@ -6,7 +6,7 @@ use lists::{Bytes, copied};
 use netlist_core::{Flat, NetId};
 use std::alloc::{AllocError, Global};
 
-/// The class of a net, and 0 where there is no net of this number.
+/// Returns the class of a net, or 0 if there is no net of this number.
 pub fn class_of(flat: &Flat, id: NetId) -> usize
     ensures { result ≡ class_of flat.now id }
 {
@@ -16,7 +16,7 @@ pub fn class_of(flat: &Flat, id: NetId) -> usize
     }
 }
 
-/// The name of a net at its place.
+/// Copies the name of a net at its place.
 pub fn name_of_net(alloc: Global, flat: &Flat, net: NetId) -> Result<Bytes, AllocError>
     requires { IsNetId flat.now net }
     ensures { IfOk result (λ name. name ≡ name_of_net flat.now net) }

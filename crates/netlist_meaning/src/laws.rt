@@ -8,7 +8,7 @@ pub fn joined_is_the_least_equivalence()
     ensures { (design : Design) → IsLeastEquivalence design }
 {}
 
-/// The test of clock classes is right.
+/// The test of clock classes holds exactly of the clock classes.
 pub fn clock_classes_are_tested()
     ensures { ClockClassesAreTested }
 {}

@@ -15,7 +15,8 @@ pub use flat_nets::{class_of, name_of_net};
 use lists::Bytes;
 use netlist_core::Cover;
 
-/// Whether a character of a row takes the bit under it.
+/// Returns whether a character of a row takes the bit under it: `0` takes only 0, `1` takes only 1,
+/// and `-` takes both.
 pub fn fits(character: u8, bit: bool) -> bool
     ensures { result ≡ fits character bit }
 {
@@ -42,7 +43,7 @@ fn any_holds(rows: &[Bytes], bits: &[bool]) -> bool
     rows.iter().any(|row| product_holds(row.as_slice(), bits))
 }
 
-/// The bit that a cover's rows give under the bits of its inputs, by the BLIF report.
+/// Returns the bit that a cover's rows give for the bits of its inputs, by the BLIF report.
 pub fn cover_value(cover: &Cover, bits: &[bool]) -> bool
     ensures { result ≡ cover_value cover.now.rows cover.now.on bits.now }
 {

@@ -15,7 +15,8 @@ pub record HasSubcktOf (models : List Model) (name other : List ℕ) : Type 0 wh
   pub is_line : Contains model.subckts subckt
   pub names_other : subckt.model ≡ other
 
--- each name places the next, and the last places the one at the end
+-- the model of each name has a line that names the next, and that of the last has a line that names
+-- the end
 abbrev pub Leads : List Model → List ℕ → List (List ℕ) → List ℕ → Type 0
 Leads models name [] end = HasSubcktOf models name end
 Leads models name (next ∷ names) end = HasSubcktOf models name next × Leads models next names end

@@ -19,7 +19,7 @@ pub record PlacedLatch : Type 0 where
   pub number : ℕ
   pub latch : LatchRow
 
--- it is one of the design's
+-- the latch is one of the design's
 abbrev pub IsPlacedLatch : Design → PlacedLatch → Type 0
 IsPlacedLatch design a = latch_at design a.place a.number ≡ Some a.latch
 
@@ -40,13 +40,13 @@ pub record HasSameClock (design : Design) (a b : PlacedLatch) : Type 0 where
   pub same_type : a.latch.kind ≡ b.latch.kind
   pub same_control : HasSameControl design a.place a.latch.control b.place b.latch.control
 
--- the name of a control, or `-` where there is none
+-- the name of a control, or `-` if there is none
 abbrev pub control_word : Option Name → Name
 control_word None = codes "-"
 control_word (Some name) = name
 
--- B20: a latch differs in type or control from the first; of those that do, the one that is named
--- is the first in that same order, by its line and its control or `-`
+-- B20: a latch differs in type or control from the first. Of the latches that do, the fault names
+-- the first in the order of latches, by its line and its control or `-`
 pub record IsTwoClocks (design : Design) (line : ℕ) (word : Name) : Type 0 where
   pub first : PlacedLatch
   pub has_first : IsPlacedLatch design first
@@ -59,8 +59,8 @@ pub record IsTwoClocks (design : Design) (line : ℕ) (word : Name) : Type 0 whe
   pub is_line : line ≡ found.latch.line
   pub is_word : word ≡ control_word found.latch.control
 
--- a word on a line that reads or drives a net as a cover, as a latch's data or as a main output
--- does: the line's number, a position that rises along the line's words, and the net
+-- a word on a line that reads or drives a net as a cover, as a latch's input or output, or as a
+-- main output does: the line's number, a position that rises along the line's words, and the net
 pub data IsUse (design : Design) : ℕ → ℕ → Net → Type 0 where
   by_cover : {place : Place} {model : Model} {cover : Cover} {position : ℕ} {name : Name}
       → model_at design place ≡ Some model → Contains model.covers cover
@@ -74,7 +74,7 @@ pub data IsUse (design : Design) : ℕ → ℕ → Net → Type 0 where
       → slice_get (main_ports (λ model. model.outs) design) position ≡ Some port
       → IsUse design port.line position (net_at [] port.name)
 
--- a clock net is so used, by that word of the line
+-- this word of the line is such a use, and the net is a clock net
 abbrev pub IsClockUse : Design → ℕ → ℕ → Net → Type 0
 IsClockUse design line position net = IsUse design line position net × IsClockNet design net
 
@@ -93,19 +93,19 @@ pub record IsClockRead (design : Design) (line : ℕ) (word : Name) : Type 0 whe
 abbrev pub HasOneClock : Design → Type 0
 HasOneClock design = (line : ℕ) (word : Name) → ¬ IsTwoClocks design line word
 
--- the clock fault of a design, with its line and word: B20, or where there is none B21
+-- the clock fault of a design, with its line and word: B20, or B21 if there is no B20
 pub data IsClockFault (design : Design) : Fault → Type 0 where
   two_clocks : {line : ℕ} {word : Name} → IsTwoClocks design line word
       → IsClockFault design (fault_on TwoClocks line word)
   clock_read : {line : ℕ} {word : Name} → HasOneClock design → IsClockRead design line word
       → IsClockFault design (fault_on ClockRead line word)
 
--- there is no clock fault
+-- the design has no clock fault
 abbrev pub HasNoClockFault : Design → Type 0
 HasNoClockFault design = (fault : Fault) → ¬ IsClockFault design fault
 
--- Wired: each formal is a name of the model that its line places, no line names one with two
--- actuals, and no clock net is read or driven
+-- A wired design: each formal is a name of the model that its line places, no line names a formal
+-- with two actuals, and no clock net is read or driven
 pub record IsWired (design : Design) : Type 0 where
   pub formals_named : (outer inner : Net) → IsPinned design outer inner → IsNet design inner
   pub formals_once : NamesFormalsOnce design

@@ -23,8 +23,8 @@ abbrev pub stands_earlier : List Port → Port → List Port → Bool
 stands_earlier before p after =
     list_any (same_name_up_to p) before || list_any (same_name_before p) after
 
--- Of a list, cut into what stands before and after: the ones after that stand earlier too, and
--- those that do not.
+-- A list is cut into the names before and the names after: these are the names after that stand
+-- earlier too, and those that do not.
 abbrev pub repeats_after : List Port → List Port → List Port
 repeats_after before [] = []
 repeats_after before (p ∷ after) =
@@ -36,7 +36,7 @@ firsts_after before (p ∷ after) =
     option_to_list (then_some (not (stands_earlier before p after)) p)
     ++ firsts_after (p ∷ before) after
 
--- the names of a list that stand earlier in it too; the first of each name
+-- the names of a list that stand earlier too; the first of each name
 abbrev pub repeats : List Port → List Port
 repeats ports = repeats_after [] ports
 
@@ -75,8 +75,8 @@ actuals_on models test s = filter_map (actual_if (test (model_named models s.mod
 abbrev pub actuals : List Model → (Option Model → Pin → Bool) → Model → List Port
 actuals models test m = flat_map (actuals_on models test) m.subckts
 
--- The drivers of a model: its inputs, a cover's output, a latch's output, the actual of an output
--- formal.
+-- The drivers of a model's nets: its inputs, a cover's output, a latch's output, the actual of an
+-- output formal.
 abbrev pub cover_output : Cover → Port
 cover_output c = at_line c.line c.out
 
@@ -88,8 +88,8 @@ drivers_of models m =
     inputs_of m ++ map cover_output m.covers ++ map latch_output m.latches
     ++ actuals models is_output_pin m
 
--- The readings: a cover's input, a latch's data or control, the actual of an input formal, a name
--- in `.outputs`.
+-- The readings of a model's nets: a cover's input, a latch's data or control, the actual of an
+-- input formal, a name in `.outputs`.
 abbrev pub cover_readings : Cover → List Port
 cover_readings c = map (at_line c.line) c.ins
 

@@ -38,7 +38,8 @@ pub record IsFlatTwoClocks (flat : Flat) (line : ℕ) (word : Name) : Type 0 whe
   pub is_line : line ≡ found.line
   pub is_word : word ≡ flat_control_word flat found.control
 
--- a word on a line that reads or drives a net as a node, a latch's data or an output does
+-- a word on a line that reads or drives a net as a node, as a latch's input or output, or as an
+-- output does
 pub data IsFlatUse (flat : Flat) : ℕ → ℕ → NetId → Type 0 where
   by_node : {node : Node} {position : ℕ} {id : NetId} → Contains flat.nodes node
       → slice_get (node.ins ++ node.out ∷ []) position ≡ Some id
@@ -67,7 +68,7 @@ pub record IsFlatClockRead (flat : Flat) (line : ℕ) (word : Name) : Type 0 whe
 abbrev pub HasOneFlatClock : Flat → Type 0
 HasOneFlatClock flat = (line : ℕ) (word : Name) → ¬ IsFlatTwoClocks flat line word
 
--- the clock fault of a flat netlist, with its line and word: B20, or where there is none B21
+-- the clock fault of a flat netlist, with its line and word: B20, or B21 if there is no B20
 pub data IsFlatClockFault (flat : Flat) : Fault → Type 0 where
   two_clocks : {line : ℕ} {word : Name} → IsFlatTwoClocks flat line word
       → IsFlatClockFault flat (fault_on TwoClocks line word)

@@ -13,8 +13,8 @@ use Rattle.netlist_core.specs.Names.{at_line}
 use Rattle.netlist_rules.specs.Circles.{Leads}
 use Rattle.netlist_rules.specs.ModelFaults.{model_fault, words_at_fault, AreFaultless, HasModelFault}
 
--- the earliest of a list of names with lines: those in front of it stand on later lines, those
--- behind it on no earlier line
+-- the port is the earliest of a list: those before it in the list stand on later lines, and those
+-- after it on no earlier line
 pub record IsEarliest (ports : List Port) (p : Port) : Type 0 where
   pub front : List Port
   pub back : List Port
@@ -26,8 +26,7 @@ pub record IsEarliest (ports : List Port) (p : Port) : Type 0 where
 abbrev pub all_words_at_fault : FaultKind → List Model → List Port
 all_words_at_fault kind models = flat_map (words_at_fault kind models) models
 
--- The fault is by the lowest rule that holds of the models, at its earliest line, there the
--- earliest word.
+-- The fault is by the lowest rule that the models break, at the earliest word that breaks it.
 pub record IsFirstModelFault (models : List Model) (fault : Fault) : Type 0 where
   pub some_model : models ≢ []
   pub is_earliest : IsEarliest (all_words_at_fault fault.kind models)
@@ -35,7 +34,7 @@ pub record IsFirstModelFault (models : List Model) (fault : Fault) : Type 0 wher
   pub is_lowest : (kind : FaultKind) → number_of kind < number_of fault.kind
       → all_words_at_fault kind models ≡ []
 
--- Some models have no such fault where they break no rule at any word.
+-- Models, if there are any, have no such fault exactly if they break no rule at any word.
 abbrev pub NoModelFault : Type 0
 NoModelFault =
     (models : List Model) → models ≢ [] → (model_fault models ≡ None)
@@ -46,7 +45,7 @@ ModelFaultIsFirst =
     (models : List Model) (fault : Fault) → ((model_fault models ≡ Some fault) × (models ≢ []))
     ↔ IsFirstModelFault models fault
 
--- Models break no rule on models, or have a fault by those.
+-- Models break no rule on models, or have a fault by one.
 abbrev pub FaultlessOrFault : Type 0
 FaultlessOrFault =
     (models : List Model) → AreFaultless models ⊎ ((f : Fault) × HasModelFault models f)

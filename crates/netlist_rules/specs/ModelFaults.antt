@@ -1,4 +1,4 @@
--- The rules on models, 22 and 12 to 19, which are looked at where no line breaks a rule.
+-- The rules on models, 22 and 12 to 19, which are checked if no line breaks a rule.
 use Rattle.std.specs.Prelude.{◌||◌, ◌≡◌, ℕ, Bool, false, not, cond, nat_le, List, [], ◌∷◌, ◌++◌, map, codes, ◌⊎◌, Option, Some, None, option_map, option_to_list, filter_map, flat_map}
 use Rattle.std.specs.List.{list_any}
 use Rattle.std.specs.Bool.{then_some}
@@ -16,8 +16,8 @@ use Rattle.netlist_rules.specs.Drivers.{same_name_before, same_name_up_to, stand
 use Rattle.netlist_rules.specs.Circles.{IsOnCircle, IsCircleFault}
 
 -- 12: a name stands twice in `.inputs`, twice in `.clock`, twice in `.outputs`, or among the inputs
--- and in `.outputs`. Of one of these lists, cut into what stands before and after: the names after
--- that stand earlier in it, or pass the test.
+-- and in `.outputs`. A list is cut into the names before and the names after: these are the names
+-- after that stand earlier in it, or pass the test.
 abbrev pub doubles_after : (Port → Bool) → List Port → List Port → List Port
 doubles_after test before [] = []
 doubles_after test before (p ∷ after) =
@@ -45,7 +45,8 @@ second_drivers models m = repeats (drivers_of models m)
 abbrev pub unless_named : List Port → Port → Option Port
 unless_named drivers p = then_some (not (is_named drivers p.name)) p
 
--- 14: a net is read and has no driver; here a pin whose model or formal is unknown counts as one
+-- 14: a net is read and has no driver; here a pin whose model or formal is unknown counts as a
+-- driver
 abbrev pub undriven_readings : List Model → Model → List Port
 undriven_readings models m =
     filter_map (unless_named (drivers_of models m ++ actuals models is_unknown_pin m))
@@ -83,7 +84,7 @@ abbrev pub earlier_of : Port → Option Port → Option Port
 earlier_of p None = Some p
 earlier_of p (Some q) = Some (cond (nat_le p.line q.line) p q)
 
--- the one on the earliest line, there the first
+-- the port on the earliest line, and on one line the first
 abbrev pub earliest : List Port → Option Port
 earliest [] = None
 earliest (p ∷ ports) = earlier_of p (earliest ports)
@@ -100,7 +101,7 @@ missing_pin models s =
     (option_map_or (λ (placed : Model). earliest (unpinned_inputs s placed))
     (model_named models s.model) None))
 
--- the words at which a model breaks this rule, with their lines; those of one line stand in its
+-- the words at which a model breaks this rule, with their lines; words of one line stand in its
 -- order, since each list of a model does
 abbrev pub words_at_fault : FaultKind → List Model → Model → List Port
 words_at_fault DuplicatePort models m = duplicate_ports m
@@ -132,17 +133,18 @@ abbrev pub no_model : List Model → Option Fault
 no_model [] = Some (fault_on NoModel 1 (codes "-"))
 no_model (m ∷ models) = None
 
--- The fault by the lowest rule that holds of the models, at its earliest line, there the earliest
--- word.
+-- The fault by the lowest rule that the models break, the rule on circles aside, at the earliest
+-- word that breaks it.
 abbrev pub model_fault : List Model → Option Fault
 model_fault models = option_or (no_model models) (first_broken_by model_rules models)
 
--- The fault of a list of models: by the lowest rule that holds of them, the one on circles last.
+-- The fault of a list of models: by the lowest rule that they break, where the rule on circles
+-- comes last.
 abbrev pub HasModelFault : List Model → Fault → Type 0
 HasModelFault models fault =
     (model_fault models ≡ Some fault) ⊎ ((model_fault models ≡ None) × IsCircleFault models fault)
 
--- Models without a fault.
+-- The models break no rule on models.
 pub record AreFaultless (models : List Model) : Type 0 where
   pub no_fault : model_fault models ≡ None
   pub no_circle : (line : ℕ) (names : List (List ℕ)) → ¬ (IsOnCircle models line names)

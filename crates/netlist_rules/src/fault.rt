@@ -5,8 +5,9 @@ ghost use Rattle.netlist_rules.specs.FaultNames.{name_of, number_of};
 use lists::Bytes;
 use std::fmt;
 
-/// The faults, in the order of their numbers, from 1. `TwoClocks` and `ClockRead` are faults of the
-/// netlist with all its places; the others are faults of the lines and the models.
+/// The kinds of faults, in the order of their numbers from 1; docs/FORMATS.md says when each comes.
+/// `TwoClocks` and `ClockRead` are faults of the netlist with all its places; the others are faults
+/// of the lines and the models.
 #[derive(Clone, Copy, Debug)]
 pub enum FaultKind {
     NoModelYet,
@@ -34,7 +35,7 @@ pub enum FaultKind {
 }
 
 impl FaultKind {
-    /// The number that stands after `B` on the line of a fault.
+    /// Returns the number of the fault, which is printed after `B`.
     pub fn number(self) -> u8
         ensures { result ≡ number_of self }
     {
@@ -64,7 +65,7 @@ impl FaultKind {
         }
     }
 
-    /// The name on the line of a fault, in ASCII.
+    /// Returns the name of the fault, as it is printed, in ASCII.
     pub fn name(self) -> &'static str
         ensures { result.now ≡ name_of self }
     {
@@ -95,7 +96,7 @@ impl FaultKind {
     }
 }
 
-/// A fault with the number of its line and the word that it names.
+/// A fault: its kind, the number of its line, and the word that it names.
 #[derive(Drop)]
 pub struct Fault {
     pub kind: FaultKind,

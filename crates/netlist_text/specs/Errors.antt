@@ -1,4 +1,4 @@
--- The error for each error of a part.
+-- The error of a text for each error of a part.
 use Rattle.blif_reader.specs.declared.error.ReadError.{ReadError}
 use Rattle.blif_reader.specs.declared.error.ReadError.TheVariants as read
 use Rattle.blif_check.specs.declared.error.CheckError.{CheckError}

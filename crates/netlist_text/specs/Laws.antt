@@ -1,4 +1,4 @@
--- A text is at most one of a netlist and the causes why it is none.
+-- A text is never both a netlist and refused, and never refused for two causes.
 use Rattle.std.specs.Prelude.{ℕ, ◌≡◌, ◌≢◌, List}
 use Rattle.netlist_core.specs.declared.model.Design.{Design}
 use Rattle.netlist_core.specs.Names.{Name}
@@ -6,15 +6,15 @@ use Rattle.netlist_rules.specs.declared.fault.Fault.{Fault}
 use Rattle.netlist_rules.specs.declared.fault.FaultKind.TheVariants.{Recursive, ClockRead}
 use Rattle.netlist_text.specs.NetlistText.{IsNetlist, IsAtFault, IsTooHeavy, HasLoop}
 
--- Two faults are of one kind, at one line, and the same, but that one line may lie on several
--- circles of models, and may read several clock nets.
+-- Two faults have one kind and one line, and are the same unless their kind is `Recursive` or
+-- `ClockRead`: one line may lie on several circles of models, and may read several clock nets.
 pub record AreAlikeFaults (a b : Fault) : Type 0 where
   pub kind : a.kind ≡ b.kind
   pub line : a.line ≡ b.line
   pub whole : a.kind ≢ Recursive → a.kind ≢ ClockRead → a ≡ b
 
--- A text is not both, it has no two of the causes, and of each it has one, but that there may be
--- several loops.
+-- A text is not both a netlist and refused, it has no two of the causes, and of each it has at most
+-- one, except that there may be several loops.
 pub record IsDecided (text : List ℕ) : Type 0 where
   pub one_design : (a b : Design) → IsNetlist text a → IsNetlist text b → a ≡ b
   pub not_at_fault : (design : Design) (fault : Fault) → IsNetlist text design

@@ -17,28 +17,29 @@ pub record IsLight (text : List ℕ) (design : Design) : Type 0 where
   pub design_of : IsDesignOf text design
   pub light : weight design ≤ weight_limit
 
--- The text is a netlist: this design, within the limit, of which no clock is at fault and no covers
+-- The text is a netlist: its design is within the limit and has no fault of clocks, and no covers
 -- read each other in a circle.
 pub record IsNetlist (text : List ℕ) (design : Design) : Type 0 where
   pub is : IsLight text design
   pub clocks : HasNoClockFault design
   pub no_loop : (nets : List Net) → IsCombinationalLoop design nets → ⊥
 
--- the text has a fault: by a rule on lines or models, or within the limit by one on clocks
+-- the text has a fault by a rule on lines or models or, if its design is within the limit, by a
+-- rule on clocks
 pub data IsAtFault (text : List ℕ) (fault : Fault) : Type 0 where
   of_text : HasFault (logical_lines text) fault → IsAtFault text fault
   of_clocks : {design : Design} → IsLight text design → IsClockFault design fault
       → IsAtFault text fault
 
--- its design is over the limit; the number that is told is its weight, or the greatest u64
+-- the text's design is over the limit; `told` is its weight, or the greatest u64 if that is less
 pub record IsTooHeavy (text : List ℕ) (told : ℕ) : Type 0 where
   pub design : Design
   pub design_of : IsDesignOf text design
   pub heavy : weight_limit < weight design
   pub is_told : told ≡ min (weight design) (2 ^ 64 - 1)
 
--- covers read each other in a circle, whose nets have these names: each the one nearest the main
--- model of those that it is joined with, and none twice
+-- covers read each other in a circle, and these are the names of its nets: each net is the one
+-- nearest the main model among those joined with it, and none stands twice
 pub record HasLoop (text : List ℕ) (names : List Name) : Type 0 where
   pub design : Design
   pub is : IsLight text design

@@ -16,14 +16,15 @@ use thiserror::Error;
 /// Why a text gives no netlist.
 #[derive(Drop, Error)]
 pub enum NetlistError {
-    /// The first rule on lines, models or clocks that the text breaks.
+    /// The fault by the first rule on lines, models or clocks that the text breaks.
     #[error("the netlist is at fault")]
     Fault(Fault),
-    /// The netlist weighs more than the limit.
+    /// The netlist weighs more than the limit. `weight` is its weight, or the greatest u64 if it
+    /// weighs more.
     #[error("the netlist is too large: it weighs {weight}")]
     TooLarge { weight: u64 },
-    /// The names of nets of which each is read by a cover whose output is the next, and the last by
-    /// one whose output is the first.
+    /// The names of the nets of a loop: a cover reads each net and drives the next, and a cover
+    /// reads the last and drives the first.
     #[error("covers read each other in a circle")]
     Loop(List<Name>),
     #[error("out of memory")]

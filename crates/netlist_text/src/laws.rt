@@ -1,7 +1,7 @@
 //! What is proved of texts. The functions do nothing: each has a law as its contract.
 ghost use Rattle.netlist_text.specs.Laws.{TextsAreDecided};
 
-/// A text is at most one of a netlist and the causes why it is none.
+/// A text is never both a netlist and refused, and never refused for two causes.
 pub fn texts_are_decided()
     ensures { TextsAreDecided }
 {}

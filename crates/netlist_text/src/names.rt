@@ -11,7 +11,7 @@ use netlist_core::{Flat, FlatPort, Name, NetId};
 use netlist_meaning::name_of_net;
 use std::alloc::{AllocError, Global};
 
-/// The names of nets.
+/// Copies the names of nets, each at its place.
 pub fn net_names(alloc: Global, flat: &Flat, nets: &[NetId]) -> Result<List<Name>, AllocError>
     requires { All (IsNetId flat.now) nets.now }
     ensures { IfOk result (λ names. names ≡ map (name_of_net flat.now) nets.now) }
@@ -36,7 +36,7 @@ fn names_of_ports(alloc: Global, flat: &Flat, ports: &[FlatPort]) -> Result<List
 }
 
 impl Netlist {
-    /// The IN names: the main inputs but the control, in order.
+    /// Returns the IN names: those of the main inputs without the control, in order.
     pub fn in_names(&self, alloc: Global) -> Result<List<Name>, AllocError>
         requires { AreParts self.now.design self.now.flat self.now.order.nodes }
         ensures names { IfOk result (IsInNames self.now.design) }
@@ -46,7 +46,7 @@ impl Netlist {
         names_of_ports(alloc, &self.flat, self.flat.ins.as_slice())
     }
 
-    /// The names of the main outputs, in order.
+    /// Returns the names of the main outputs, in order.
     pub fn out_names(&self, alloc: Global) -> Result<List<Name>, AllocError>
         requires { AreParts self.now.design self.now.flat self.now.order.nodes }
         ensures { IfOk result (λ names. names ≡ main_outputs self.now.design) }

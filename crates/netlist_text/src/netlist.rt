@@ -14,17 +14,17 @@ use netlist_core::{Design, Flat, Order};
 use netlist_flatten::flatten;
 use std::alloc::Global;
 
-/// The netlist of a text.
+/// The netlist of a text: its design, its flat netlist, and an order of the covers.
 #[derive(Drop)]
 pub struct Netlist {
     pub design: Design,
     pub flat: Flat,
-    /// Each cover comes after those that drive what it reads.
+    /// An order in which each cover comes after those that drive what it reads.
     pub order: Order,
 }
 
-/// The netlist of a BLIF text. Of several causes why there is none the first in this order is
-/// answered: a fault of its lines or models, too great a weight, a fault of its clocks, a loop.
+/// Reads the netlist of a BLIF text. If there is none, the first cause in this order is answered: a
+/// fault of its lines or models, too great a weight, a fault of its clocks, a loop.
 pub fn netlist_of(alloc: Global, text: &[u8]) -> Result<Netlist, NetlistError>
     ensures netlist { IfOk result (λ n. IsNetlist text.now n.design) }
     ensures parts { IfOk result (λ n. AreParts n.design n.flat n.order.nodes) }

@@ -1,4 +1,4 @@
--- Words of a line, or of a model, whose names do not pass a test.
+-- The words of a line, or of a model, whose names do not pass a test.
 use Rattle.std.specs.Prelude.{ℕ, Bool, not, List, filter_map, Option}
 use Rattle.std.specs.Bool.{then_some}
 use Rattle.netlist_core.specs.declared.model.Pin.{Pin}

@@ -41,8 +41,8 @@ fn offer_line<'a>(earliest: &mut Earliest<'a>, placed: &PlacedPorts<'_, '_>, lin
     }
 }
 
-/// The earliest formal that is no port of the model that its line names. The ports are those of the
-/// models.
+/// Finds the earliest formal that is no port of the model that its line names. `placed` has the
+/// names of the models' ports.
 pub fn unknown_formal(
     alloc: Global,
     models: &[Model],

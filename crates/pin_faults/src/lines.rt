@@ -16,7 +16,7 @@ fn push_lines<'a>(lines: &mut Vec<&'a Subckt>, model: &'a Model) -> Result<(), A
     Ok(())
 }
 
-/// The subckt lines of the first model, then those of the next.
+/// Collects the subckt lines of the models, model by model.
 pub fn subckt_lines(alloc: Global, models: &[Model]) -> Result<Vec<&Subckt>, AllocError>
     ensures { IfOk result (λ lines.
         lines_now lines.items ≡ flat_map (λ (model : Model). model.subckts) models.now

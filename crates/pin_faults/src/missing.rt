@@ -35,7 +35,7 @@ fn offer_others<'a>(earliest: &mut Earliest<'a>, names: &BTreeSet<&[u8]>, ports:
     }
 }
 
-// The same fault on another line.
+// The fault, put on another line.
 fn moved_to(line: u64, fault: Option<Fault>) -> Option<Fault>
     ensures { result ≡ option_map (λ (fault : text.Fault). record fault { line = line }) fault }
 {
@@ -79,7 +79,7 @@ fn is_up_to(fault: &Option<Fault>, line: u64) -> bool
 }
 
 // The earlier of the first fault so far and that of a line. A line that does not stand before the
-// first is not looked at.
+// first fault is not checked.
 fn earlier_fault(
     alloc: Global,
     named: &NamedModels<'_>,
@@ -98,8 +98,8 @@ fn earlier_fault(
     Ok(found.or(first))
 }
 
-/// The earliest subckt line that has no pin for some input of the model that it names, with the
-/// first such input by its line in that model.
+/// Finds the earliest subckt line that has no pin for some input of the model that it names. The
+/// fault has the first such input, by its line in that model. `named` is the index of the models.
 pub fn pin_missing(
     alloc: Global,
     models: &[Model],

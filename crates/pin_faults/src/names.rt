@@ -8,7 +8,7 @@ use netlist_core::Subckt;
 use std::alloc::{AllocError, Global};
 use std::collections::BTreeSet;
 
-/// The formals of a line.
+/// Collects the formals of a line.
 pub fn formals_of(alloc: Global, line: &Subckt) -> Result<BTreeSet<&[u8]>, AllocError>
     ensures { IfOk result (λ names. HasNames names (is_named (formals_of line.now))) }
 {

@@ -1,4 +1,4 @@
-// Words that are offered where they break a rule.
+// Words that are offered if they break a rule.
 ghost use Rattle.std.specs.Prelude.{◌≡◌};
 ghost use Rattle.std.specs.Bool.{then_some};
 ghost use Rattle.std.specs.Option.{option_to_list};

@@ -12,7 +12,7 @@ use model_words::{Earliest, Fault, FaultKind, Word};
 use netlist_core::{Model, Subckt};
 use std::alloc::{AllocError, Global};
 
-// Offers the model that a line names, where there is none.
+// Offers the model name of a line, if no model has it.
 fn offer_line<'a>(earliest: &mut Earliest<'a>, named: &NamedModels<'_>, line: &'a Subckt)
     ensures { earliest_word earliest.new
         ≡ earliest_after (earliest_word earliest.old) (missing_model named.now line.now) }
@@ -24,7 +24,8 @@ fn offer_line<'a>(earliest: &mut Earliest<'a>, named: &NamedModels<'_>, line: &'
     offer_if(earliest, named.model(word.name).is_none(), word);
 }
 
-/// The earliest subckt line that names no model, with that name.
+/// Finds the earliest subckt line that names no model; the fault has that name. `named` is the
+/// index of the models.
 pub fn missing_model(
     alloc: Global,
     models: &[Model],

@@ -13,7 +13,7 @@ use netlist_core::{Model, Subckt};
 use std::alloc::{AllocError, Global};
 use std::collections::BTreeSet;
 
-// Offers the formals that a line has named before.
+// Offers the formals that a line has already named.
 fn offer_line<'a>(
     alloc: Global,
     earliest: &mut Earliest<'a>,
@@ -36,7 +36,7 @@ fn offer_line<'a>(
     Ok(())
 }
 
-/// The earliest formal that its line has named before.
+/// Finds the earliest formal that its line has already named.
 pub fn pin_twice(alloc: Global, models: &[Model]) -> Result<Option<Fault>, AllocError>
     ensures { IfOk result (λ found. found ≡ earliest_broken PinTwice models.now) }
 {

@@ -1,4 +1,4 @@
-// Numbers by chance, the same for the same start.
+// Pseudorandom numbers, which are the same for the same start.
 
 /// A generator of 64-bit numbers (splitmix64): each start gives one sequence, on every machine.
 #[derive(Clone, Copy)]
@@ -7,7 +7,7 @@ pub struct Chances {
 }
 
 impl Chances {
-    /// The sequence of a start.
+    /// Begins the sequence of a start.
     pub fn new(start: u64) -> Chances {
         Chances { state: start }
     }
@@ -20,7 +20,7 @@ impl Chances {
         word ^ (word >> 31)
     }
 
-    /// One of the numbers below a bound; 0 where there is none.
+    /// Draws a number below a bound; 0 if the bound is 0.
     pub fn below(&mut self, bound: u64) -> u64 {
         if bound == 0 {
             return 0;

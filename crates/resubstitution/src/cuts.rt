@@ -6,10 +6,11 @@ use std::alloc::Global;
 // The most leaves of a cut.
 const MOST_LEAVES: usize = 6;
 
-// The most cells between the leaves and the cell.
+// The most cells between the leaves and the cell, the cell itself among them.
 const MOST_INSIDE: usize = 32;
 
-/// The sources of which a cell is a function, and the cells between them and it, itself first.
+/// The sources of which a cell is a function (`leaves`), and the cells between them and it, itself
+/// first (`inside`).
 #[derive(Drop)]
 pub struct Cut {
     pub leaves: Vec<Src>,
@@ -35,7 +36,7 @@ impl Cut {
         }
     }
 
-    // How many new leaves come where a leaf is opened, if it is a cell.
+    // How many new leaves come if a leaf is opened, which must be a cell.
     fn new_leaves(&self, network: &Network, leaf: Src) -> Option<usize> {
         let Src::Cell(i) = leaf else {
             return None;
@@ -46,7 +47,7 @@ impl Cut {
         Some(usize::from(first) + usize::from(second))
     }
 
-    // The leaf that brings the fewest new ones, its place, and how many.
+    // The place of the leaf that brings the fewest new ones, and how many it brings.
     fn best_leaf(&self, network: &Network) -> Option<(usize, usize)> {
         let mut best: Option<(usize, usize)> = None;
         for (place, leaf) in self.leaves.iter().enumerate() {
@@ -67,7 +68,7 @@ impl Cut {
         Ok(())
     }
 
-    // What a cell reads are leaves, as far as they are new.
+    // Opens a cell: it is inside, and what it reads become leaves, as far as they are new.
     fn open(&mut self, network: &Network, number: u32) -> Result<(), CellError> {
         self.inside.push(number)?;
         if let Some((a, b)) = network.operands(number) {
@@ -77,7 +78,7 @@ impl Cut {
         Ok(())
     }
 
-    // Opens the best leaf, if the leaves stay few enough. Whether it did.
+    // Opens the best leaf, if the leaves stay few enough, and returns whether it did.
     fn widen(&mut self, network: &Network) -> Result<bool, CellError> {
         let Some((place, more)) = self.best_leaf(network) else {
             return Ok(false);
@@ -95,8 +96,8 @@ impl Cut {
         Ok(true)
     }
 
-    /// The cut of a cell: first its operands; then that leaf is opened which brings the fewest new
-    /// ones, while they are few enough.
+    /// Makes the cut of a cell. First its operands are the leaves; then, while the leaves stay few
+    /// enough, the leaf that brings the fewest new ones is opened.
     pub fn of(alloc: Global, network: &Network, number: u32) -> Result<Cut, CellError> {
         let mut cut = Cut {
             leaves: Vec::new(alloc),
@@ -106,7 +107,7 @@ impl Cut {
         Ok(cut)
     }
 
-    // The cell is opened, and then leaves are while the cut stays small.
+    // Opens the cell, and then leaves while the cut stays small.
     fn grow(&mut self, network: &Network, number: u32) -> Result<(), CellError> {
         self.open(network, number)?;
         for _ in 1..MOST_INSIDE {

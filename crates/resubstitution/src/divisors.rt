@@ -12,7 +12,7 @@ pub struct Divisor {
     pub word: u64,
 }
 
-// Whether a source stays where these cells go.
+// Whether a source stays if these cells go.
 fn stays(src: Src, gone: &[u32]) -> bool {
     match src {
         Src::Cell(i) => !gone.contains(&i),
@@ -51,7 +51,7 @@ fn add_all(
     Ok(())
 }
 
-/// The leaves and the cells of a window that do not go; constant 1 too, where it may be read.
+/// Collects the leaves and the cells of a window that do not go, and constant 1 if it may be read.
 pub fn divisors_of(
     alloc: Global,
     cut: &Cut,
@@ -67,7 +67,7 @@ pub fn divisors_of(
     Ok(divisors)
 }
 
-/// The divisors in an order by chance.
+/// Puts the divisors in a random order.
 pub fn shuffle(divisors: &mut [Divisor], chances: &mut Chances) {
     for k in 0..divisors.len() {
         let last = divisors.len() - 1 - k;

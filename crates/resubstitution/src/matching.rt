@@ -1,4 +1,4 @@
-// A table as that of a divisor, of a cell of two divisors, or of two cells of three.
+// A wanted table as that of a divisor, of a cell of two divisors, or of two cells of three.
 use crate::divisors::Divisor;
 use crate::sieve::Sieve;
 use cell_core::{Cell, CellError, Src};
@@ -9,14 +9,14 @@ use std::alloc::Global;
 pub enum Outer {
     Or(Src),
     Xor(Src),
-    /// 1 where the first cell is and the other source is not.
+    /// 1 if the first cell is 1 and the other source is 0.
     But(Src),
-    /// 1 where the other source is and the first cell is not.
+    /// 1 if the other source is 1 and the first cell is 0.
     Within(Src),
 }
 
 impl Outer {
-    /// The second cell, where the first one is this source.
+    /// Returns the second cell, if the first one is this source.
     pub fn cell(self, first: Src) -> Cell {
         match self {
             Outer::Or(other) => Cell::Or(other, first),
@@ -27,21 +27,21 @@ impl Outer {
     }
 }
 
-/// The divisors by how their tables lie to one that is wanted.
+/// The divisors, sorted by how their tables compare with a wanted table.
 #[derive(Drop)]
 pub struct Sorted<'a> {
     all: &'a [Divisor],
-    /// 0 wherever the wanted one is.
+    /// The divisors that are 0 wherever the wanted table is 0.
     lower: Vec<Divisor>,
-    /// 1 wherever the wanted one is.
+    /// The divisors that are 1 wherever the wanted table is 1.
     upper: Vec<Divisor>,
-    /// 0 wherever the wanted one is 1.
+    /// The divisors that are 0 wherever the wanted table is 1.
     apart: Vec<Divisor>,
     sieve: Sieve,
     word: u64,
 }
 
-/// The divisor that has a table.
+/// Returns constant 0 if the table is 0, or else the first divisor that has the table.
 pub fn same(divisors: &[Divisor], word: u64) -> Option<Src> {
     if word == 0 {
         return Some(Src::Zero);
@@ -54,7 +54,7 @@ pub fn same(divisors: &[Divisor], word: u64) -> Option<Src> {
     None
 }
 
-// The cell with its operands turned, where that makes no difference.
+// The cell with its operands exchanged, if that makes no difference.
 fn turned(cell: Cell) -> Cell {
     match cell {
         Cell::Or(a, b) => Cell::Or(b, a),
@@ -63,12 +63,12 @@ fn turned(cell: Cell) -> Cell {
     }
 }
 
-// Whether the two cells are one, also where the operands of an OR or XOR are turned.
+// Whether the two cells are the same, perhaps with the operands of an OR or XOR exchanged.
 fn is_alike(a: Cell, b: Cell) -> bool {
     a == b || turned(a) == b
 }
 
-// Adds a divisor to those of its kind.
+// Adds a divisor to a kind, if it is of that kind.
 fn push_if(kind: &mut Vec<Divisor>, is_one: bool, divisor: Divisor) -> Result<(), CellError> {
     if is_one {
         kind.push(divisor)?;
@@ -77,7 +77,7 @@ fn push_if(kind: &mut Vec<Divisor>, is_one: bool, divisor: Divisor) -> Result<()
 }
 
 impl<'a> Sorted<'a> {
-    /// The divisors, sorted for a table.
+    /// Sorts the divisors for a wanted table.
     pub fn of(alloc: Global, divisors: &'a [Divisor], word: u64) -> Result<Sorted<'a>, CellError> {
         let mut sorted = Sorted {
             all: divisors,
@@ -106,7 +106,7 @@ impl<'a> Sorted<'a> {
         push_if(&mut self.apart, word & divisor.word == 0, divisor)
     }
 
-    // The divisor with a table.
+    // The divisor with a table, if there is one.
     fn find(&self, word: u64) -> Option<Src> {
         if self.sieve.has(word) {
             same(self.all, word)
@@ -115,7 +115,7 @@ impl<'a> Sorted<'a> {
         }
     }
 
-    // The XOR of two divisors with the table, but for a cell.
+    // An XOR of two divisors that has the wanted table and is not the given cell.
     fn xor(&self, own: Cell) -> Option<Cell> {
         for a in self.all {
             if let Some(b) = self.find(a.word ^ self.word) {
@@ -140,7 +140,7 @@ impl<'a> Sorted<'a> {
         None
     }
 
-    // The OR of two divisors with the table, but for a cell.
+    // An OR of two divisors that has the wanted table and is not the given cell.
     fn or(&self, own: Cell) -> Option<Cell> {
         for a in &self.lower {
             if let Some(cell) = self.or_with(*a, own) {
@@ -162,7 +162,7 @@ impl<'a> Sorted<'a> {
         None
     }
 
-    // The AND-NOT of two divisors with the table, but for a cell.
+    // An AND-NOT of two divisors that has the wanted table and is not the given cell.
     fn and_not(&self, own: Cell) -> Option<Cell> {
         for a in &self.upper {
             if let Some(cell) = self.and_not_of(*a, own) {
@@ -172,7 +172,8 @@ impl<'a> Sorted<'a> {
         None
     }
 
-    /// A cell of two divisors that has the table and is not the given one.
+    /// Returns a cell of two divisors that has the wanted table and is not the given cell, if there
+    /// is one.
     pub fn one_cell(&self, own: Cell) -> Option<Cell> {
         if let Some(cell) = self.xor(own) {
             return Some(cell);
@@ -183,7 +184,7 @@ impl<'a> Sorted<'a> {
         self.and_not(own)
     }
 
-    // The OR of a first cell with this word and of a divisor, if it has the table.
+    // The OR of a first cell with this word and a divisor, if it has the wanted table.
     fn outer_or(&self, first: u64) -> Option<Outer> {
         if first & !self.word != 0 {
             return None;
@@ -196,7 +197,7 @@ impl<'a> Sorted<'a> {
         None
     }
 
-    // A divisor without a first cell with this word, if it has the table.
+    // The AND-NOT of a divisor and a first cell with this word, if it has the wanted table.
     fn outer_within(&self, first: u64) -> Option<Outer> {
         if first & self.word != 0 {
             return None;
@@ -209,7 +210,7 @@ impl<'a> Sorted<'a> {
         None
     }
 
-    // A first cell with this word without a divisor, if it has the table.
+    // The AND-NOT of a first cell with this word and a divisor, if it has the wanted table.
     fn outer_but(&self, first: u64) -> Option<Outer> {
         if self.word & !first != 0 {
             return None;
@@ -222,7 +223,7 @@ impl<'a> Sorted<'a> {
         None
     }
 
-    // How a second cell that has the table reads a first one with this word.
+    // How a second cell that has the wanted table reads a first one with this word, if one does.
     fn outer(&self, first: u64) -> Option<Outer> {
         if let Some(outer) = self.outer_or(first) {
             return Some(outer);
@@ -237,7 +238,7 @@ impl<'a> Sorted<'a> {
         Some(Outer::Xor(other))
     }
 
-    // Two cells, of which the first reads these two divisors.
+    // Two cells, of which the first reads these two divisors and the second has the wanted table.
     fn two_cells_of(&self, a: Divisor, b: Divisor) -> Option<(Cell, Outer)> {
         if let Some(outer) = self.outer(a.word & !b.word) {
             return Some((Cell::AndNot(a.src, b.src), outer));
@@ -261,7 +262,8 @@ impl<'a> Sorted<'a> {
         None
     }
 
-    /// Two cells of three divisors, of which the second has the table.
+    /// Returns two cells of three divisors, of which the second has the wanted table, if there are
+    /// any.
     pub fn two_cells(&self) -> Option<(Cell, Outer)> {
         for (place, a) in self.all.iter().enumerate() {
             if let Some(found) = self.two_cells_with(*a, place) {

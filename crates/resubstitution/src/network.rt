@@ -10,7 +10,7 @@ pub enum Role {
     Free,
     /// It stays the cell that it is.
     Kept,
-    /// It is read no more.
+    /// It is no longer read.
     Gone,
 }
 
@@ -23,7 +23,7 @@ struct Gate {
     role: Role,
 }
 
-/// The cells of a list, and the readers of its inputs and latches.
+/// The cells of a list, each with its readers, and the readers of the list's inputs and latches.
 #[derive(Drop)]
 pub struct Network {
     gates: Vec<Gate>,
@@ -33,19 +33,19 @@ pub struct Network {
     pub has_one: bool,
 }
 
-/// What a cell reads.
+/// Returns the two sources that a cell reads.
 pub fn operands(cell: Cell) -> (Src, Src) {
     match cell {
         Cell::Or(a, b) | Cell::Xor(a, b) | Cell::AndNot(a, b) => (a, b),
     }
 }
 
-// The second source in the place of the first.
+// The source, or `to` if it is `from`.
 fn turned(src: Src, from: Src, to: Src) -> Src {
     if src == from { to } else { src }
 }
 
-// The cell, reading the second source where it read the first.
+// The cell, which reads `to` where it read `from`.
 fn turned_cell(cell: Cell, from: Src, to: Src) -> Cell {
     match cell {
         Cell::Or(a, b) => Cell::Or(turned(a, from, to), turned(b, from, to)),
@@ -82,7 +82,7 @@ fn take_out(readers: &mut Vec<u32>, number: u32) {
 }
 
 impl Network {
-    /// The network of a list, of which some sources stay the cells that they are.
+    /// Makes the network of a list, in which the kept sources stay the cells that they are.
     pub fn of(alloc: Global, list: &CellList, kept: &[Src]) -> Result<Network, CellError> {
         let mut network = Network {
             gates: Vec::new(alloc),
@@ -95,7 +95,7 @@ impl Network {
         Ok(network)
     }
 
-    // A list comes into a network that has no cells.
+    // Takes a list into a network that has no cells.
     fn take_in(&mut self, alloc: Global, list: &CellList) -> Result<(), CellError> {
         push_empty(&mut self.inputs, alloc, list.inputs as usize)?;
         push_empty(&mut self.latches, alloc, list.starts.len())?;
@@ -114,12 +114,12 @@ impl Network {
         Ok(())
     }
 
-    /// The number of the next cell that is added.
+    /// Returns the number that the next cell gets.
     pub fn next_number(&self) -> u32 {
         u32::try_from(self.gates.len()).unwrap_or(u32::MAX)
     }
 
-    /// Adds a cell at the end, and answers its number.
+    /// Adds a cell at the end, and returns its number.
     pub fn add(&mut self, alloc: Global, cell: Cell) -> Result<u32, CellError> {
         let number = self.next_number();
         self.gates.push(Gate {
@@ -134,7 +134,7 @@ impl Network {
         Ok(number)
     }
 
-    // A cell reads a source.
+    // Notes that a cell reads a source.
     fn read(&mut self, src: Src, reader: u32) -> Result<(), CellError> {
         self.use_more(src, 1);
         if let Some(readers) = self.readers_mut(src) {
@@ -155,7 +155,7 @@ impl Network {
         }
     }
 
-    /// The cells that read a source.
+    /// Returns the cells that read a source. Those that read a constant are not kept.
     pub fn readers(&self, src: Src) -> Option<&Vec<u32>> {
         match src {
             Src::Input(i) => self.inputs.get(i as usize),
@@ -176,7 +176,7 @@ impl Network {
         }
     }
 
-    // One use less of a source: its number, where it is a cell that has no other.
+    // Takes a use from a source, and returns its number if it is a cell that has no other use.
     fn use_less(&mut self, src: Src) -> Option<u32> {
         let Src::Cell(i) = src else {
             return None;
@@ -186,7 +186,7 @@ impl Network {
         if gate.uses == 0 { Some(i) } else { None }
     }
 
-    // Ports read sources.
+    // Notes that ports read these sources.
     fn use_all(&mut self, sources: &[Src]) {
         for src in sources {
             self.use_more(*src, 1);
@@ -207,7 +207,7 @@ impl Network {
         }
     }
 
-    /// The cell of a number, and what may become of it.
+    /// Returns the cell of a number, and what may become of it.
     pub fn role(&self, number: u32) -> Option<(Cell, Role)> {
         match self.gates.get(number as usize) {
             Some(gate) => Some((gate.cell, gate.role)),
@@ -215,7 +215,7 @@ impl Network {
         }
     }
 
-    /// What the cell of a number reads.
+    /// Returns the two sources that the cell of a number reads.
     pub fn operands(&self, number: u32) -> Option<(Src, Src)> {
         match self.gates.get(number as usize) {
             Some(gate) => Some(operands(gate.cell)),
@@ -223,7 +223,7 @@ impl Network {
         }
     }
 
-    /// A cell, and those that only its making reads: the cells that go with it.
+    /// Returns a cell and the cells that go with it: those that nothing needs without it.
     pub fn cone_of(&mut self, alloc: Global, number: u32) -> Result<Vec<u32>, CellError> {
         let mut gone = Vec::new(alloc);
         self.release_all(&mut gone, number)?;
@@ -231,7 +231,7 @@ impl Network {
         Ok(gone)
     }
 
-    // A cell goes, and so does what is not read any more.
+    // Lists a cell and what is no longer read without it, and takes their uses away.
     fn release_all(&mut self, gone: &mut Vec<u32>, number: u32) -> Result<(), CellError> {
         gone.push(number)?;
         for place in 0..self.gates.len() {
@@ -246,7 +246,7 @@ impl Network {
         Ok(())
     }
 
-    // One use less of what a cell reads.
+    // Takes a use from each source that a cell reads; those that are no longer read go too.
     fn release_operands(&mut self, gone: &mut Vec<u32>, number: u32) -> Result<(), CellError> {
         let Some((a, b)) = self.operands(number) else {
             return Ok(());
@@ -255,7 +255,7 @@ impl Network {
         self.release(gone, b)
     }
 
-    // One use less of a source, which goes too if it is not read any more.
+    // Takes a use from a source, which goes too if it is no longer read.
     fn release(&mut self, gone: &mut Vec<u32>, src: Src) -> Result<(), CellError> {
         if let Some(number) = self.use_less(src) {
             gone.push(number)?;
@@ -263,7 +263,7 @@ impl Network {
         Ok(())
     }
 
-    // One use more of what each of the cells reads.
+    // Gives a use back to each source that the cells read.
     fn restore(&mut self, gone: &[u32]) {
         for number in gone {
             if let Some((a, b)) = self.operands(*number) {
@@ -273,7 +273,7 @@ impl Network {
         }
     }
 
-    // Takes the readers of a cell away, and its uses, which another source gets.
+    // Takes the readers of a cell away, and gives its uses to another source.
     fn take_readers(&mut self, alloc: Global, number: u32, by: Src) -> Vec<u32> {
         let Some(gate) = self.gates.get_mut(number as usize) else {
             return Vec::new(alloc);
@@ -285,14 +285,14 @@ impl Network {
         readers
     }
 
-    // A cell reads the second source in place of the first.
+    // Makes a cell read the second source in place of the first.
     fn turn(&mut self, number: u32, from: Src, to: Src) {
         if let Some(gate) = self.gates.get_mut(number as usize) {
             gate.cell = turned_cell(gate.cell, from, to);
         }
     }
 
-    // The readers of a cell read a source in its place.
+    // Makes the readers of a cell read a source in its place.
     fn turn_all(&mut self, readers: &[u32], number: u32, by: Src) -> Result<(), CellError> {
         for reader in readers {
             self.turn(*reader, Src::Cell(number), by);
@@ -303,7 +303,8 @@ impl Network {
         Ok(())
     }
 
-    /// The readers of a cell read a source in its place, and the cells that only it needed go.
+    /// Makes the readers of a cell read a source in its place, and removes the cell with those that
+    /// only it needed.
     pub fn replace(&mut self, alloc: Global, number: u32, by: Src) -> Result<(), CellError> {
         let readers = self.take_readers(alloc, number, by);
         self.turn_all(&readers, number, by)?;
@@ -336,7 +337,7 @@ impl Network {
         self.release_operands(gone, number)
     }
 
-    // A cell reads a source no more.
+    // Notes that a cell no longer reads a source.
     fn unread(&mut self, src: Src, number: u32) {
         if let Some(readers) = self.readers_mut(src) {
             take_out(readers, number);

@@ -8,9 +8,10 @@ use crate::windows::Window;
 use cell_core::{Cell, CellError, CellList, Src};
 use std::alloc::Global;
 
-/// Cells to be added at the end of a list, and a source, one of these cells or another, that has
-/// the bit of a cell of the list and may be read in its place: by the tables over at most six
-/// leaves of the cells of a cone, each of which stands after those that it reads.
+/// A replacement of the cell `cell`: `cells` are added at the end of the list, and then the source
+/// `by`, one of these cells or another, has the bit of `cell` and may be read in its place. The
+/// tables over `leaves`, which are at most six, of the cells of `cone` show it; each cell of the
+/// cone stands after those that it reads.
 #[derive(Drop)]
 pub struct Replacement {
     pub cells: Vec<Cell>,
@@ -20,13 +21,13 @@ pub struct Replacement {
     pub cone: Vec<u32>,
 }
 
-/// Which replacements are taken.
+/// Which replacements a round takes.
 #[derive(Clone, Copy)]
 pub enum Round {
-    /// Those by which cells become fewer.
+    /// Those that make the cells fewer.
     Fewer,
-    /// For one cell in four, by chance, also those by which there are as many: they open the way
-    /// for others.
+    /// For one cell in four, by chance, also those that keep the number of cells: they open the way
+    /// for others. Each other cell is passed over unless some cell goes with it.
     Wander,
 }
 
@@ -38,8 +39,8 @@ enum Most {
     Two,
 }
 
-// The most visits of one round: of cells that go with another, of readers, and of pairs of
-// divisors. What the cell needs at which they are spent comes on top.
+// The visits after which a round ends: of cells that go with another, of readers, and of pairs of
+// divisors. The cell at which they run out may take more.
 const MOST_VISITS: usize = 1 << 24;
 
 // A search in one round.
@@ -70,7 +71,7 @@ struct Made {
     by: Src,
 }
 
-// How many cells may come where so many go.
+// How many cells may come if so many go.
 fn most_new(gone: usize, equal: bool) -> Most {
     let fewer = if equal { gone } else { gone.saturating_sub(1) };
     match fewer {
@@ -150,7 +151,7 @@ fn push_made(cells: &mut Vec<u32>, made: Option<Cell>) -> Result<(), CellError> 
     }
 }
 
-// The cells that a cell reads, and those that what comes in its place reads.
+// Adds the cells that a cell reads, and those that what comes in its place reads.
 fn push_needed(needed: &mut Vec<u32>, own: Cell, made: Made) -> Result<(), CellError> {
     push_operands(needed, own)?;
     push_cell(needed, made.by)?;
@@ -218,7 +219,7 @@ impl Search {
         made_of(alloc, &divisors, word, target.cell, most, number)
     }
 
-    // A known cell is of the cone, and what it reads is needed too.
+    // Adds a known cell to the cone, and what it reads to what is needed.
     fn push_known(
         &self,
         cone: &mut Vec<u32>,
@@ -235,7 +236,7 @@ impl Search {
         }
     }
 
-    // The known cells that are needed, the last first.
+    // Adds the known cells that are needed to the cone, the last first.
     fn push_cone(&self, cone: &mut Vec<u32>, needed: &mut Vec<u32>) -> Result<(), CellError> {
         for place in (0..self.window.order.len()).rev() {
             let known = self.window.order[place];
@@ -246,7 +247,8 @@ impl Search {
         Ok(())
     }
 
-    // The cells whose tables show that a source has the bit of a cell, which comes last.
+    // Fills the cone with the cells whose tables show that a source has the bit of a cell; this
+    // cell comes last.
     fn fill_cone(
         &self,
         alloc: Global,
@@ -261,7 +263,7 @@ impl Search {
         Ok(cone.push(target.number)?)
     }
 
-    // A cell comes to the end of the network.
+    // Adds a new cell at the end of the network.
     fn add_new(
         &mut self,
         alloc: Global,
@@ -277,7 +279,7 @@ impl Search {
         self.window.add_cell()
     }
 
-    // A replacement is made in the network.
+    // Makes a replacement in the network.
     fn perform(
         &mut self,
         alloc: Global,
@@ -291,7 +293,7 @@ impl Search {
         self.network.replace(alloc, target.number, made.by)
     }
 
-    // A cell is replaced.
+    // Replaces a cell.
     fn take(
         &mut self,
         alloc: Global,
@@ -343,7 +345,7 @@ impl Search {
         self.replace_over(alloc, target, &cut, gone)
     }
 
-    // Replaces a cell that may be, if something is found for it.
+    // Replaces a cell that may be replaced, if something is found for it.
     fn replace_cell(&mut self, alloc: Global, number: u32) -> Result<(), CellError> {
         let Some(target) = self.target(number) else {
             return Ok(());
@@ -364,9 +366,9 @@ impl Search {
     }
 }
 
-/// The replacements of one round over the cells of a list, in the order in which they are to be
-/// made. The kept sources are not replaced. A round ends early where it has made 16.8 million
-/// visits, of cells or of pairs of them.
+/// Finds the replacements of one round over the cells of a list, in the order in which they are to
+/// be made. The kept sources are not replaced. A round ends early when it has made 16.8 million
+/// visits, of cells or of pairs of divisors.
 pub fn replacements(
     alloc: Global,
     list: &CellList,

@@ -1,6 +1,6 @@
-// A sieve of words: a small table that says of most words that they are not in a set.
+// A sieve of words: a small table that tells for most words that they are not in a set.
 
-/// A bit for each of 1,024 places; a word has one place.
+/// A sieve: a bit for each of 1,024 places, of which each word has one.
 #[derive(Drop)]
 pub struct Sieve {
     bits: [u64; 16],
@@ -14,7 +14,7 @@ fn place(word: u64) -> (usize, u64) {
 }
 
 impl Sieve {
-    /// A sieve of no words.
+    /// Makes a sieve of no words.
     pub fn new() -> Sieve {
         Sieve { bits: [0; 16] }
     }
@@ -27,7 +27,7 @@ impl Sieve {
         }
     }
 
-    /// Whether a word may have been added; each that was may.
+    /// Returns whether a word may have been added. It is true for each word that was added.
     pub fn has(&self, word: u64) -> bool {
         let (at, bit) = place(word);
         match self.bits.get(at) {

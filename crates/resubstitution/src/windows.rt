@@ -1,15 +1,15 @@
-// Windows: the tables of all cells that are functions of a cut's leaves, but for those that read
-// the cell of the cut.
+// Windows: the tables of cells that are functions of a cut's leaves and do not read the cell of the
+// cut.
 use crate::cuts::Cut;
 use crate::network::{Network, Role};
 use cell_core::{Cell, CellError, Src};
 use cover_cells::net_word;
 use std::alloc::Global;
 
-// The most cells of a window.
+// The number of known cells from which on a window spreads no further.
 const MOST_KNOWN: usize = 40;
 
-/// Words of cells over the leaves of one cut, and in which order they became known.
+/// The words of cells over the leaves of one cut, and the order in which they became known.
 #[derive(Drop)]
 pub struct Window {
     words: Vec<Option<u64>>,
@@ -17,7 +17,7 @@ pub struct Window {
     pub order: Vec<u32>,
     /// The word of the cell of the cut.
     pub own: Option<u64>,
-    /// How many readers were looked at since the window was cleared.
+    /// How many readers were visited since the window was cleared.
     pub visits: usize,
     cell: u32,
 }
@@ -32,7 +32,7 @@ fn made_word(cell: Cell, a: u64, b: u64) -> u64 {
 }
 
 impl Window {
-    /// A window for networks of so many cells, in which no word is known.
+    /// Makes a window for networks of so many cells, in which no word is known.
     pub fn new(alloc: Global, cells: usize) -> Result<Window, CellError> {
         Ok(Window {
             words: vec![in alloc; None; cells]?,
@@ -44,12 +44,13 @@ impl Window {
         })
     }
 
-    /// A cell was added to the network.
+    /// Makes room for a cell that was added to the network.
     pub fn add_cell(&mut self) -> Result<(), CellError> {
         Ok(self.words.push(None)?)
     }
 
-    /// The word of a source, if it is known and does not read the cell of the cut.
+    /// Returns the word of a source, if it is known. Those of the cell of the cut, and of cells
+    /// that read it, are not.
     pub fn word(&self, src: Src) -> Option<u64> {
         match src {
             Src::One => Some(u64::MAX),
@@ -93,7 +94,7 @@ impl Window {
         self.word(Src::Cell(number)).is_some()
     }
 
-    // The word of a cell becomes known, if those of its operands are.
+    // Finds the word of a cell, if those of its operands are known.
     fn add(&mut self, network: &Network, number: u32) -> Result<(), CellError> {
         if self.has_word(number) {
             return Ok(());
@@ -116,7 +117,7 @@ impl Window {
         Ok(self.order.push(number)?)
     }
 
-    // The words of the leaves themselves.
+    // Adds the words of the leaves themselves.
     fn add_leaves(&mut self, leaves: &[Src]) -> Result<(), CellError> {
         for (place, leaf) in leaves.iter().enumerate() {
             if place < 6 {
@@ -130,7 +131,7 @@ impl Window {
         Ok(())
     }
 
-    // The words of the cells of the cut, of which each is a function of the leaves.
+    // Adds the words of the cells inside the cut, which are functions of the leaves.
     fn add_inside(&mut self, network: &Network, inside: &[u32]) -> Result<(), CellError> {
         for _ in 0..inside.len() {
             self.add_all(network, inside)?;
@@ -141,7 +142,7 @@ impl Window {
         Ok(())
     }
 
-    // The words of cells, from the last to the first.
+    // Adds the words of cells, from the last to the first.
     fn add_all(&mut self, network: &Network, cells: &[u32]) -> Result<(), CellError> {
         for place in (0..cells.len()).rev() {
             self.add(network, cells[place])?;
@@ -149,7 +150,7 @@ impl Window {
         Ok(())
     }
 
-    // The words of the cells that read a source.
+    // Adds the words of the cells that read a source.
     fn add_readers(&mut self, network: &Network, src: Src) -> Result<(), CellError> {
         if let Some(readers) = network.readers(src) {
             self.visits = self.visits.saturating_add(readers.len());
@@ -160,7 +161,8 @@ impl Window {
         Ok(())
     }
 
-    // The words of the cells that read known ones, further and further, while they are few enough.
+    // Adds the words of the cells that read the leaves, and then of those that read known cells,
+    // while these are few enough.
     fn spread(&mut self, network: &Network, leaves: &[Src]) -> Result<(), CellError> {
         for leaf in leaves {
             self.add_readers(network, *leaf)?;
@@ -177,7 +179,7 @@ impl Window {
         Ok(())
     }
 
-    /// Finds the words over the leaves of a cut, where none is known.
+    /// Finds the words over the leaves of a cut, in a window in which none is known.
     pub fn fill(&mut self, network: &Network, cut: &Cut, number: u32) -> Result<(), CellError> {
         self.cell = number;
         self.add_leaves(&cut.leaves)?;

@@ -11,11 +11,11 @@ next_count n = min (n + 1) (2 ^ 64 - 1)
 abbrev pub bytes_left : MemSource → List ℕ
 bytes_left s = drop s.at s.bytes.items
 
--- the number of its next call, from 0
+-- the number of the source's next call, from 0
 abbrev pub source_call : MemSource → ℕ
 source_call s = s.call
 
--- the numbers of the calls that fail
+-- the numbers of the source's calls that fail
 abbrev pub source_fails : MemSource → List ℕ
 source_fails s = s.fails.items
 
@@ -23,7 +23,7 @@ source_fails s = s.fails.items
 abbrev pub source_chunk : MemSource → ℕ
 source_chunk s = s.chunk
 
--- how often it has failed
+-- how often the source has failed
 abbrev pub source_faults : MemSource → ℕ
 source_faults s = s.faults
 
@@ -31,11 +31,11 @@ source_faults s = s.faults
 abbrev pub held_of : MemSink → List ℕ
 held_of s = s.held.items
 
--- the number of its next call, from 0
+-- the number of the sink's next call, from 0
 abbrev pub sink_call : MemSink → ℕ
 sink_call s = s.call
 
--- the numbers of the calls that fail
+-- the numbers of the sink's calls that fail
 abbrev pub sink_fails : MemSink → List ℕ
 sink_fails s = s.fails.items
 
@@ -43,10 +43,10 @@ sink_fails s = s.fails.items
 abbrev pub sink_chunk : MemSink → ℕ
 sink_chunk s = s.chunk
 
--- the most bytes that it takes in all
+-- the most bytes that the sink takes in all
 abbrev pub sink_room : MemSink → ℕ
 sink_room s = s.room
 
--- how often it has failed
+-- how often the sink has failed
 abbrev pub sink_faults : MemSink → ℕ
 sink_faults s = s.faults

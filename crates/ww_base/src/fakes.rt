@@ -4,7 +4,7 @@ ghost use Rattle.std.specs.Prelude.{◌≡◌, ◌≤◌, ◌<◌, ◌+◌, ◌-
 use crate::{Failed, FakeError, Sink, Source};
 use std::alloc::Global;
 
-/// A source in memory.
+/// A source that gives bytes from memory, and whose calls can be made to fail.
 #[derive(Drop)]
 pub struct MemSource {
     bytes: Vec<u8>,
@@ -20,8 +20,8 @@ pub struct MemSource {
 impl MemSource {
     ghost use Rattle.ww_base.specs.Fakes.{bytes_left, source_call, source_fails, source_chunk, source_faults};
 
-    /// A source of these bytes, which gives at most `chunk` a call and fails the calls whose
-    /// numbers, from 0, are in `fails`.
+    /// Makes a source of these bytes. It gives at most `chunk` bytes a call, and fails the calls
+    /// whose numbers, counted from 0, are in `fails`.
     pub fn new(alloc: Global, bytes: &[u8], chunk: usize, fails: &[u64]) -> Result<Self, FakeError>
         requires { 1 ≤ chunk }
         ensures bytes { IfOk result (λ s. bytes_left s ≡ bytes.now) }
@@ -40,7 +40,7 @@ impl MemSource {
         })
     }
 
-    /// How often it has failed, up to the greatest number.
+    /// Returns how often the source has failed. The count stays at the greatest u64.
     pub fn faults(&self) -> u64
         ensures { result ≡ source_faults self.now }
     {
@@ -88,7 +88,7 @@ impl Source for MemSource {
     }
 }
 
-/// A sink in memory.
+/// A sink that keeps bytes in memory, and whose calls can be made to fail.
 #[derive(Drop)]
 pub struct MemSink {
     held: Vec<u8>,
@@ -105,9 +105,9 @@ pub struct MemSink {
 impl MemSink {
     ghost use Rattle.ww_base.specs.Fakes.{held_of, sink_call, sink_fails, sink_chunk, sink_room, sink_faults};
 
-    /// A sink that reserves `room` bytes, takes at most `chunk` a call, and fails the calls whose
-    /// numbers, from 0, are in `fails`, and each call on a piece that is not empty once `room`
-    /// bytes are held.
+    /// Makes a sink that reserves `room` bytes and takes at most `chunk` bytes a call. It fails the
+    /// calls whose numbers, counted from 0, are in `fails`, and, once it holds `room` bytes, each
+    /// call on a piece that is not empty.
     pub fn new(alloc: Global, room: usize, chunk: usize, fails: &[u64]) -> Result<Self, FakeError>
         requires { 1 ≤ chunk }
         ensures empty { IfOk result (λ s. held_of s ≡ []) }
@@ -128,14 +128,14 @@ impl MemSink {
         })
     }
 
-    /// How often it has failed, up to the greatest number.
+    /// Returns how often the sink has failed. The count stays at the greatest u64.
     pub fn faults(&self) -> u64
         ensures { result ≡ sink_faults self.now }
     {
         self.faults
     }
 
-    /// The bytes taken so far.
+    /// Returns the bytes taken so far.
     pub fn held(&self) -> &[u8]
         ensures { result.now ≡ held_of self.now }
     {

@@ -13,6 +13,7 @@ mod wanted;
 mod whole;
 
 pub use fakes::{MemSink, MemSource};
+// The answer of `MemSource::new` and `MemSink::new` when memory runs out.
 pub use lists::OutOfMemory as FakeError;
 pub use page::Page;
 pub use pieces::write_pieces;

@@ -1,11 +1,11 @@
-// Pieces, and a page on which they are gathered, to be sent when it is full.
+// A page that gathers pieces of bytes and sends them when it is full.
 ghost use Rattle.std.specs.Prelude.{◌<◌, ◌≡◌, ◌≤◌, ◌+◌, ℕ, List, [], ◌++◌, length, OnOk, OnErr};
 ghost use Rattle.ww_base.specs.Progress.{Wrote, Broke};
 
 use crate::streams::{Failed, Sink};
 use crate::whole::write_all;
 
-// Writes a piece, or a front of it where a write fails.
+// Writes a piece, or a prefix of it if a write fails.
 fn send<O: Sink>(sink: &mut O, piece: &[u8]) -> Result<(), Failed>
     ensures ok { OnOk result ((rest : List ℕ) →
         Wrote (O.written sink.old) (O.written sink.new) (O.faults sink.old) (O.faults sink.new)
@@ -20,8 +20,8 @@ fn send<O: Sink>(sink: &mut O, piece: &[u8]) -> Result<(), Failed>
 /// The most bytes that a page holds.
 const PAGE: usize = 4096;
 
-/// Bytes that are to be sent, and how many bytes of items the last line has by now, whether sent or
-/// not.
+/// Bytes that are still to be sent, and a count of the bytes of items on the last line, whether
+/// they are sent or not.
 #[derive(Drop)]
 pub struct Page {
     bytes: [u8; PAGE],
@@ -34,7 +34,7 @@ pub struct Page {
 impl Page {
     ghost use Rattle.ww_base.specs.Pages.{held, column_of};
 
-    /// An empty page.
+    /// Makes an empty page.
     pub fn new() -> Self
         ensures held { held result ≡ [] }
         ensures column { column_of result ≡ 0 }
@@ -46,7 +46,7 @@ impl Page {
         }
     }
 
-    /// How many bytes of items the line has.
+    /// Returns how many bytes of items the last line has.
     pub fn column(&self) -> usize
         ensures count { result ≡ column_of self.now }
         ensures short { result ≤ 70 }
@@ -54,7 +54,7 @@ impl Page {
         self.column
     }
 
-    /// Counts an item on the line.
+    /// Counts an item of `size` bytes on the last line.
     pub fn advance(&mut self, size: usize)
         requires { column_of self.old + size ≤ 70 }
         ensures held { held self.new ≡ held self.old }
@@ -63,7 +63,7 @@ impl Page {
         self.column += size;
     }
 
-    /// Counts from 0 again.
+    /// Begins a line: the count of its bytes starts again at 0.
     pub fn begin_line(&mut self)
         ensures held { held self.new ≡ held self.old }
         ensures column { column_of self.new ≡ 0 }
@@ -98,7 +98,7 @@ impl Page {
         Ok(())
     }
 
-    // Sends what the page holds, where a piece of `size` bytes has no room on it.
+    // Sends what the page holds if a piece of `size` bytes has no room on it.
     fn make_room<O: Sink>(&mut self, sink: &mut O, size: usize) -> Result<(), Failed>
         ensures room { OnOk result (size ≤ 4096 → length (held self.new) + size ≤ 4096) }
         ensures empty { OnOk result (4096 < size → held self.new ≡ []) }
@@ -116,8 +116,8 @@ impl Page {
         self.flush(sink)
     }
 
-    /// Puts a piece on the page, and sends before it what the page holds where there is no room,
-    /// and a piece that no page has room for at once.
+    /// Puts a piece on the page. If there is no room for it, sends first what the page holds. A
+    /// piece that is longer than a page is sent at once.
     pub fn put<O: Sink>(&mut self, sink: &mut O, piece: &[u8]) -> Result<(), Failed>
         ensures column { column_of self.new ≡ column_of self.old }
         ensures ok { OnOk result ((rest : List ℕ) →

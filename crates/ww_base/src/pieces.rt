@@ -24,8 +24,8 @@ pub fn put_pieces<O: Sink>(sink: &mut O, page: &mut Page, pieces: &[&[u8]]) -> R
     Ok(())
 }
 
-/// Writes the pieces, one after the other, in one write where a page holds them all. Where a write
-/// fails, a front of them stands written. It takes no memory.
+/// Writes the pieces one after the other, by one `write_all` if a page holds them all. If a write
+/// fails, a prefix of them has been written. The call takes no memory.
 pub fn write_pieces<O: Sink>(sink: &mut O, pieces: &[&[u8]]) -> Result<(), Failed>
     ensures ok { OnOk result (Appends (O.written sink.old) (O.written sink.new)
         (joined_pieces pieces.now)) }

@@ -1,13 +1,13 @@
-// Standard input, output and error as a source and sinks. What a stream of the system gives or
-// keeps no contract can say, so these tell no bytes. Over a stream whose bytes are known they are
-// those bytes.
+// Standard input, output and error as a source and sinks. No contract can say which bytes a stream
+// of the system gives or keeps, so over such a stream `left` and `written` tell no bytes. Over a
+// stream whose bytes are known they are those bytes.
 ghost use Rattle.std.specs.Prelude.{◌≡◌};
 ghost use Rattle.ww_base.specs.Standard.{source_stream, source_faults, sink_stream, sink_faults};
 
 use crate::{Failed, Sink, Source};
 use std::io::{Read, Write};
 
-/// A source over a stream that is read from, as standard input.
+/// A source that reads from a stream, such as standard input.
 #[derive(Drop)]
 pub struct StdSource<R: Read + Drop> {
     stream: R,
@@ -15,7 +15,7 @@ pub struct StdSource<R: Read + Drop> {
 }
 
 impl<R: Read + Drop> StdSource<R> {
-    /// A source that has not failed yet.
+    /// Makes a source over the stream, with no failure so far.
     pub fn new(stream: R) -> Self
         ensures stream { source_stream result ≡ stream }
         ensures faults { source_faults result ≡ 0 }
@@ -23,7 +23,7 @@ impl<R: Read + Drop> StdSource<R> {
         StdSource { stream, faults: 0 }
     }
 
-    /// How often it has failed, up to the greatest number.
+    /// Returns how often the source has failed. The count stays at the greatest u64.
     pub fn faults(&self) -> u64
         ensures { result ≡ source_faults self.now }
     {
@@ -47,7 +47,7 @@ impl<R: Read + Drop> Source for StdSource<R> {
     }
 }
 
-/// A sink over a stream that is written to, as standard output or error.
+/// A sink that writes to a stream, such as standard output or error.
 #[derive(Drop)]
 pub struct StdSink<W: Write + Drop> {
     stream: W,
@@ -55,7 +55,7 @@ pub struct StdSink<W: Write + Drop> {
 }
 
 impl<W: Write + Drop> StdSink<W> {
-    /// A sink that has not failed yet.
+    /// Makes a sink over the stream, with no failure so far.
     pub fn new(stream: W) -> Self
         ensures stream { sink_stream result ≡ stream }
         ensures faults { sink_faults result ≡ 0 }
@@ -63,7 +63,7 @@ impl<W: Write + Drop> StdSink<W> {
         StdSink { stream, faults: 0 }
     }
 
-    /// How often it has failed, up to the greatest number.
+    /// Returns how often the sink has failed. The count stays at the greatest u64.
     pub fn faults(&self) -> u64
         ensures { result ≡ sink_faults self.now }
     {

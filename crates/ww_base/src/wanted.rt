@@ -3,7 +3,7 @@ ghost use Rattle.std.specs.Prelude.{◌≡◌, IsOk};
 
 use std::test::Fail;
 
-/// Fails if a text is not the one that is wanted, and prints both.
+/// Fails if the text `said` is not `want`, with a message that shows both.
 pub fn expect(said: &[u8], want: &[u8]) -> Result<(), Fail>
     ensures { IsOk result → said.now ≡ want.now }
 {

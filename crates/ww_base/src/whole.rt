@@ -8,7 +8,7 @@ use crate::{Failed, Sink, Source};
 use lists::Bytes;
 use std::alloc::{AllocError, Global};
 
-/// Why not all was read.
+/// Why a source was not read to its end.
 #[derive(Clone, Copy, Debug, PartialEq, Eq)]
 pub enum ReadAllError {
     /// A read failed.
@@ -34,8 +34,8 @@ impl From<AllocError> for ReadAllError {
     }
 }
 
-/// All bytes up to the end of the source, which are at most `limit`. Where there is an error, the
-/// source has given some front of its bytes; `TooLong` comes only where that front has more than
+/// Reads all bytes up to the end of the source, which are at most `limit`. If there is an error,
+/// the source has given some prefix of its bytes; `TooLong` comes only if this prefix has more than
 /// `limit` bytes.
 pub fn read_all<S: Source>(alloc: Global, src: &mut S, limit: usize) -> Result<Bytes, ReadAllError>
     ensures all { IfOk result (λ bytes. Consumes (S.left src.old) (S.left src.new) bytes) }
@@ -64,7 +64,7 @@ pub fn read_all<S: Source>(alloc: Global, src: &mut S, limit: usize) -> Result<B
     }
 }
 
-/// Writes the whole piece, or a front of it where a write fails.
+/// Writes the whole piece, or a prefix of it if a write fails.
 pub fn write_all<O: Sink>(sink: &mut O, piece: &[u8]) -> Result<(), Failed>
     ensures ok { OnOk result (Appends (O.written sink.old) (O.written sink.new) piece.now) }
     ensures front { OnErr result (

@@ -1,4 +1,4 @@
--- What driven evolutions keep: on what they depend, and what a list of injections and streams make
+-- What driven evolutions keep, on what they depend, and what lists of injections and streams make
 -- due.
 use Rattle.std.specs.Prelude.{ℤ, pos, ◌+ℤ◌, ◌-ℤ◌, ◌≤ℤ◌, ℕ, suc, ◌*◌, ◌<◌, ◌≤◌, ◌≡◌, ◌↔◌, Bool, true, false, List, ◌++◌, length, All, Contains}
 use Rattle.ww_rule.specs.declared.pattern.Injection.{Injection}
@@ -10,7 +10,7 @@ use Rattle.ww_rule.specs.Laws.{AgreeNear, moved, mirrored}
 abbrev pub upside_down : ℤ → Plane → Plane
 upside_down b p x y = p x (b -ℤ y)
 
--- the rule, and every number of generations, commute with such mirrors
+-- the rule, and any number of its generations, commute with mirrors from north to south
 abbrev pub KeepsMirrorsDown : Type 0
 KeepsMirrorsDown =
     ((b : ℤ) (p : Plane) → next_plane (upside_down b p) ≡ upside_down b (next_plane p))
@@ -26,8 +26,7 @@ due_mirrored a due g x y = due g (a -ℤ x) y
 abbrev pub due_upside_down : ℤ → Due → Due
 due_upside_down b due g x y = due g x (b -ℤ y)
 
--- a driven evolution that is moved, or mirrored, with its injections is the one driven, moved or
--- mirrored
+-- moving or mirroring a plane together with its injections moves or mirrors its driven evolution
 pub record DrivesAnywhere : Type 0 where
   pub moves : (a b : ℤ) (due : Due) (p : Plane) (g : ℕ)
       → driven (due_moved a b due) (moved a b p) g ≡ moved a b (driven due p g)
@@ -36,19 +35,19 @@ pub record DrivesAnywhere : Type 0 where
   pub mirrors_down : (b : ℤ) (due : Due) (p : Plane) (g : ℕ)
       → driven (due_upside_down b due) (upside_down b p) g ≡ upside_down b (driven due p g)
 
--- what is due after a generation changes nothing at it
+-- what is due after a generation changes nothing at that generation
 abbrev pub IsCausal : Type 0
 IsCausal =
     (due other : Due) (p : Plane) (g : ℕ) → ((h : ℕ) (x y : ℤ) → h ≤ g → due h x y ≡ other h x y)
     → driven due p g ≡ driven other p g
 
--- the same cells within distance n of x, y are due at each generation up to n
+-- at each generation up to n the same cells are due within distance n of x, y
 abbrev pub AgreeDueNear : ℕ → Due → Due → ℤ → ℤ → Type 0
 AgreeDueNear n due other x y =
     (g : ℕ) (u v : ℤ) → g ≤ n → (x -ℤ pos n) ≤ℤ u → u ≤ℤ (x +ℤ pos n) → (y -ℤ pos n) ≤ℤ v
     → v ≤ℤ (y +ℤ pos n) → due g u v ≡ other g u v
 
--- a driven cell's state at generation n depends on distance n alone: on the cells, and on what is
+-- a driven cell's state at generation n depends only on the cells within distance n, and on what is
 -- due there
 abbrev pub IsDrivenLocally : Type 0
 IsDrivenLocally =
@@ -56,14 +55,15 @@ IsDrivenLocally =
     → AgreeNear n p q x y
     → driven due p n x y ≡ driven other q n x y
 
--- driven by a list: at generation 0 the cells of its injections of generation 0 are made heads, and
--- then generation by generation the rule is followed by the injections of the new generation
+-- an evolution driven by a list: generation 0 is the plane with the list's cells of generation 0
+-- made heads; each later generation is the rule on the one before, with the list's cells of this
+-- generation made heads
 pub record StepsWithInjections (injections : List Injection) (p : Plane) : Type 0 where
   pub begins : driven (due_of_list injections) p 0 ≡ injected (has_cell (cells_at 0 injections)) p
   pub steps : (g : ℕ) → driven (due_of_list injections) p (suc g) ≡ injected
       (has_cell (cells_at (suc g) injections)) (next_plane (driven (due_of_list injections) p g))
 
--- an injection of a list, at a generation and a cell
+-- the list has an injection at this generation and this cell
 pub record IsInjectionOf (injections : List Injection) (g : ℕ) (x y : ℤ) : Type 0 where
   pub injection : Injection
   pub is_in : Contains injections injection

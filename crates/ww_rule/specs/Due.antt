@@ -9,12 +9,12 @@ AreInOrderFrom generation [] = ⊤
 AreInOrderFrom generation (injection ∷ later) =
     (generation ≤ injection.generation) × AreInOrderFrom injection.generation later
 
--- how many injections at the front are of a generation
+-- how many injections at the start of the list are of this generation
 abbrev pub due_count : ℕ → List Injection → ℕ
 due_count generation injections = prefix_len (λ i. i.generation == generation) injections
 
--- Of a list of injections these are left when a generation comes: all that stand before them are
--- earlier, and they are in order.
+-- These injections of a list are left when a generation comes: all that stand before them are
+-- earlier, and they are in order, none of them before this generation.
 pub record AreLeftAt (generation : ℕ) (injections left : List Injection) : Type 0 where
   pub used : List Injection
   pub parts : injections ≡ used ++ left

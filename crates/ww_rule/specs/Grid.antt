@@ -5,7 +5,7 @@ use Rattle.ww_rule.specs.declared.pattern.State.TheVariants.{Empty}
 use Rattle.ww_rule.specs.Wireworld.{Plane}
 use Rattle.lists.specs.Items.{list_at}
 
--- a box of cells as a value: what a `Pattern` is, without where it lies in memory
+-- a box of cells as a value: a `Pattern` without its place in memory
 pub record Grid : Type 0 where
   pub width : ℕ
   pub height : ℕ
@@ -31,22 +31,22 @@ framed look (pos x) (pos y) = look x y
 framed look (pos x) (negsuc y) = Empty
 framed look (negsuc x) y = Empty
 
--- A pattern is the plane with its cells at x from 0 eastward and y from 0 downward; all else is
--- empty. The rows alone are looked at: they are a box of a width and a height, with no cell outside
--- it, where `IsGrid` holds of them.
+-- The plane of rows of cells: they stand at x from 0 eastward and y from 0 downward, and all other
+-- cells are empty. If `IsGrid` holds, the rows are a box of this width and height, and no cell lies
+-- outside it.
 abbrev pub plane_of : List (List State) → Plane
 plane_of rows = framed (λ x y. get_or (get_or rows y []) x Empty)
 
--- is it a cell of the box of so many columns and rows at the origin?
+-- is the cell in the box of so many columns and rows at the origin?
 abbrev pub in_box : ℕ → ℕ → ℤ → ℤ → Bool
 in_box width height (pos x) (pos y) = nat_lt x width && nat_lt y height
 in_box width height (pos x) (negsuc y) = false
 in_box width height (negsuc x) y = false
 
--- the plane is empty outside that box
+-- the plane is empty outside the box of this width and height
 abbrev pub IsEmptyOutside : ℕ → ℕ → Plane → Type 0
 IsEmptyOutside width height p = (x y : ℤ) → in_box width height x y ≡ false → p x y ≡ Empty
 
--- these cells lie in that box
+-- these cells lie in the box of this width and height
 abbrev pub AreInBox : ℕ → ℕ → List (ℕ × ℕ) → Type 0
 AreInBox width height cells = All (λ cell. (cell.0 < width) × (cell.1 < height)) cells

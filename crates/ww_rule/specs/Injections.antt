@@ -27,8 +27,8 @@ injections_of_row g (cell ∷ cells) (bit ∷ bits) =
     cond bit (record { generation = g; x = cell.0; y = cell.1 } ∷ []) []
     ++ injections_of_row g cells bits
 
--- the injections of rows of bits, one row a cycle, where the first cycle is at a generation
--- and each later one `period` generations after the one before
+-- the injections of rows of bits, one row a cycle: the first cycle is at this generation, and each
+-- later one `period` generations after the one before
 abbrev pub injections_from : ℕ → ℕ → List (ℕ × ℕ) → List (List Bool) → List Injection
 injections_from g period cells [] = []
 injections_from g period cells (row ∷ rows) =
@@ -48,6 +48,6 @@ abbrev pub MeetsConductors : Due → Plane → Type 0
 MeetsConductors due p =
     (g : ℕ) (x y : ℤ) → due g x y ≡ true → before_injections due p g x y ≡ Conductor
 
--- injections at cells of a box
+-- all injections are at cells of the box
 abbrev pub AreInside : (width height : ℕ) → List Injection → Type 0
 AreInside width height injections = All (λ i. (i.x < width) × (i.y < height)) injections

@@ -21,8 +21,7 @@ AgreeNear n p q x y =
     (u v : ℤ) → (x -ℤ pos n) ≤ℤ u → u ≤ℤ (x +ℤ pos n) → (y -ℤ pos n) ≤ℤ v → v ≤ℤ (y +ℤ pos n)
     → p u v ≡ q u v
 
--- all cells outside some box are empty: the others lie within `reach` columns and rows of the
--- origin
+-- the cells that are not empty lie in a box: within `reach` columns and rows of the origin
 pub record HasFinitelyManyCells (p : Plane) : Type 0 where
   pub reach : ℕ
   pub west : (x y : ℤ) → p x y ≢ Empty → (pos 0 -ℤ pos reach) ≤ℤ x
@@ -30,13 +29,13 @@ pub record HasFinitelyManyCells (p : Plane) : Type 0 where
   pub north : (x y : ℤ) → p x y ≢ Empty → (pos 0 -ℤ pos reach) ≤ℤ y
   pub south : (x y : ℤ) → p x y ≢ Empty → y ≤ℤ pos reach
 
--- the rule, and every number of generations, commute with translations
+-- the rule, and any number of its generations, commute with translations
 abbrev pub KeepsTranslations : Type 0
 KeepsTranslations =
     ((a b : ℤ) (p : Plane) → next_plane (moved a b p) ≡ moved a b (next_plane p))
     × ((a b : ℤ) (n : ℕ) (p : Plane) → evolve n (moved a b p) ≡ moved a b (evolve n p))
 
--- and with mirrors from west to east
+-- the rule, and any number of its generations, commute with mirrors from west to east
 abbrev pub KeepsMirrors : Type 0
 KeepsMirrors =
     ((a : ℤ) (p : Plane) → next_plane (mirrored a p) ≡ mirrored a (next_plane p))
@@ -46,14 +45,15 @@ KeepsMirrors =
 abbrev pub IsUndrivenEvolution : Type 0
 IsUndrivenEvolution = (p : Plane) (g : ℕ) → driven undriven p g ≡ evolve g p
 
--- a cell's next state depends on distance 1 alone, and its state after n generations on distance n
+-- a cell's next state depends only on the cells within distance 1, and its state after n
+-- generations only on those within distance n
 abbrev pub IsLocal : Type 0
 IsLocal =
     ((p q : Plane) (x y : ℤ) → AgreeNear 1 p q x y → next_plane p x y ≡ next_plane q x y)
     × ((n : ℕ) (p q : Plane) (x y : ℤ) → AgreeNear n p q x y → evolve n p x y ≡ evolve n q x y)
 
--- a box of rows is empty outside itself, and what is empty outside a box stays so,
--- under the rule and under injections that lie in the box
+-- the plane of a box of rows is empty outside the box; a plane that is empty outside a box stays
+-- so, under the rule and under injections in the box
 abbrev pub StaysInBox : Type 0
 StaysInBox =
     ((width height : ℕ) (rows : List (List State)) → IsGrid width height rows
@@ -64,7 +64,8 @@ StaysInBox =
     → ((g : ℕ) (x y : ℤ) → in_box width height x y ≡ false → due g x y ≡ false)
     → (g : ℕ) → IsEmptyOutside width height (driven due p g))
 
--- a plane with finitely many cells keeps finitely many, also where a list of injections drives it
+-- the plane of rows has finitely many cells; a plane with finitely many cells keeps finitely many,
+-- also if a list of injections drives it
 abbrev pub StaysFinite : Type 0
 StaysFinite =
     ((rows : List (List State)) → HasFinitelyManyCells (plane_of rows))
@@ -72,8 +73,8 @@ StaysFinite =
     × ((injections : List Injection) (p : Plane) (g : ℕ) → HasFinitelyManyCells p
     → HasFinitelyManyCells (driven (due_of_list injections) p g))
 
--- an injection of streams: at generation cycle * period, in a cycle in which the bit of an input is
--- 1, at the input's cell
+-- an injection of streams: the bit of an input is 1 in a cycle, and the input's cell is made a head
+-- at generation cycle * period
 pub record IsBitOfStreams (period : ℕ) (cells : List (ℕ × ℕ)) (rows : List (List Bool)) (g : ℕ)
     (x y : ℤ) : Type 0 where
   pub cycle : ℕ

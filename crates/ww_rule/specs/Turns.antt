@@ -15,14 +15,14 @@ due_turned due g x y = due g y x
 abbrev pub injection_turned : Injection → Injection
 injection_turned i = record { generation = i.generation; x = i.y; y = i.x }
 
--- the rule, and every number of generations of it, commute with the exchange
+-- the rule, and any number of its generations, commute with the exchange
 abbrev pub KeepsTurns : Type 0
 KeepsTurns =
     ((p : Plane) → next_plane (turned p) ≡ turned (next_plane p))
     × ((n : ℕ) (p : Plane) → evolve n (turned p) ≡ turned (evolve n p))
 
--- a driven evolution that is turned with its injections is the one driven, turned; a list of
--- injections is turned one by one
+-- turning a plane together with its injections turns its driven evolution; turning the injections
+-- of a list one by one turns what the list makes due
 pub record DrivesTurned : Type 0 where
   pub turns : (due : Due) (p : Plane) (g : ℕ)
       → driven (due_turned due) (turned p) g ≡ turned (driven due p g)

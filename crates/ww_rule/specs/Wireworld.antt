@@ -5,13 +5,13 @@ use Rattle.std.specs.Prelude.{ℤ, pos, ◌+ℤ◌, ◌-ℤ◌, ℕ, zero, suc, 
 use Rattle.ww_rule.specs.declared.pattern.State.{State}
 use Rattle.ww_rule.specs.declared.pattern.State.TheVariants.{Empty, Head, Tail, Conductor}
 
--- A state for every pair of integers: x goes east, y goes down. It may have infinitely many cells
--- that are not empty; a plane that begins with finitely many keeps finitely many, under the rule
--- and under lists of injections (`StaysFinite`).
+-- A plane: a state for every pair of integers, where x goes east and y goes down. It may have
+-- infinitely many cells that are not empty; a plane that begins with finitely many keeps finitely
+-- many, under the rule and under lists of injections (`StaysFinite`).
 abbrev pub Plane : Type 0
 Plane = ℤ → ℤ → State
 
--- 1 for a head, and 0 for another state
+-- 1 for a head, and 0 for any other state
 abbrev pub count_head : State → ℕ
 count_head Empty = 0
 count_head Head = 1
@@ -54,7 +54,7 @@ evolve (suc n) p = next_plane (evolve n p)
 abbrev pub Due : Type 0
 Due = ℕ → ℤ → ℤ → Bool
 
--- a pattern that is not driven
+-- no cell is ever due: the pattern is not driven
 abbrev pub undriven : Due
 undriven g x y = false
 

@@ -36,14 +36,14 @@ impl Model for CellRows {
     ghost invariant = { λ r. (r.count * r.width ≡ length r.cells.items) × (r.count < 2 ^ 63) };
 }
 
-// So many empty cells.
+// Makes `count` empty cells.
 fn empty_cells(alloc: Global, count: usize) -> Result<Vec<State>, AllocError>
     ensures { IfOk result (λ cells. cells.items ≡ replicate count Empty) }
 {
     Ok(vec![in alloc; State::Empty; count]?)
 }
 
-// Row y of cells in rows of so many.
+// Row y of the cells, in rows of `width` cells each.
 fn row_in(cells: &[State], width: usize, y: usize) -> &[State]
     requires { y * width + width ≤ length cells.now }
     ensures { result.now ≡ take width (drop (y * width) cells.now) }
@@ -60,7 +60,7 @@ fn fill_run(row: &mut [State], x: usize, count: usize, state: State)
     row[x..x + count].fill(state);
 }
 
-// The same of row y of cells in rows of so many.
+// Makes `count` cells of row y, from column x on, this state; the rows have `width` cells each.
 fn fill_in(cells: &mut [State], width: usize, x: usize, y: usize, count: usize, state: State)
     requires in_cells { y * width + width ≤ length cells.old }
     requires in_row { x + count ≤ width }
@@ -81,7 +81,7 @@ fn put_cell(row: &mut [State], x: usize, state: State)
     row[x] = state;
 }
 
-// The same of row y of cells in rows of so many.
+// Makes the cell of row y at column x this state; the rows have `width` cells each.
 fn put_in(cells: &mut [State], width: usize, x: usize, y: usize, state: State)
     requires in_cells { y * width + width ≤ length cells.old }
     requires in_row { x < width }
@@ -93,7 +93,8 @@ fn put_in(cells: &mut [State], width: usize, x: usize, y: usize, state: State)
 }
 
 impl CellRows {
-    /// No rows, with room for `count` of `width` cells each.
+    /// Makes an empty list of rows, with room for `count` rows of `width` cells each. `AllocError`
+    /// also comes if the number of cells is over the greatest `usize`.
     pub fn with_room(alloc: Global, width: usize, count: usize) -> Result<CellRows, AllocError>
         ensures { IfOk result (λ rows. rows ≡ []) }
     {
@@ -107,7 +108,8 @@ impl CellRows {
         })
     }
 
-    /// So many rows of so many empty cells.
+    /// Makes `count` rows of `width` empty cells each. `AllocError` also comes if the number of
+    /// cells is over the greatest `usize`, or that of the rows over the most that are kept.
     pub fn blank(alloc: Global, width: usize, count: usize) -> Result<CellRows, AllocError>
         ensures { IfOk result (λ rows. rows ≡ replicate count (replicate width Empty)) }
     {
@@ -124,7 +126,7 @@ impl CellRows {
         })
     }
 
-    /// These rows, which are all of one length.
+    /// Copies these rows, which are all of one length.
     pub fn of_rows(alloc: Global, rows: &[List<State>]) -> Result<CellRows, AllocError>
         requires { AreOfOneLength rows.now }
         ensures { IfOk result (λ made. made ≡ rows.now) }
@@ -136,7 +138,7 @@ impl CellRows {
         Ok(made)
     }
 
-    /// A copy of the rows.
+    /// Copies the rows.
     pub fn copied(&self, alloc: Global) -> Result<CellRows, AllocError>
         ensures { IfOk result (λ copy. copy ≡ self.now) }
     {
@@ -147,7 +149,7 @@ impl CellRows {
         })
     }
 
-    /// How many rows there are.
+    /// Returns how many rows there are.
     pub fn len(&self) -> usize
         ensures count { result ≡ length self.now }
         ensures few { length self.now < 2 ^ 63 }
@@ -155,7 +157,7 @@ impl CellRows {
         self.count
     }
 
-    /// The cells of row y, from west to east.
+    /// Returns the cells of row y, from west to east.
     pub fn row(&self, y: usize) -> &[State]
         requires { y < length self.now }
         ensures { result.now ≡ list_at self.now y }
@@ -163,15 +165,15 @@ impl CellRows {
         row_in(&self.cells, self.width, y)
     }
 
-    /// The cells of row y, or no cells where there is no such row.
+    /// Returns the cells of row y, or no cells if there is no such row.
     pub fn row_or_none(&self, y: usize) -> &[State]
         ensures { result.now ≡ list_at self.now y }
     {
         if y < self.len() { self.row(y) } else { &[] }
     }
 
-    /// One more row below the others, as long as they are. Where memory is refused, or there are as
-    /// many rows as can be kept, the rows stay as they were.
+    /// Adds a row below the others, of their length. If memory runs out, or there are as many rows
+    /// as can be kept, the rows stay as they were.
     pub fn push_row(&mut self, row: &[State]) -> Result<(), AllocError>
         requires { All (λ other. length other ≡ length row.now) self.old }
         ensures pushed { IfOk result (λ _. self.new ≡ self.old ++ row.now ∷ []) }
@@ -204,8 +206,8 @@ impl CellRows {
         put_in(&mut self.cells, self.width, x, y, state);
     }
 
-    /// The columns of the rows, from west to east, as rows. Rows of one cell each are turned with
-    /// no memory.
+    /// Turns the rows: their columns, from west to east, become rows. Rows of one cell each are
+    /// turned without taking memory.
     pub fn turned(self, alloc: Global) -> Result<CellRows, AllocError>
         ensures many { IfOk result (λ made. length made ≡ length (list_at self 0)) }
         ensures long { IfOk result (λ made. All (λ row. length row ≡ length self) made) }

@@ -12,6 +12,8 @@ mod rows;
 mod turning;
 
 pub use cell_rows::CellRows;
+// The answer of `mirror_x`, `Plane::from_pattern`, `step_plain` and `step_driven` when memory runs
+// out.
 pub use lists::OutOfMemory as RuleError;
 pub use mirror::mirror_x;
 pub use pattern::{Injection, Pattern, State};

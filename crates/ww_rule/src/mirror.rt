@@ -8,7 +8,7 @@ use crate::pattern::Pattern;
 use crate::rows::reversed;
 use std::alloc::Global;
 
-/// The pattern mirrored from west to east: the columns x and width - 1 - x change places.
+/// Mirrors a pattern from west to east: the columns x and width - 1 - x change places.
 pub fn mirror_x(alloc: Global, pattern: &Pattern) -> Result<Pattern, RuleError>
     ensures width { IfOk result (λ mirror. mirror.width ≡ pattern.now.width) }
     ensures height { IfOk result (λ mirror. mirror.height ≡ pattern.now.height) }

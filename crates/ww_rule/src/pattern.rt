@@ -12,8 +12,8 @@ pub enum State {
 
 ghost use Rattle.ww_rule.specs.Grid.{IsGrid};
 
-/// A box of cells: `height` rows of `width` cells each, from north to south, and no rows where the
-/// box has no cells.
+/// A box of cells: `height` rows of `width` cells each, from north to south, and no rows if the box
+/// has no cells.
 #[derive(Drop)]
 pub struct Pattern {
     pub width: u64,

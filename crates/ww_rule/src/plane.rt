@@ -11,7 +11,7 @@ use crate::rows::{next_row, row_before};
 use std::alloc::Global;
 
 /// A plane with finitely many cells: `height` rows of `width` cells each, from north to south, the
-/// first cell at x = 0 and y = 0, and no rows where the box has no cells. All cells outside the box
+/// first cell at x = 0 and y = 0, and no rows if the box has no cells. All cells outside the box
 /// are empty.
 #[derive(Drop)]
 pub struct Plane {
@@ -24,7 +24,7 @@ pub struct Plane {
 impl Plane {
     ghost use Rattle.ww_rule.specs.Patterns.{grid_of, box_of};
 
-    /// The plane that a pattern stands for: its cells in its box, and empty cells outside.
+    /// Makes the plane that a pattern stands for: its cells in its box, and empty cells outside.
     pub fn from_pattern(alloc: Global, pattern: &Pattern) -> Result<Plane, RuleError>
         ensures { IfOk result (λ plane. box_of plane ≡ grid_of pattern.now) }
     {
@@ -36,8 +36,8 @@ impl Plane {
         })
     }
 
-    /// The plane with these cells (x, y) of its box made heads, whatever they held: a pattern's
-    /// generation 0, when it is driven.
+    /// Makes these cells (x, y) of the plane's box heads, whatever they held. So a driven pattern
+    /// comes to its generation 0.
     pub fn inject(self, injections: &[(u64, u64)]) -> Plane
         requires in_box { AreInBox self.width self.height injections.now }
         ensures width { result.width ≡ self.width }
@@ -66,7 +66,7 @@ impl From<Pattern> for Plane {
 
     ghost from_gives = { λ pattern plane. box_of plane ≡ grid_of pattern };
 
-    /// The plane that a pattern stands for, of the pattern's own rows.
+    /// Makes the plane that a pattern stands for, from the pattern's own rows.
     fn from(pattern: Pattern) -> Plane {
         Plane {
             width: pattern.width,
@@ -76,9 +76,9 @@ impl From<Pattern> for Plane {
     }
 }
 
-/// The next generation of a plane by Silverman's rule: an empty cell stays empty; a head becomes a
-/// tail; a tail becomes a conductor; a conductor becomes a head exactly when one or two of its
-/// eight neighbours are heads.
+/// Computes the next generation of a plane by Silverman's rule: an empty cell stays empty; a head
+/// becomes a tail; a tail becomes a conductor; a conductor becomes a head exactly when one or two
+/// of its eight neighbours are heads.
 pub fn step_plain(alloc: Global, plane: &Plane) -> Result<Plane, RuleError>
     ensures width { IfOk result (λ next. next.width ≡ plane.now.width) }
     ensures height { IfOk result (λ next. next.height ≡ plane.now.height) }
@@ -100,7 +100,7 @@ pub fn step_plain(alloc: Global, plane: &Plane) -> Result<Plane, RuleError>
     })
 }
 
-/// The next generation of a plane, in which these cells (x, y) of its box are then made heads,
+/// Computes the next generation of a plane, and then makes these cells (x, y) of its box heads,
 /// whatever they hold.
 pub fn step_driven(
     alloc: Global,

@@ -1,4 +1,4 @@
-// Rows of cells: from their ends to their starts, and their next states.
+// Rows of cells: reversed, and their next states.
 ghost use Rattle.std.specs.Prelude.{◌≡◌, ◌<◌, ◌≤◌, ◌-ℤ◌, ℕ, pos, [], ◌∷◌, length, map, reverse, ◌-◌, IfOk};
 ghost use Rattle.lists.specs.Items.{list_at};
 ghost use Rattle.ww_rule.specs.declared.pattern.State.TheVariants.{Head};
@@ -12,8 +12,8 @@ use lists::List;
 use std::alloc::Global;
 
 impl State {
-    /// What a cell becomes, by its state and the number of its eight neighbours that are heads
-    /// (Silverman's rule).
+    /// Returns what a cell becomes, by its state and the number of its eight neighbours that are
+    /// heads (Silverman's rule).
     pub fn next(self, heads: usize) -> State
         ensures { result ≡ next_state self heads }
     {
@@ -30,7 +30,7 @@ impl State {
     }
 }
 
-// 1 where the cell of a row before column x, counted from 1, is a head.
+// 1 if the cell just west of column x of a row is a head, and 0 otherwise.
 fn head_before(row: &[State], x: usize) -> usize
     ensures counted { result ≡ count_head (plane_of (row.now ∷ []) (pos x -ℤ pos 1) (pos 0)) }
     ensures few { result ≤ 1 }
@@ -44,7 +44,7 @@ fn head_before(row: &[State], x: usize) -> usize
     }
 }
 
-// How many of the eight cells around column x of the middle one of three rows are heads.
+// How many of the eight cells around column x of the middle row of three are heads.
 fn heads_near(above: &[State], row: &[State], below: &[State], x: usize) -> usize
     requires in_row { x < length row.now }
     ensures counted { result ≡ heads_around (plane_of (above.now ∷ row.now ∷ below.now ∷ []))
@@ -57,7 +57,7 @@ fn heads_near(above: &[State], row: &[State], below: &[State], x: usize) -> usiz
     over + beside + under
 }
 
-/// The next states of the middle one of three rows that stand alone.
+/// Computes the next states of the middle row of three, with empty cells all around the three.
 pub fn next_row(
     alloc: Global,
     above: &[State],
@@ -76,7 +76,7 @@ pub fn next_row(
     Ok(List::of(next))
 }
 
-/// The row before row y, counted from 1, or no cells where there is none.
+/// Returns the row just north of row y, or no cells if there is none.
 pub fn row_before(rows: &CellRows, y: usize) -> &[State]
     ensures first { y ≡ 0 → result.now ≡ [] }
     ensures later { 0 < y → result.now ≡ list_at rows.now (y - 1) }
@@ -87,14 +87,14 @@ pub fn row_before(rows: &CellRows, y: usize) -> &[State]
     rows.row_or_none(y - 1)
 }
 
-// A row from its end to its start.
+// The row from its end to its start.
 fn reversed_row(alloc: Global, row: &[State]) -> Result<Vec<State>, RuleError>
     ensures { IfOk result (λ mirrored. mirrored.items ≡ reverse row.now) }
 {
     Ok(row.iter().rev().copied().collect(alloc)?)
 }
 
-/// The rows, each from its end to its start.
+/// Reverses each of the rows.
 pub fn reversed(alloc: Global, rows: &CellRows) -> Result<CellRows, RuleError>
     requires { AreOfOneLength rows.now }
     ensures { IfOk result (λ mirrored. mirrored ≡ map reverse rows.now) }

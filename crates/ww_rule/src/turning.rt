@@ -24,7 +24,7 @@ fn put_column(rows: &mut CellRows, x: usize, column: &[State])
     }
 }
 
-/// The columns of rows of one length, from west to east, as rows.
+/// Turns rows of one length: their columns, from west to east, become rows.
 pub fn columns_of(alloc: Global, rows: &CellRows) -> Result<CellRows, AllocError>
     requires { AreOfOneLength rows.now }
     ensures many { IfOk result (λ made. length made ≡ length (list_at rows.now 0)) }
@@ -40,8 +40,7 @@ pub fn columns_of(alloc: Global, rows: &CellRows) -> Result<CellRows, AllocError
 }
 
 impl Injection {
-    /// The injection of the same generation at the cell whose column is this one's row, and whose
-    /// row is its column.
+    /// Exchanges the injection's column and row; its generation stays.
     pub fn turned(self) -> Injection
         ensures { result ≡ injection_turned self }
     {
@@ -54,8 +53,8 @@ impl Injection {
 }
 
 impl Pattern {
-    /// The pattern with its columns, from west to east, as rows. One column is turned with no
-    /// memory.
+    /// Turns the pattern: its columns, from west to east, become rows. A pattern of one column is
+    /// turned without taking memory.
     pub fn turned(self, alloc: Global) -> Result<Pattern, AllocError>
         ensures width { IfOk result (λ made. made.width ≡ self.height) }
         ensures height { IfOk result (λ made. made.height ≡ self.width) }
