@@ -10,7 +10,8 @@ use Rattle.lifted_designs.specs.Runs.{ArePortNames}
 use Rattle.lifted_designs.specs.Words.{is_word}
 use Rattle.blif_write.specs.Text.{lifted_text}
 
--- if the names of the ports are words and no two ports share one
+-- the text of a lifted netlist is that netlist, if the names of the ports are words and no two
+-- ports share one
 abbrev pub LiftedTextsRead : Type 0
 LiftedTextsRead =
     (list : CellList) (ins outs : List Name) → length ins ≡ list.inputs

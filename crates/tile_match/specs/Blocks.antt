@@ -20,8 +20,8 @@ is_filled_in rows x y = is_filled (cell_shown rows x y)
 
 -- The instruction whose upper half stands in a block, or none if the block has a tile that only
 -- goes on, by three cells of the block: `climbs` at (3, 6), `falls` at (5, 9) and `ends` at (23,
--- 8). No two of the six drawings that may stand there have the same three; what other cells would
--- give means nothing.
+-- 8). No two of the six drawings that may stand there have the same three; for a block with other
+-- cells the result means nothing.
 abbrev pub instr_of_cells : ℕ → Bool → Bool → Bool → Option Instr
 instr_of_cells lane climbs falls ends =
     cond climbs (cond ends (Some (Fork lane)) (Some (Swap lane)))
