@@ -6,7 +6,7 @@ use Rattle.aiger_text.specs.declared.aig.Aig.{Aig}
 
 -- The bits solve the circuit's equations, for the bits of its inputs and the state of its latches,
 -- each in order: literal 0 is 0, an odd literal has the other bit of the even one before it, and a
--- left side is 1 exactly where both right sides are.
+-- left side is 1 exactly if both right sides are 1.
 pub record IsAigValuation (aig : Aig) (inputs state : List Bool) (bits : ℕ → Bool) : Type 0 where
   pub constant : bits 0 ≡ false
   pub inverted : (variable : ℕ) → bits (2 * variable + 1) ≡ not (bits (2 * variable))

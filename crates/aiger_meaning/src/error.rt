@@ -10,8 +10,8 @@ use std::alloc::{AllocError, AllocFailed};
 pub enum LowerError {
     /// The circuit weighs more than the limit.
     TooLarge { weight: u64 },
-    /// Gates read each other in a circle. These are their left sides, each once: the gate of the
-    /// next reads each, and the gate of the first reads the last.
+    /// Gates read each other in a circle. These are their left sides, each once: each is read by
+    /// the gate of the next, and the last by the gate of the first.
     Loop(List<u64>),
     /// Memory ran out.
     NoMemory,

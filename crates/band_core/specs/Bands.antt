@@ -75,8 +75,7 @@ pub record IsFacing (pattern : BandedPattern) (b x y : ℕ) : Type 0 where
   pub beside : (y + 1 ≡ b * pattern.height) ⊎ (y ≡ b * pattern.height + pattern.height)
   pub within : y < length pattern.grid.rows
 
--- a neighbour of band b, if its generation is neither the band's nor one more, where the bands are
--- at these generations
+-- a neighbour of band b, if its generation among these is neither band b's nor one more
 abbrev pub not_ready : List ℕ → ℕ → ℕ → Option NotReady
 not_ready generations b neighbour =
     let own = get_or generations b 0 in

@@ -92,7 +92,7 @@ pub record IsDelay (first : Bool) (design : Design) : Type 0 where
   pub gives : (rows : List (List Bool)) (run : ℕ → Valuation) → IsRun design rows run → (cycle : ℕ)
     → cycle < length rows → output_bits design (run cycle) ≡ delayed first rows cycle
 
--- a latch delays its input, and starts as 1 where its init is 1, and as 0 for any other
+-- a latch delays its input; it starts as 1 if its init is 1, and as 0 for any other init
 abbrev pub LatchDelays : Type 0
 LatchDelays = (init : ℕ) → IsDelay (init == 1) (latch_design init)
 

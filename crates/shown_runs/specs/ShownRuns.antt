@@ -147,7 +147,7 @@ CarriersShowNetsInContexts =
     → probed_at k.carried.ports streams (plane_of k.carried.grid.rows) context line
       ≡ net_bits_in_run run streams.cycles net)
 
--- The same holds in one context, and these are all of the net's bits.
+-- The same holds in one context, the only one for which the line's cell shows bits.
 abbrev pub CarriersShowNets : Type 0
 CarriersShowNets =
     (text : List ℕ) (design : Design) (c : CarriesNets text design) (number : ℕ) (line : NetLine)

@@ -25,7 +25,7 @@ nets_in context nets = map (λ net. record { context = context; net = net }) net
 abbrev pub nets_in_contexts : Ports → List NetInContext
 nets_in_contexts ports = flat_map (λ context. nets_in context ports.nets) (range_with_len 0 ports.c)
 
--- A name consists of bytes, as each name does that a program holds.
+-- Each element of a name is a byte, as in every name that a program holds.
 abbrev pub IsByteName : List ℕ → Type 0
 IsByteName name = All (λ b. b < 256) name
 
