@@ -39,10 +39,10 @@ pub record IsPlannedAig (aig : Aig) (plan : Plan) : Type 0 where
 
 -- The plan can be drawn, its starts are edges of its drawing, and it has no tape. It is a plan of
 -- cells that compute the circuit: so it has a loop for each latch, and one more exactly if constant
--- 1 is named. It is small: if w is the circuit's weight, it has at most 4 w + 4 lanes, at most 256
--- (w + 1) (w + 1) columns, and at most that many instructions. The table is the plan's. Its period
--- is 32 if the circuit has no latch and needs no constant 1. The text that is written of the plan
--- and the table carries the circuit.
+-- 1 is named. It is small: if w is the circuit's weight, it has at most 4 w + 4 lanes, at most
+-- 256 (w + 1) (w + 1) columns, and at most that many instructions. The table is the plan's. Its
+-- period is 32 if the circuit has no latch and needs no constant 1. The text that is written of the
+-- plan and the table carries the circuit.
 pub record IsPlanOfAig (aig : Aig) (plan : Plan) (ports : Ports) : Type 0 where
   pub admissible : IsAdmissible plan
   pub edges : HasStartEdges plan

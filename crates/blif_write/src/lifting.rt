@@ -51,8 +51,8 @@ fn most_leading(names: &[Bytes], least: usize) -> usize
 }
 
 /// Lifts the cells of a plan. The inputs and outputs get copies of the names of these ports, in
-/// order. The plan's nets are not looked at. There is a port for each output; an input without a
-/// port gets an empty name.
+/// order. The plan's nets are not looked at. A call needs a port for each output; an input without
+/// a port gets an empty name.
 pub fn of(alloc: Global, plan: &Plan, ports: &Ports) -> Result<Lift, LiftError>
     requires admissible { IsAdmissible plan.now }
     requires outs { length ports.now.outs ≡ length plan.now.outs }

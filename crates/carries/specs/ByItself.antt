@@ -33,8 +33,8 @@ ShowsOutputsByItself plane ports cycles bit =
     → (g : ℕ) → g < ports.l + cycles * ports.p
     → ShowsOutput ports cycles (λ t. bit t output) g (evolve g plane) cell
 
--- for N cycles, the cell of each net's line shows the net's bits at every generation below offset +
--- N P; the lines stand in the order of the nets
+-- for N cycles, the cell of each net's line shows the net's bits at every generation below
+-- offset + N P; the lines stand in the order of the nets
 abbrev pub ShowsNetLinesByItself : {X : Type 0} → Plane → Ports → (cycles : ℕ) → (nets : List X)
     → (bit : (cycle : ℕ) → X → Bool) → Type 0
 ShowsNetLinesByItself {X} plane ports cycles nets bit =

@@ -64,8 +64,8 @@ CarriesEachContext =
     → IsRunFrom design start (get_or contexts c []) run
     → ShowsContextCycles k cycles contexts c run
 
--- If the text also carries the nets, the cell of a net's line is a head at generation offset + 32 c
--- + t P, for each cycle t, exactly when the net's bit is 1 in the cycle.
+-- If the text also carries the nets, the cell of a net's line is a head at generation
+-- offset + 32 c + t P, for each cycle t, exactly when the net's bit is 1 in the cycle.
 abbrev pub CarriesNetsOfEachContext : Type 0
 CarriesNetsOfEachContext =
     (text : List ℕ) (design : Design) (starts : List LatchState)

@@ -46,7 +46,7 @@ fn put_column(lists: &mut [List<bool>], place: usize, column: &[bool])
 }
 
 /// Returns the bits of each output, cycle after cycle. The latches begin with their starts, and
-/// each input has the bits of its stream. Each stream has a bit for each cycle.
+/// each input has the bits of its stream. A call needs streams with a bit for each cycle.
 pub fn run(
     alloc: Global,
     list: &CellList,

@@ -91,9 +91,9 @@ fn list_to_run(
 }
 
 /// Returns the bits that each output of a pattern shows in each context, as `drive::simulate` does.
-/// The table is also sound, and its cells lie in the pattern's box. If the pattern is the drawing
-/// of a circuit's plan, and its run takes longer than finding that out, no generation is run: the
-/// plan's cells are evaluated cycle after cycle, and the bits are the same.
+/// A call also needs a table that is sound, and whose cells lie in the pattern's box. If the
+/// pattern is the drawing of a circuit's plan, and its run takes longer than finding that out, no
+/// generation is run: the plan's cells are evaluated cycle after cycle, and the bits are the same.
 pub fn simulate(
     alloc: Global,
     pattern: Pattern,

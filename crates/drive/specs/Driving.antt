@@ -76,7 +76,7 @@ shown_bits ports streams plane =
 abbrev pub greatest_generation : ℕ
 greatest_generation = 4294967296
 
--- the generation of the last bits, if the first ones come at a generation
+-- the generation at which the last bits are shown, if the first ones are shown at `first`
 abbrev pub last_from : (first : ℕ) → Ports → Streams → ℕ
 last_from first ports streams = first + 32 * (ports.c - 1) + (streams.cycles - 1) * ports.p
 

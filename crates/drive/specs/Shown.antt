@@ -20,8 +20,8 @@ rows_of_cycles planes contexts period cycles first cells =
     map (λ cycle. row_of_cycle planes contexts (first + cycle * period) cells)
         (range_with_len 0 cycles)
 
--- the bits of a cell in a context, cycle after cycle: 1 where it is a head at generation first + 32
--- k + t P, k being the context
+-- the bits of a cell in a context, cycle after cycle: 1 where it is a head at generation
+-- first + 32 k + t P, k being the context
 abbrev pub column_of_cell : (ℕ → Plane) → (period cycles first context : ℕ) → ℕ × ℕ → List Bool
 column_of_cell planes period cycles first context cell =
     map (λ cycle. is_head (planes (first + 32 * context + cycle * period) (pos cell.0)

@@ -112,7 +112,8 @@ fn columns_of_cells(
     Ok(columns_of(alloc, &rows, rows[0].len())?)
 }
 
-/// Returns the generation of the last bits that streams need, if the first ones come at `first`.
+/// Returns the generation at which the last bits are shown under streams, if the first ones are
+/// shown at `first`.
 pub fn last_from(first: u64, ports: &Ports, streams: &Streams) -> u128
     requires cycles { 0 < streams.now.cycles }
     requires streams { AreFor ports.now streams.now }
@@ -125,11 +126,11 @@ pub fn last_from(first: u64, ports: &Ports, streams: &Streams) -> u128
 
 /// Returns the bits that cells show in each context, cycle after cycle, while streams drive a
 /// pattern. All cells of context 0 come first. Bit t of a cell in context k is 1 exactly if the
-/// cell is a head at generation `first + 32 k + t p`. There is at least one cycle, each context and
-/// input has one stream with a bit for each cycle, and the inputs lie inside the pattern's box; the
-/// cells may lie anywhere. `TooFar` comes if the last of these generations is over 4,294,967,296,
-/// and then nothing is run. `NotQuiet` names the first injection up to that generation whose cell
-/// is no conductor before the injections of its generation.
+/// cell is a head at generation `first + 32 k + t p`. A call needs at least one cycle, one stream
+/// with a bit for each cycle for each input of each context, and inputs inside the pattern's box;
+/// the cells may lie anywhere. `TooFar` comes if the last of these generations is over
+/// 4,294,967,296, and then nothing is run. `NotQuiet` names the first injection up to that
+/// generation whose cell is no conductor before the injections of its generation.
 pub fn bits_of_cells(
     alloc: Global,
     pattern: Pattern,

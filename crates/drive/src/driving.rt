@@ -72,8 +72,8 @@ fn push_cycle(
 /// Returns the cells that streams make heads, each with its generation: the cell of an input at
 /// generation `32 k + t p` for each context k and each cycle t in which the input's bit is 1, where
 /// p is the table's period. The injections are sorted by generation; those of one generation are of
-/// one context, in the order of the inputs. Each context and input has one stream with a bit for
-/// each cycle.
+/// one context, in the order of the inputs. A call needs one stream with a bit for each cycle for
+/// each input of each context.
 pub fn injections(
     alloc: Global,
     ports: &Ports,

@@ -130,9 +130,9 @@ impl Run {
         })
     }
 
-    /// Makes the run of a pattern that streams drive, at generation 0. Each context and input has
-    /// one stream, of any number of cycles, and the inputs lie inside the pattern's box. `NoMemory`
-    /// is the only error.
+    /// Makes the run of a pattern that streams drive, at generation 0. A call needs one stream, of
+    /// any number of cycles, for each input of each context, and inputs inside the pattern's box.
+    /// `NoMemory` is the only error.
     pub fn of_streams(
         alloc: Global,
         pattern: Pattern,

@@ -21,10 +21,10 @@ fn cells_of(alloc: Global, lines: &[PortLine]) -> Result<Vec<(u64, u64)>, AllocE
 
 /// Returns the bits that each output of a pattern shows in each context, cycle after cycle, while
 /// streams drive the pattern. All outputs of context 0 come first. Bit t of an output in context k
-/// is 1 exactly if its cell is a head at generation `l + 32 k + t p`. There is at least one cycle,
-/// each context and input has one stream with a bit for each cycle, and the inputs lie inside the
-/// pattern's box. `TooFar` comes if the last of these generations is over 4,294,967,296, and then
-/// nothing is run. `NotQuiet` names the first injection up to that generation whose cell is no
+/// is 1 exactly if its cell is a head at generation `l + 32 k + t p`. A call needs at least one
+/// cycle, one stream with a bit for each cycle for each input of each context, and inputs inside
+/// the pattern's box. `TooFar` comes if the last of these generations is over 4,294,967,296, and
+/// then nothing is run. `NotQuiet` names the first injection up to that generation whose cell is no
 /// conductor before the injections of its generation.
 pub fn simulate(
     alloc: Global,

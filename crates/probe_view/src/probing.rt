@@ -36,8 +36,8 @@ fn net_named<'a>(nets: &'a [NetLine], name: &[u8], path: &[u8]) -> Option<&'a Ne
 /// Returns the bits that a net shows in each context, cycle after cycle, while streams drive the
 /// pattern. Bit t in context c is 1 exactly if the net's cell is a head at generation
 /// `offset + 32 c + t p`. The net is the one of this name in the model of this path, which is `-`
-/// for the main model. There is at least one cycle, each context and input has one stream with a
-/// bit for each cycle, and the inputs lie inside the pattern's box; the net's cell may lie
+/// for the main model. A call needs at least one cycle, one stream with a bit for each cycle for
+/// each input of each context, and inputs inside the pattern's box; the net's cell may lie
 /// anywhere. `TooFar` comes if the last of these generations is over 4,294,967,296, and then
 /// nothing is run. `NotQuiet` names the first injection up to that generation whose cell is no
 /// conductor before the injections of its generation.

@@ -63,9 +63,9 @@ fn lines_of(
 /// Returns a part of the plane that a pattern has come to at a generation while streams drive it:
 /// `height` lines of `width` tags, `.`, `A`, `B` or `C`, each line ended by byte 10. The first tag
 /// is that of column x and row y, counted from the pattern's upper left cell; all cells beyond the
-/// pattern's box are empty. Each context and input has one stream, of any number of cycles, and the
-/// inputs lie inside the pattern's box. `NotQuiet` names the first injection up to the generation
-/// whose cell is no conductor before the injections of its generation.
+/// pattern's box are empty. A call needs one stream, of any number of cycles, for each input of
+/// each context, and inputs inside the pattern's box. `NotQuiet` names the first injection up to
+/// the generation whose cell is no conductor before the injections of its generation.
 pub fn window(
     alloc: Global,
     pattern: Pattern,

@@ -6,8 +6,8 @@ use Rattle.vcd_write.specs.Reading.{var_line, value_line, block_lines}
 use Rattle.vcd_write.specs.Writing.{Waves, var_of, value_of, block_of}
 use Rattle.vcd_write.specs.declared.vcd.Vcd.{Vcd}
 
--- the variables, each with its bits: the bit of variable n in a cycle stands at place cycle * count
--- + n
+-- the variables, each with its bits: the bit of variable n in a cycle stands at place
+-- cycle * count + n
 abbrev pub waves_in : Vcd → Waves
 waves_in vcd =
     record { cycles = vcd.cycles; references = vcd.references;
