@@ -28,8 +28,8 @@ fn starts_with_one(plan: &Plan, number: u32) -> bool
     plan.starts.has(start.x, start.y)
 }
 
-/// Returns the bits with which the loops of a plan start: 1 if an electron stands where the loop
-/// enters the columns.
+/// Returns the bits with which the loops of a plan start, if electrons stand only where loops enter
+/// the columns: 1 for a loop if an electron stands where it enters.
 pub fn first_bits(alloc: Global, plan: &Plan) -> Result<Vec<bool>, AllocError>
     requires { plan.now.latches ≤ plan.now.lanes }
     ensures { IfOk result (λ bits. bits.items ≡ first_bits plan.now) }
