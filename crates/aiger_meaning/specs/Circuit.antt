@@ -6,7 +6,7 @@ use Rattle.aiger_text.specs.declared.aig.Aig.{Aig}
 
 -- The bits solve the circuit's equations, for the bits of its inputs and the state of its latches,
 -- each in order: literal 0 is 0, an odd literal has the other bit of the even one before it, and a
--- left side is 1 exactly where both right sides are.
+-- left side is 1 exactly if both right sides are 1.
 pub record IsAigValuation (aig : Aig) (inputs state : List Bool) (bits : ℕ → Bool) : Type 0 where
   pub constant : bits 0 ≡ false
   pub inverted : (variable : ℕ) → bits (2 * variable + 1) ≡ not (bits (2 * variable))
@@ -23,13 +23,13 @@ aig_start_bits aig = map (λ (latch : AigLatch). latch.reset == 1) aig.latches
 abbrev pub aig_state_after : Aig → (ℕ → Bool) → List Bool
 aig_state_after aig bits = map (λ (latch : AigLatch). bits latch.next) aig.latches
 
--- the state of a cycle
+-- the latches' state in a cycle
 abbrev pub aig_state_in : Aig → (ℕ → ℕ → Bool) → ℕ → List Bool
 aig_state_in aig run zero = aig_start_bits aig
 aig_state_in aig run (suc cycle) = aig_state_after aig (run cycle)
 
--- A run: bits for each row of input bits, from the start on. `run cycle` are those of the cycle,
--- from 0; from the number of rows on they mean nothing.
+-- A run has bits for each row of input bits, from the start on. `run cycle` are the bits of that
+-- cycle, counted from 0; from the number of rows on they mean nothing.
 abbrev pub IsAigRun : Aig → List (List Bool) → (ℕ → ℕ → Bool) → Type 0
 IsAigRun aig rows run =
     (cycle : ℕ) (row : List Bool) → slice_get rows cycle ≡ Some row
@@ -39,8 +39,8 @@ IsAigRun aig rows run =
 abbrev pub AreAigRows : Aig → List (List Bool) → Type 0
 AreAigRows aig rows = All (λ row. length row ≡ length aig.inputs) rows
 
--- the bits of the outputs, in order, and the bit of the one of that number, from 0, which below the
--- number of outputs means something
+-- the bits of the outputs, in order; and below, the bit of one output by its number, from 0, which
+-- means nothing from the number of outputs on
 abbrev pub aig_output_bits : Aig → (ℕ → Bool) → List Bool
 aig_output_bits aig bits = map bits aig.outputs
 

@@ -1,6 +1,6 @@
 -- The flat netlist of a circuit: a net for constant 0 and for each input, latch and gate, and one
 -- more for what each latch reads next and for each output. Each net is a class of its own, by its
--- position. A gate is a cover of one row, which has a `0` for each literal that is odd.
+-- position. A gate is a cover of one row, which has a `0` for each odd literal.
 use Rattle.std.specs.Prelude.{ℕ, suc, ◌≡◌, ◌==◌, ◌+◌, ◌%◌, true, false, cond, List, [], ◌∷◌, ◌++◌, length, map, replicate, None}
 use Rattle.std.specs.List.{position_or_len, range_with_len}
 use Rattle.netlist_core.specs.declared.flat.NetId.{NetId}
@@ -28,8 +28,8 @@ net_of_literal aig lit = position_or_len (λ own. own == even lit) (own_literals
 abbrev pub net_id : ℕ → NetId
 net_id n = record { 0 = n }
 
--- what the nodes read, each with its output on the next net: the gates, and then a buffer for what
--- each latch reads next, and for each output
+-- what the nodes read, each with its output on the next net: first the gates, then a buffer for
+-- what each latch reads next, and a buffer for each output
 abbrev pub buffer : ℕ → List ℕ
 buffer lit = lit ∷ []
 
@@ -38,11 +38,11 @@ node_reads aig =
     map sides_of aig.ands ++ map buffer
     (map (λ (latch : AigLatch). latch.next) aig.latches ++ aig.outputs)
 
--- the character of a row under which a literal's net stands
+-- the character that a row has for a literal: `1`, or `0` if the literal is odd
 abbrev pub row_character : ℕ → ℕ
 row_character lit = cond (lit % 2 == 0) 49 48
 
--- a node that is 1 where all these literals are
+-- a node that is 1 when all these literals are 1
 abbrev pub node_of : Aig → List ℕ → ℕ → Node
 node_of aig lits out =
     record {

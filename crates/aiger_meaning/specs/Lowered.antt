@@ -7,15 +7,16 @@ use Rattle.aiger_text.specs.declared.aig.Aig.{Aig}
 use Rattle.aiger_text.specs.SoundAig.{input_names, output_names}
 use Rattle.aiger_meaning.specs.Circuit.{IsAigValuation, aig_start_bits, aig_state_after, aig_output_bits, aig_weight}
 
--- under bits of the circuit and bits of the netlist's classes outputs are the same, and so is the
--- next state
+-- under these bits of the circuit and of the netlist's classes, the outputs are the same, and so is
+-- the next state
 pub record AreSameCycle (aig : Aig) (flat : Flat) (bits class_bits : ℕ → Bool) : Type 0 where
   pub outputs : flat_output_bits flat class_bits ≡ aig_output_bits aig bits
   pub next : flat_state_after flat class_bits ≡ aig_state_after aig bits
 
 -- The flat netlist is sound, and within its weight, which is the circuit's; tables do not list its
--- nets. Its ports have the circuit's names, it starts as the circuit does, and each solution of the
--- one's equations is one of the other's, with the same inputs, state, outputs and next state.
+-- nets. Its ports have the circuit's names, and it starts as the circuit does. Each solution of the
+-- circuit's equations is one of the netlist's, and the other way round, with the same inputs,
+-- state, outputs and next state.
 pub record IsLowered (aig : Aig) (flat : Flat) : Type 0 where
   pub sound : IsSound flat
   pub weighed : IsWeighed flat

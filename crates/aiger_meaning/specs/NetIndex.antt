@@ -4,7 +4,7 @@ use Rattle.std.specs.BTreeMap.{BTreeMap, get}
 use Rattle.std.specs.List.{position_from}
 use Rattle.std.specs.Ordering.{nat_cmp}
 
--- a map has the position of the first of each literal, where positions are counted from this one on
+-- the map has the position of the first of each literal, counted from `net` on
 abbrev pub HasNetsFrom : BTreeMap ℕ ℕ → ℕ → List ℕ → Type 0
 HasNetsFrom nets net literals =
     (lit : ℕ) → get nat_cmp nets lit ≡ position_from (λ own. own == lit) net literals

@@ -1,19 +1,19 @@
-// What is answered where there is no flat netlist.
+// The error of `lower`.
 ghost use Rattle.std.specs.Prelude.{◌≡◌};
 ghost use Rattle.aiger_meaning.specs.declared.error.LowerError.TheVariants.{NoMemory};
 
 use lists::List;
 use std::alloc::{AllocError, AllocFailed};
 
-/// Why there is no flat netlist of a circuit.
+/// The error of `lower`: why there is no flat netlist of a circuit.
 #[derive(Drop)]
 pub enum LowerError {
     /// The circuit weighs more than the limit.
     TooLarge { weight: u64 },
-    /// Left sides, each once, of which each is read by the gate of the next, and the last by that
-    /// of the first.
+    /// Gates read each other in a circle. These are their left sides, each once: each is read by
+    /// the gate of the next, and the last by the gate of the first.
     Loop(List<u64>),
-    /// There is no memory for it.
+    /// Memory ran out.
     NoMemory,
 }
 

@@ -13,7 +13,8 @@ use lists::List;
 use netlist_core::Flat;
 use std::alloc::{AllocError, Global};
 
-/// The flat netlist of a circuit of this weight.
+/// Makes the flat netlist of a circuit of this weight. `known` has the circuit's literals that have
+/// a net of their own.
 pub fn flat_of(
     alloc: Global,
     aig: &Aig,

@@ -75,7 +75,7 @@ fn positions_of(alloc: Global, literals: &[u64]) -> Result<BTreeMap<u64, usize>,
 }
 
 impl OwnLiterals {
-    /// Those of a circuit.
+    /// Makes the table of a circuit.
     pub fn new(alloc: Global, aig: &Aig) -> Result<OwnLiterals, AllocError>
         ensures { IfOk result (λ own. own ≡ own_literals aig.now) }
     {
@@ -84,7 +84,7 @@ impl OwnLiterals {
         Ok(OwnLiterals { literals, nets })
     }
 
-    /// The net of a literal, itself or negated; the number of nets where it has none.
+    /// Returns the net of a literal, itself or negated, or the number of nets if it has none.
     pub fn net(&self, lit: u64) -> usize
         ensures net { result ≡ position_or_len (λ own. own == even lit) self.now }
         ensures within { result ≤ length self.now }
@@ -95,7 +95,7 @@ impl OwnLiterals {
         }
     }
 
-    /// The literal of a net; 0 where it is no literal's.
+    /// Returns the literal of a net, or 0 if the net is no literal's.
     pub fn literal(&self, net: usize) -> u64
         ensures { result ≡ number_at self.now net }
     {

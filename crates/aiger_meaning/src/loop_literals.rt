@@ -10,7 +10,7 @@ use lists::List;
 use netlist_core::NetId;
 use std::alloc::{AllocError, Global};
 
-/// The literals of nets.
+/// Returns the literals of nets.
 pub fn literals_at(
     alloc: Global,
     aig: &Aig,

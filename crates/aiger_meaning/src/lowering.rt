@@ -28,9 +28,10 @@ pub struct Lowered {
     pub order: Order,
 }
 
-/// The flat netlist of a sound circuit (`IsSoundAig`); each circuit that a text reads as is sound.
-/// `TooLarge` comes exactly where the weight is over the limit, and `Loop` exactly where it is
-/// within and gates read each other in a circle: the literals are their left sides, each once.
+/// Makes the flat netlist of a sound circuit (`IsSoundAig`); each circuit that a text reads as is
+/// sound. `TooLarge` comes exactly if the weight is over the limit, and `Loop` exactly if the
+/// weight is within the limit and gates read each other in a circle; the literals are their left
+/// sides, each once.
 pub fn lower(alloc: Global, aig: &Aig) -> Result<Lowered, LowerError>
     requires { IsSoundAig aig.now }
     ensures is_flat { IfOk result (λ lowered. IsFlatOfAig aig.now lowered.flat) }

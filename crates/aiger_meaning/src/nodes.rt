@@ -12,7 +12,7 @@ use lists::{Bytes, List};
 use netlist_core::{NetId, Node};
 use std::alloc::{AllocError, Global};
 
-// The character of a row under which a literal's net stands.
+// The character that a row has for a literal: `1`, or `0` if the literal is negated.
 fn row_character(lit: u64) -> u8
     ensures { result ≡ row_character lit }
 {
@@ -38,7 +38,7 @@ fn nets_of(
     Ok(ids)
 }
 
-// The row that wants all literals to be 1.
+// The row that holds when all literals are 1.
 fn row_of(alloc: Global, lits: &[u64]) -> Result<Vec<u8>, AllocError>
     ensures { IfOk result (λ row. row.items ≡ map row_character lits.now) }
 {
@@ -54,7 +54,7 @@ fn rows_of(alloc: Global, row: Vec<u8>) -> Result<List<Bytes>, AllocError>
     Ok(List::of(rows))
 }
 
-// A node that is 1 where all literals are.
+// A node that is 1 when all literals are 1.
 fn node_of(
     alloc: Global,
     aig: &Aig,
@@ -76,7 +76,7 @@ fn node_of(
     })
 }
 
-// Adds a node on the net after that of the last one.
+// Adds a node whose output is the net after that of the last node.
 fn push_node(
     nodes: &mut Vec<Node>,
     alloc: Global,
@@ -140,7 +140,7 @@ fn push_buffers(
     Ok(())
 }
 
-// What latches read next and outputs read.
+// The literals that latches read next, and those that outputs read.
 fn buffer_literals(alloc: Global, aig: &Aig) -> Result<Vec<u64>, AllocError>
     ensures { IfOk result (λ lits. lits.items ≡
         map (λ (latch : latch_type.AigLatch). latch.next) aig.now.latches ++ aig.now.outputs) }
@@ -166,7 +166,7 @@ fn zero_node(alloc: Global) -> Node
     }
 }
 
-/// The nodes, in order.
+/// Makes the nodes, in order.
 pub fn nodes_of(alloc: Global, aig: &Aig, known: &OwnLiterals) -> Result<Vec<Node>, AllocError>
     requires own { known.now ≡ own_literals aig.now }
     requires small { aig_weight aig.now < 2 ^ 31 }

@@ -6,7 +6,7 @@ use aiger_text::AigLatch;
 use netlist_core::{FlatLatch, FlatPort, NetId};
 use std::alloc::{AllocError, Global};
 
-/// So many ports, from a net on.
+/// Makes `count` ports, on the nets from `net` on.
 pub fn ports_from(alloc: Global, net: usize, count: usize) -> Result<Vec<FlatPort>, AllocError>
     requires { net + count < 2 ^ 32 }
     ensures { IfOk result (λ ports. ports.items ≡ ports_from net count) }
@@ -35,7 +35,7 @@ fn latch_between(input: u32, output: u32, latch: AigLatch) -> FlatLatch
     }
 }
 
-/// The latches, whose inputs and outputs are nets from these on.
+/// Makes the latches, whose inputs and outputs are the nets from `input` and from `output` on.
 pub fn latches_from(
     alloc: Global,
     input: usize,

@@ -1,5 +1,5 @@
--- What it means that a text carries a circuit: the pattern that it spells, driven at its input
--- cells, shows the runs of the circuit at its output cells, at every generation.
+-- What it means that a text carries a circuit: its pattern, driven at its input cells, shows the
+-- runs of the circuit at its output cells, at every generation.
 use Rattle.std.specs.Prelude.{ℕ, ◌≡◌, List, [], Bool}
 use Rattle.ww_rule.specs.Wireworld.{Plane}
 use Rattle.ww_rule.specs.Grid.{Grid, plane_of}
@@ -17,8 +17,8 @@ pub record NamesAig (ports : Ports) (aig : Aig) : Type 0 where
   pub outs : names_of ports.outs ≡ output_names aig
   pub nets : ports.nets ≡ []
 
--- Driven by any rows of input bits, for any number of cycles: there is a run of the circuit on
--- them, and in every such run each output cell shows the output's bits
+-- when any rows of input bits drive the pattern, for any number of cycles, there is a run of the
+-- circuit on them, and in every such run each output's cell shows the output's bits
 pub record ShowsAigRuns (plane : Plane) (ports : Ports) (aig : Aig) : Type 0 where
   pub conductors : (rows : List (List Bool)) → AreAigRows aig rows
       → MeetsConductors (drive ports rows) plane
@@ -28,7 +28,7 @@ pub record ShowsAigRuns (plane : Plane) (ports : Ports) (aig : Aig) : Type 0 whe
       → IsAigRun aig rows run
       → ShowsOutputs plane ports rows (λ t. aig_output_bit aig (run t))
 
--- A text carries a circuit: it spells a pattern and a port table of one context, the table's names
+-- a text carries a circuit: it spells a pattern and a port table of one context, the table's names
 -- are the circuit's, and the pattern shows the circuit's runs
 pub record CarriesAig (text : List ℕ) (aig : Aig) : Type 0 where
   pub grid : Grid

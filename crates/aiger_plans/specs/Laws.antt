@@ -18,7 +18,7 @@ AigsAreCarried =
     (text : List ℕ) (aig : Aig) (flat : Flat) → CarriesFlat text flat → IsLowered aig flat
     → CarriesAig text aig
 
--- driven by rows of input bits, in a run on them
+-- when rows of input bits drive the pattern, in a run on them:
 pub record ShowsAigCycles {text : List ℕ} {aig : Aig} (c : CarriesAig text aig)
     (rows : List (List Bool)) (run : ℕ → ℕ → Bool) : Type 0 where
   -- the cell of an output is a head at generation L + t P, for each cycle t, exactly when the
@@ -39,7 +39,7 @@ CarriesAigCycles =
     → AreAigRows aig rows
     → (run : ℕ → ℕ → Bool) → IsAigRun aig rows run → ShowsAigCycles c rows run
 
--- in two runs of such a circuit on the same rows each output has the same bits
+-- in two runs of a circuit that a text carries, on the same rows, each output has the same bits
 abbrev pub OneAigRunIsShown : Type 0
 OneAigRunIsShown =
     (text : List ℕ) (aig : Aig) (c : CarriesAig text aig) (rows : List (List Bool))

@@ -11,14 +11,14 @@ use Rattle.aiger_meaning.specs.FlatOf.{IsFlatOfAig}
 abbrev pub is_odd : ℕ → Bool
 is_odd lit = lit % 2 == 1
 
--- both sides of a gate are negated, or what a latch reads next or what an output reads is; constant
--- 1 is literal 0 negated
+-- both sides of a gate are negated, or a latch or an output reads a negated literal; constant 1 is
+-- literal 0 negated
 abbrev pub aig_needs_one : Aig → Bool
 aig_needs_one aig =
     list_any (λ (gate : AigAnd). is_odd gate.rhs0 && is_odd gate.rhs1) aig.ands
     || list_any is_odd (map (λ (latch : AigLatch). latch.next) aig.latches ++ aig.outputs)
 
--- the flat netlist of a circuit asks for constant 1 exactly where the circuit does, and has as many
+-- the flat netlist of a circuit asks for constant 1 exactly if the circuit does, and has as many
 -- latches
 pub record AsksAlike (aig : Aig) (flat : Flat) : Type 0 where
   pub one : any_needs_one flat ≡ aig_needs_one aig

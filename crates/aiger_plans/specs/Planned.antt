@@ -19,8 +19,8 @@ use Rattle.aiger_plans.specs.Needs.{aig_needs_one}
 use Rattle.aiger_plans.specs.CarriesAig.{CarriesAig, NamesAig}
 
 -- The table of a plan of a circuit: the period, the latency and the cells of ports are the plan's,
--- and the names of ports the circuit's, each in order. It lists no nets. One context runs in the
--- pattern.
+-- and the names of ports are the circuit's, each in order. It lists no nets. One context runs in
+-- the pattern.
 pub record IsTableOfAig (aig : Aig) (plan : Plan) (ports : Ports) : Type 0 where
   pub period : ports.p ≡ period_of plan
   pub latency : ports.l ≡ latency_of plan
@@ -30,19 +30,19 @@ pub record IsTableOfAig (aig : Aig) (plan : Plan) (ports : Ports) : Type 0 where
   pub names : NamesAig ports aig
 
 -- A list of cells computes the flat netlist of the circuit, and so its outputs and what its latches
--- read next; the plan is one of the list.
+-- read next; the plan is a plan of that list.
 pub record IsPlannedAig (aig : Aig) (plan : Plan) : Type 0 where
   pub flat : Flat
   pub is_flat : IsFlatOfAig aig flat
   pub planned : IsPlanned flat plan
   pub cells : ComputesCells flat plan
 
--- The plan can be drawn, its starts are edges of its drawing, and it has no tape. It is one of
--- cells that compute the circuit: so it has a loop for each latch, and exactly where constant 1 is
--- named one more. It is small, by the circuit's weight w: at most 4 w + 4 lanes, and at most 256 (w
--- + 1) (w + 1) columns, and as many instructions. The table is the plan's. Its period is 32 where
--- the circuit has no latch and needs no constant 1. The text that is written of the plan and the
--- table carries the circuit.
+-- The plan can be drawn, its starts are edges of its drawing, and it has no tape. It is a plan of
+-- cells that compute the circuit: so it has a loop for each latch, and one more exactly if constant
+-- 1 is named. It is small: if w is the circuit's weight, it has at most 4 w + 4 lanes, at most
+-- 256 (w + 1) (w + 1) columns, and at most that many instructions. The table is the plan's. Its
+-- period is 32 if the circuit has no latch and needs no constant 1. The text that is written of the
+-- plan and the table carries the circuit.
 pub record IsPlanOfAig (aig : Aig) (plan : Plan) (ports : Ports) : Type 0 where
   pub admissible : IsAdmissible plan
   pub edges : HasStartEdges plan

@@ -9,24 +9,24 @@ pub fn aigs_are_carried()
     ensures { AigsAreCarried }
 {}
 
-/// Driven by rows of input bits, a pattern that carries a circuit has the cell of an output as a
-/// head at generation L + t P, for each cycle t, exactly when the output's bit is 1 in that cycle
-/// of a run, and never below L; so in two runs on the same rows the outputs have the same bits.
+/// A pattern that carries a circuit shows each cycle of each run when rows of input bits drive it.
+/// An output's cell is a head at generation L + t P, for each cycle t, exactly when the output's
+/// bit is 1 in that cycle of the run, and it is never a head below L. So in two runs on the same
+/// rows the outputs have the same bits.
 pub fn carries_aig_cycles()
     ensures outputs { CarriesAigCycles }
     ensures one_run { OneAigRunIsShown }
 {}
 
-/// The flat netlist of a circuit has as many latches, and asks for a constant 1 exactly where the
-/// circuit has a gate whose sides are both negated, or a negated literal that a latch or an output
-/// reads.
+/// The flat netlist of a circuit has as many latches as the circuit. It asks for a constant 1
+/// exactly if the circuit has a gate whose sides are both negated, or a latch or an output that
+/// reads a negated literal.
 pub fn flats_of_aigs_ask_alike()
     ensures { FlatsOfAigsAskAlike }
 {}
 
-/// Of a text that carries a sound circuit: under streams for its inputs there is a run of the
-/// circuit, and the bits that the pattern shows are those of the outputs, in order, in every such
-/// run.
+/// If a text carries a sound circuit, then the circuit has a run under streams for its inputs, and
+/// in every such run the pattern shows the bits of the outputs, in order.
 pub fn carriers_show_aig_runs()
     ensures { CarriersShowAigRuns }
 {}

@@ -13,8 +13,8 @@ use aiger_text::Aig;
 use netlist_plans::{NetlistPlanError, Planned, plan_netlist};
 use std::alloc::Global;
 
-/// A plan of a sound circuit, and where its inputs and outputs are; each circuit that a text reads
-/// as is sound. There is no plan where the circuit has no flat netlist (`aiger_meaning::lower`), or
+/// Makes a plan of a sound circuit, with its port table; each circuit that a text reads as is
+/// sound. There is no plan if the circuit has no flat netlist (`aiger_meaning::lower`), or if
 /// memory runs out.
 pub fn plan_circuit(alloc: Global, aig: &Aig) -> Result<Planned, LowerError>
     requires { IsSoundAig aig.now }

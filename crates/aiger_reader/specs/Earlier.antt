@@ -9,13 +9,12 @@ use Rattle.pattern_reading.specs.Numbers.{number_in}
 abbrev pub number_of_name : List ℕ → Option ℕ
 number_of_name name = number_in (drop 1 name)
 
--- whether the name of that number is an earlier one, and the same
+-- this name is also the earlier name at that number
 abbrev pub is_earlier : List (List ℕ) → (i : ℕ) → List ℕ → Option ℕ → Bool
 is_earlier names i name None = false
 is_earlier names i name (Some k) = nat_lt k i && bytes_eq (get_or names k []) name
 
--- A set has the first names, but for those that have the number of their own place: such a name
--- stands at its number.
+-- A name is among the first i exactly if the set has it or it stands at its own number.
 abbrev pub KnowsEarlier : List (List ℕ) → ℕ → BTreeSet (Bor (List ℕ)) → Type 0
 KnowsEarlier names i seen =
     (name : List ℕ) → is_among name (take i names)

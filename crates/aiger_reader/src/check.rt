@@ -1,4 +1,4 @@
-// What is at fault in an entry.
+// The fault of an entry.
 ghost use Rattle.std.specs.Prelude.{◌≡◌, not, ◌∷◌, [], ◌++◌, List, Some, None, IfOk, OnOk};
 ghost use Rattle.aiger_text.specs.EntryFaults.{defined_by, entry_fault, has_bad_literal, has_bad_reset, is_defined_before, is_past, is_undefinable, is_undefined, reads_undefined};
 ghost use Rattle.aiger_text.specs.declared.section.Entry as entries;
@@ -57,7 +57,7 @@ fn defined_by(entry: Entry) -> Option<u64>
     }
 }
 
-// Adds the literal that an entry defines, and answers whether no earlier one did.
+// Adds the literal that an entry defines, and returns whether no earlier entry defines it.
 fn define(defined: &mut BTreeSet<u64>, entry: Entry) -> Result<bool, AllocError>
     ensures fresh { IfOk result (λ fresh.
         (before : List entries.Entry)
@@ -76,8 +76,8 @@ fn define(defined: &mut BTreeSet<u64>, entry: Entry) -> Result<bool, AllocError>
     }
 }
 
-/// What is at fault in a line with this entry, by the literals that earlier lines define. If
-/// nothing is, what it defines is among them.
+/// Returns the fault of a line with this entry, by the literals that earlier lines define. If there
+/// is none, adds the literal that the entry defines.
 pub fn entry_fault(
     defined: &mut BTreeSet<u64>,
     counts: Counts,
@@ -108,7 +108,7 @@ pub fn entry_fault(
     Ok(None)
 }
 
-// Whether a literal is read that no line defines.
+// Whether a literal is read but defined by no line.
 fn is_undefined(defined: &BTreeSet<u64>, lit: u64) -> bool
     ensures { (entries : List entries.Entry) → KnowsDefined defined.now entries →
         result ≡ is_undefined entries lit }
@@ -116,7 +116,7 @@ fn is_undefined(defined: &BTreeSet<u64>, lit: u64) -> bool
     lit > 1 && !defined.contains(&(lit - lit % 2))
 }
 
-/// Whether an entry reads a literal that no line defines.
+/// Returns whether an entry reads a literal that no line defines.
 pub fn reads_undefined(defined: &BTreeSet<u64>, entry: Entry) -> bool
     ensures { (entries : List entries.Entry)
         → KnowsDefined defined.now entries

@@ -7,7 +7,7 @@ use aiger_text::{AigAnd, AigLatch, Counts, Entry, Section};
 use pattern_lines::number_in;
 use std::alloc::{AllocError, Global};
 
-/// The section of a line, by its position among those of the sections.
+/// Returns the section of a line, by its position among the lines of the sections, from 0.
 pub fn section_at(counts: Counts, position: u64) -> Section
     ensures { result ≡ section_at counts position }
 {
@@ -25,7 +25,7 @@ pub fn section_at(counts: Counts, position: u64) -> Section
     }
 }
 
-// A literal.
+// The literal of a line `lit`.
 fn lit_of_fields(fields: &[&[u8]]) -> Option<u64>
     ensures { result ≡ lit_of_fields (map (λ f. f.now) fields.now) }
 {
@@ -35,7 +35,7 @@ fn lit_of_fields(fields: &[&[u8]]) -> Option<u64>
     }
 }
 
-// A latch, with reset 0 where it is left out.
+// The latch of a line; a reset that is left out is 0.
 fn latch_of_fields(fields: &[&[u8]]) -> Option<AigLatch>
     ensures { result ≡ latch_of_fields (map (λ f. f.now) fields.now) }
 {
@@ -54,7 +54,7 @@ fn latch_of_fields(fields: &[&[u8]]) -> Option<AigLatch>
     }
 }
 
-// An AND gate.
+// The AND gate of a line.
 fn and_of_fields(fields: &[&[u8]]) -> Option<AigAnd>
     ensures { result ≡ and_of_fields (map (λ f. f.now) fields.now) }
 {
@@ -80,7 +80,7 @@ fn entry_of_fields(section: Section, fields: &[&[u8]]) -> Option<Entry>
     }
 }
 
-/// What a line says in a section, if it has the form.
+/// Returns what a line says in a section, if it has the section's form.
 pub fn entry_in(alloc: Global, section: Section, bytes: &[u8]) -> Result<Option<Entry>, AllocError>
     ensures { IfOk result (λ entry. entry ≡ entry_in section bytes.now) }
 {

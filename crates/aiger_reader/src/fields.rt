@@ -5,14 +5,14 @@ ghost use Rattle.aiger_text.specs.Header.{is_separator, header_fields};
 
 use std::alloc::{AllocError, Global};
 
-// How many bytes stand before the first space, which are all where there is none.
+// How many bytes stand before the first space; all of them, if there is none.
 fn bytes_before_space(bytes: &[u8]) -> usize
     ensures { result ≡ prefix_len (λ b. not (b == 32)) bytes.now }
 {
     bytes.iter().take_while(|b| **b != b' ').count()
 }
 
-/// What stands before and after the first space; all and nothing where there is none.
+/// Returns the bytes before and after the first space; without a space, all bytes and none.
 pub fn split_word(bytes: &[u8]) -> (&[u8], &[u8])
     ensures word { result.0.now ≡ before_first is_separator bytes.now }
     ensures rest { result.1.now ≡ after_first is_separator bytes.now }
@@ -25,7 +25,7 @@ pub fn split_word(bytes: &[u8]) -> (&[u8], &[u8])
     }
 }
 
-/// The first six fields of a line: no form has more than five.
+/// Returns the first six fields of a line; no form has more than five.
 pub fn first_fields(alloc: Global, bytes: &[u8]) -> Result<Vec<&[u8]>, AllocError>
     ensures { IfOk result (λ fields. map (λ f. f.now) fields.items ≡
         take 6 (header_fields bytes.now)) }

@@ -26,7 +26,7 @@ fn letter_of(kind: SymbolKind) -> u8
     }
 }
 
-// The name where no symbol line gives one.
+// The name of a port without a symbol line.
 fn plain_name(alloc: Global, kind: SymbolKind, place: usize) -> Result<Bytes, AllocError>
     ensures { IfOk result (λ name. name ≡ plain_name kind place) }
 {
@@ -37,7 +37,7 @@ fn plain_name(alloc: Global, kind: SymbolKind, place: usize) -> Result<Bytes, Al
     Ok(Bytes::of(name))
 }
 
-/// Adds the names of all of a kind, in order.
+/// Adds the names of all inputs, latches or outputs, in order.
 pub fn push_names(
     names: &mut Vec<Bytes>,
     alloc: Global,
@@ -82,7 +82,7 @@ fn is_number_at(number: Option<u64>, place: usize) -> bool
     }
 }
 
-// Whether the name of a number is an earlier one, and the same.
+// Whether this name is also the earlier name at that number.
 fn is_earlier(names: &[Bytes], i: usize, name: &[u8], number: Option<u64>) -> bool
     requires { i ≤ length names.now }
     ensures { result ≡ is_earlier names.now i name.now number }
@@ -91,8 +91,8 @@ fn is_earlier(names: &[Bytes], i: usize, name: &[u8], number: Option<u64>) -> bo
     k < i as u64 && names[k as usize].as_slice() == name
 }
 
-// Whether a name is none of those before it, and then notes it. Plain names are found at their
-// numbers, so a text of many of them takes no set.
+// Notes a name, and returns whether it is none of those before it. Plain names are found at their
+// numbers, so a text of many plain names needs no set.
 fn note<'a>(seen: &mut BTreeSet<&'a [u8]>, names: &'a [Bytes], i: usize) -> Result<bool, AllocError>
     requires { i < length names.now }
     ensures fresh { IfOk result (λ fresh.
@@ -116,8 +116,8 @@ fn note<'a>(seen: &mut BTreeSet<&'a [u8]>, names: &'a [Bytes], i: usize) -> Resu
     Ok(seen.insert(name)?)
 }
 
-/// The line of the first name that stands among those before it, where the first name is that of
-/// this line.
+/// Returns the line of the first name that stands among those before it. The first name is on
+/// `line`, the second on the next line, and so on.
 pub fn first_repeat(alloc: Global, names: &[Bytes], line: u64) -> Result<Option<u64>, AllocError>
     requires { line + length names.now < 2 ^ 64 }
     ensures { IfOk result (λ found.

@@ -27,7 +27,7 @@ use pattern_lines::split_line;
 use std::alloc::{AllocError, Global};
 use std::collections::BTreeSet;
 
-// The bytes of line 1 and the text after it, both empty where there is no line.
+// The bytes of line 1 and the text after it; both are empty if there is no line.
 fn split_header(text: &[u8]) -> (&[u8], &[u8])
     ensures header { result.0.now ≡ first_bytes text.now }
     ensures rest { later_lines text.now ≡ lines_after 1 result.1.now }
@@ -40,7 +40,7 @@ fn split_header(text: &[u8]) -> (&[u8], &[u8])
     (line.bytes, rest)
 }
 
-// The line of the first entry that reads a literal which none defines.
+// The line of the first entry that reads a literal which no entry defines.
 fn first_undefined(entries: &[Entry], defined: &BTreeSet<u64>) -> Option<u64>
     requires few { 2 + length entries.now < 2 ^ 64 }
     requires known { KnowsDefined defined.now entries.now }
@@ -55,7 +55,8 @@ fn first_undefined(entries: &[Entry], defined: &BTreeSet<u64>) -> Option<u64>
     None
 }
 
-// Adds the names of the inputs and then those of the outputs, where no two have one.
+// Adds the names of the inputs and then those of the outputs, if no two inputs and no two outputs
+// share one.
 fn push_port_names(
     names: &mut Vec<Bytes>,
     alloc: Global,
@@ -100,7 +101,8 @@ fn push_port_names(
     Ok(())
 }
 
-// The names of the inputs and then those of the outputs, where no two have one.
+// The names of the inputs and then those of the outputs, if no two inputs and no two outputs share
+// one.
 fn port_names(
     alloc: Global,
     counts: Counts,
@@ -192,12 +194,12 @@ fn read_later(alloc: Global, counts: Counts, text: &[u8]) -> Result<Aig, AigRead
     aig_in(alloc, counts, &sections, &tables)
 }
 
-/// Reads an AIGER text in ASCII, whose lines end with byte 10, or with bytes 13 and 10: a header
-/// `aag M I L O A`; a line `lit` for each input, `lit next` or `lit next reset` for each latch,
-/// `lit` for each output and `lhs rhs0 rhs1` for each AND gate; and lines `i<n> name`, `l<n> name`
-/// and `o<n> name`, up to a line that begins with `c`. Numbers are decimal and parted by single
-/// spaces, and a name is all that follows the first space. Inputs and outputs without a name are
-/// called `i<n>` and `o<n>`.
+/// Reads an AIGER text in ASCII, whose lines end with byte 10, or with bytes 13 and 10. A header
+/// `aag M I L O A` comes first; then a line `lit` for each input, `lit next` or `lit next reset`
+/// for each latch, `lit` for each output and `lhs rhs0 rhs1` for each AND gate; then lines
+/// `i<n> name`, `l<n> name` and `o<n> name`, up to a line that begins with `c`. Numbers are decimal
+/// and parted by single spaces, and a name is all that follows the first space. Inputs and outputs
+/// without a name are called `i<n>` and `o<n>`.
 ///
 /// `Fault` has the first fault of the text.
 pub fn read(alloc: Global, text: &[u8]) -> Result<Aig, AigReadError>

@@ -1,4 +1,4 @@
--- The numbers and names of the faults, as they are to be printed.
+-- The numbers and names of the faults, as they are printed.
 use Rattle.std.specs.Prelude.{ℕ, List, codes}
 use Rattle.aiger_text.specs.declared.fault.AigFaultKind.{AigFaultKind}
 use Rattle.aiger_text.specs.declared.fault.AigFaultKind.TheVariants.{BadHeader, Unsupported, BadLine, BadLiteral, DefinedTwice, Undefined, BadReset, BadSymbol, SameName}
@@ -15,7 +15,7 @@ aig_fault_number BadReset = 7
 aig_fault_number BadSymbol = 8
 aig_fault_number SameName = 9
 
--- its name, in ASCII
+-- the name of a fault, in ASCII
 abbrev pub aig_fault_name : AigFaultKind → List ℕ
 aig_fault_name BadHeader = codes "BadHeader"
 aig_fault_name Unsupported = codes "Unsupported"

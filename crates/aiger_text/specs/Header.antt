@@ -6,8 +6,8 @@ use Rattle.aiger_text.specs.declared.section.Counts.{Counts}
 use Rattle.aiger_text.specs.declared.fault.AigFaultKind.{AigFaultKind}
 use Rattle.aiger_text.specs.declared.fault.AigFaultKind.TheVariants.{BadHeader, Unsupported}
 
--- Fields are parted by single spaces: they are what stands before the first, between two, and after
--- the last.
+-- Single spaces part the fields: a field is what stands before the first space, between two spaces,
+-- or after the last.
 abbrev pub is_separator : ℕ → Bool
 is_separator b = b == 32
 
@@ -17,14 +17,14 @@ header_fields bytes = slice_split is_separator bytes
 abbrev pub is_number : List ℕ → Bool
 is_number field = is_some (number_in field)
 
--- the first word of a line, and the fields after it
+-- the first word of a line, and below it the fields after that word
 abbrev pub leading_field : List ℕ → List ℕ
 leading_field bytes = before_first is_separator bytes
 
 abbrev pub later_fields : List ℕ → List (List ℕ)
 later_fields bytes = header_fields (after_first is_separator bytes)
 
--- five numbers
+-- the counts, if the fields are five numbers
 abbrev pub counts_of_fields : List (List ℕ) → Option Counts
 counts_of_fields (m ∷ inputs ∷ latches ∷ outputs ∷ ands ∷ []) = do
   greatest ← number_in m
@@ -41,13 +41,13 @@ counts_in bytes =
     if bytes_eq (leading_field bytes) (codes "aag") then counts_of_fields (later_fields bytes)
     else None
 
--- the header of a text in binary, or of one with sections that are not read here
+-- the bytes are the header of a text in binary, or of a text with sections that are not read here
 abbrev pub is_unsupported : List ℕ → Bool
 is_unsupported bytes =
     bytes_eq (leading_field bytes) (codes "aig")
     || (bytes_eq (leading_field bytes) (codes "aag") && nat_lt 5 (length (later_fields bytes))
     && list_all is_number (later_fields bytes))
 
--- what is wrong in bytes that are no header
+-- the fault of bytes that are no header
 abbrev pub header_fault : List ℕ → AigFaultKind
 header_fault bytes = if is_unsupported bytes then Unsupported else BadHeader

@@ -15,7 +15,7 @@ use Rattle.aiger_text.specs.declared.fault.AigFaultKind.TheVariants.{BadSymbol}
 use Rattle.aiger_text.specs.Header.{is_separator}
 use Rattle.aiger_text.specs.EntryFaults.{aig_fault_on}
 
--- a name for the input, the latch or the output of that number, from 0
+-- a name for an input, a latch or an output, by its number, from 0
 pub record Symbol : Type 0 where
   pub kind : SymbolKind
   pub place : ℕ
@@ -28,8 +28,8 @@ symbol_kind letter =
     else if letter == byte "o" then Some Output
     else None
 
--- `i<n> name`, `l<n> name` or `o<n> name`: the name is all that follows the first space, and is not
--- empty
+-- the symbol of a line `i<n> name`, `l<n> name` or `o<n> name`: the name is all that follows the
+-- first space, and is not empty
 abbrev pub symbol_in : List ℕ → Option Symbol
 symbol_in [] = None
 symbol_in (letter ∷ bytes) = do
@@ -38,7 +38,7 @@ symbol_in (letter ∷ bytes) = do
   name ← non_empty (after_first is_separator bytes)
   Some (record { kind = kind; place = place; name = name })
 
--- how many there are of a kind
+-- how many inputs, latches or outputs there are
 abbrev pub count_of_kind : Counts → SymbolKind → ℕ
 count_of_kind c Input = c.inputs
 count_of_kind c Latch = c.latches
@@ -50,7 +50,7 @@ is_same_kind Latch Latch = true
 is_same_kind Output Output = true
 is_same_kind _ _ = false
 
--- whether a symbol names the one of that kind and number
+-- the symbol names the input, latch or output of that number
 abbrev pub is_for : SymbolKind → ℕ → Symbol → Bool
 is_for kind place symbol = is_same_kind kind symbol.kind && (symbol.place == place)
 
@@ -62,7 +62,7 @@ pub record SymbolLine : Type 0 where
 abbrev pub symbol_line : Line → SymbolLine
 symbol_line line = record { number = line.number; symbol = symbol_in line.bytes }
 
--- the lines after the sections, up to one that begins with `c`
+-- the line does not begin with `c`, which ends the symbol lines
 abbrev pub is_symbol_line : Line → Bool
 is_symbol_line line = not (begins_with (byte "c") line.bytes)
 
@@ -72,7 +72,7 @@ symbol_lines lines = map symbol_line (take_while is_symbol_line lines)
 abbrev pub symbols_of : List SymbolLine → List Symbol
 symbols_of lines = filter_map (λ line. line.symbol) lines
 
--- a symbol for what is not there, or has a name in an earlier line
+-- the symbol is for what does not exist, or for what has a symbol in an earlier line
 abbrev pub is_bad_symbol : Counts → List Symbol → Symbol → Bool
 is_bad_symbol c before symbol =
     not (nat_lt symbol.place (count_of_kind c symbol.kind))
@@ -82,7 +82,7 @@ abbrev pub symbol_fault : Counts → List Symbol → Option Symbol → Option Ai
 symbol_fault c before None = Some BadSymbol
 symbol_fault c before (Some symbol) = if is_bad_symbol c before symbol then Some BadSymbol else None
 
--- the faults of these lines in order, after lines with these symbols
+-- the faults of these lines, in order, if lines with these symbols stand before them
 abbrev pub symbol_faults_after : Counts → List Symbol → List SymbolLine → List AigFault
 symbol_faults_after c before [] = []
 symbol_faults_after c before (line ∷ lines) =

@@ -1,8 +1,8 @@
 // Circuits as values.
 use lists::{Bytes, List};
 
-/// A latch: its literal, the literal whose bit is its next state, and its reset: 0, 1 or its own
-/// literal, and 0 where the text leaves it out.
+/// A latch: its literal, the literal whose bit is its next state, and its reset, which is 0, 1 or
+/// its own literal, and 0 if the text leaves it out.
 #[derive(Clone, Copy)]
 pub struct AigLatch {
     pub lit: u64,
@@ -19,7 +19,7 @@ pub struct AigAnd {
 }
 
 /// A circuit of inputs, latches, AND gates and outputs. A literal is twice the number of a
-/// variable, plus 1 where it is negated; literal 0 is the constant 0. In a sound circuit
+/// variable, plus 1 if it is negated; literal 0 is the constant 0. In a sound circuit
 /// (`IsSoundAig`) no variable is greater than `m`. `names` has the names of the inputs, and then
 /// those of the outputs.
 #[derive(Drop)]

@@ -2,21 +2,21 @@
 ghost use Rattle.std.specs.Prelude.{◌≡◌};
 ghost use Rattle.aiger_text.specs.FaultNames.{aig_fault_name, aig_fault_number};
 
-/// The faults, in the order of their numbers, from 1. Of one text the first fault is answered: what
-/// is wrong in the header; then the earliest line at fault by any rule but `Undefined` and
-/// `SameName`, and of that line the lowest number; then `Undefined` at its earliest line; then
-/// `SameName`, of an input before that of an output, at its earliest line.
+/// The kinds of faults, in the order of their numbers, from 1. The first fault of a text is what is
+/// wrong in the header; then the earliest line that breaks any rule but `Undefined` and `SameName`,
+/// with the lowest number on that line; then `Undefined` at its earliest line; then `SameName`, for
+/// an input before an output, at its earliest line.
 #[derive(Clone, Copy, Debug)]
 pub enum AigFaultKind {
     /// Line 1 is not `aag` and five numbers, and is not `Unsupported`.
     BadHeader,
     /// The first word of line 1 is `aig`, or line 1 is `aag` and more than five numbers.
     Unsupported,
-    /// A line of the four sections has another form, or is missing: then it is the line after the
-    /// last.
+    /// A line of the four sections has another form, or is missing; a missing line is the line
+    /// after the last.
     BadLine,
-    /// A literal that is no reset is past the greatest variable's, or an input, a latch or a left
-    /// side is odd or below 2.
+    /// A literal other than a reset is past those of the greatest variable, or an input, a latch or
+    /// a left side is odd or below 2.
     BadLiteral,
     /// An earlier line defines the input, the latch or the left side.
     DefinedTwice,
@@ -24,16 +24,16 @@ pub enum AigFaultKind {
     Undefined,
     /// The reset is neither 0, 1 nor the latch's own literal.
     BadReset,
-    /// A line after the sections is no symbol, its name is empty, what it names is not there, or an
-    /// earlier line names it.
+    /// A line after the sections is no symbol, its name is empty, it names what does not exist, or
+    /// an earlier line names the same input, latch or output.
     BadSymbol,
-    /// An earlier input has the name of this one, or an earlier output that of this one. The line
-    /// is that of the input or the output, in its section.
+    /// An earlier input has the name of this input, or an earlier output that of this output. The
+    /// line is that of the input or the output, in its section.
     SameName,
 }
 
 impl AigFaultKind {
-    /// The number that stands after `A` where a fault is told.
+    /// Returns the number that is printed after `A`.
     pub fn number(self) -> u8
         ensures { result ≡ aig_fault_number self }
     {
@@ -50,7 +50,7 @@ impl AigFaultKind {
         }
     }
 
-    /// The name of the fault, as it is told.
+    /// Returns the name that is printed.
     pub fn name(self) -> &'static str
         ensures { result.now ≡ aig_fault_name self }
     {

@@ -14,7 +14,7 @@ use Rattle.band_rows.specs.Rows.{AreLong, AreMarked, ShowRows, ShowsHeads, row_h
 use Rattle.band_core.specs.declared.band.Band.{Band}
 use Rattle.band_core.specs.Bands.{bands_in}
 
--- planes that follow the rule and are driven, in a box
+-- planes that follow the driven rule, and are empty outside a box
 pub record IsEvolution (e : ℕ → Plane) (due : Due) (width rows : ℕ) : Type 0 where
   pub next : (g : ℕ) → e (g + 1) ≡ injected (due (g + 1)) (next_plane (e g))
   pub empty : (g : ℕ) → IsEmptyOutside width rows (e g)
@@ -23,12 +23,12 @@ pub record IsEvolution (e : ℕ → Plane) (due : Due) (width rows : ℕ) : Type
 abbrev pub injected_cells : List Injection → List (ℕ × ℕ)
 injected_cells injections = map (λ i. (i.x, i.y)) injections
 
--- injections at cells of `many` rows from row y on, within so many words
+-- the injections are at cells of `many` rows from row y on, within so many words
 abbrev pub AreInRows : (words y many : ℕ) → List Injection → Type 0
 AreInRows words y many injections =
     All (λ i. (y ≤ i.y) × (i.y < y + many) × (i.x / 64 < words)) injections
 
--- a band of `many` rows of so many words from row y on
+-- a band of `many` rows, from row y on, each of so many words
 pub record IsBand (words y many : ℕ) (band : Band) : Type 0 where
   pub high : length band.rows.items ≡ many
   pub some : 0 < many
@@ -41,15 +41,15 @@ pub record IsBand (words y many : ℕ) (band : Band) : Type 0 where
   pub inside : AreInRows words y many band.injections.items
   pub done : band.done ≤ length band.injections.items
 
--- in rows from row y on, injections are due as a test says
+-- in rows from row y on, the injections are due where the test `due` holds
 abbrev pub AreDueIn : List Injection → Due → (y many : ℕ) → Type 0
 AreDueIn injections due y many =
     (g x k : ℕ) → k < many → due_of_list injections g (pos x) (pos y +ℤ pos k) ≡ due g (pos x)
     (pos y +ℤ pos k)
 
--- It shows an evolution from row y on: its rows the cells at its generation, and the kept rows the
--- heads of the top and the bottom row one generation ago; the injections that are left are those of
--- later generations.
+-- The band shows an evolution from row y on: its rows show the cells at its generation, and the
+-- kept rows the heads of the top and the bottom row one generation ago. The injections that are
+-- left are those of later generations.
 pub record ShowsBand (e : ℕ → Plane) (due : Due) (y many : ℕ) (band : Band) : Type 0 where
   pub rows : ShowRows band.rows.items (e band.generation) (pos y)
   pub top : (g : ℕ) → band.generation ≡ g + 1 → ShowsHeads band.top.heads.items (e g) (pos y)
@@ -59,7 +59,8 @@ pub record ShowsBand (e : ℕ → Plane) (due : Due) (y many : ℕ) (band : Band
   pub left : AreLeftAt (band.generation + 1) band.injections.items
       (drop band.done band.injections.items)
 
--- the heads of the bottom row, and of the top row, at the band's generation or one before
+-- the heads of the bottom row, and below, of the top row, at the band's generation or the one
+-- before
 abbrev pub bottom_at : ℕ → Band → List ℕ
 bottom_at g band =
     if band.generation == g then row_heads band.rows.items (length band.rows.items - 1)
@@ -68,13 +69,13 @@ bottom_at g band =
 abbrev pub top_at : ℕ → Band → List ℕ
 top_at g band = if band.generation == g then row_heads band.rows.items 0 else band.top.heads.items
 
--- all bands of a height over so many rows
+-- the bands are all the bands of a height over so many rows
 pub record AreBands (words height rows : ℕ) (bands : List Band) : Type 0 where
   pub many : length bands ≡ bands_in rows height
   pub each : (b : ℕ) (d : Band) → b < length bands
       → IsBand words (b * height) (min height (rows - b * height)) (get_or bands b d)
 
--- which show an evolution, each at its own generation
+-- the bands show an evolution, each at its own generation
 abbrev pub AllShow : (e : ℕ → Plane) (due : Due) (height rows : ℕ) → List Band → Type 0
 AllShow e due height rows bands =
     (b : ℕ) (d : Band) → b < length bands
@@ -83,7 +84,7 @@ AllShow e due height rows bands =
 abbrev pub generations_of : List Band → List ℕ
 generations_of bands = map (λ band. band.generation) bands
 
--- the generation of band b, and the number of its rows, where the bands are of a height over so
+-- the generation of band b; and below, the number of its rows, if the bands of this height cover so
 -- many rows
 abbrev pub generation_at : List Band → ℕ → ℕ
 generation_at bands b = get_or (generations_of bands) b 0
@@ -91,21 +92,21 @@ generation_at bands b = get_or (generations_of bands) b 0
 abbrev pub rows_in_band : (height rows b : ℕ) → ℕ
 rows_in_band height rows b = min height (rows - b * height)
 
--- a head or a tail of rows from row y on
+-- the cell is a head or a tail, in rows from row y on
 pub data IsLitIn (rows : List Row) (y x z : ℕ) : Type 0 where
   head : (k : ℕ) → k < length rows → z ≡ y + k → is_set (row_heads rows k) x ≡ true
       → IsLitIn rows y x z
   tail : (k : ℕ) → k < length rows → z ≡ y + k → is_set (row_tails rows k) x ≡ true
       → IsLitIn rows y x z
 
--- no bit is set in any of them; above the first row of all there is none to be asked for
+-- no bit is set in these rows or in the rows beside them; the row above is not looked at if y is 0
 pub record AreUnlit (rows : List Row) (y : ℕ) (up down : List ℕ) : Type 0 where
   pub heads : (k x : ℕ) → k < length rows → is_set (row_heads rows k) x ≡ false
   pub tails : (k x : ℕ) → k < length rows → is_set (row_tails rows k) x ≡ false
   pub above : (x : ℕ) → 0 < y → is_set up x ≡ false
   pub below : (x : ℕ) → is_set down x ≡ false
 
--- the first injection that is left is at this cell, and due at the next generation
+-- the first injection that is left is at this cell, and is due at the next generation
 pub record IsNextDue (band : Band) (x y : ℕ) : Type 0 where
   pub injection : Injection
   pub rest : List Injection
@@ -130,8 +131,8 @@ pub record IsQuiet (e : ℕ → Plane) (due : Due) (g y many : ℕ) : Type 0 whe
   pub below : (x : ℕ) → count_head (e g (pos x) (pos y +ℤ pos many)) ≡ 0
   pub none : (x k : ℕ) → k < many → due (g + 1) (pos x) (pos y +ℤ pos k) ≡ false
 
--- a cell that is lit in rows from row y on, or a head beside them, or an injection that is due in
--- them next
+-- the cell is lit in rows from row y on, is a head beside them, or has an injection in them that is
+-- due next
 pub data IsWaking (e : ℕ → Plane) (due : Due) (g y many x z : ℕ) : Type 0 where
   head : y ≤ z → z < y + many → e g (pos x) (pos z) ≡ Head → IsWaking e due g y many x z
   tail : y ≤ z → z < y + many → e g (pos x) (pos z) ≡ Tail → IsWaking e due g y many x z

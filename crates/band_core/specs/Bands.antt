@@ -21,11 +21,12 @@ pub record BandedPattern : Type 0 where
   pub height : ℕ
   pub generations : List ℕ
 
--- how many bands of a height so many rows make; the last one may be short
+-- how many bands of a height so many rows make; the last one may be shorter
 abbrev pub bands_in : (rows height : ℕ) → ℕ
 bands_in rows height = (rows + (height - 1)) / height
 
--- what holds of all bands: the pattern and the injections are in form, and each row lies in a band
+-- what holds of all bands: the pattern and the injections have their form, and each row lies in a
+-- band
 pub record IsBandedPattern (pattern : BandedPattern) : Type 0 where
   pub grid : IsGrid pattern.grid.width pattern.grid.height pattern.grid.rows
   pub inside : AreInside pattern.grid.width pattern.grid.height pattern.injections
@@ -78,8 +79,7 @@ pub record IsFacing (pattern : BandedPattern) (b x y : ℕ) : Type 0 where
   pub beside : (y + 1 ≡ b * pattern.height) ⊎ (y ≡ b * pattern.height + pattern.height)
   pub within : y < length pattern.grid.rows
 
--- of bands at these generations a neighbour of band b, where its generation is neither the band's
--- nor one more
+-- a neighbour of band b, if its generation among these is neither band b's nor one more
 abbrev pub not_ready : List ℕ → ℕ → ℕ → Option NotReady
 not_ready generations b neighbour =
     let own = get_or generations b 0 in
@@ -95,13 +95,13 @@ abbrev pub lower_not_ready : List ℕ → ℕ → Option NotReady
 lower_not_ready generations b =
     if nat_lt (b + 1) (length generations) then not_ready generations b (b + 1) else None
 
--- the neighbour beside which band b can't move on: the upper one is looked at first
+-- the neighbour that keeps band b from moving on, if there is one; the upper one is looked at first
 abbrev pub unready_neighbour : List ℕ → ℕ → Option NotReady
 unready_neighbour generations b =
     option_or (upper_not_ready generations b) (lower_not_ready generations b)
 
--- A cell keeps a band awake, at the band's generation: it is a head or a tail of the band; or a
--- head of a row that faces the band; or a cell of the band where an injection is due at the next
+-- A cell keeps a band awake, at the band's generation: it is a head or a tail of the band, a head
+-- of a row that faces the band, or a cell of the band where an injection is due at the next
 -- generation.
 pub data IsAwake (pattern : BandedPattern) (b x y : ℕ) : Type 0 where
   head : IsCellOf pattern b x y → band_at pattern b x y ≡ Head → IsAwake pattern b x y

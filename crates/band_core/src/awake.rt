@@ -9,7 +9,7 @@ ghost use Rattle.band_core.specs.Band.{IsLitIn, IsNextDue};
 use crate::band::Band;
 use band_rows::{Row, Span, first_bit, next_marked};
 
-// The column of a head or a tail of a row.
+// The column of a head or a tail of a row, if it has one.
 fn lit_column(row: &Row) -> Option<usize>
     requires { length row.now.heads.items ≤ 2 ^ 58 }
     ensures some { IfSome result (λ x.
@@ -24,8 +24,8 @@ fn lit_column(row: &Row) -> Option<usize>
     }
 }
 
-/// The column and row of a head or a tail of rows from row y on, of which those that may be lit are
-/// marked; `is_dark`: none is.
+/// Returns the column and row of a head or a tail, if there is one, in rows from row y on. `lit`
+/// marks the rows that may be lit; if `is_dark`, no row is.
 pub fn lit_cell(rows: &[Row], lit: &[u64], is_dark: bool, y: usize) -> Option<(usize, usize)>
     requires long { (k : ℕ) → k < length rows.now → length (row_heads rows.now k) ≤ 2 ^ 58 }
     requires room { y + length rows.now < 2 ^ 64 }
@@ -54,7 +54,8 @@ pub fn lit_cell(rows: &[Row], lit: &[u64], is_dark: bool, y: usize) -> Option<(u
     None
 }
 
-/// The column and row of a head of the rows beside a band's rows, of which the first is row y.
+/// Returns the column and row of a head, if there is one, in the two rows beside a band. The band
+/// has `many` rows, from row y on.
 pub fn faced_cell(
     y: usize,
     many: usize,
@@ -88,7 +89,8 @@ pub fn faced_cell(
     }
 }
 
-/// The cell of the band's first injection that is left, where it is due at the next generation.
+/// Returns the cell of the first injection that is left in the band, if it is due at the next
+/// generation.
 pub fn due_cell(band: &Band) -> Option<(u64, u64)>
     requires room { band.now.generation + 1 < 2 ^ 64 }
     ensures some { IfSome result (λ cell. IsNextDue band.now cell.0 cell.1) }

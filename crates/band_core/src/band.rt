@@ -11,9 +11,9 @@ ghost use Rattle.band_core.specs.Band.{AreInRows, IsBand, IsEvolution, ShowsBand
 use band_rows::{Kept, Row, Span, is_clear, mark_row, step_band};
 use ww_rule::Injection;
 
-/// Rows of one generation, marks of those that may be lit (`is_dark`: none is), the heads of the
-/// top and the bottom row a generation ago, and the band's injections, of which the first ones are
-/// done. What `near` holds is of no account.
+/// A band: rows of one generation, marks of the rows that may be lit (if `is_dark`, none is), the
+/// heads that the top and the bottom row had one generation ago, and the band's injections, of
+/// which the first `done` are done. What `near` holds does not matter.
 #[derive(Drop)]
 pub struct Band {
     pub rows: Vec<Row>,
@@ -27,7 +27,7 @@ pub struct Band {
     pub done: usize,
 }
 
-/// How many injections at the front are of a generation.
+/// Returns how many injections at the beginning of a list are those of a generation.
 pub fn due_count(generation: u128, injections: &[Injection]) -> usize
     ensures count { result ≡ due_count generation injections.now }
     ensures within { result ≤ length injections.now }
@@ -38,8 +38,8 @@ pub fn due_count(generation: u128, injections: &[Injection]) -> usize
         .count()
 }
 
-/// Makes the cells of injections heads, in rows from row y on, and marks their rows. No memory is
-/// taken.
+/// Makes the cells of injections heads, in rows from row y on, and marks their rows. It takes no
+/// memory.
 pub fn inject(rows: &mut [Row], lit: &mut [u64], y: usize, words: usize, due: &[Injection])
     requires long { AreLong words rows.old }
     requires lit { AreMarked lit.old rows.old }
@@ -59,7 +59,7 @@ pub fn inject(rows: &mut [Row], lit: &mut [u64], y: usize, words: usize, due: &[
     }
 }
 
-// Keeps the tails of the top and the bottom row, which are the heads that these had.
+// Keeps the tails of the top and the bottom row, which are the heads that these rows had.
 fn keep_edges(rows: &[Row], top: &mut Kept, bottom: &mut Kept)
     requires some { 0 < length rows.now }
     requires top { length (row_heads rows.now 0) ≡ length top.old.heads.items }
@@ -76,8 +76,8 @@ fn keep_edges(rows: &[Row], top: &mut Kept, bottom: &mut Kept)
     bottom.keep(rows[last].tails.as_slice(), rows[last].span);
 }
 
-// The next generation of rows from row y on, with the injections that are then due, between rows of
-// heads. The kept rows take the heads that the top and the bottom row had. `near` holds anything.
+// Steps rows from row y on, between rows of heads, and makes the injections that are then due. The
+// kept rows take the heads that the top and the bottom row had. `near` may hold anything.
 fn step_with_due(
     rows: &mut [Row],
     lit: &mut [u64],
@@ -122,8 +122,8 @@ fn step_with_due(
 }
 
 impl Band {
-    /// The heads of the bottom row at a generation, which is the band's or the one before, and a
-    /// span beyond which there are none.
+    /// Returns the heads of the bottom row at a generation, which is the band's or the one before,
+    /// and a span beyond which there are none.
     pub fn bottom_heads(&self, generation: u64) -> (&[u64], Span)
         requires some { 0 < length self.now.rows.items }
         ensures heads { result.0.now ≡ bottom_at generation self.now }
@@ -137,7 +137,8 @@ impl Band {
         (self.bottom.heads.as_slice(), self.bottom.span)
     }
 
-    /// The heads of the top row, likewise.
+    /// Returns the heads of the top row at a generation, which is the band's or the one before, and
+    /// a span beyond which there are none.
     pub fn top_heads(&self, generation: u64) -> (&[u64], Span)
         requires some { 0 < length self.now.rows.items }
         ensures heads { result.0.now ≡ top_at generation self.now }
@@ -151,7 +152,7 @@ impl Band {
         (self.top.heads.as_slice(), self.top.span)
     }
 
-    /// Goes on by one generation, between the heads of the rows beside the band at its own
+    /// Goes on by one generation. The heads of the rows beside the band are those at the band's own
     /// generation.
     pub fn step(&mut self, y: usize, up: &[u64], up_span: Span, down: &[u64], down_span: Span)
         requires is { IsBand (length up.now) y (length self.old.rows.items) self.old }
@@ -187,8 +188,8 @@ impl Band {
         self.done += count;
     }
 
-    /// Goes on by one generation, where the band is dark, no head lies beside it and no injection
-    /// is due: its rows stay.
+    /// Goes on by one generation, if the band is dark, no head lies beside it and no injection is
+    /// due: its rows stay.
     pub fn rest(&mut self)
         requires room { self.old.generation + 1 < 2 ^ 64 }
         ensures generation { self.new.generation ≡ self.old.generation + 1 }

@@ -13,8 +13,8 @@ use std::alloc::Global;
 use std::marker::Model;
 use ww_rule::{CellRows, Injection, Pattern, State};
 
-/// A pattern that injections drive, in bands of rows from the top down, of one height but for the
-/// last one, which may be shorter. Each band shows its rows of the one driven evolution, at a
+/// A pattern that injections drive, in bands of rows from the top down, all of one height except
+/// the last one, which may be shorter. Each band shows its rows of the one driven evolution, at a
 /// generation of its own. A pattern without cells has no band. All memory is taken when the bands
 /// are made.
 #[derive(Drop)]
@@ -38,7 +38,7 @@ impl Model for Bands {
     ghost invariant = { IsHeld };
 }
 
-// How many words a row of cells takes, where all rows are of one length.
+// How many words a row of cells takes, if all rows have one length.
 fn words_for(rows: &CellRows) -> usize
     ensures few { result ≤ 2 ^ 58 }
     ensures wide { (width : ℕ)
@@ -57,9 +57,9 @@ fn words_for(rows: &CellRows) -> usize
 }
 
 impl Bands {
-    /// The bands of a pattern at generation 0: bands of `height` rows, from 1 up, for injections at
-    /// cells of the pattern's box, in the order of their generations, of which those of generation
-    /// 0 are made. `NoMemory` is the one error.
+    /// Makes the bands of a pattern at generation 0, each of `height` rows, which is at least 1.
+    /// The injections are at cells of the pattern's box and in the order of their generations;
+    /// those of generation 0 are made. `NoMemory` is the only error.
     pub fn new(
         alloc: Global,
         pattern: Pattern,
@@ -84,7 +84,7 @@ impl Bands {
         })
     }
 
-    /// How many bands there are.
+    /// Returns the number of bands.
     pub fn bands(&self) -> usize
         ensures count { result ≡ length self.now.generations }
         ensures whole { IsBandedPattern self.now }
@@ -92,7 +92,7 @@ impl Bands {
         self.bands.len()
     }
 
-    /// How many generations a band has come.
+    /// Returns how many generations a band has come.
     pub fn generation(&self, b: usize) -> u64
         requires { b < length self.now.generations }
         ensures { result ≡ generation_of self.now b }
@@ -100,8 +100,8 @@ impl Bands {
         self.bands[b].generation
     }
 
-    /// The state of a cell of the pattern's box, by its column and row in the pattern, at the
-    /// generation of the band in which it lies.
+    /// Returns the state of a cell of the pattern's box, by its column and row in the pattern, at
+    /// the generation of the band in which it lies.
     pub fn cell(&self, b: usize, x: u64, y: u64) -> State
         requires { IsCellOf self.now b x y }
         ensures { result ≡ band_at self.now b x y }
@@ -111,15 +111,15 @@ impl Bands {
         row.state(x as usize)
     }
 
-    /// The injections that drive the pattern, as they were given.
+    /// Returns the injections that drive the pattern, as they were given.
     pub fn injections(&self) -> &[Injection]
         ensures { result.now ≡ self.now.injections }
     {
         &self.injections
     }
 
-    /// Moves a band on by one generation. It is refused where a neighbour is neither at the band's
-    /// generation nor one further; the upper one is looked at first.
+    /// Moves a band on by one generation. It is refused if a neighbour is neither at the band's
+    /// generation nor one further; the upper neighbour is looked at first.
     pub fn advance(&mut self, b: usize) -> Result<(), NotReady>
         requires band { b < length self.old.generations }
         requires room { generation_of self.old b + 1 < 2 ^ 64 }
@@ -142,8 +142,8 @@ impl Bands {
         Ok(())
     }
 
-    /// Moves a band on by one generation where no cell can change in it. It is refused as `advance`
-    /// is, which is looked at first, and else where a cell keeps the band awake.
+    /// Moves a band on by one generation if no cell can change in it. It is refused for the same
+    /// reason as `advance`, which is looked at first, or because a cell keeps the band awake.
     pub fn skip(&mut self, b: usize) -> Result<(), NotSkipped>
         requires band { b < length self.old.generations }
         requires room { generation_of self.old b + 1 < 2 ^ 64 }

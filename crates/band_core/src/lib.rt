@@ -14,4 +14,5 @@ mod moving;
 pub use band::due_count;
 pub use bands::Bands;
 pub use error::{NotReady, NotSkipped};
+// The answer of `Bands::new` when memory runs out.
 pub use lists::OutOfMemory as BandsError;

@@ -16,7 +16,7 @@ use std::alloc::{AllocError, Global};
 use std::mem;
 use ww_rule::{CellRows, Injection};
 
-// So many empty lists.
+// `count` empty lists.
 fn empty_lists(alloc: Global, count: usize) -> Result<Vec<List<Injection>>, AllocError>
     ensures many { IfOk result (λ lists. length lists.items ≡ count) }
     ensures empty { IfOk result (λ lists. (b : ℕ) → b < count → list_at lists.items b ≡ []) }
@@ -28,7 +28,7 @@ fn empty_lists(alloc: Global, count: usize) -> Result<Vec<List<Injection>>, Allo
     Ok(lists)
 }
 
-// Each band's injections, in their order, for so many bands of a height.
+// The injections of each band, in their order, for `count` bands of this height.
 fn shares(
     alloc: Global,
     injections: &[Injection],
@@ -54,7 +54,7 @@ fn shares(
     Ok(shares)
 }
 
-// So many rows of cells in so many words, from row y on.
+// `many` rows of cells, each in `words` words, from row y on.
 fn packed(
     alloc: Global,
     cells: &CellRows,
@@ -76,7 +76,7 @@ fn packed(
     Ok(rows)
 }
 
-// A dark row of so many words, to keep heads in.
+// A dark row of `words` words, in which heads are kept.
 fn dark_row(alloc: Global, words: usize) -> Result<Kept, AllocError>
     ensures { IfOk result (λ kept. length kept.heads.items ≡ words) }
 {
@@ -86,7 +86,7 @@ fn dark_row(alloc: Global, words: usize) -> Result<Kept, AllocError>
     })
 }
 
-// Marks of the rows that are lit.
+// Marks of the lit rows.
 fn marks_of(alloc: Global, rows: &[Row]) -> Result<Vec<u64>, AllocError>
     requires few { length rows.now < 2 ^ 63 }
     ensures { IfOk result (λ marks. AreMarked marks.items rows.now) }
@@ -96,7 +96,7 @@ fn marks_of(alloc: Global, rows: &[Row]) -> Result<Vec<u64>, AllocError>
     Ok(marks)
 }
 
-// The band of so many rows of cells from row y on, at generation 0, with its own injections.
+// The band of `many` rows of cells from row y on, at generation 0, with its own injections.
 fn begin_band(
     alloc: Global,
     cells: &CellRows,
@@ -139,7 +139,7 @@ fn begin_band(
     })
 }
 
-/// The bands of rows of cells at generation 0.
+/// Makes the bands of rows of cells at generation 0.
 pub fn begin_bands(
     alloc: Global,
     rows: &CellRows,

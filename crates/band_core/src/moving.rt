@@ -11,7 +11,7 @@ use crate::band::Band;
 use crate::error::NotReady;
 use band_rows::Span;
 
-// A neighbour of band b, where its generation is neither the band's nor one more.
+// A neighbour of band b, if its generation is neither the band's nor one more.
 fn not_ready(bands: &[Band], b: usize, neighbour: usize) -> Option<NotReady>
     requires band { b < length bands.now }
     requires neighbour { neighbour < length bands.now }
@@ -29,7 +29,8 @@ fn not_ready(bands: &[Band], b: usize, neighbour: usize) -> Option<NotReady>
     })
 }
 
-/// The neighbour beside which band b can't move on; the upper one is looked at first.
+/// Returns the neighbour that keeps band b from moving on, if there is one; the upper one is looked
+/// at first.
 pub fn unready_neighbour(bands: &[Band], b: usize) -> Option<NotReady>
     requires band { b < length bands.now }
     requires room { generation_at bands.now b + 1 < 2 ^ 64 }
@@ -46,8 +47,8 @@ pub fn unready_neighbour(bands: &[Band], b: usize) -> Option<NotReady>
     None
 }
 
-// The heads of the last row of bands at a generation, or of a dark row where there is no band, and
-// a span beyond which it has none.
+// The heads of the last row of the bands before, at a generation, or of a dark row if there is no
+// band, and a span beyond which that row has none.
 fn row_above<'a>(before: &'a [Band], generation: u64, dark: &'a [u64]) -> (&'a [u64], Span)
     requires some { (d : Band)
         → 0 < length before.now
@@ -66,7 +67,8 @@ fn row_above<'a>(before: &'a [Band], generation: u64, dark: &'a [u64]) -> (&'a [
     before[before.len() - 1].bottom_heads(generation)
 }
 
-// The heads of the first row of bands, likewise.
+// The heads of the first row of the bands after, at a generation, or of a dark row if there is no
+// band, and a span beyond which that row has none.
 fn row_below<'a>(after: &'a [Band], generation: u64, dark: &'a [u64]) -> (&'a [u64], Span)
     requires some { (d : Band)
         → 0 < length after.now
@@ -85,7 +87,7 @@ fn row_below<'a>(after: &'a [Band], generation: u64, dark: &'a [u64]) -> (&'a [u
     after[0].top_heads(generation)
 }
 
-/// Moves band b on by one generation. No memory is taken.
+/// Moves band b on by one generation. It takes no memory.
 // It stands apart, so that a loop over sleeping bands stays small.
 #[inline(never)]
 pub fn move_band(bands: &mut [Band], b: usize, height: usize, rows: usize, dark: &[u64])
@@ -110,7 +112,7 @@ pub fn move_band(bands: &mut [Band], b: usize, height: usize, rows: usize, dark:
     band.step(b * height, up, up_span, down, down_span);
 }
 
-/// Moves band b on by one generation where nothing can change in it: its rows stay.
+/// Moves band b on by one generation, if nothing in it can change: its rows stay.
 pub fn rest_band(bands: &mut [Band], b: usize)
     requires band { b < length bands.old }
     requires room { generation_at bands.old b + 1 < 2 ^ 64 }
@@ -130,7 +132,7 @@ pub fn rest_band(bands: &mut [Band], b: usize)
     bands[b].rest();
 }
 
-/// A cell that keeps band b awake.
+/// Returns a cell that keeps band b awake, if there is one.
 pub fn awake_cell(
     bands: &[Band],
     b: usize,

@@ -11,7 +11,7 @@ use Rattle.lane_kernel.specs.Spans.{AreZero}
 abbrev pub state_in_row : Row → ℕ → State
 state_in_row row x = row_state row.heads.items row.tails.items row.wires.items x
 
--- the words of row k
+-- the heads of row k, and below, its tails and its wires
 abbrev pub row_heads : List Row → ℕ → List ℕ
 row_heads rows k = get_or (map (λ row. row.heads.items) rows) k []
 
@@ -39,7 +39,7 @@ ShowRows rows p y =
     (k : ℕ) → k < length rows → Shows (row_heads rows k) (row_tails rows k) (row_wires rows k) p
     (y +ℤ pos k)
 
--- all rows are of a length
+-- all rows have this length
 abbrev pub AreLong : ℕ → List Row → Type 0
 AreLong n rows = (k : ℕ) → k < length rows → length (row_heads rows k) ≡ n
 
@@ -58,8 +58,8 @@ pub record AreMarked (marks : List ℕ) (rows : List Row) : Type 0 where
 abbrev pub IsBeside : (m k : ℕ) → Type 0
 IsBeside m k = (m ≡ k) ⊎ (m + 1 ≡ k) ⊎ (m ≡ k + 1)
 
--- Of so many rows, row k and those next to it are not marked; where the row before the rows, or the
--- one after them, is next to it, that one is not lit.
+-- Row k and the rows next to it are not marked. If row k is the first or the last of so many rows,
+-- the row beside it that is not one of these is not lit.
 pub record IsFar (marks : List ℕ) (up_is_lit down_is_lit : Bool) (rows k : ℕ) : Type 0 where
   pub beside : (m : ℕ) → IsBeside m k → is_set marks m ≡ false
   pub up : k ≡ 0 → up_is_lit ≡ false

@@ -9,9 +9,9 @@ use crate::row::Row;
 use crate::row_marks::{mark_near, mark_row, next_marked};
 use crate::span::Span;
 
-/// The next generation of rows, where the heads of the rows before and after them are known, and
-/// spans beyond which these have none. `lit` marks the rows that may be lit: these and the rows
-/// next to them are stepped, and no other is looked at. `near` holds anything.
+/// Steps rows by one generation. `up` and `down` are the heads of the rows before and after them,
+/// which have none beyond their spans. `lit` marks the rows that may be lit: these and the rows
+/// next to them are stepped, and no others are looked at. `near` may hold anything.
 // It stands apart, so that its loop has the registers for itself.
 #[inline(never)]
 pub fn step_band(
@@ -62,8 +62,8 @@ pub fn step_band(
     }
 }
 
-// The heads of the last of rows that have stepped, or of the row before a band, and a span beyond
-// which it has none.
+// The heads of the last row that has stepped, or of the row before the band if none has, and a span
+// beyond which that row has no heads.
 fn above_of<'a>(before: &'a [Row], up: &'a [u64], up_span: Span) -> (&'a [u64], Span)
     requires long { 0 < length before.now
         → length (row_heads before.now (length before.now - 1)) ≡ length up.now }
@@ -83,8 +83,8 @@ fn above_of<'a>(before: &'a [Row], up: &'a [u64], up_span: Span) -> (&'a [u64], 
     (row.tails.as_slice(), row.span)
 }
 
-// The heads of the first of rows that have not stepped, or of the row after a band, and a span
-// beyond which it has none.
+// The heads of the first row that has not stepped, or of the row after the band if all have, and a
+// span beyond which that row has no heads.
 fn below_of<'a>(after: &'a [Row], down: &'a [u64], down_span: Span) -> (&'a [u64], Span)
     requires long { 0 < length after.now → length (row_heads after.now 0) ≡ length down.now }
     requires within { down_span.end ≤ length down.now }

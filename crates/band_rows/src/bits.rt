@@ -9,7 +9,7 @@ ghost use Rattle.band_rows.specs.Cells.{marks_head, marks_tail, marks_wire};
 
 use ww_rule::State;
 
-/// Whether the bit of a cell is set.
+/// Returns whether the bit of a cell is set.
 pub fn is_set(words: &[u64], x: usize) -> bool
     ensures { result ≡ is_set words.now x }
 {
@@ -36,7 +36,7 @@ fn clear_bit(words: &mut [u64], x: usize)
     words[x / 64] &= !(1 << (x % 64));
 }
 
-/// Sets the bit of a cell, if asked to, without a branch.
+/// Sets the bit of a cell if `is_asked`, without a branch.
 pub fn set_bit_if(words: &mut [u64], x: usize, is_asked: bool)
     requires { x / 64 < length words.old }
     ensures long { length words.new ≡ length words.old }
@@ -45,7 +45,7 @@ pub fn set_bit_if(words: &mut [u64], x: usize, is_asked: bool)
     words[x / 64] |= (is_asked as u64) << (x % 64);
 }
 
-// Sets the bit of a cell in the row of its state. Most cells are empty: one test passes over them.
+// Sets the bit of a cell in the row of its state. Most cells are empty: one test skips them.
 fn mark(heads: &mut [u64], tails: &mut [u64], wires: &mut [u64], x: usize, state: State)
     requires heads { x / 64 < length heads.old }
     requires tails { length tails.old ≡ length heads.old }
@@ -68,7 +68,7 @@ fn mark(heads: &mut [u64], tails: &mut [u64], wires: &mut [u64], x: usize, state
     set_bit_if(wires, x, matches!(state, State::Conductor));
 }
 
-/// Sets the bits of cells, from the first on, in rows that have none set.
+/// Sets the bits of cells, from the first cell on, in rows without set bits.
 pub fn mark_all(heads: &mut [u64], tails: &mut [u64], wires: &mut [u64], cells: &[State])
     requires long { length cells.now ≤ 64 * length heads.old }
     requires long_tails { length tails.old ≡ length heads.old }
@@ -87,7 +87,7 @@ pub fn mark_all(heads: &mut [u64], tails: &mut [u64], wires: &mut [u64], cells: 
     }
 }
 
-/// Makes a cell a head, whatever it held.
+/// Makes a cell a head, whatever it was.
 pub fn put_head(heads: &mut [u64], tails: &mut [u64], wires: &mut [u64], x: usize)
     requires heads { x / 64 < length heads.old }
     requires tails { length tails.old ≡ length heads.old }

@@ -14,7 +14,7 @@ pub struct Kept {
     ghost dark: { IsDarkBeyond span.first span.end heads.items },
 }
 
-// Makes the words from one place up to another 0.
+// Sets the words from one place up to another to 0.
 fn darken(words: &mut [u64], first: usize, end: usize)
     requires order { first ≤ end }
     requires within { end ≤ length words.old }
@@ -25,7 +25,7 @@ fn darken(words: &mut [u64], first: usize, end: usize)
     words[first..end].fill(0);
 }
 
-// Puts the words of another row into a row, where the two are dark beyond spans.
+// Copies the words of another row into a row; both rows are dark beyond their spans.
 fn copy_heads(heads: &mut [u64], old: Span, new: Span, words: &[u64])
     requires long { length words.now ≡ length heads.old }
     requires old_within { old.end ≤ length heads.old }
@@ -40,7 +40,7 @@ fn copy_heads(heads: &mut [u64], old: Span, new: Span, words: &[u64])
 }
 
 impl Kept {
-    /// Takes all heads away.
+    /// Removes all heads.
     pub fn clear(&mut self)
         ensures long { length self.new.heads.items ≡ length self.old.heads.items }
         ensures dark { AreZero self.new.heads.items }
@@ -52,7 +52,7 @@ impl Kept {
         self.span = Span { first: 0, end: 0 };
     }
 
-    /// Takes other heads in place of its own.
+    /// Replaces the heads by those of another row.
     pub fn keep(&mut self, words: &[u64], span: Span)
         requires long { length words.now ≡ length self.old.heads.items }
         requires within { span.end ≤ length words.now }

@@ -1,4 +1,4 @@
-// Rows that know where their light is.
+// Rows that have a span around their light.
 ghost use Rattle.std.specs.Prelude.{◌≡◌, ◌+◌, ◌-◌, ◌*◌, ◌/◌, ◌<◌, ◌≤◌, ◌^◌, ◌==◌, ◌&&◌, true, if◌then◌else◌, ℕ, length, IfOk};
 ghost use Rattle.lists.specs.Items.{number_at};
 ghost use Rattle.ww_rule.specs.declared.pattern.State.TheVariants.{Head};
@@ -36,8 +36,8 @@ fn all_fit(words: &[u64])
     let _long = words.len();
 }
 
-// The next generation of a row in place, and where its light is then, where the row's light and the
-// heads beside it lie in word j and nothing comes over its borders.
+// Steps a row by one generation in place, if its light and the heads beside it lie in word j and
+// nothing comes over its borders, and returns where its light then is.
 fn step_in_word(
     above: &[u64],
     heads: &mut [u64],
@@ -64,7 +64,7 @@ fn step_in_word(
     }
 }
 
-// Whether a span is one word, over whose borders nothing of three rows of heads comes.
+// Whether a span is one word, and nothing of three rows of heads comes over the word's borders.
 fn is_in_word(above: &[u64], heads: &[u64], below: &[u64], near: Span) -> bool
     requires within { near.end ≤ length heads.now }
     requires above { length above.now ≡ length heads.now }
@@ -82,9 +82,9 @@ fn is_in_word(above: &[u64], heads: &[u64], below: &[u64], near: Span) -> bool
     near.end - j == 1 && stays_within(above, heads, below, j, j + 1)
 }
 
-// The next generation of a row, and where its light is then, where the row's light and the heads
-// beside it lie in a span of words: the new heads stand in the tails' place, and the heads are the
-// new tails.
+// Steps a row by one generation, if its light and the heads beside it lie in a span of words, and
+// returns where its light then is. The new heads take the tails' place, and the heads are the new
+// tails.
 fn step_in_span(
     above: &[u64],
     heads: &[u64],
@@ -111,7 +111,7 @@ fn step_in_span(
 impl Row {
     ghost use Rattle.band_rows.specs.Rows.{state_in_row};
 
-    /// A row of cells, in so many words.
+    /// Makes a row of cells, of `words` words.
     pub fn of_cells(alloc: Global, cells: &[State], words: usize) -> Result<Row, AllocError>
         requires { length cells.now ≤ 64 * words }
         ensures long { IfOk result (λ row. length row.heads.items ≡ words) }
@@ -132,7 +132,7 @@ impl Row {
         })
     }
 
-    /// Makes the cell of a column a head, whatever it held.
+    /// Makes the cell of a column a head, whatever it was.
     pub fn make_head(&mut self, x: usize)
         requires { x / 64 < length self.old.heads.items }
         ensures long { length self.new.heads.items ≡ length self.old.heads.items }
@@ -143,7 +143,7 @@ impl Row {
         self.span = widened(self.span, x / 64);
     }
 
-    /// The state of the cell of a column.
+    /// Returns the state of the cell of a column.
     pub fn state(&self, x: usize) -> State
         ensures { result ≡ state_in_row self.now x }
     {
@@ -158,7 +158,7 @@ impl Row {
         }
     }
 
-    // Goes on by one generation, where the row's light and the heads beside it lie in word j and
+    // Goes on by one generation, if the row's light and the heads beside it lie in word j and
     // nothing comes over its borders.
     fn go_on_in_word(&mut self, above: &[u64], below: &[u64], j: usize)
         requires lit { IsLitWithin j (j + 1)
@@ -182,8 +182,8 @@ impl Row {
         );
     }
 
-    // Goes on by one generation, where the row's light and the heads beside it lie in a span.
-    // It stands apart, so that the loop over rows of one lit word stays small.
+    // Goes on by one generation, if the row's light and the heads beside it lie in a span. It
+    // stands apart, so that the loop over rows of one lit word stays small.
     #[inline(never)]
     fn go_on_in_span(&mut self, above: &[u64], below: &[u64], near: Span)
         requires some { near.first < near.end }
@@ -208,8 +208,8 @@ impl Row {
         mem::swap(&mut self.heads, &mut self.tails);
     }
 
-    /// Goes on by one generation, between two other rows, of which the heads are asked for and
-    /// spans beyond which they have none.
+    /// Goes on by one generation between two other rows, given by their heads and by spans beyond
+    /// which they have none.
     pub fn step(&mut self, above: &[u64], above_span: Span, below: &[u64], below_span: Span)
         requires facing { AreFacing (length self.old.heads.items)
             above.now above_span below.now below_span }

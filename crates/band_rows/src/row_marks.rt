@@ -9,7 +9,7 @@ use crate::bits::set_bit_if;
 use crate::row::Row;
 use lane_kernel::{Near, spread};
 
-/// Marks a row, where it is lit.
+/// Marks a row if it is lit.
 pub fn mark_row(marks: &mut [u64], k: usize, is_lit: bool)
     requires { k / 64 < length marks.old }
     ensures long { length marks.new ≡ length marks.old }
@@ -18,14 +18,14 @@ pub fn mark_row(marks: &mut [u64], k: usize, is_lit: bool)
     set_bit_if(marks, k, is_lit);
 }
 
-/// Whether no row is marked.
+/// Returns whether no row is marked.
 pub fn is_clear(marks: &[u64]) -> bool
     ensures { (result ≡ true) ↔ All (λ word. word ≡ 0) marks.now }
 {
     marks.iter().all(|word| *word == 0)
 }
 
-/// The first marked row from one on, or a number that is no row's.
+/// Returns the first marked row from `from` on, or a number that is no row's.
 pub fn next_marked(marks: &[u64], from: usize) -> usize
     requires few { length marks.now ≤ 2 ^ 57 }
     ensures order { from ≤ result }
@@ -48,7 +48,7 @@ pub fn next_marked(marks: &[u64], from: usize) -> usize
     64 * marks.len()
 }
 
-// The word after word j, 0 where there is none.
+// The word after word j, or 0 if there is none.
 fn word_after(marks: &[u64], j: usize) -> u64
     requires { j < length marks.now }
     ensures { result ≡ number_at marks.now (j + 1) }
@@ -79,9 +79,9 @@ fn spread_marks(marks: &[u64], near: &mut [u64])
     }
 }
 
-/// Marks the rows that may change, of so many that stand together: those that are marked as lit,
-/// those next to them, and the first and the last row where the rows beside these are lit. A row
-/// that is left out is far from all light.
+/// Marks those of `rows` rows that may change: the rows that `lit` marks, those next to them, and
+/// the first and the last row if the rows beside these are lit. A row that gets no mark is far from
+/// all light.
 pub fn mark_near(lit: &[u64], up_is_lit: bool, down_is_lit: bool, rows: usize, near: &mut [u64])
     requires near { length near.old ≡ length lit.now }
     requires enough { rows ≤ 64 * length lit.now }
@@ -99,7 +99,7 @@ pub fn mark_near(lit: &[u64], up_is_lit: bool, down_is_lit: bool, rows: usize, n
     mark_row(near, rows - 1, down_is_lit);
 }
 
-/// Marks the rows that are lit, where none is marked.
+/// Marks the lit rows, in words without marks.
 pub fn mark_lit(rows: &[Row], marks: &mut [u64])
     requires few { length marks.old ≤ 2 ^ 57 }
     requires enough { length rows.now ≤ 64 * length marks.old }

@@ -13,7 +13,7 @@ pub struct Span {
 }
 
 impl Span {
-    /// Whether the span has no word.
+    /// Returns whether the span has no word.
     pub fn is_empty(self) -> bool
         ensures { result ≡ (self.first == self.end) }
     {
@@ -21,7 +21,7 @@ impl Span {
     }
 }
 
-/// A span that has both spans in it.
+/// Returns a span that contains both spans.
 pub fn hull(a: Span, b: Span) -> Span
     ensures first { (words : List ℕ)
         → IsDarkBeyond a.first a.end words
@@ -43,7 +43,7 @@ pub fn hull(a: Span, b: Span) -> Span
     }
 }
 
-// The first place of a span, given by its two ends, at which one of two rows has a word that is not
+// The first place in a span, given by its two ends, at which one of two rows has a word that is not
 // 0, or the span's end.
 fn first_lit(heads: &[u64], tails: &[u64], first: usize, end: usize) -> usize
     requires order { first ≤ end }
@@ -62,8 +62,8 @@ fn first_lit(heads: &[u64], tails: &[u64], first: usize, end: usize) -> usize
     a
 }
 
-// The place after the last one of such a span at which one of the rows has a word that is not 0, or
-// the span's first place.
+// The place after the last one in a span at which one of two rows has a word that is not 0, or the
+// span's first place.
 fn end_lit(heads: &[u64], tails: &[u64], first: usize, end: usize) -> usize
     requires order { first ≤ end }
     requires within { end ≤ length heads.now }
@@ -82,7 +82,7 @@ fn end_lit(heads: &[u64], tails: &[u64], first: usize, end: usize) -> usize
     b
 }
 
-/// The span of the words that are not 0 in one of two rows.
+/// Returns the span of the words that are not 0 in one of two rows.
 pub fn trimmed(heads: &[u64], tails: &[u64], first: usize, end: usize) -> Span
     requires order { first ≤ end }
     requires within { end ≤ length heads.now }
@@ -98,7 +98,7 @@ pub fn trimmed(heads: &[u64], tails: &[u64], first: usize, end: usize) -> Span
     Span { first, end }
 }
 
-/// A span that has the word j besides.
+/// Returns a span that also contains word j.
 pub fn widened(span: Span, j: usize) -> Span
     requires { j + 1 < 2 ^ 64 }
     ensures wider { (old new : List ℕ)
@@ -119,7 +119,7 @@ pub fn widened(span: Span, j: usize) -> Span
     }
 }
 
-/// The place of some bit that is set, among words that are dark beyond a span.
+/// Returns the place of a set bit, if there is one, in words that are dark beyond a span.
 pub fn first_bit(words: &[u64], span: Span) -> Option<usize>
     requires within { span.end ≤ length words.now }
     requires dark { IsDarkBeyond span.first span.end words.now }

@@ -1,4 +1,4 @@
--- The text of a lifted netlist is that netlist, without a fault by a rule on lines or models.
+-- The text of a lifted netlist is that netlist, and has no fault by a rule on lines or models.
 use Rattle.std.specs.Prelude.{◌<◌, ◌^◌, ◌≡◌, true, false, List, length}
 use Rattle.std.specs.List.{list_all}
 use Rattle.netlist_core.specs.Names.{Name}
@@ -10,7 +10,8 @@ use Rattle.lifted_designs.specs.Runs.{ArePortNames}
 use Rattle.lifted_designs.specs.Words.{is_word}
 use Rattle.blif_write.specs.Text.{lifted_text}
 
--- where the ports have names of their own that are words
+-- the text of a lifted netlist is that netlist, if the names of the ports are words and no two
+-- ports share one
 abbrev pub LiftedTextsRead : Type 0
 LiftedTextsRead =
     (list : CellList) (ins outs : List Name) → length ins ≡ list.inputs

@@ -23,17 +23,17 @@ word_in lift (Net source) = source_in lift source
 word_in lift (Loop number) = loop_name (mark_in lift) number
 word_in lift (Gate number) = gate_name (mark_in lift) number
 
--- the words of these, each after a space
+-- the words of the items, each after a space
 abbrev pub words_after_spaces : {X : Type 0} → (X → List ℕ) → List X → List ℕ
 words_after_spaces word items = flat_map (λ item. 32 ∷ word item) items
 
--- the lines of an output, before others
+-- the lines of an output, and then other lines
 abbrev pub output_then : Lift → ℕ → Src → Name → List Logical → List Logical
 output_then lift n source name more =
     worded_line n (codes ".names" ∷ source_in lift source ∷ name ∷ [])
     ∷ row n (codes "1") (codes "1") ∷ more
 
--- the lines of the model, its inputs and outputs, and constant 0, before others
+-- the lines of the model, of its inputs and outputs, and of constant 0, and then other lines
 abbrev pub head_then : Lift → List Logical → List Logical
 head_then lift more =
     worded_line 1 (codes ".model" ∷ codes "lifted" ∷ [])

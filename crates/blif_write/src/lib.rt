@@ -12,6 +12,7 @@ mod text;
 mod word;
 mod words;
 
+// The answer of `of` when memory runs out.
 pub use circuit_plans::LiftError;
 pub use lift::Lift;
 pub use lifting::of;

@@ -1,12 +1,12 @@
-// A circuit that is lifted.
+// A lifted circuit.
 ghost use Rattle.std.specs.Prelude.{◌≡◌, ◌++◌, length};
 ghost use Rattle.lifted_designs.specs.Names.{most_leading};
 
 use cell_core::CellList;
 use lists::{Bytes, List};
 
-/// The cells of a circuit, the names of its inputs and outputs, and the most `_` with which one of
-/// these names begins. It holds nothing else of the text.
+/// A lifted circuit: the cells of a plan, the names of its inputs and outputs, and the greatest
+/// number of `_` with which one of these names begins. It holds nothing else of the text.
 #[derive(Drop)]
 pub struct Lift {
     pub list: CellList,

@@ -1,4 +1,4 @@
-// The circuit of a plan, with names of ports.
+// The lifted circuit of a plan, with names of ports.
 ghost use Rattle.std.specs.Prelude.{◌≡◌, ◌<◌, ◌^◌, false, length, max, IfOk};
 ghost use Rattle.lane_core.specs.Plans.{IsAdmissible};
 ghost use Rattle.cell_core.specs.Loops.{names_one};
@@ -27,7 +27,7 @@ fn names_of(alloc: Global, ports: &[PortLine]) -> Result<List<Bytes>, AllocError
     Ok(List::of(names))
 }
 
-// With how many `_` a name begins.
+// The number of `_` with which a name begins.
 fn leading(name: &[u8]) -> usize
     ensures { result ≡ leading name.now }
 {
@@ -39,7 +39,7 @@ fn leading(name: &[u8]) -> usize
     name.len()
 }
 
-// The most `_` with which one of the names begins, or this many where that is more.
+// The greatest number of `_` with which one of the names begins, or `least` if that is more.
 fn most_leading(names: &[Bytes], least: usize) -> usize
     ensures { result ≡ max least (most_leading names.now) }
 {
@@ -50,9 +50,9 @@ fn most_leading(names: &[Bytes], least: usize) -> usize
     most
 }
 
-/// The circuit of a plan, whose inputs and outputs bear the names of these ports, in order, which
-/// are copied. The plan's nets are not looked at. A call asks for a port for each output; an input
-/// without a port has an empty name.
+/// Lifts the cells of a plan. The inputs and outputs get copies of the names of these ports, in
+/// order. The plan's nets are not looked at. A call needs a port for each output; an input without
+/// a port gets an empty name.
 pub fn of(alloc: Global, plan: &Plan, ports: &Ports) -> Result<Lift, LiftError>
     requires admissible { IsAdmissible plan.now }
     requires outs { length ports.now.outs ≡ length plan.now.outs }

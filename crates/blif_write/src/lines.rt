@@ -73,7 +73,7 @@ fn write_names<O: Sink>(
     Ok(())
 }
 
-/// Writes a line: its first word, and others.
+/// Writes a line: its first word, and the other words.
 pub fn write_line<O: Sink>(
     sink: &mut O,
     page: &mut Page,
@@ -96,7 +96,7 @@ pub fn write_line<O: Sink>(
     page.put(sink, b"\n")
 }
 
-/// Writes a line of its first word and of names.
+/// Writes a line: its first word, and names.
 pub fn write_name_line<O: Sink>(
     sink: &mut O,
     page: &mut Page,

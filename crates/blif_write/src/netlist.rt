@@ -15,7 +15,7 @@ use crate::word::LineWord;
 use cell_core::{Cell, Src};
 use ww_base::{Failed, Page, Sink};
 
-// The bit with which a loop starts.
+// The word for the bit with which a loop starts.
 fn start_word(start: bool) -> &'static [u8]
     ensures { result.now ≡ start_word start }
 {
@@ -68,7 +68,7 @@ pub fn write_latches<O: Sink>(sink: &mut O, page: &mut Page, lift: &Lift) -> Res
     Ok(())
 }
 
-// What a gate reads.
+// The two sources that a gate reads.
 fn sources(cell: Cell) -> (Src, Src)
     ensures first { result.0 ≡ first_of cell }
     ensures second { result.1 ≡ second_of cell }
@@ -78,7 +78,7 @@ fn sources(cell: Cell) -> (Src, Src)
     }
 }
 
-// Writes a row of a cover: these bits of what it reads, and 1.
+// Writes a row of a cover: the bits of the nets that the cover reads, and 1.
 fn write_row<O: Sink>(sink: &mut O, page: &mut Page, lift: &Lift, bits: &[u8]) -> Result<(), Failed>
     ensures ok { OnOk result ((n : ℕ) (more : List Logical) →
         Wrote (O.written sink.old) (O.written sink.new) (O.faults sink.old) (O.faults sink.new)
@@ -177,7 +177,7 @@ fn write_output<O: Sink>(
     write_row(sink, page, lift, b"1")
 }
 
-/// Writes the lines of all outputs, and the end.
+/// Writes the lines of all outputs, and `.end`.
 pub fn write_outputs<O: Sink>(sink: &mut O, page: &mut Page, lift: &Lift) -> Result<(), Failed>
     ensures ok { OnOk result ((n : ℕ) →
         Wrote (O.written sink.old) (O.written sink.new) (O.faults sink.old) (O.faults sink.new)

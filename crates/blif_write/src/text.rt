@@ -16,7 +16,7 @@ use crate::word::LineWord;
 use cell_core::Src;
 use ww_base::{Failed, Page, Sink};
 
-// Writes the lines of the model, its inputs and outputs, and constant 0.
+// Writes the lines of the model, of its inputs and outputs, and of constant 0.
 fn write_head<O: Sink>(sink: &mut O, page: &mut Page, lift: &Lift) -> Result<(), Failed>
     ensures ok { OnOk result ((more : List Logical) →
         Wrote (O.written sink.old) (O.written sink.new) (O.faults sink.old) (O.faults sink.new)
@@ -32,7 +32,7 @@ fn write_head<O: Sink>(sink: &mut O, page: &mut Page, lift: &Lift) -> Result<(),
     write_line(sink, page, lift, b".names", &[LineWord::Net(Src::Zero)])
 }
 
-/// Writes the BLIF text of a lifted circuit. Where a write fails, a front of the text stands
+/// Writes the BLIF text of a lifted circuit. If a write fails, a prefix of the text has been
 /// written. It takes no memory. Each name is written as often as it is used, so a long name makes a
 /// long text.
 pub fn write<O: Sink>(lift: &Lift, sink: &mut O) -> Result<(), Failed>

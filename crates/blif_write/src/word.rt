@@ -1,7 +1,7 @@
-// What a line has.
+// The words of a line.
 use cell_core::Src;
 
-/// A word of a line: bytes as they are, the name of the net of a source, or that of a loop's latch
+/// A word of a line: bytes as they are, the name of a source's net, or the name of a loop's latch
 /// or of a gate, by its number.
 #[derive(Clone, Copy)]
 pub enum LineWord<'a> {

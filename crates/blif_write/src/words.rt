@@ -14,7 +14,7 @@ use itoa::Buffer;
 use lists::Bytes;
 use ww_base::{Failed, Page, Sink};
 
-// Writes one `_` more than so many.
+// Writes one `_` more than `leading`.
 fn write_mark<O: Sink>(sink: &mut O, page: &mut Page, leading: usize) -> Result<(), Failed>
     ensures ok { OnOk result ((rest : List ℕ) →
         Wrote (O.written sink.old) (O.written sink.new) (O.faults sink.old) (O.faults sink.new)
@@ -29,7 +29,7 @@ fn write_mark<O: Sink>(sink: &mut O, page: &mut Page, leading: usize) -> Result<
     page.put(sink, b"_")
 }
 
-// Writes the name that has a letter and a number.
+// Writes the name that consists of the mark, a letter and a number.
 fn write_numbered<O: Sink>(
     sink: &mut O,
     page: &mut Page,
@@ -65,7 +65,7 @@ fn write_zero<O: Sink>(sink: &mut O, page: &mut Page, leading: usize) -> Result<
     page.put(sink, b"z")
 }
 
-// The name of an input, which is empty where the input is not there.
+// The name of an input, or no bytes if there is no such input.
 fn name_at(names: &[Bytes], number: usize) -> &[u8]
     ensures { result.now ≡ list_at names.now number }
 {

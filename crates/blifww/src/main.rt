@@ -9,7 +9,7 @@ use std::env;
 use std::process::ExitCode;
 use ww_base::{Failed, Sink, StdSink, StdSource, write_all};
 
-// Tells that there is no memory for the words, and answers the status.
+// Tells that there is no memory for the words, and returns the status.
 fn tell_no_memory<E: Sink>(err: &mut E) -> u8
     ensures told { result ≡ 7 → Appends (E.written err.old) (E.written err.new)
         (codes "no memory\n") }
@@ -25,7 +25,7 @@ fn main(rt: HostRuntime) -> ExitCode {
     let mut src = StdSource::new(rt.stdin());
     let mut out = StdSink::new(rt.stdout());
     let mut err = StdSink::new(rt.stderr());
-    // Words that cannot be had are no command.
+    // If the words cannot be had, they are no command.
     let words = match env::args(&rt) {
         Ok(words) => words.collect::<Vec<String>>(rt.alloc()),
         Err(_) => Ok(Vec::new(rt.alloc())),

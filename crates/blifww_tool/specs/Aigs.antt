@@ -1,4 +1,4 @@
--- What is written of the text of a circuit in AIGER.
+-- The pattern that is written of the text of an AIGER circuit.
 use Rattle.std.specs.Prelude.{ℕ, ◌≡◌, ◌≤◌, List}
 use Rattle.lane_core.specs.declared.plan.Plan.{Plan}
 use Rattle.grid_assembly.specs.PlanDrawing.{start_grid}
@@ -15,7 +15,7 @@ use Rattle.aiger_plans.specs.Planned.{IsPlanOfAig}
 use Rattle.refusals.specs.declared.causes.Cause.{Cause}
 use Rattle.refusals.specs.declared.causes.Cause.TheVariants.{WeightTooLarge, AigAtFault, AigLoop}
 
--- The text reads as this circuit, whose weight is within the limit, and no gates of which read each
+-- The text reads as this circuit, whose weight is within the limit and whose gates do not read each
 -- other in a circle.
 pub record IsAig (text : List ℕ) (aig : Aig) : Type 0 where
   pub reads : ReadsAsAig text aig
@@ -32,8 +32,8 @@ pub record CompilesAig (text output : List ℕ) : Type 0 where
   pub is_plan : IsPlanOfAig aig plan ports
   pub written : output ≡ pattern_text (start_grid plan) ports
 
--- why the text is no circuit: it is at fault; or it reads as one that is too heavy, or within the
--- limit has gates that read each other in a circle
+-- why the text is no circuit: it is at fault; or it reads as a circuit that is too heavy, or is
+-- within the limit and has gates that read each other in a circle
 abbrev pub HasNoAig : List ℕ → Cause → Type 0
 HasNoAig text (AigAtFault fault) = HasAigFault text fault
 HasNoAig text (WeightTooLarge told) =

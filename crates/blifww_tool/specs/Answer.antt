@@ -14,21 +14,21 @@ use Rattle.blifww_tool.specs.declared.output.Output.TheVariants.{Lines, Drawing,
 use Rattle.refusals.specs.declared.refusal.Refusal.{Refusal}
 use Rattle.refusals.specs.declared.refusal.Refusal.TheVariants.{WriteFault, NoMemory, Text}
 
--- its bytes
+-- the bytes of an output
 abbrev pub output_text : Output → List ℕ
 output_text (Lines text) = text
 output_text (Drawing planned) = pattern_text (start_grid planned.plan) planned.ports
 output_text (Waves vcd) = vcd_text (waves_in vcd)
 output_text (Lifted lift) = text_of_lift lift
 
--- it can be written: a plan is admissible
+-- the output can be written: a plan is admissible
 abbrev pub IsWritableOutput : Output → Type 0
 IsWritableOutput (Lines text) = ⊤
 IsWritableOutput (Drawing planned) = IsAdmissible planned.plan
 IsWritableOutput (Waves vcd) = ⊤
 IsWritableOutput (Lifted lift) = ⊤
 
--- out was cut off, or gained nothing where there is another reason
+-- out was cut off, or gained nothing if there is another reason
 abbrev pub HasStopped : List (List ℕ) → Reading → Writing → Refusal → Type 0
 HasStopped words src out WriteFault = (k : ℕ) × WriteFailed out × Does words src out (take k)
 HasStopped words src out refusal = GainedNothing out × HasReason words src refusal
@@ -40,8 +40,7 @@ pub record PrintsPart (command : CommandValues) (text : List ℕ) (out : Writing
   pub prints : Prints command text output
   pub wrote : Gained out (part output)
 
--- out was cut off, or gained nothing where the command refuses the text or there is not enough
--- memory
+-- out was cut off, or gained nothing if the command refuses the text or there is not enough memory
 abbrev pub HasStoppedOn : CommandValues → List ℕ → Writing → Refusal → Type 0
 HasStoppedOn command text out WriteFault =
     (k : ℕ) × WriteFailed out × PrintsPart command text out (take k)

@@ -1,5 +1,5 @@
--- For each command whether it reads a text, which texts it accepts, what it prints of them, and why
--- it refuses the others.
+-- For each command: whether it reads a text, which texts it accepts, what it prints of them, and
+-- why it refuses the others.
 use Rattle.std.specs.Prelude.{◌≡◌, ◌≤◌, ℕ, Bool, true, false, List, ⊤}
 use Rattle.command_words.specs.Shapes.{CommandValues, compile, simulate, eval, probe, window, make, self_, tape, aiger, vcd, lift}
 use Rattle.netlist_core.specs.declared.model.Design.{Design}
@@ -30,7 +30,7 @@ use Rattle.netlist_text.specs.Laws.{AreAlikeFaults}
 use Rattle.refusals.specs.declared.causes.TextError.{TextError}
 use Rattle.refusals.specs.declared.causes.TextError.TheVariants.{Refused, NoMemory}
 
--- whether the command reads a text; those that do not have the empty one
+-- the command reads a text; a command that does not has the empty one
 abbrev pub reads_text : CommandValues → Bool
 reads_text (compile contexts starts) = true
 reads_text (simulate cycles words) = true
@@ -44,17 +44,17 @@ reads_text aiger = true
 reads_text (vcd cycles words) = true
 reads_text lift = true
 
--- The command accepts the text. `compile`: the text is a netlist, in which the words say starts,
+-- The command accepts the text. `compile`: the text is a netlist in which the words give starts,
 -- for no more contexts than every plan has room for. `simulate`: the text and the words are a
--- simulation, with its last bits in time, whose injections meet conductors. `eval`: the text is a
--- netlist, and the words are streams for it. `probe`: they are a simulation that has the net and
--- shows its bits in time, and the injections meet conductors. `window`: they are a simulation whose
--- injections meet conductors up to the generation that is shown. `make` always does; `self` where
--- no plan of the made netlist can need more generations than are run. `tape`: the text is a
--- netlist, and the words are streams for it. `aiger`: the text is an AIGER circuit. `vcd`: they are
--- a simulation whose nets show their last bits in time, and whose injections up to there meet
--- conductors. `lift`: the text reads as a pattern with a port table; they are the drawing of a
--- circuit's plan; and no port's name is bad.
+-- simulation, its last bits come in time, and its injections meet conductors. `eval`: the text is a
+-- netlist, and the words are streams for it. `probe`: the text and the words are a simulation that
+-- has the net and shows the net's bits in time, and its injections meet conductors. `window`: they
+-- are a simulation whose injections meet conductors up to the generation that is shown. `make`:
+-- always. `self`: no plan of the made netlist can need more generations than are run. `tape`: the
+-- text is a netlist, and the words are streams for it. `aiger`: the text is an AIGER circuit.
+-- `vcd`: the text and the words are a simulation whose nets show their last bits in time, and whose
+-- injections up to these meet conductors. `lift`: the text reads as a pattern with a port table,
+-- they are the drawing of a circuit's plan, and no port's name is bad.
 abbrev pub Accepts : CommandValues → List ℕ → Type 0
 Accepts (compile contexts starts) text =
     (design : Design) × HasStarts contexts starts text design × (contexts ≤ least_room design)
@@ -72,10 +72,11 @@ Accepts (vcd cycles words) text = (s : Simulation) × RunsInTime last_dumped cyc
 Accepts lift text =
     (grid : Grid) × (ports : Ports) × (plan : Plan) × IsCircuitText text grid ports plan
 
--- of such a text it prints this output: a pattern that carries the netlist in these contexts; a
--- line for each output of the pattern, or of the netlist; the lines of the net; those of a part of
--- the plane; the made text; what is told of the made netlist; a pattern that runs by itself; one
--- that carries the AIGER circuit; the dump of the nets; or the netlist of the circuit that is drawn
+-- the command prints this output of a text that it accepts: a pattern that carries the netlist in
+-- these contexts; a line for each output of the pattern, or of the netlist; the lines of the net;
+-- the lines of a part of the plane; the made text; the summary of the made netlist; a pattern that
+-- runs by itself; a pattern that carries the AIGER circuit; the dump of the nets; or the netlist of
+-- the circuit that is drawn
 abbrev pub Prints : CommandValues → (text output : List ℕ) → Type 0
 Prints (compile contexts starts) text output = Compiles contexts starts text output
 Prints (simulate cycles words) text output =
@@ -109,14 +110,14 @@ Refuses lift text cause = HasNoCircuit text cause
 -- The command refuses the text for this cause whenever nothing fails and there is memory. Two
 -- causes are left out, since they depend on the plan, which is free: that `self` needs too many
 -- generations, and that `compile` has no room for the contexts. `self` and `compile` may refuse a
--- text for them, where `Refuses` says so.
+-- text for them, if `Refuses` allows it.
 abbrev pub MustRefuse : CommandValues → List ℕ → Cause → Type 0
 MustRefuse (self_ seed size cycles) text cause = ⊥
 MustRefuse (compile contexts starts) text (TooManyContexts told limit) = ⊥
 MustRefuse command text cause = Refuses command text cause
 
--- Two causes are of one kind, and the same, but that there may be several loops, and on one line
--- several words at fault.
+-- Two causes are of one kind and the same, except that there may be several loops, and several
+-- words at fault on one line.
 abbrev pub AreLikeCauses : Cause → Cause → Type 0
 AreLikeCauses (NetlistFault a) (NetlistFault b) = AreAlikeFaults a b
 AreLikeCauses (Loop a) (Loop b) = ⊤

@@ -1,4 +1,4 @@
--- What is written of a netlist.
+-- The pattern that is written of a netlist.
 use Rattle.std.specs.Prelude.{ℕ, ◌≡◌, ◌≤◌, ◌<◌, ◌+◌, ◌*◌, ◌/◌, max, List, [], length, false, Some, None}
 use Rattle.lane_core.specs.declared.plan.Plan.{Plan}
 use Rattle.lane_core.specs.Plans.{IsAdmissible}
@@ -28,12 +28,12 @@ use Rattle.start_words.specs.Starts.{latches_of, starts_of_words}
 use Rattle.refusals.specs.declared.causes.Cause.{Cause}
 use Rattle.refusals.specs.declared.causes.Cause.TheVariants.{NetlistFault, WeightTooLarge, Loop, StartWord, TooManyContexts}
 
--- The written text of the plan and its table carries the design and its nets. The plan can be
--- drawn, with its starts. The plan computes the cells of the design's flat netlist: so it has a
--- loop for each latch, and exactly where constant 1 is named one more. The design's weight bounds
--- its lanes, its columns and its instructions, and it has no lane and no column exactly where there
--- is no net but clock nets. Each net has a place, by what drives it. Where there is no latch and no
--- cover needs constant 1 the period is 32. The text spells the drawing of a circuit.
+-- The text that is written of the plan and its table carries the design and its nets. The plan can
+-- be drawn, with its starts. It computes the cells of the design's flat netlist: so it has a loop
+-- for each latch, and one more exactly if constant 1 is named. The design's weight bounds the
+-- plan's lanes, columns and instructions, and the plan has no lane and no column exactly if all
+-- nets are clock nets. Each net has a place, by what drives it. The period is 32 if there is no
+-- latch and no cover needs constant 1. The text spells the drawing of a circuit.
 pub record IsCarriedBy (design : Design) (plan : Plan) (ports : Ports) : Type 0 where
   pub admissible : IsAdmissible plan
   pub edges : HasStartEdges plan
@@ -50,18 +50,18 @@ pub record IsCarriedBy (design : Design) (plan : Plan) (ports : Ports) : Type 0 
       → any_needs_one flat ≡ false → ports.p ≡ 32
   pub drawing : IsWrittenDrawing plan ports
 
--- the text is the netlist of this design, in which the words say starts for so many contexts
+-- the text is the netlist of this design, in which the words give starts for so many contexts
 pub record HasStarts (contexts : ℕ) (starts : List (List ℕ)) (text : List ℕ)
     (design : Design) : Type 0 where
   pub netlist : IsNetlist text design
   pub no_fault : first_fault (latches_of design) contexts starts ≡ None
 
--- The text is a netlist, in which the words say starts. A plan of one context carries the design,
--- and its period has 32 generations for each of the contexts. The output is the written text of a
--- plan and its table that carries the design and its nets in these contexts, each from its start.
--- The written plan is that of one context, but for its starts and for the further columns that the
--- contexts need; in one context, and without words, it is that plan. In one context what is written
--- spells the drawing of a circuit.
+-- The text is a netlist, in which the words give starts. A plan of one context carries the design,
+-- and its period has 32 generations for each of the contexts. The output is the text that is
+-- written of a plan and its table; it carries the design and its nets in these contexts, each from
+-- its start. The written plan is the plan of one context, except for its starts and for the further
+-- columns that the contexts need; in one context, and without words, it is that plan. In one
+-- context the written text spells the drawing of a circuit.
 pub record Compiles (contexts : ℕ) (starts : List (List ℕ)) (text output : List ℕ) : Type 0 where
   pub design : Design
   pub has : HasStarts contexts starts text design
@@ -101,11 +101,11 @@ pub record HasStartFault (contexts : ℕ) (starts : List (List ℕ)) (text : Lis
 abbrev pub latch_count : Design → ℕ
 latch_count design = length (at_places design (λ model. model.latches) (λ place latch. latch))
 
--- so many contexts every plan has room for: one, and six for each latch
+-- the number of contexts for which every plan has room: one, and six for each latch
 abbrev pub least_room : Design → ℕ
 least_room design = max 1 (6 * latch_count design)
 
--- The text is a netlist, in which the words say starts. A plan of one context carries the design,
+-- The text is a netlist, in which the words give starts. A plan of one context carries the design,
 -- and its period has room for `limit` contexts, 32 generations each; more are asked for.
 pub record HasNoRoom (contexts : ℕ) (starts : List (List ℕ)) (text : List ℕ)
     (limit : ℕ) : Type 0 where

@@ -14,10 +14,10 @@ use Rattle.blifww_tool.specs.Evaluation.{FeedsInputs}
 use Rattle.blifww_tool.specs.Commands.{Prints}
 use Rattle.blifww_tool.specs.PrintsAlike.{AreRunsOn}
 
--- The words say streams for the IN names of the design in each context, and it has runs on them,
--- one from each start on. The output reads as a form. Line i of n NET lines is that of a net of the
--- design, and in context c the form gives its variable, by the id of number c n + i, at each cycle
--- the net's bit in all such runs.
+-- The words give streams for the IN names of the design in each context, and the design has runs on
+-- them, one from each start on. The output reads as a form. Line i of n NET lines is that of a net
+-- of the design. In context c the form gives the variable with the id of number c n + i, at each
+-- cycle, the net's bit in all such runs.
 pub record DumpsNets (cycles : ℕ) (words : List (List ℕ)) (design : Design)
     (starts : List LatchState) (output : List ℕ) : Type 0 where
   pub fed : Streams
@@ -34,7 +34,7 @@ pub record DumpsNets (cycles : ℕ) (words : List (List ℕ)) (design : Design)
       → value_at form (vcd_id (context * length lines + number)) cycle
       ≡ Some (others context cycle net.place net.name))
 
--- whoever made the text
+-- what `vcd` writes of a text that carries the nets of a design in contexts, whoever made the text
 abbrev pub CarriersDumpNets : Type 0
 CarriersDumpNets =
     (text : List ℕ) (design : Design) (starts : List LatchState)

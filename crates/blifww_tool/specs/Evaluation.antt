@@ -23,7 +23,7 @@ pub record Evaluation : Type 0 where
   pub in_names : List Name
   pub streams : Streams
 
--- The text is this netlist with these IN names, and the words say these streams for them.
+-- The text is this netlist with these IN names, and the words give these streams for them.
 pub record IsEvaluation (cycles : ℕ) (words : List (List ℕ)) (text : List ℕ)
     (e : Evaluation) : Type 0 where
   pub netlist : IsNetlist text e.design
@@ -32,7 +32,7 @@ pub record IsEvaluation (cycles : ℕ) (words : List (List ℕ)) (text : List �
   pub contexts : e.streams.c ≡ 1
   pub streams : HasStreams 1 words e.in_names cycles e.streams.bits
 
--- the words say these streams for the IN names of a design, in so many contexts,
+-- the words give these streams for the IN names of a design, in so many contexts
 pub record FeedsInputs (count cycles : ℕ) (words : List (List ℕ)) (design : Design)
     (fed : Streams) : Type 0 where
   pub in_names : List Name
@@ -41,7 +41,7 @@ pub record FeedsInputs (count cycles : ℕ) (words : List (List ℕ)) (design : 
   pub contexts : fed.c ≡ count
   pub streams : HasStreams count words in_names cycles fed.bits
 
--- or none for them in one context
+-- why the words give no streams for the IN names of a design, in one context
 abbrev pub HasInputsCause : ℕ → List (List ℕ) → Design → StreamError → Type 0
 HasInputsCause cycles words design (streams_of.Fault fault) =
     (names : List Name) × IsInNames design names × HasStreamFault 1 words names cycles fault
@@ -68,7 +68,7 @@ pub record Evaluates (cycles : ℕ) (words : List (List ℕ)) (text output : Lis
   pub is_run : IsRun evaluation.design (rows_of evaluation.streams) run
   pub lines : output ≡ evaluation_text evaluation run
 
--- why the text and the words are none: the text is no netlist, or the streams are at fault
+-- why the text and the words are no evaluation: the text is no netlist, or the streams are at fault
 abbrev pub HasNoEvaluation : ℕ → List (List ℕ) → List ℕ → Cause → Type 0
 HasNoEvaluation cycles words text (OfStreams fault) =
     (design : Design) × (names : List Name) × IsNetlist text design × IsInNames design names

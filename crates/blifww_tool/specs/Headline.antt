@@ -1,5 +1,5 @@
--- The headline, what it is a case of (one context, without words), those of tapes and of circuits,
--- what a dump is, and what is lifted.
+-- The headline, its general case in contexts and with words, and what tapes, circuits, dumps and
+-- lifted netlists are.
 use Rattle.std.specs.Prelude.{◌≡◌, ℕ, List, ◌++◌, Some}
 use Rattle.netlist_core.specs.declared.model.Design.{Design}
 use Rattle.blif_text.specs.Faults.{IsDesignOf}
@@ -20,7 +20,7 @@ use Rattle.blifww_tool.specs.Dumping.{waves_of}
 use Rattle.blifww_tool.specs.Lifting.{IsNetlistOf}
 use Rattle.blifww_tool.specs.Run.{Reading, Writing}
 
--- Where the source tells the bytes that it had left, and the output the bytes that it held: the
+-- If the source tells the bytes that it had left, and the output the bytes that it held, then the
 -- bytes that the output gained carry the design of the bytes that the source had left, and its
 -- nets.
 abbrev pub WritesWhatItRead : Reading → Writing → Type 0
@@ -30,8 +30,8 @@ WritesWhatItRead src out =
     × (design : Design) × IsDesignOf text design × Carries pattern design
     × CarriesNets pattern design
 
--- the bytes that the output gained carry the design of the bytes that the source had left in these
--- contexts, each from the start that the words give it, and its nets
+-- the bytes that the output gained carry the design of the bytes that the source had left, and its
+-- nets, in these contexts, each from the start that the words give it
 abbrev pub WritesInContexts : (contexts : ℕ) → (starts : List (List ℕ)) → Reading → Writing → Type 0
 WritesInContexts contexts starts src out =
     (text before : List ℕ) → src.left ≡ Some text → out.written ≡ Some before
@@ -49,8 +49,8 @@ WritesTape cycles words src out =
     × (e : Evaluation) × IsEvaluation cycles words text e
     × RunsByItself pattern e.design (rows_of e.streams)
 
--- the bytes that the output gained carry the circuit that the bytes read as that the source had
--- left
+-- the bytes that the source had left read as a circuit, and the bytes that the output gained carry
+-- it
 abbrev pub WritesItsAig : Reading → Writing → Type 0
 WritesItsAig src out =
     (text before : List ℕ) → src.left ≡ Some text → out.written ≡ Some before
@@ -58,7 +58,7 @@ WritesItsAig src out =
     × (aig : Aig) × ReadsAsAig text aig × CarriesAig pattern aig
 
 -- the bytes that the output gained are the text of what the nets show in the simulation that the
--- source and the words gave, and read as that alone
+-- source and the words give, and read as that alone
 abbrev pub WritesDump : (cycles : ℕ) → (words : List (List ℕ)) → Reading → Writing → Type 0
 WritesDump cycles words src out =
     (text before : List ℕ) → src.left ≡ Some text → out.written ≡ Some before
@@ -66,8 +66,8 @@ WritesDump cycles words src out =
     × (s : Simulation) × IsSimulation cycles words text s × (dump ≡ vcd_text (waves_of s))
     × SaysWaves (waves_of s)
 
--- the bytes that the output gained are the text of a netlist without a fault or a loop, which the
--- bytes carry that the source had left
+-- the bytes that the output gained are the text of a netlist without a fault or a loop, and the
+-- bytes that the source had left carry this netlist
 abbrev pub WritesItsNetlist : Reading → Writing → Type 0
 WritesItsNetlist src out =
     (text before : List ℕ) → src.left ≡ Some text → out.written ≡ Some before

@@ -1,4 +1,4 @@
--- What is lifted of a text of a pattern: the netlist of the circuit that it draws.
+-- What is lifted from the text of a pattern: the netlist of the circuit that the pattern draws.
 use Rattle.std.specs.Prelude.{◌≡◌, false, ℕ, List}
 use Rattle.ww_rule.specs.Grid.{Grid}
 use Rattle.lane_core.specs.declared.plan.Plan.{Plan}
@@ -22,8 +22,8 @@ use Rattle.blif_write.specs.Text.{lifted_text}
 use Rattle.refusals.specs.declared.causes.Cause.{Cause}
 use Rattle.refusals.specs.declared.causes.Cause.TheVariants.{Pattern, GridTooLarge, PortTable, NotCircuit}
 
--- The text reads as this pattern with these ports, which are the drawing of this plan, and no name
--- of a port is bad.
+-- The text reads as this pattern with these ports, which are the drawing of this plan, and no
+-- port's name is bad.
 pub record IsCircuitText (text : List ℕ) (grid : Grid) (ports : Ports) (plan : Plan) : Type 0 where
   pub pattern : ReadsWithinLimit text grid
   pub table : ReadsAsPorts text grid.width grid.height ports
@@ -38,8 +38,8 @@ pub record IsNetlistOf (text netlist : List ℕ) (design : Design) : Type 0 wher
   pub no_loop : (nets : List Net) → IsCombinationalLoop design nets → ⊥
   pub carries : Carries text design
 
--- The text is that of a circuit. The output is the text of the cells that its plan's columns make,
--- with the names of its ports: a netlist that the text carries.
+-- The text is that of a circuit. The output is the text of the cells that the columns of the
+-- circuit's plan make, with the names of its ports: a netlist that the text carries.
 pub record Lifts (text output : List ℕ) : Type 0 where
   pub grid : Grid
   pub ports : Ports
@@ -51,7 +51,7 @@ pub record Lifts (text output : List ℕ) : Type 0 where
   pub netlist : IsNetlistOf text output
       (lifted_design (names_of ports.ins) (names_of ports.outs) list)
 
--- why the text is no circuit's: it is no pattern's, or its box is too large; its port table is at
+-- why the text is no circuit: it is no pattern, or its box is too large; its port table is at
 -- fault; or the pattern with this table is the drawing of no circuit, or has a bad name
 abbrev pub HasNoCircuit : List ℕ → Cause → Type 0
 HasNoCircuit text (Pattern fault) = HasReaderFault text fault.kind fault.line

@@ -1,4 +1,4 @@
--- What `compile` writes for one context `lift` takes back; and `eval` prints of what `lift` writes
+-- `lift` accepts what `compile` writes for one context, and `eval` prints of what `lift` writes
 -- what `simulate` prints of the pattern.
 use Rattle.std.specs.Prelude.{ℕ, ◌≡◌, false, List}
 use Rattle.ww_rule.specs.Grid.{Grid}
@@ -9,8 +9,8 @@ use Rattle.tile_match.specs.Names.{has_bad_name}
 use Rattle.command_words.specs.Shapes.{compile, eval, lift, simulate}
 use Rattle.blifww_tool.specs.Commands.{Accepts, Prints}
 
--- `lift` accepts each text that `compile` writes for one context, whatever the start words are,
--- where its box is within the limit of what is read and no name of a port is bad
+-- `lift` accepts each text that `compile` writes for one context, whatever the start words are, if
+-- its box is within the limit of what is read and no name of a port is bad
 abbrev pub CompiledAreLifted : Type 0
 CompiledAreLifted =
     (starts : List (List ℕ)) (netlist text : List ℕ) → Prints (compile 1 starts) netlist text
@@ -18,8 +18,8 @@ CompiledAreLifted =
     → ReadsAsPorts text grid.width grid.height ports → has_bad_name ports ≡ false
     → Accepts lift text
 
--- what `simulate` prints of a circuit's text is what `eval` prints of the netlist that `lift`
--- writes of it, under the same words
+-- `simulate` prints of a circuit's text what `eval` prints of the netlist that `lift` writes of it,
+-- under the same words
 abbrev pub LiftedPrintAlike : Type 0
 LiftedPrintAlike =
     (text netlist : List ℕ) → Prints lift text netlist
@@ -27,6 +27,6 @@ LiftedPrintAlike =
     → Prints (simulate cycles words) text shown → Prints (eval cycles words) netlist evaluated
     → shown ≡ evaluated
 
--- a text is lifted in one way
+-- `lift` writes one netlist of a text
 abbrev pub LiftedInOneWay : Type 0
 LiftedInOneWay = (text a b : List ℕ) → Prints lift text a → Prints lift text b → a ≡ b

@@ -11,7 +11,7 @@ bit_digit bit = if bit then byte "1" else byte "0"
 abbrev pub bits_line : List ℕ → List Bool → List ℕ
 bits_line name bits = name ++ (codes "=" ++ (map bit_digit bits ++ codes "\n"))
 
--- the line of an output in one of so many contexts: where there are more than one, the number of
--- the context stands before the name
+-- the line of an output in a context; if there are several contexts, the number of the context
+-- stands before the name
 abbrev pub context_line : (contexts context : ℕ) → List ℕ → List Bool → List ℕ
 context_line contexts context name bits = bits_line (with_context contexts context name) bits

@@ -1,6 +1,5 @@
--- What `simulate` prints of a text that carries a netlist is what `eval` prints of the netlist, and
--- in contexts what runs from their starts give. What `probe` prints of it is a net's bits in such
--- runs.
+-- `simulate` prints of a text that carries a netlist what `eval` prints of the netlist, and in
+-- contexts what runs from their starts give. `probe` prints of it a net's bits in such runs.
 use Rattle.std.specs.Prelude.{ℕ, ◌≡◌, List, [], length, flat_map}
 use Rattle.std.specs.List.{range_with_len}
 use Rattle.netlist_core.specs.declared.model.Design.{Design}
@@ -24,7 +23,8 @@ use Rattle.blifww_tool.specs.Evaluation.{FeedsInputs}
 use Rattle.blifww_tool.specs.Commands.{Prints, Refuses}
 use Rattle.refusals.specs.declared.causes.Cause.TheVariants.{NotQuiet}
 
--- under the same words, whoever made the text
+-- `simulate` prints of a text that carries a netlist what `eval` prints of the netlist under the
+-- same words, whoever made the text
 abbrev pub CarriersPrintAlike : Type 0
 CarriersPrintAlike =
     (text netlist : List ℕ) (design : Design) → IsNetlist netlist design → Carries text design
@@ -32,7 +32,7 @@ CarriersPrintAlike =
     → Prints (simulate cycles words) text shown → Prints (eval cycles words) netlist evaluated
     → shown ≡ evaluated
 
--- and so of what `compile` writes of the netlist, in one context and without words
+-- the same holds of the text that `compile` writes of the netlist, in one context and without words
 abbrev pub CompiledPrintAlike : Type 0
 CompiledPrintAlike =
     (text netlist : List ℕ) → Prints (compile 1 []) netlist text
@@ -44,16 +44,16 @@ CompiledPrintAlike =
 abbrev pub AreRunsOn : Design → List LatchState → Streams → (ℕ → ℕ → Valuation) → Type 0
 AreRunsOn design starts fed runs = AreRunsFrom (IsRunFrom design) starts (contexts_of fed) runs
 
--- in each of so many contexts a line for each main output, with its bits in the context's run: all
--- those of context 0 first
+-- in each context a line for each main output, with its bits in the context's run: all lines of
+-- context 0 first
 abbrev pub lines_of_runs : (contexts : ℕ) → Design → (cycles : ℕ) → (ℕ → ℕ → Valuation) → List ℕ
 lines_of_runs contexts design cycles runs =
     flat_map (λ context. flat_map (λ name. context_line contexts context name
     (bits_in_run (runs context) cycles name)) (main_outputs design))
     (range_with_len 0 contexts)
 
--- The words say streams for the IN names of the design in each context, and it has runs on them,
--- one from each start on. The output is the lines of all such runs.
+-- The words give streams for the IN names of the design in each context, and the design has runs on
+-- them, one from each start on. The output is the lines of all such runs.
 pub record PrintsRuns (cycles : ℕ) (words : List (List ℕ)) (design : Design)
     (starts : List LatchState) (output : List ℕ) : Type 0 where
   pub fed : Streams
@@ -71,7 +71,8 @@ CarriersPrintRuns =
     → (cycles : ℕ) (words : List (List ℕ)) (output : List ℕ)
     → Prints (simulate cycles words) text output → PrintsRuns cycles words design starts output
 
--- and so of what `compile` writes of a netlist, each context from the start that the words give it
+-- what `simulate` prints of the text that `compile` writes of a netlist, each context from the
+-- start that the words give it
 abbrev pub CompiledPrintRuns : Type 0
 CompiledPrintRuns =
     (contexts : ℕ) (starts : List (List ℕ)) (netlist text : List ℕ)
@@ -81,9 +82,9 @@ CompiledPrintRuns =
     → Prints (simulate cycles words) text output
     → PrintsRuns cycles words design (starts_of_words design starts contexts) output)
 
--- The words say streams for the IN names of the design, which has a run on them. The design has a
+-- The words give streams for the IN names of the design, which has a run on them. The design has a
 -- net of this name at the place of this path that is no clock net, and the output is the line of
--- its bits in each such run.
+-- the net's bits in each such run.
 pub record PrintsNet (cycles : ℕ) (name path : List ℕ) (words : List (List ℕ)) (design : Design)
     (output : List ℕ) : Type 0 where
   pub fed : Streams
@@ -106,15 +107,16 @@ CarriersPrintNets =
     → Prints (probe cycles name path words) text output
     → PrintsNet cycles name path words design output
 
--- in each of so many contexts the line of a net, with its bits in the context's run
+-- in each context the line of a net, with its bits in the context's run
 abbrev pub lines_of_net : (contexts : ℕ) → (name : List ℕ) → Net → (cycles : ℕ)
     → (ℕ → ℕ → Valuation) → List ℕ
 lines_of_net contexts name net cycles runs =
     flat_map (λ context. context_line contexts context name
     (net_bits_in_run (runs context) cycles net)) (range_with_len 0 contexts)
 
--- In each context likewise: the design has runs on the streams, one from each start on, and the
--- output is the lines of the net in all such runs.
+-- The words give streams for the IN names of the design in each context, and the design has runs on
+-- them, one from each start on. The design has such a net that is no clock net, and the output is
+-- the lines of the net in all such runs.
 pub record PrintsNetInContexts (cycles : ℕ) (name path : List ℕ) (words : List (List ℕ))
     (design : Design) (starts : List LatchState) (output : List ℕ) : Type 0 where
   pub fed : Streams
@@ -139,7 +141,7 @@ CarriersPrintNetsInContexts =
     → Prints (probe cycles name path words) text output
     → PrintsNetInContexts cycles name path words design starts output
 
--- and so of what `compile` writes of a netlist
+-- what `probe` prints of the text that `compile` writes of a netlist
 abbrev pub CompiledPrintNets : Type 0
 CompiledPrintNets =
     (contexts : ℕ) (starts : List (List ℕ)) (netlist text : List ℕ)
@@ -150,8 +152,8 @@ CompiledPrintNets =
     → PrintsNetInContexts cycles name path words design
     (starts_of_words design starts contexts) output)
 
--- no command finds that an injection meets no conductor in a text that carries a design in
--- contexts, whoever made the text
+-- if a text carries a design in contexts, no command refuses it because an injection meets no
+-- conductor, whoever made the text
 abbrev pub CarriersRunQuietly : Type 0
 CarriersRunQuietly =
     (text : List ℕ) (design : Design) (starts : List LatchState)

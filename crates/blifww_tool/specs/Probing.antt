@@ -9,8 +9,8 @@ use Rattle.blifww_tool.specs.Simulation.{Simulation, IsSimulation, HasNoStreams}
 use Rattle.refusals.specs.declared.causes.Cause.{Cause}
 use Rattle.refusals.specs.declared.causes.Cause.TheVariants.{NoSuchNet, TooFar, NotQuiet}
 
--- The text and the words are a simulation, whose table has the net of this name and path, and these
--- are its bits in each context, the last of which is shown in time; each injection up to there
+-- The text and the words are a simulation, whose table has the net of this name and path. These are
+-- the net's bits in each context; the last of them is shown in time, and each injection up to it
 -- meets a conductor.
 pub record Probes (cycles : ℕ) (name path : List ℕ) (words : List (List ℕ)) (text : List ℕ)
     (bits : List (List Bool)) : Type 0 where
@@ -19,7 +19,7 @@ pub record Probes (cycles : ℕ) (name path : List ℕ) (words : List (List ℕ)
   pub probed : HasProbed simulation.ports simulation.streams
       (plane_of simulation.grid.rows) name path bits
 
--- a net's name as it stands before its bits in each of so many contexts
+-- a net's name as it stands before its bits in each context
 abbrev pub names_in_contexts : (contexts : ℕ) → List ℕ → List (List ℕ)
 names_in_contexts contexts name =
     map (λ context. with_context contexts context name) (range_with_len 0 contexts)
@@ -36,8 +36,8 @@ pub record PrintsProbe (cycles : ℕ) (name path : List ℕ) (words : List (List
   pub probes : Probes cycles name path words text bits
   pub lines : output ≡ net_text probes.simulation.ports.c name bits
 
--- why they are not: they are no simulation; its table has no such net; the net's last bit is shown
--- too late; or in time, but an injection up to there meets no conductor
+-- why the text and the words give no bits: they are no simulation; its table has no such net; the
+-- net's last bit is shown too late; or it is in time, but an injection up to it meets no conductor
 abbrev pub HasNoProbe : ℕ → (name path : List ℕ) → List (List ℕ) → List ℕ → Cause → Type 0
 HasNoProbe cycles name path words text (NoSuchNet told) =
     (s : Simulation) × IsSimulation cycles words text s × (told ≡ name)

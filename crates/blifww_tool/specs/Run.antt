@@ -1,6 +1,6 @@
 -- What a run does, by its words, and by what its source, its output and its errors hold before and
--- after. It is said once for all commands: what each of them prints, and why it refuses, stands in
--- `Commands`.
+-- after. This is stated once for all commands: `Commands` has what each command prints, and why it
+-- refuses a text.
 use Rattle.std.specs.Prelude.{◌≡◌, ◌≢◌, ◌≤◌, ◌<◌, ◌⊎◌, ℕ, Bool, true, false, List, [], length, take, ⊤, Some}
 use Rattle.std.specs.declared.option.Option.{Option}
 use Rattle.std.specs.Io.KnownBytes.{Consumes, Appends, Keeps, IsAtEnd}
@@ -20,20 +20,20 @@ Asks words command = command_values words ≡ Some command
 abbrev pub AsksNothing : List (List ℕ) → Type 0
 AsksNothing words = (command : CommandValues) → Asks words command → ⊥
 
--- whatever they ask for reads nothing
+-- a command that the words ask for reads nothing
 abbrev pub AsksForNoText : List (List ℕ) → Type 0
 AsksForNoText words = (command : CommandValues) → Asks words command → reads_text command ≡ false
 
--- they ask for it, and clap finds no fault in them
+-- the words ask for the command, and clap finds no fault in them
 pub record IsAsked (words : List (List ℕ)) (command : CommandValues) : Type 0 where
   pub asks : Asks words command
   pub taken : IsTaken words
 
--- the most bytes that are read
+-- the greatest number of bytes that are read
 abbrev pub text_limit : ℕ
 text_limit = 16777216
 
--- what a run did to a source: the bytes that were left, where it tells them, and its count of
+-- what a run did to a source: the bytes that were left, if the source tells them, and its count of
 -- faults, before and after
 pub record Reading : Type 0 where
   pub left : Option (List ℕ)
@@ -50,8 +50,8 @@ reading left faults old new =
       faults_after = faults new;
     }
 
--- what a run did to a sink: the bytes that it took, where it tells them, and its count of faults,
--- before and after
+-- what a run did to a sink: the bytes that it took, if the sink tells them, and its count of
+-- faults, before and after
 pub record Writing : Type 0 where
   pub written : Option (List ℕ)
   pub written_after : Option (List ℕ)
@@ -87,12 +87,12 @@ pub record GaveAll (src : Reading) (text : List ℕ) : Type 0 where
   pub end : IsAtEnd src.left_after
   pub within : length text ≤ text_limit
 
--- the source is as it was
+-- the source is unchanged
 pub record IsUntouched (src : Reading) : Type 0 where
   pub left : src.left_after ≡ src.left
   pub faults : src.faults_after ≡ src.faults
 
--- where the source is read, it gave this text; else it is as it was, and the text is the empty one
+-- if the source is read, it gave this text; else it is unchanged, and the text is the empty one
 abbrev pub GaveIfRead : Bool → Reading → List ℕ → Type 0
 GaveIfRead true src text = GaveAll src text
 GaveIfRead false src text = IsUntouched src × (text ≡ [])
@@ -117,8 +117,8 @@ ReadFailed src = Rose src.faults src.faults_after
 abbrev pub WriteFailed : Writing → Type 0
 WriteFailed sink = Rose sink.faults sink.faults_after
 
--- the words ask for a command, it has a text from the source, and out gained this part of what the
--- command prints of it
+-- the words ask for a command, the command has a text from the source, and out gained this part of
+-- what the command prints of the text
 pub record Does (words : List (List ℕ)) (src : Reading) (out : Writing)
     (part : List ℕ → List ℕ) : Type 0 where
   pub command : CommandValues
@@ -129,7 +129,8 @@ pub record Does (words : List (List ℕ)) (src : Reading) (out : Writing)
   pub prints : Prints command text output
   pub wrote : Gained out (part output)
 
--- the words ask for a command, and it has a text from the source that it refuses for this cause
+-- the words ask for a command, and the command has a text from the source, which it refuses for
+-- this cause
 pub record RefusesText (words : List (List ℕ)) (src : Reading) (cause : Cause) : Type 0 where
   pub command : CommandValues
   pub asked : IsAsked words command
@@ -137,7 +138,7 @@ pub record RefusesText (words : List (List ℕ)) (src : Reading) (cause : Cause)
   pub given : HasText command src text
   pub refused : Refuses command text cause
 
--- the words ask for a command that reads, and the source gave too many bytes
+-- the words ask for a command that reads a text, and the source gave too many bytes
 pub record GaveTooMany (words : List (List ℕ)) (src : Reading) : Type 0 where
   pub command : CommandValues
   pub asked : IsAsked words command
@@ -146,7 +147,7 @@ pub record GaveTooMany (words : List (List ℕ)) (src : Reading) : Type 0 where
   pub gave : Gave src given
   pub many : text_limit < length given
 
--- the words ask for a command that reads, and a read failed
+-- the words ask for a command that reads a text, and a read failed
 pub record FailedToRead (words : List (List ℕ)) (src : Reading) : Type 0 where
   pub command : CommandValues
   pub asked : IsAsked words command
@@ -167,12 +168,12 @@ pub record TellsRefusal (err : Writing) (status : ℕ) (refusal : Refusal) : Typ
   pub status_is : status ≡ status_of refusal
   pub line : Gained err (refusal_line refusal)
 
--- all is on out, and nothing on err
+-- out has the whole output, and err gained nothing
 pub record IsDone (c : Call) : Type 0 where
   pub done : Does c.words c.src c.out (λ output. output)
   pub silent : GainedNothing c.err
 
--- a refusal that has its reason is told, and nothing is on out
+-- a refusal that has its reason is told, and out gained nothing
 pub record IsRefused (c : Call) (status : ℕ) : Type 0 where
   pub refusal : Refusal
   pub reason : HasReason c.words c.src refusal
@@ -188,7 +189,7 @@ pub record CutsLine (c : Call) : Type 0 where
   pub front : Gained c.err (take size (refusal_line refusal))
   pub failed : WriteFailed c.err
 
--- the output was cut off, and err has the line that tells it, or where err failed too a front of
+-- the output was cut off, and err has the line that tells it, or, if err failed too, a prefix of
 -- that line
 pub record CutsOutput (c : Call) : Type 0 where
   pub size : ℕ
@@ -197,7 +198,7 @@ pub record CutsOutput (c : Call) : Type 0 where
   pub line : Gained c.err (refusal_line WriteFault)
       ⊎ (WriteFailed c.err × ((k : ℕ) × Gained c.err (take k (refusal_line WriteFault))))
 
--- where the source is read, it has this text and no read failed; else the text is the empty one
+-- if the source is read, it has this text and no read failed; else the text is the empty one
 abbrev pub HoldsIfRead : Bool → Reading → List ℕ → Type 0
 HoldsIfRead true src text = (src.left ≡ Some text) × (ReadFailed src → ⊥)
 HoldsIfRead false src text = text ≡ []
@@ -217,7 +218,7 @@ pub record TellsCause (c : Call) (status : ℕ) (command : CommandValues)
   pub refused : Refuses command text told
   pub tells : TellsRefusal c.err status (Text told)
 
--- a cause like this one is told, and it is one why the command refuses the text
+-- a cause like this one is told, and the command refuses the text for the told cause
 pub record TellsLike (c : Call) (status : ℕ) (command : CommandValues) (text : List ℕ)
     (cause : Cause) : Type 0 where
   pub told : Cause
@@ -225,19 +226,19 @@ pub record TellsLike (c : Call) (status : ℕ) (command : CommandValues) (text :
   pub alike : AreLikeCauses told cause
   pub tells : TellsRefusal c.err status (Text told)
 
--- the refusal is told, but for want of memory
+-- the refusal is told, or memory ran out
 abbrev pub TellsOr7 : Call → ℕ → Refusal → Type 0
 TellsOr7 c status refusal = TellsRefusal c.err status refusal ⊎ (status ≡ 7)
 
--- How a run ends. By its status it is done, refused or cut off;
+-- How a run ends. By its status it is done, refused or cut off.
 pub record Ends (c : Call) (status : ℕ) : Type 0 where
   pub done : status ≡ 0 → IsDone c
   pub refused : status ≢ 0 → status ≢ 6 → IsRefused c status
   pub cut : status ≡ 6 → CutsLine c ⊎ CutsOutput c
   pub front : (given : List ℕ) × Gave c.src given
-  -- and but for failed reads and writes and want of memory: of a text the output is printed or a
-  -- cause is told; one that the command accepts is printed, one that it must refuse is refused for
-  -- its cause or one like it,
+  -- Unless a read or a write fails or memory runs out, the output of a text is printed or a cause
+  -- is told: a text that the command accepts is printed, and one that it must refuse is refused for
+  -- its cause or one like it.
   pub answered : (command : CommandValues) (text : List ℕ) → IsCalm c command text
       → length text ≤ text_limit
       → (status ≡ 0) ⊎ (TellsCause c status command text ⊎ (status ≡ 7))
@@ -248,7 +249,8 @@ pub record Ends (c : Call) (status : ℕ) : Type 0 where
       → length text ≤ text_limit
       → (cause : Cause) → MustRefuse command text cause
       → TellsLike c status command text cause ⊎ (status ≡ 7)
-  -- one that is too long is told so, and words that ask for nothing are
+  -- The run tells `TooLong` for a text that is too long; for words that ask for nothing it tells
+  -- `Usage`, unless err fails.
   pub too_long : (command : CommandValues) (text : List ℕ) → IsCalm c command text
       → text_limit < length text
       → TellsOr7 c status TooLong

@@ -1,4 +1,4 @@
--- What each status of a run says by itself.
+-- What each status of a run means by itself.
 use Rattle.std.specs.Prelude.{◌≡◌, ◌≢◌, ◌<◌, ◌⊎◌, ℕ, List}
 use Rattle.netlist_core.specs.Names.{Name}
 use Rattle.netlist_rules.specs.declared.fault.Fault.{Fault}
@@ -17,7 +17,7 @@ use Rattle.blifww_tool.specs.Run.{Call, Asks, IsAsked, GaveTooMany, GaveAll, Rea
 use Rattle.refusals.specs.declared.causes.Cause.TheVariants.{WeightTooLarge, AigLoop, Pattern, GridTooLarge, PortTable, Streams, StartWord, NoSuchNet, TooFar, TooManyContexts, NotQuiet, NotCircuit}
 
 -- the source gave too many bytes, or the command refuses the text that it has: for the netlist's
--- weight, the size of the pattern's box, the number of generations, or that of contexts
+-- weight, the size of the pattern's box, the number of generations, or the number of contexts
 abbrev pub IsOverALimit : Call → Type 0
 IsOverALimit c =
     GaveTooMany c.words c.src
@@ -26,7 +26,7 @@ IsOverALimit c =
     ⊎ (((generations : ℕ) × RefusesText c.words c.src (TooFar generations))
     ⊎ ((contexts limit : ℕ) × RefusesText c.words c.src (TooManyContexts contexts limit)))))
 
--- of `compile`: the source gave too many bytes, or a netlist that weighs too much, or one in which
+-- for `compile`: the source gave too many bytes, or a netlist that weighs too much, or one in which
 -- several contexts have no room
 abbrev pub IsTooLarge : Call → (contexts : ℕ) → (starts : List (List ℕ)) → Type 0
 IsTooLarge c contexts starts =
@@ -35,7 +35,7 @@ IsTooLarge c contexts starts =
     ⊎ ((text : List ℕ) × (limit : ℕ) × GaveAll c.src text × (1 < contexts)
     × HasNoRoom contexts starts text limit))
 
--- the command refuses the text as no pattern's, or for its port table
+-- the command refuses the text because it is no pattern, or for its port table
 abbrev pub HasNoPattern : Call → Type 0
 HasNoPattern c =
     ((fault : RleFault) × RefusesText c.words c.src (Pattern fault))
@@ -49,15 +49,16 @@ WordsDoNotFit c =
     ⊎ (((fault : StartFault) × RefusesText c.words c.src (StartWord fault))
     ⊎ ((name : Name) × RefusesText c.words c.src (NoSuchNet name)))
 
--- the command refuses the text, for an injection that meets no conductor
+-- the command refuses the text because an injection meets no conductor
 abbrev pub IsFirstMiss : Call → Type 0
 IsFirstMiss c = (generation x y : ℕ) × RefusesText c.words c.src (NotQuiet generation x y)
 
--- the command refuses the text of a pattern as no circuit's
+-- the command refuses the text of a pattern because it is no circuit
 abbrev pub IsNotCircuit : Call → Type 0
 IsNotCircuit c = (fault : CircuitFault) × RefusesText c.words c.src (NotCircuit fault)
 
--- Each status but 7 comes only where its cause is; of 0 a command was asked.
+-- Each status except 7 comes only with its cause; with any status except 2, 6 and 7 a command was
+-- asked for.
 pub record HaveCauses (c : Call) (status : ℕ) : Type 0 where
   pub at_fault : status ≡ 1 → ¬ Asks c.words aiger
       → (text : List ℕ) × (fault : Fault) × GaveAll c.src text × IsAtFault text fault

@@ -1,4 +1,4 @@
--- What is told of a made netlist, as lines.
+-- The summary of a made netlist, as lines.
 use Rattle.std.specs.Prelude.{◌≡◌, ℕ, List, ◌++◌, flat_map, codes, decimal}
 use Rattle.made_summary.specs.Summaries.{Summarizes}
 use Rattle.made_summary.specs.declared.summarizing.OutputBits.{OutputBits}
@@ -15,7 +15,7 @@ output_lines output =
     codes "sim " ++ (bits_line output.name output.simulated
     ++ (codes "eval " ++ bits_line output.name output.evaluated))
 
--- the weight, the lanes and columns, the period and latency, and the outputs
+-- the lines of the weight, the lanes and columns, the period and latency, and the outputs
 abbrev pub summary_text : Summary → List ℕ
 summary_text s =
     number_line (codes "weight") s.weight

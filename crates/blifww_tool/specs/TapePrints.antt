@@ -1,4 +1,4 @@
--- What `simulate` prints of what `tape` writes.
+-- What `simulate` prints of the text that `tape` writes.
 use Rattle.std.specs.Prelude.{ℕ, ◌≡◌, ◌≤◌, Bool, List, length, flat_map}
 use Rattle.netlist_core.specs.declared.model.Design.{Design}
 use Rattle.netlist_meaning.specs.Places.{main_outputs}
@@ -12,8 +12,7 @@ use Rattle.blifww_tool.specs.Evaluation.{Evaluation, IsEvaluation}
 use Rattle.blifww_tool.specs.Commands.{Prints}
 
 -- There is a run of the design on the rows, which goes on with rows of 0. The lines are those of
--- the main outputs in every run on the rows and on as many rows of 0 after them as so many cycles
--- want.
+-- the main outputs in every run on the rows, with as many rows of 0 after them as the cycles need.
 pub record PrintsOnward (design : Design) (rows : List (List Bool)) (cycles : ℕ)
     (shown : List ℕ) : Type 0 where
   pub run : (run : ℕ → Valuation) × IsRunOnward design rows run
@@ -22,7 +21,8 @@ pub record PrintsOnward (design : Design) (rows : List (List Bool)) (cycles : �
       → shown ≡ flat_map (λ name. bits_line name (bits_in_run run cycles name))
       (main_outputs design)
 
--- for any number of cycles, also for more than the tape has
+-- what `simulate` prints of a tape's text, for any number of cycles, even for more than the tape
+-- has
 abbrev pub TapesPrintRuns : Type 0
 TapesPrintRuns =
     (cycles : ℕ) (words : List (List ℕ)) (netlist text : List ℕ)
@@ -31,7 +31,8 @@ TapesPrintRuns =
     × ((many : ℕ) (given : List (List ℕ)) (shown : List ℕ) → Prints (simulate many given) text shown
     → PrintsOnward e.design (rows_of e.streams) many shown)
 
--- and so for as many as it has what `eval` prints of the netlist under the words of the tape
+-- for as many cycles as the tape has, `simulate` prints what `eval` prints of the netlist under the
+-- words of the tape
 abbrev pub TapesPrintAlike : Type 0
 TapesPrintAlike =
     (cycles : ℕ) (words given : List (List ℕ)) (netlist text shown evaluated : List ℕ)

@@ -1,4 +1,4 @@
--- What is written of a netlist with its streams on a tape.
+-- The pattern that is written of a netlist with its streams on a tape.
 use Rattle.std.specs.Prelude.{◌≡◌, ℕ, List, []}
 use Rattle.lane_core.specs.declared.plan.Plan.{Plan}
 use Rattle.lane_core.specs.Plans.{IsAdmissible}
@@ -18,8 +18,8 @@ use Rattle.blifww_tool.specs.Compilation.{IsCarriedBy}
 use Rattle.blifww_tool.specs.Evaluation.{Evaluation, IsEvaluation}
 
 -- A machine without a tape carries the design. The plan is the machine with the streams on its
--- tape. The output is the written text of the plan and its table, and runs by itself as the design
--- does on the streams, and on zeros after them.
+-- tape. The output is the text that is written of the plan and its table, and runs by itself as the
+-- design does on the streams, and on zeros after them.
 pub record IsTapeOf (design : Design) (fed : Streams) (output : List ℕ) : Type 0 where
   pub machine : Plan
   pub machine_ports : Ports
@@ -34,7 +34,7 @@ pub record IsTapeOf (design : Design) (fed : Streams) (output : List ℕ) : Type
   pub written : output ≡ pattern_text (start_grid plan) ports
   pub runs : RunsByItself output design (rows_of fed)
 
--- The text is a netlist, and the words say streams for its inputs; the output is their tape.
+-- The text is a netlist, and the words give streams for its inputs; the output is their tape.
 pub record Tapes (cycles : ℕ) (words : List (List ℕ)) (text output : List ℕ) : Type 0 where
   pub evaluation : Evaluation
   pub is : IsEvaluation cycles words text evaluation

@@ -9,8 +9,8 @@ use Rattle.blifww_tool.specs.Simulation.{Simulation, IsSimulation, HasNoStreams,
 use Rattle.refusals.specs.declared.causes.Cause.{Cause}
 use Rattle.refusals.specs.declared.causes.Cause.TheVariants.{NotQuiet}
 
--- the number of cycles that stream words say by themselves: that of the first one's bits, and none
--- without words
+-- the number of cycles that stream words give by themselves: the number of the first word's bits,
+-- or 0 without words
 abbrev pub cycles_in : List (List ℕ) → ℕ
 cycles_in [] = 0
 cycles_in (word ∷ words) = length (bits_in word)
@@ -22,7 +22,8 @@ pub record HasView (view : View) (words : List (List ℕ)) (text : List ℕ)
   pub is : IsSimulation (cycles_in words) words text s
   pub quiet : miss_up_to s view.generation ≡ None
 
--- They are, and these are the lines of that part of its plane at that generation.
+-- The text and the words have the view, and these are the lines of that part of the plane at the
+-- view's generation.
 pub record ShowsPart (view : View) (words : List (List ℕ)) (text output : List ℕ) : Type 0 where
   pub simulation : Simulation
   pub has : HasView view words text simulation
@@ -30,7 +31,8 @@ pub record ShowsPart (view : View) (words : List (List ℕ)) (text output : List
       (plane_of simulation.grid.rows) view.generation)
       view.x view.y view.width view.height
 
--- why they are not: they are no simulation, or an injection up to there meets no conductor
+-- why the text and the words have no view: they are no simulation, or an injection up to the view's
+-- generation meets no conductor
 abbrev pub HasNoView : View → List (List ℕ) → List ℕ → Cause → Type 0
 HasNoView view words text (NotQuiet generation x y) =
     (s : Simulation) × IsSimulation (cycles_in words) words text s

@@ -11,8 +11,8 @@ use aiger_text::laws::read_aigs_are_sound;
 use refusals::TextError;
 use std::alloc::Global;
 
-/// The pattern of the circuit whose AIGER text this is, with the lines that say where its ports
-/// are.
+/// Makes the pattern of the circuit whose AIGER text this is, with the lines that say where its
+/// ports are.
 pub fn aiger(alloc: Global, text: &[u8]) -> Result<Output, TextError>
     ensures printed { IfOk result (λ output. Prints aiger text.now (output_text output)) }
     ensures writable { IfOk result IsWritableOutput }

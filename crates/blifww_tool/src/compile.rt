@@ -22,7 +22,7 @@ use start_words::Starts;
 use start_words::laws::{latches_are_flat, no_words_mean_start, starts_are_flat};
 use std::alloc::Global;
 
-/// The plan of a netlist, for one context and without a tape.
+/// Makes the plan of a netlist, for one context and without a tape.
 pub fn plan_of(alloc: Global, netlist: &Netlist) -> Result<Planned, NetlistPlanError>
     requires parts { AreParts netlist.now.design netlist.now.flat netlist.now.order.nodes }
     requires names { HasPortNames netlist.now.flat }
@@ -47,7 +47,7 @@ fn is_alone(contexts: u64, words: &[String]) -> bool
     contexts == 1 && words.is_empty()
 }
 
-// The plan with the starts that words have set in so many contexts.
+// The plan with the starts that words have set in each of so many contexts.
 fn started(
     alloc: Global,
     netlist: &Netlist,
@@ -92,8 +92,7 @@ fn started(
     Ok(Output::Drawing(started))
 }
 
-// The pattern of a netlist in so many contexts, where the words say with which bits its latches
-// start.
+// The pattern of a netlist in so many contexts. The words say with which bits its latches start.
 fn compiled(
     alloc: Global,
     netlist: &Netlist,
@@ -115,8 +114,8 @@ fn compiled(
     started(alloc, netlist, planned, contexts, words, &starts)
 }
 
-/// The pattern of the netlist whose text this is, in so many contexts, with the lines that say
-/// where its ports and nets are. The words say with which bits its latches start.
+/// Makes the pattern of the netlist whose text this is, in so many contexts, with the lines that
+/// say where its ports and nets are. The words say with which bits its latches start.
 pub fn compile(
     alloc: Global,
     contexts: u64,

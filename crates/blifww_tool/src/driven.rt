@@ -25,7 +25,7 @@ pub struct Driven {
     pub streams: Streams,
 }
 
-/// The names of ports.
+/// Returns the names of ports.
 pub fn names_of(alloc: Global, ports: &[PortLine]) -> Result<Vec<Bytes>, AllocError>
     ensures { IfOk result (λ names. names.items ≡ names_of ports.now) }
 {
@@ -36,7 +36,7 @@ pub fn names_of(alloc: Global, ports: &[PortLine]) -> Result<Vec<Bytes>, AllocEr
     Ok(names)
 }
 
-// Puts the names of ports at the end, as they stand before their bits in one of so many contexts.
+// Adds the names of ports as they stand before their bits in a context.
 fn push_names(
     alloc: Global,
     names: &mut Vec<Bytes>,
@@ -54,8 +54,8 @@ fn push_names(
     Ok(())
 }
 
-/// The names of ports as they stand before their bits in each of so many contexts: all those of
-/// context 0 first.
+/// Returns the names of ports as they stand before their bits in each context: all those of context
+/// 0 first.
 pub fn names_in_contexts(
     alloc: Global,
     ports: &[PortLine],
@@ -71,7 +71,7 @@ pub fn names_in_contexts(
     Ok(names)
 }
 
-/// The text's pattern and ports, where the words are the streams of the inputs in each of the
+/// Reads the text's pattern and ports. The words are the streams of the inputs in each of the
 /// table's contexts.
 pub fn driven_by(
     alloc: Global,

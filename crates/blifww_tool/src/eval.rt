@@ -15,7 +15,7 @@ use netlist_text::{Netlist, netlist_of};
 use refusals::TextError;
 use std::alloc::Global;
 
-/// The streams of a netlist's inputs, as the words say them.
+/// Reads the streams that the words give to a netlist's inputs.
 pub fn streams_for(
     alloc: Global,
     cycles: usize,
@@ -51,8 +51,8 @@ fn run_lines(alloc: Global, netlist: Netlist, streams: &Streams) -> Result<Outpu
     Ok(Output::Lines(output_lines(alloc, outs.as_slice(), bits.as_slice())?))
 }
 
-/// A line for each output of the text's netlist, with its bits, where the words are the streams of
-/// the inputs.
+/// Makes a line for each output of the text's netlist, with the output's bits. The words are the
+/// streams of the inputs.
 pub fn eval(
     alloc: Global,
     cycles: usize,

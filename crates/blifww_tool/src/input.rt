@@ -9,7 +9,7 @@ use lists::Bytes;
 use std::alloc::Global;
 use ww_base::{ReadAllError, Source, read_all};
 
-// The most bytes that are read.
+// The greatest number of bytes that are read.
 const TEXT_LIMIT: usize = 16_777_216;
 
 // Whether the command reads a text.
@@ -30,7 +30,7 @@ fn reads_text(command: &Command) -> bool
     }
 }
 
-/// All that the source has left, or the empty text for a command that reads nothing.
+/// Returns all that the source has left, or the empty text for a command that reads nothing.
 pub fn text_for<S: Source>(
     alloc: Global,
     command: &Command,

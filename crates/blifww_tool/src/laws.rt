@@ -13,13 +13,13 @@ use shown_runs::{
 use tile_match::laws::draws_one_plan;
 use vcd_write::nets_have_their_bits;
 
-/// Each status of a run comes only where its cause is.
+/// Each status of a run comes only with its cause.
 pub fn statuses_have_causes()
     ensures { StatusesHaveCauses }
 {}
 
-/// What `simulate` prints of a text that carries a netlist, as what `compile` writes does, is what
-/// `eval` prints of the netlist under the same words.
+/// If a text carries a netlist, as the text that `compile` writes does, then `simulate` prints of
+/// it what `eval` prints of the netlist under the same words.
 pub fn carriers_print_alike()
     ensures carriers { CarriersPrintAlike }
     ensures compiled { CompiledPrintAlike }
@@ -29,9 +29,9 @@ pub fn carriers_print_alike()
     texts_are_decided();
 }
 
-/// What `simulate` prints of a text that carries a design in contexts, as what `compile --contexts`
-/// writes does, is the lines of runs of the design, one in each context on the words' streams for
-/// it, from the context's start on.
+/// If a text carries a design in contexts, as the text that `compile --contexts` writes does, then
+/// `simulate` prints of it the lines of runs of the design: one run in each context, from the
+/// context's start on, on the streams that the words give it.
 pub fn carriers_print_runs()
     ensures carriers { CarriersPrintRuns }
     ensures compiled { CompiledPrintRuns }
@@ -40,8 +40,8 @@ pub fn carriers_print_runs()
     streams_match();
 }
 
-/// What `probe` prints of a text that carries the nets of a netlist is the line of a net's bits in
-/// each run of the netlist. In contexts it is the lines of a net's bits in runs, one in each
+/// If a text carries the nets of a netlist, then `probe` prints of it the line of a net's bits in
+/// each run of the netlist. In contexts it prints the lines of a net's bits in runs, one in each
 /// context, from the context's start on.
 pub fn carriers_print_nets()
     ensures one { CarriersPrintNets }
@@ -54,8 +54,9 @@ pub fn carriers_print_nets()
     streams_match();
 }
 
-/// What `vcd` writes of a text that carries the nets of a design in contexts, as what `compile`
-/// writes does, reads as the nets' bits in runs, one in each context, from the context's start on.
+/// If a text carries the nets of a design in contexts, as the text that `compile` writes does, then
+/// what `vcd` writes of it reads as the nets' bits in runs, one in each context, from the context's
+/// start on.
 pub fn carriers_dump_nets()
     ensures { CarriersDumpNets }
 {
@@ -65,8 +66,8 @@ pub fn carriers_dump_nets()
     streams_match();
 }
 
-/// No injection meets another cell than a conductor in a text that carries a netlist in contexts,
-/// as what `compile` writes does: of it no run ends with status 10.
+/// If a text carries a netlist in contexts, as the text that `compile` writes does, then each
+/// injection meets a conductor: no run on it ends with status 10.
 pub fn carriers_run_quietly()
     ensures { CarriersRunQuietly }
 {
@@ -74,9 +75,9 @@ pub fn carriers_run_quietly()
     streams_match();
 }
 
-/// What `simulate` prints of what `tape` writes, for as many cycles as the tape has, is what `eval`
-/// prints of the netlist under the words of the tape; and for any number of cycles it is the lines
-/// of the netlist's runs on the streams, and on 0 after them.
+/// What `simulate` prints of the pattern that `tape` writes, for as many cycles as the tape has, is
+/// what `eval` prints of the netlist under the words of the tape. For any number of cycles it is
+/// the lines of the netlist's runs on the streams, and on 0 after them.
 pub fn tapes_print_alike()
     ensures runs { TapesPrintRuns }
     ensures alike { TapesPrintAlike }
@@ -86,15 +87,15 @@ pub fn tapes_print_alike()
     texts_are_decided();
 }
 
-/// `lift` accepts each text that `compile` writes for one context, where its box is within the
-/// limit of what is read and no name of a port is bad: so of it a run ends with status 0, or 7 for
-/// want of memory, or where a read or a write fails.
+/// `lift` accepts each text that `compile` writes for one context, if its box is within the limit
+/// of what is read and no name of a port is bad: so a run on it ends with status 0, or with 7 for
+/// lack of memory, or a read or a write fails.
 pub fn compiled_are_lifted()
     ensures { CompiledAreLifted }
 {}
 
-/// What `lift` writes of a text is one netlist, and what `simulate` prints of the text is what
-/// `eval` prints of that netlist under the same words.
+/// What `lift` writes of a text is one netlist, and `simulate` prints of the text what `eval`
+/// prints of that netlist under the same words.
 pub fn lifted_print_alike()
     ensures alike { LiftedPrintAlike }
     ensures one_way { LiftedInOneWay }

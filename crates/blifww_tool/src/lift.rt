@@ -12,8 +12,8 @@ use refusals::TextError;
 use std::alloc::Global;
 use tile_match::audit;
 
-/// The netlist that the text's pattern with its port table carries, where they are the drawing of a
-/// circuit.
+/// Makes the netlist that the text's pattern with its port table carries, if they are the drawing
+/// of a circuit.
 pub fn lift(alloc: Global, text: &[u8]) -> Result<Output, TextError>
     ensures printed { IfOk result (λ output. Prints lift text.now (output_text output)) }
     ensures writable { IfOk result IsWritableOutput }

@@ -5,7 +5,7 @@ ghost use Rattle.blifww_tool.specs.Lines.{bit_digit, bits_line};
 use lists::{Bytes, List};
 use std::alloc::{AllocError, Global};
 
-// Puts bits at the end, as digits.
+// Adds bits, as digits.
 fn push_bits(line: &mut Vec<u8>, bits: &[bool]) -> Result<(), AllocError>
     ensures { OnOk result (line.new.items ≡ line.old.items ++ map bit_digit bits.now) }
 {
@@ -15,7 +15,7 @@ fn push_bits(line: &mut Vec<u8>, bits: &[bool]) -> Result<(), AllocError>
     Ok(())
 }
 
-/// Puts an output's line at the end.
+/// Adds an output's line.
 pub fn push_line(lines: &mut Vec<u8>, name: &[u8], bits: &[bool]) -> Result<(), AllocError>
     ensures { OnOk result (lines.new.items ≡ lines.old.items ++ bits_line name.now bits.now) }
 {
@@ -26,7 +26,7 @@ pub fn push_line(lines: &mut Vec<u8>, name: &[u8], bits: &[bool]) -> Result<(), 
     Ok(())
 }
 
-/// A line for each output, by their names and bits.
+/// Makes a line for each output, from the outputs' names and bits.
 pub fn output_lines(
     alloc: Global,
     names: &[Bytes],

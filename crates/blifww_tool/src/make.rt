@@ -9,7 +9,7 @@ use crate::output::Output;
 use refusals::TextError;
 use std::alloc::Global;
 
-/// The text of the netlist of a seed and a number of gates. It reads nothing.
+/// Makes the text of the netlist of a seed and a number of gates. It reads nothing.
 pub fn make(alloc: Global, seed: u32, size: u32) -> Result<Output, TextError>
     requires numbers { HasNumbersInRange (make seed size) }
     ensures printed { IfOk result (λ output. output_text output ≡ made_text seed size) }

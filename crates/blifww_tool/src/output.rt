@@ -14,18 +14,18 @@ use ww_base::{Failed, Sink, write_all};
 pub enum Output {
     /// All its bytes.
     Lines(Bytes),
-    /// A plan and its port table, whose text is written row by row.
+    /// A plan and its port table; their text is written row by row.
     Drawing(Planned),
-    /// What nets show, whose text is written cycle by cycle.
+    /// The bits that nets show; their text is written cycle by cycle.
     Waves(Vcd),
-    /// The cells of a circuit with the names of its ports, whose netlist is written line by line.
+    /// The cells of a circuit with the names of its ports; their netlist is written line by line.
     Lifted(Lift),
 }
 
 impl Output {
     ghost use Rattle.blifww_tool.specs.Answer.{output_text, IsWritableOutput};
 
-    /// Writes it, or a front of it where a write fails. It takes no memory.
+    /// Writes the output, or a prefix of it if a write fails. It takes no memory.
     pub fn write<O: Sink>(&self, out: &mut O) -> Result<(), Failed>
         requires { IsWritableOutput self.now }
         ensures ok { OnOk result (Appends (O.written out.old) (O.written out.new)

@@ -15,7 +15,7 @@ use refusals::{Cause, TextError};
 use std::alloc::{AllocError, Global};
 use word_cuts::with_context;
 
-// The answer where the net is not shown: where there is no such net, with a copy of its name.
+// The error if the net is not shown. If there is no such net, it has a copy of the net's name.
 fn refusal(alloc: Global, error: ProbeError, name: &[u8]) -> TextError
     ensures { (result ≡ TextError.NoMemory) ⊎ (result ≡ probe_refusal name.now error) }
 {
@@ -32,7 +32,7 @@ fn refusal(alloc: Global, error: ProbeError, name: &[u8]) -> TextError
     }
 }
 
-// A net's name as it stands before its bits in each of so many contexts.
+// A net's name as it stands before its bits in each context.
 fn names_in_contexts(alloc: Global, contexts: u64, name: &[u8]) -> Result<Vec<Bytes>, AllocError>
     ensures { IfOk result (λ names. names.items ≡ names_in_contexts contexts name.now) }
 {
@@ -56,8 +56,8 @@ fn net_lines(
     output_lines(alloc, &names, bits)
 }
 
-/// A line for each context with the bits that the cell of a net of the text's pattern shows, where
-/// the words are the streams of the inputs.
+/// Makes a line for each context, with the bits that the cell of a net of the text's pattern shows.
+/// The words are the streams of the inputs.
 pub fn probe(
     alloc: Global,
     cycles: usize,

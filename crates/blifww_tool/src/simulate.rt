@@ -25,8 +25,8 @@ fn shown_lines(alloc: Global, ports: &Ports, bits: &[List<bool>]) -> Result<Byte
     output_lines(alloc, &outs, bits)
 }
 
-/// A line for each output of the text's pattern in each of its contexts, with the bits that it
-/// shows, where the words are the streams of the inputs. All outputs of context 0 come first.
+/// Makes a line for each output of the text's pattern in each of its contexts, with the bits that
+/// the output shows. The words are the streams of the inputs. All outputs of context 0 come first.
 pub fn simulate(
     alloc: Global,
     cycles: usize,

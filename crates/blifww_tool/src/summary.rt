@@ -1,4 +1,4 @@
-// `self`: what is told of a netlist that is made from a seed, as lines.
+// `self`: the summary of a netlist that is made from a seed, as lines.
 ghost use Rattle.std.specs.Prelude.{◌≡◌, ◌++◌, List, ℕ, IfOk, IfErr, OnOk, flat_map};
 ghost use Rattle.command_words.specs.Shapes.{self_, HasNumbersInRange};
 ghost use Rattle.blifww_tool.specs.Answer.{output_text, IsWritableOutput};
@@ -13,7 +13,7 @@ use made_summary::{OutputBits, Summary, summarize};
 use refusals::TextError;
 use std::alloc::{AllocError, Global};
 
-// Puts a number's line at the end.
+// Adds a number's line.
 fn push_number(lines: &mut Vec<u8>, name: &[u8], number: u64) -> Result<(), AllocError>
     ensures { OnOk result (lines.new.items ≡ lines.old.items ++ number_line name.now number) }
 {
@@ -25,7 +25,7 @@ fn push_number(lines: &mut Vec<u8>, name: &[u8], number: u64) -> Result<(), Allo
     Ok(())
 }
 
-// Puts the two lines of each output at the end.
+// Adds the two lines of each output.
 fn push_outputs(lines: &mut Vec<u8>, outputs: &[OutputBits]) -> Result<(), AllocError>
     ensures { OnOk result (lines.new.items ≡ lines.old.items ++ flat_map output_lines outputs.now) }
 {
@@ -52,10 +52,10 @@ fn summary_lines(alloc: Global, summary: &Summary) -> Result<Bytes, AllocError>
     Ok(Bytes::of(lines))
 }
 
-/// What is told of the netlist of a seed and a number of gates under so many cycles of bits that
-/// are drawn after it: its weight, the lanes and columns of its plan, the period and latency of its
-/// pattern, and of each output the bits that the pattern shows and those that the netlist gives. It
-/// reads nothing.
+/// Makes the lines of the summary of a netlist, given by a seed and a number of gates, under so
+/// many cycles of bits that are drawn after it: its weight, the lanes and columns of its plan, the
+/// period and latency of its pattern, and for each output the bits that the pattern shows and those
+/// that the netlist gives. It reads nothing.
 pub fn summary(alloc: Global, seed: u32, size: u32, cycles: usize) -> Result<Output, TextError>
     requires numbers { HasNumbersInRange (self_ seed size cycles) }
     ensures printed { IfOk result (λ output. TellsSummary seed size cycles (output_text output)) }

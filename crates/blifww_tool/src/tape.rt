@@ -40,8 +40,8 @@ fn taped(alloc: Global, netlist: &Netlist, streams: &Streams) -> Result<Output, 
     Ok(Output::Drawing(loaded))
 }
 
-/// The pattern of the netlist whose text this is, which runs by itself on the streams that the
-/// words say for its inputs, and on zeros after them. Its table names no inputs.
+/// Makes the pattern of the netlist whose text this is, which runs by itself on the streams that
+/// the words give to the netlist's inputs, and on zeros after them. Its table names no inputs.
 pub fn tape(
     alloc: Global,
     cycles: usize,

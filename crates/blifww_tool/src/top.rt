@@ -63,7 +63,7 @@ fn answer(alloc: Global, command: &Command, text: &[u8]) -> Result<Output, TextE
     }
 }
 
-// Writes an output, and lets it go.
+// Writes an output, and drops it.
 fn send<O: Sink>(output: Output, out: &mut O) -> Result<(), Failed>
     requires { IsWritableOutput output }
     ensures ok { OnOk result
@@ -88,7 +88,7 @@ fn print<O: Sink>(alloc: Global, command: &Command, text: &[u8], out: &mut O) ->
     Ok(())
 }
 
-// Does what the words say.
+// Does what the words ask for.
 fn work<S: Source, O: Sink>(
     alloc: Global,
     words: &[String],
@@ -110,46 +110,64 @@ fn work<S: Source, O: Sink>(
     print(alloc, &command, text.as_slice(), out)
 }
 
-/// Does what the words say, and answers the exit status. `words` begins with the program's name.
+/// Does what the words ask for, and returns the exit status. `words` begins with the program's
+/// name.
 ///
-/// `compile` reads the BLIF text of a netlist from `src` and writes a pattern that carries it to
-/// `out` as extended RLE, with lines that say where its ports are.
-/// `compile --contexts C c:net=bit..` writes a pattern in which C machines run on the same wires,
-/// each 32 generations after the one before: a word sets the bit with which the latch whose output
-/// is joined with that net of the main model starts in context c, and a latch that no word sets
-/// starts as the netlist says. `simulate --cycles N name=bits..` reads such a pattern, with any
-/// ports, and writes a line `name=bits` for each output, with the bits that its cell shows when the
-/// streams of the words drive the inputs. Where the pattern's table has several contexts, words and
-/// lines are `c:name=bits`, and all outputs of context 0 come first. `eval --cycles N name=bits..`
-/// reads a netlist and writes such lines with the bits of its run on the streams.
-/// `probe --cycles N --net NAME [--path PATH] name=bits..` reads a pattern and writes such a line
-/// for a net of its port table, one for each context, and
-/// `window --gen G --x X --y Y --width W --height H name=bits..` the cells of a part of its plane
-/// at a generation. `make --seed S --size K` and `self --seed S --size K --cycles N` read nothing:
-/// the first writes the text of a netlist that is made from the seed, and the second what is told
-/// of it, compiled, simulated and evaluated. `tape --cycles N name=bits..` reads a netlist and
-/// writes a pattern that needs no driving: the streams lie in it, and it goes on with zeros.
-/// `aiger` reads a circuit in the AIGER format's ASCII form and writes a pattern that carries it,
-/// as `compile` does of a netlist, but without lines for nets. `vcd --cycles N name=bits..` reads a
-/// pattern and writes the bits that all nets of its port table show as a VCD text: a variable for
-/// each net in each context, with all nets of context 0 first. `lift` reads a pattern and, where
-/// with its port table it is the drawing of a circuit, writes the BLIF text of a netlist that it
-/// carries.
+/// - `compile` reads the BLIF text of a netlist from `src` and writes a pattern that carries it to
+///   `out`, as extended RLE with lines that say where its ports are.
+/// - `compile --contexts C c:net=bit..` writes a pattern in which C machines run on the same wires,
+///   each 32 generations after the one before. A word sets the bit with which a latch starts in
+///   context c: the latch whose output is joined with that net of the main model. A latch that no
+///   word sets starts as the netlist says.
+/// - `simulate --cycles N name=bits..` reads such a pattern, with any ports, and writes a line
+///   `name=bits` for each output, with the bits that its cell shows when the streams of the words
+///   drive the inputs. If the pattern's table has several contexts, words and lines are
+///   `c:name=bits`, and all outputs of context 0 come first.
+/// - `eval --cycles N name=bits..` reads a netlist and writes such lines with the bits of its run
+///   on the streams.
+/// - `probe --cycles N --net NAME [--path PATH] name=bits..` reads a pattern and writes such a line
+///   for a net of its port table, one for each context.
+/// - `window --gen G --x X --y Y --width W --height H name=bits..` reads a pattern and writes the
+///   cells of a part of its plane at a generation.
+/// - `make --seed S --size K` reads nothing and writes the text of a netlist that is made from the
+///   seed.
+/// - `self --seed S --size K --cycles N` reads nothing and writes a summary of that netlist,
+///   compiled, simulated and evaluated.
+/// - `tape --cycles N name=bits..` reads a netlist and writes a pattern that needs no driving: the
+///   streams lie in it, and it goes on with zeros.
+/// - `aiger` reads a circuit in the AIGER format's ASCII form and writes a pattern that carries it,
+///   as `compile` does for a netlist, but without lines for nets.
+/// - `vcd --cycles N name=bits..` reads a pattern and writes the bits that all nets of its port
+///   table show, as a VCD text: a variable for each net in each context, with all nets of context 0
+///   first.
+/// - `lift` reads a pattern and, if with its port table it is the drawing of a circuit, writes the
+///   BLIF text of a netlist that it carries.
 ///
-/// 0: all of it is on `out`. 1: the netlist's text, or the AIGER circuit's, breaks a rule. 2: the
-/// words are no command. 3: covers, or the AIGER circuit's gates, read each other in a circle. 4:
-/// the text has more than 16,777,216 bytes, the netlist, or the AIGER circuit, weighs more than
-/// 8,192, the pattern's box has more than 268,435,456 cells, its last bits come after generation
-/// 4,294,967,296, or the pattern has no room for so many contexts: it has room for at least one,
-/// and for 6 for each latch. 5: `src` failed. 6: `out` or `err` failed. 7: there was not enough
-/// memory. 8: the text is no pattern's, or its port table is at fault. 9: the words are no streams
-/// for the inputs, or no starts for the latches, or the table has no net as asked for. 10: an
-/// injection is due at a cell that is no conductor then. 12: the pattern with its port table is the
-/// drawing of no circuit, or has names that no netlist's ports can have. Of several the first is
-/// answered: 2, 5, 4 (the text); then of a netlist 1 (lines and models), 4 (the weight), 1
-/// (clocks), 3, of an AIGER circuit 1, 4 (the weight), 3, and of a pattern 8 (the header), 4 (the
-/// box), 8 (the items), 8 (the table); then 9 (words), 9 (the net), 4 (generations), 10, 4
-/// (contexts), 12, 6. With each but 0 and 6 one line on `err` tells it, and nothing is on `out`.
+/// The statuses:
+///
+/// - 0: `out` has the whole output.
+/// - 1: the netlist's text, or the AIGER circuit's, breaks a rule.
+/// - 2: the words are no command.
+/// - 3: covers, or the AIGER circuit's gates, read each other in a circle.
+/// - 4: the text has more than 16,777,216 bytes; the netlist, or the AIGER circuit, weighs more
+///   than 8,192; the pattern's box has more than 268,435,456 cells; its last bits come after
+///   generation 4,294,967,296; or the pattern has no room for so many contexts (it has room for at
+///   least one, and for 6 for each latch).
+/// - 5: `src` failed.
+/// - 6: `out` or `err` failed.
+/// - 7: there was not enough memory.
+/// - 8: the text is no pattern, or its port table is at fault.
+/// - 9: the words are no streams for the inputs, or no starts for the latches, or the table does
+///   not have the net that is asked for.
+/// - 10: an injection is due at a cell that is no conductor then.
+/// - 12: the pattern with its port table is the drawing of no circuit, or has names that no
+///   netlist's ports can have.
+///
+/// If several apply, the first in this order is answered: 2, 5, 4 (the text); then for a netlist 1
+/// (lines and models), 4 (the weight), 1 (clocks), 3; for an AIGER circuit 1, 4 (the weight), 3;
+/// and for a pattern 8 (the header), 4 (the box), 8 (the items), 8 (the table); then 9 (words), 9
+/// (the net), 4 (generations), 10, 4 (contexts), 12, 6. With each status except 0 and 6, one line
+/// on `err` tells it, and nothing is on `out`.
 pub fn run<S: Source, O: Sink, E: Sink>(
     alloc: Global,
     words: &[String],
@@ -162,8 +180,8 @@ pub fn run<S: Source, O: Sink, E: Sink>(
         → WritesWhatItRead (reading S.left S.faults src.old src.new)
         (writing O.written O.faults out.old out.new) }
 
-    // and with `--contexts` carry it in so many contexts, each from the state that the words give
-    // it.
+    // and with `--contexts` they carry it in so many contexts, each from the state that the words
+    // give it.
     ensures contexts { result ≡ 0 → (contexts : ℕ) (starts : List (List ℕ))
         → Asks (map string_bytes words.now) (compile contexts starts)
         → WritesInContexts contexts starts (reading S.left S.faults src.old src.new)
@@ -181,27 +199,28 @@ pub fn run<S: Source, O: Sink, E: Sink>(
         → WritesItsAig (reading S.left S.faults src.old src.new)
         (writing O.written O.faults out.old out.new) }
 
-    // The bytes that `vcd` has written are a VCD text of what the nets of the pattern show that
-    // `src` had left, driven by the streams of the words, and read as that alone.
+    // The bytes that `vcd` has written are a VCD text of what the nets of the pattern that `src`
+    // had left show when the streams of the words drive it, and they read as that alone.
     ensures dumps { result ≡ 0 → (cycles : ℕ) (streams : List (List ℕ)) →
         Asks (map string_bytes words.now) (vcd cycles streams)
         → WritesDump cycles streams (reading S.left S.faults src.old src.new)
         (writing O.written O.faults out.old out.new) }
 
-    // The bytes that `lift` has written are the text of a netlist without a fault or a loop, which
-    // the pattern carries that `src` had left.
+    // The bytes that `lift` has written are the text of a netlist without a fault or a loop, and
+    // the pattern that `src` had left carries this netlist.
     ensures lifts { result ≡ 0 → Asks (map string_bytes words.now) lift
         → WritesItsNetlist (reading S.left S.faults src.old src.new)
         (writing O.written O.faults out.old out.new) }
 
-    // How the run ends, for every command: done, refused or cut off, each status only where its
-    // cause is; and a cause in the words or the text is told wherever it is, but for failed reads
-    // and writes and want of memory.
+    // How the run ends, for every command: done, refused or cut off, each status only with its
+    // cause. A cause in the words or the text is always told, unless a read or a write fails or
+    // memory runs out.
     ensures ends { Ends (call (map string_bytes words.now) (reading S.left S.faults src.old src.new)
         (writing O.written O.faults out.old out.new)
         (writing E.written E.faults err.old err.new)) result }
 
-    // Words that are no command, and those of a command that reads nothing, leave the source alone.
+    // The source is left alone if the words are no command, or those of a command that reads
+    // nothing.
     ensures unread { AsksForNoText (map string_bytes words.now) → src.new ≡ src.old }
     ensures refused_unread { result ≡ 2 → src.new ≡ src.old }
 {

@@ -10,7 +10,7 @@ use refusals::TextError;
 use std::alloc::Global;
 use vcd_write::texts_say_waves;
 
-/// The dump of the bits that the nets of the text's pattern show in each of its contexts, where the
+/// Makes the dump of the bits that the nets of the text's pattern show in each of its contexts. The
 /// words are the streams of the inputs. All nets of context 0 come first.
 pub fn vcd(alloc: Global, cycles: usize, words: &[String], text: &[u8]) -> Result<Output, TextError>
     requires some_cycle { 0 < cycles }

@@ -19,14 +19,14 @@ fn bytes_after(word: &[u8]) -> Option<usize>
     word.iter().rev().position(|b| *b == b'=')
 }
 
-// How many bytes stand after the last `=`, or in all where there is none.
+// How many bytes stand after the last `=`, or how many there are if there is none.
 fn bits_of(word: &[u8]) -> usize
     ensures { result ≡ length (bits_in word.now) }
 {
     bytes_after(word).unwrap_or(word.len())
 }
 
-// The number of cycles that stream words say by themselves.
+// The number of cycles that stream words give by themselves.
 fn cycles_in(words: &[String]) -> usize
     ensures { result ≡ cycles_in (map string_bytes words.now) }
 {
@@ -36,8 +36,8 @@ fn cycles_in(words: &[String]) -> usize
     }
 }
 
-/// The lines of a part of the plane that the text's pattern has come to, where the words are the
-/// streams of the inputs. There are as many cycles as the first word has bits.
+/// Makes the lines of a part of the plane that the text's pattern has come to. The words are the
+/// streams of the inputs, and there are as many cycles as the first word has bits.
 pub fn window(alloc: Global, view: View, words: &[String], text: &[u8]) -> Result<Output, TextError>
     ensures printed { IfOk result (λ output.
         Prints (window view (map string_bytes words.now)) text.now (output_text output)) }

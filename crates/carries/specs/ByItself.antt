@@ -1,5 +1,5 @@
--- What it means that a text runs by itself: the pattern that it spells, which nothing drives, shows
--- a run of a design, or of a flat netlist, whose input bits are these rows, and 0 from then on.
+-- What it means that a text runs by itself: its pattern, which nothing drives, shows a run of a
+-- design, or of a flat netlist, whose input bits are the given rows, and 0 from then on.
 use Rattle.std.specs.Prelude.{ℕ, ◌+◌, ◌*◌, ◌<◌, ◌≡◌, List, [], ◌++◌, length, map, All, Bool, false, Some, slice_get}
 use Rattle.ww_rule.specs.Wireworld.{Plane, evolve}
 use Rattle.ww_rule.specs.Grid.{Grid, plane_of}
@@ -18,14 +18,14 @@ use Rattle.netlist_meaning.specs.Valuation.{Valuation, AreInputRows, IsRun, outp
 use Rattle.carries.specs.Cells.{Spells, ShowsOutput, ShowsBitsFrom}
 use Rattle.carries.specs.Nets.{AreSeenNets, NamesNets}
 
--- these rows, and after them any number of rows whose bits are 0
+-- all = rows, followed by any number of rows whose bits are 0
 abbrev pub ThenZeros : (rows all : List (List Bool)) → Type 0
 ThenZeros rows all =
     (zeros : List (List Bool)) × All (λ row. All (λ bit. bit ≡ false) row) zeros
     × (all ≡ rows ++ zeros)
 
--- For N cycles, the cell of each output shows its bits in the plane that nothing drives, at every
--- generation below L + N P
+-- for N cycles, in the plane that nothing drives, each output's cell shows the output's bits at
+-- every generation below L + N P
 abbrev pub ShowsOutputsByItself : Plane → Ports → (cycles : ℕ) → (bit : (cycle output : ℕ) → Bool)
     → Type 0
 ShowsOutputsByItself plane ports cycles bit =
@@ -33,8 +33,8 @@ ShowsOutputsByItself plane ports cycles bit =
     → (g : ℕ) → g < ports.l + cycles * ports.p
     → ShowsOutput ports cycles (λ t. bit t output) g (evolve g plane) cell
 
--- and the cell of each net, which has the line of its number, shows the net's bits, at every
--- generation below offset + N P
+-- for N cycles, the cell of each net's line shows the net's bits at every generation below
+-- offset + N P; the lines stand in the order of the nets
 abbrev pub ShowsNetLinesByItself : {X : Type 0} → Plane → Ports → (cycles : ℕ) → (nets : List X)
     → (bit : (cycle : ℕ) → X → Bool) → Type 0
 ShowsNetLinesByItself {X} plane ports cycles nets bit =
@@ -43,14 +43,14 @@ ShowsNetLinesByItself {X} plane ports cycles nets bit =
     → (g : ℕ) → g < line.offset + cycles * ports.p
     → ShowsBitsFrom line.offset ports.p cycles (λ t. bit t net) g (evolve g plane) line.x line.y
 
--- A run of the design on the rows, and on as many rows of 0 after them as one likes
+-- a run of the design on the rows, followed by any number of rows of 0
 abbrev pub IsRunOnward : Design → List (List Bool) → (ℕ → Valuation) → Type 0
 IsRunOnward design rows run =
     (all : List (List Bool)) → ThenZeros rows all → AreInputRows design all → IsRun design all run
 
--- There is such a run; and in every run on the rows and on any number of rows of 0 after them, each
--- output cell shows the output's bits, and the cell of each net's line the net's, in the plane that
--- nothing drives. So there is no last generation.
+-- There is a run on the rows and on any number of rows of 0 after them. In every such run each
+-- output's cell shows the output's bits, and the cell of each net's line shows the net's bits, in
+-- the plane that nothing drives. So there is no last generation.
 pub record ShowsRunsByItself (plane : Plane) (ports : Ports) (design : Design) (seen : List Net)
     (rows : List (List Bool)) : Type 0 where
   pub run : (run : ℕ → Valuation) × IsRunOnward design rows run
@@ -61,9 +61,9 @@ pub record ShowsRunsByItself (plane : Plane) (ports : Ports) (design : Design) (
       → (run : ℕ → Valuation) → IsRun design all run
       → ShowsNetLinesByItself plane ports (length all) seen (λ t net. run t net.place net.name)
 
--- A text runs by itself as a design does on rows of input bits: it spells a pattern, and a port
--- table of one context which names no inputs, the design's outputs, and each net but the clock
--- nets; and the pattern shows the run by itself.
+-- A text runs by itself as a design does on rows of input bits: it spells a pattern and a port
+-- table of one context, the table names no inputs but names the design's outputs and each net
+-- except the clock nets, and the pattern shows the run without being driven.
 pub record RunsByItself (text : List ℕ) (design : Design) (rows : List (List Bool)) : Type 0 where
   pub grid : Grid
   pub ports : Ports
@@ -77,7 +77,7 @@ pub record RunsByItself (text : List ℕ) (design : Design) (rows : List (List B
   pub rows_fit : AreInputRows design rows
   pub shows : ShowsRunsByItself (plane_of grid.rows) ports design seen rows
 
--- The same of a flat netlist, in its own runs from its start on
+-- a run of the flat netlist, from its start on, on the rows followed by any number of rows of 0
 abbrev pub IsFlatRunOnward : Flat → List (List Bool) → (ℕ → ℕ → Bool) → Type 0
 IsFlatRunOnward flat rows run =
     (all : List (List Bool)) → ThenZeros rows all → AreFlatRows flat all

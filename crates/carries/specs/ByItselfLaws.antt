@@ -1,5 +1,5 @@
--- A text that runs by itself does so in one way, without a last generation, and also on its rows
--- with rows of 0 after them.
+-- A text that runs by itself has one pattern and one table, shows its run without a last
+-- generation, and also runs by itself on its rows with rows of 0 after them.
 use Rattle.std.specs.Prelude.{pos, ℕ, ◌+◌, ◌*◌, ◌≡◌, ◌↔◌, List, Bool, true, Some, slice_get}
 use Rattle.ww_rule.specs.declared.pattern.State.TheVariants.{Head}
 use Rattle.ww_rule.specs.Wireworld.{Plane, evolve}
@@ -13,7 +13,7 @@ use Rattle.netlist_meaning.specs.Valuation.{Valuation, AreInputRows, output_bit}
 use Rattle.netlist_meaning.specs.FlatValuation.{AreFlatRows}
 use Rattle.carries.specs.ByItself.{ThenZeros, IsRunOnward, RunsByItself, RunsByItselfFlat}
 
--- a text that runs by itself has one grid and one table, on whatever rows
+-- a text that runs by itself, on any rows, has one grid and one table
 abbrev pub RunsInOneWay : Type 0
 RunsInOneWay =
     (text : List ℕ) (design : Design) (rows others : List (List Bool))
@@ -21,12 +21,12 @@ RunsInOneWay =
     → (a.grid ≡ b.grid) × (a.ports ≡ b.ports)
 
 -- the cell at x, y is a head at generation g exactly when g = first + t period for a cycle t in
--- which the bit is 1, of all cycles
+-- which the bit is 1; there is no last cycle
 abbrev pub ShowsBitsForever : (first period : ℕ) → (ℕ → Bool) → (g : ℕ) → Plane → (x y : ℕ) → Type 0
 ShowsBitsForever first period bit g plane x y =
     (plane (pos x) (pos y) ≡ Head) ↔ ((t : ℕ) × (g ≡ first + t * period) × (bit t ≡ true))
 
--- In a run that goes on with bits 0, the cells of outputs and of nets show their bits at every
+-- in a run that goes on with bits 0, the cells of outputs and of nets show their bits at every
 -- generation
 pub record RunsWithoutEnd {text : List ℕ} {design : Design} {rows : List (List Bool)}
     (k : RunsByItself text design rows) (run : ℕ → Valuation) : Type 0 where
@@ -43,7 +43,7 @@ RunnersGoOn =
     (text : List ℕ) (design : Design) (rows : List (List Bool)) (k : RunsByItself text design rows)
     (run : ℕ → Valuation) → IsRunOnward design rows run → RunsWithoutEnd k run
 
--- what runs by itself on rows does so on these and rows of 0 after them
+-- a text that runs by itself on rows also runs by itself on these rows with rows of 0 after them
 abbrev pub ZerosChangeNothing : Type 0
 ZerosChangeNothing =
     ((text : List ℕ) (design : Design) (rows all : List (List Bool)) → RunsByItself text design rows

@@ -12,13 +12,13 @@ use Rattle.netlist_meaning.specs.Nets.{IsInNames}
 use Rattle.netlist_meaning.specs.Valuation.{Valuation, AreInputRows, IsRun, output_bit}
 use Rattle.carries.specs.Cells.{Spells, ShowsOutputs, drive}
 
--- the table names the main inputs but the control, and the main outputs, each in order
+-- the table names the main inputs except the control, and the main outputs, each in order
 pub record NamesPorts (ports : Ports) (design : Design) : Type 0 where
   pub ins : IsInNames design (names_of ports.ins)
   pub outs : names_of ports.outs ≡ main_outputs design
 
--- Driven by any rows of input bits, for any number of cycles: there is a run of the design on them,
--- and in every such run each output cell shows the output's bits
+-- when any rows of input bits drive the pattern, for any number of cycles, there is a run of the
+-- design on them, and in every such run each output's cell shows the output's bits
 pub record ShowsRuns (plane : Plane) (ports : Ports) (design : Design) : Type 0 where
   pub conductors : (rows : List (List Bool)) → AreInputRows design rows
       → MeetsConductors (drive ports rows) plane
@@ -28,7 +28,7 @@ pub record ShowsRuns (plane : Plane) (ports : Ports) (design : Design) : Type 0 
       → IsRun design rows run
       → ShowsOutputs plane ports rows (λ t. output_bit design (run t))
 
--- A text carries a design: it spells a pattern and a port table of one context, the table's names
+-- a text carries a design: it spells a pattern and a port table of one context, the table's names
 -- are the design's, and the pattern shows the design's runs
 pub record Carries (text : List ℕ) (design : Design) : Type 0 where
   pub grid : Grid

@@ -1,4 +1,4 @@
--- What the cells that a port table names show in a pattern that rows of input bits drive. Nothing
+-- What the cells that a port table names show when rows of input bits drive the pattern. Nothing
 -- here asks for a netlist.
 use Rattle.std.specs.Prelude.{pos, ℕ, ◌+◌, ◌*◌, ◌<◌, ◌≡◌, ◌↔◌, List, length, Bool, true, Some, slice_get}
 use Rattle.ww_rule.specs.declared.pattern.State.TheVariants.{Head}
@@ -17,10 +17,10 @@ pub record Spells (text : List ℕ) (grid : Grid) (ports : Ports) : Type 0 where
   pub reads : ReadsAsPattern text grid
   pub table : ReadsAsPorts text grid.width grid.height ports
 
--- the drive of rows of input bits, one row a cycle: one injection at generation t P, at the cell of
--- input i, for each cycle t and input i whose bit is 1, and no other. Where the rows have a bit for
--- each IN line, none is left out: so it is where the table names a design's inputs and the rows are
--- its input rows (`RowsFitPorts`).
+-- The drive of rows of input bits, one row per cycle: for each cycle t and each input i whose bit
+-- is 1 there is one injection, at generation t P at the cell of input i, and there is no other. No
+-- bit is left out if the rows have a bit for each IN line. They do if the table names a design's
+-- inputs and the rows are its input rows (`RowsFitPorts`).
 abbrev pub drive : Ports → List (List Bool) → Due
 drive ports rows = due_of_streams ports.p (cells_of ports.ins) rows
 
@@ -32,13 +32,13 @@ ShowsBitsFrom first period cycles bit g plane x y =
     (plane (pos x) (pos y) ≡ Head) ↔ ((t : ℕ) × (t < cycles) × (g ≡ first + t * period)
     × (bit t ≡ true))
 
--- the cell of an output, with the first cycle at the latency
+-- the cell of an output shows its bits, the first cycle at the latency
 abbrev pub ShowsOutput : Ports → (cycles : ℕ) → (ℕ → Bool) → (g : ℕ) → Plane → PortLine → Type 0
 ShowsOutput ports cycles bit g plane cell =
     ShowsBitsFrom ports.l ports.p cycles bit g plane cell.x cell.y
 
--- driven by these rows, for their number N of cycles, the cell of each output shows its bits, at
--- every generation below L + N P
+-- when these N rows drive the pattern, each output's cell shows the output's bits at every
+-- generation below L + N P
 abbrev pub ShowsOutputs : Plane → Ports → List (List Bool) → (bit : (cycle output : ℕ) → Bool)
     → Type 0
 ShowsOutputs plane ports rows bit =
@@ -46,8 +46,8 @@ ShowsOutputs plane ports rows bit =
     → (g : ℕ) → g < ports.l + length rows * ports.p
     → ShowsOutput ports (length rows) (λ t. bit t output) g (driven (drive ports rows) plane g) cell
 
--- and the cell of each net, which has the line of its number, shows the net's bits, from the line's
--- offset on, at every generation below offset + N P
+-- when these N rows drive the pattern, the cell of each net's line shows the net's bits at every
+-- generation below offset + N P; the lines stand in the order of the nets
 abbrev pub ShowsNetLines : {X : Type 0} → Plane → Ports → List (List Bool) → (nets : List X)
     → (bit : (cycle : ℕ) → X → Bool) → Type 0
 ShowsNetLines {X} plane ports rows nets bit =

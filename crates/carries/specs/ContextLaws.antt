@@ -1,5 +1,5 @@
--- What a text that carries a design in several contexts shows of each of them, and that one context
--- is what stood there.
+-- What a text that carries a design in several contexts shows of each context, and that to carry it
+-- in one context is to carry it.
 use Rattle.std.specs.Prelude.{pos, ℕ, ◌+◌, ◌*◌, ◌<◌, ◌≡◌, ◌≢◌, ◌↔◌, List, [], ◌∷◌, length, get_or, Bool, true, Some, slice_get}
 use Rattle.ww_rule.specs.declared.pattern.State.TheVariants.{Head}
 use Rattle.ww_rule.specs.Wireworld.{driven}
@@ -18,7 +18,8 @@ use Rattle.carries.specs.Contexts.{context_drive}
 use Rattle.carries.specs.FlatContexts.{CarriesFlatContexts}
 use Rattle.carries.specs.DesignContexts.{AreInputContexts, CarriesContexts, CarriesNetsInContexts}
 
--- what carries in one context, from the start on, is what carries
+-- a text carries a design exactly when it carries it in one context that begins with the start
+-- state
 abbrev pub OneContextCarries : Type 0
 OneContextCarries =
     (text : List ℕ) (design : Design) → Carries text design
@@ -34,8 +35,8 @@ OneContextCarriesFlat =
     (text : List ℕ) (flat : Flat) → CarriesFlat text flat
     ↔ CarriesFlatContexts text flat (start_bits flat ∷ [])
 
--- Driven by rows of input bits in each context, in a run on the rows of context c, whatever the
--- other contexts are
+-- when rows of input bits drive each context, in a run on the rows of context c, whatever the other
+-- contexts are:
 pub record ShowsContextCycles {text : List ℕ} {design : Design} {starts : List LatchState}
     (k : CarriesContexts text design starts) (cycles : ℕ) (contexts : List (List (List Bool)))
     (c : ℕ) (run : ℕ → Valuation) : Type 0 where
@@ -63,8 +64,8 @@ CarriesEachContext =
     → IsRunFrom design start (get_or contexts c []) run
     → ShowsContextCycles k cycles contexts c run
 
--- Of a text that carries the nets, too: the cell of a net's line is a head at generation offset +
--- 32 c + t P, for each cycle t, exactly when the net's bit is 1 in the cycle
+-- If the text also carries the nets, the cell of a net's line is a head at generation
+-- offset + 32 c + t P, for each cycle t, exactly when the net's bit is 1 in the cycle.
 abbrev pub CarriesNetsOfEachContext : Type 0
 CarriesNetsOfEachContext =
     (text : List ℕ) (design : Design) (starts : List LatchState)
@@ -80,8 +81,8 @@ CarriesNetsOfEachContext =
     (line.offset + 32 * c + t * k.carried.ports.p) (pos line.x) (pos line.y) ≡ Head)
     ↔ (run t net.place net.name ≡ true)
 
--- Two drives that agree on context c: each output cell shows the same of it, at every generation L
--- + 32 c + t P, whatever the rows of the other contexts are
+-- under two drives that have the same rows for context c, each output's cell is a head at the same
+-- generations L + 32 c + t P, whatever the rows of the other contexts are
 abbrev pub OutputsAreIsolated : Type 0
 OutputsAreIsolated =
     (text : List ℕ) (design : Design) (starts : List LatchState)
@@ -96,7 +97,7 @@ OutputsAreIsolated =
     ↔ (driven (context_drive k.ports others) (plane_of k.grid.rows)
     (k.ports.l + 32 * c + t * k.ports.p) (pos cell.x) (pos cell.y) ≡ Head)
 
--- and so does the cell of each net's line, at every generation offset + 32 c + t P
+-- the cell of each net's line is a head at the same generations offset + 32 c + t P, too
 abbrev pub NetsAreIsolated : Type 0
 NetsAreIsolated =
     (text : List ℕ) (design : Design) (starts : List LatchState)

@@ -1,6 +1,6 @@
--- What it means that a text carries a flat netlist in several contexts: the pattern that it spells,
--- driven at its input cells, shows a run of the flat netlist for each context, those of each 32
--- generations after those of the one before.
+-- What it means that a text carries a flat netlist in several contexts: its pattern, driven at its
+-- input cells, shows a run of the flat netlist for each context, each 32 generations after the one
+-- before.
 use Rattle.std.specs.Prelude.{ℕ, ◌≡◌, List, length, Bool}
 use Rattle.ww_rule.specs.Wireworld.{Plane}
 use Rattle.ww_rule.specs.Grid.{Grid, plane_of}
@@ -13,14 +13,14 @@ use Rattle.carries.specs.Cells.{Spells}
 use Rattle.carries.specs.FlatNets.{NamesFlat}
 use Rattle.carries.specs.Contexts.{AreContextRows, AreRunsFrom, context_drive, ShowsOutputsInContexts, ShowsNetLinesInContexts}
 
--- the rows of input bits that drive a flat netlist in so many contexts
+-- the rows of input bits that drive a flat netlist in `count` contexts
 abbrev pub AreFlatContexts : Flat → (count cycles : ℕ) → List (List (List Bool)) → Type 0
 AreFlatContexts flat count cycles contexts = AreContextRows (AreFlatRows flat) count cycles contexts
 
--- Driven by any rows of input bits, for any number of cycles: there is a run of the flat netlist
--- for each context, from its start on, and in all such runs each output cell shows the output's
--- bits, and the cell of each listed net those of its class. A start has a bit for each latch, in
--- order.
+-- When any rows of input bits drive the pattern, for any number of cycles, there is a run of the
+-- flat netlist for each context, from its start on. In all such runs each output's cell shows the
+-- output's bits, and the cell of each listed net shows the bits of the net's class. A start has a
+-- bit for each latch, in order.
 pub record ShowsFlatContexts (plane : Plane) (ports : Ports) (flat : Flat)
     (starts : List (List Bool)) : Type 0 where
   pub conductors : (cycles : ℕ) (contexts : List (List (List Bool)))
@@ -40,8 +40,8 @@ pub record ShowsFlatContexts (plane : Plane) (ports : Ports) (flat : Flat)
       (λ c t net. runs c t net.class)
 
 -- A text carries a flat netlist in contexts with these starts: it spells a pattern and a port table
--- of so many contexts, the table's names are the netlist's, and the pattern shows the netlist's
--- runs
+-- of as many contexts, the table's names are the netlist's, and the pattern shows the netlist's
+-- runs.
 pub record CarriesFlatContexts (text : List ℕ) (flat : Flat)
     (starts : List (List Bool)) : Type 0 where
   pub grid : Grid

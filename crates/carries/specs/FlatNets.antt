@@ -1,6 +1,6 @@
--- What it means that a text carries a flat netlist: the pattern that it spells, driven at its input
--- cells, shows the runs of the flat netlist at the cells of its outputs and of its listed nets, at
--- every generation.
+-- What it means that a text carries a flat netlist: its pattern, driven at its input cells, shows
+-- the runs of the flat netlist at the cells of its outputs and of its listed nets, at every
+-- generation.
 use Rattle.std.specs.Prelude.{ℕ, ◌≡◌, List, map, Bool}
 use Rattle.ww_rule.specs.Wireworld.{Plane}
 use Rattle.ww_rule.specs.Grid.{Grid, plane_of}
@@ -13,17 +13,17 @@ use Rattle.netlist_meaning.specs.Flat.{names_of_ports, listed_nets}
 use Rattle.netlist_meaning.specs.FlatValuation.{AreFlatRows, IsFlatRun, start_bits, flat_output_bit}
 use Rattle.carries.specs.Cells.{Spells, ShowsOutputs, ShowsNetLines, drive}
 
--- the table names the inputs, the outputs and the listed nets, each in order, the nets with the
--- paths of their places
+-- the table names the inputs, the outputs and the listed nets, each in order, and each net with the
+-- path of its place
 pub record NamesFlat (ports : Ports) (flat : Flat) : Type 0 where
   pub ins : names_of ports.ins ≡ names_of_ports flat flat.ins
   pub outs : names_of ports.outs ≡ names_of_ports flat flat.outs
   pub nets : names_and_paths ports.nets
       ≡ map (λ net. name_and_path net.place net.name) (listed_nets flat)
 
--- Driven by any rows of input bits, for any number of cycles: there is a run of the flat netlist on
--- them from its start on, and in every such run each output cell shows the output's bits, and the
--- cell of each listed net those of its class
+-- When any rows of input bits drive the pattern, for any number of cycles, there is a run of the
+-- flat netlist on them, from its start on. In every such run each output's cell shows the output's
+-- bits, and the cell of each listed net shows the bits of the net's class.
 pub record ShowsFlatRuns (plane : Plane) (ports : Ports) (flat : Flat) : Type 0 where
   pub conductors : (rows : List (List Bool)) → AreFlatRows flat rows
       → MeetsConductors (drive ports rows) plane

@@ -1,4 +1,4 @@
--- A text carries a design in one way, and what a table without OUT lines says of it.
+-- A text carries a design with one pattern and one table, and what a table without OUT lines means.
 use Rattle.std.specs.Prelude.{◌≡◌, ℕ, List, []}
 use Rattle.netlist_core.specs.declared.model.Design.{Design}
 use Rattle.netlist_meaning.specs.Places.{main_outputs}

@@ -13,14 +13,14 @@ use Rattle.carries.specs.Cells.{ShowsOutput, drive}
 use Rattle.carries.specs.Carries.{Carries, NamesPorts}
 use Rattle.carries.specs.Nets.{CarriesNets}
 
--- where the table names the design's inputs, input rows have a bit for each IN line
+-- if the table names the design's inputs, each input row has a bit for each IN line
 abbrev pub RowsFitPorts : Type 0
 RowsFitPorts =
     (ports : Ports) (design : Design) (rows : List (List Bool)) → NamesPorts ports design
     → AreInputRows design rows
     → All (λ row. length row ≡ length ports.ins) rows
 
--- driven by rows of input bits, in a run on them
+-- when rows of input bits drive the pattern, in a run on them:
 pub record ShowsCycles {text : List ℕ} {design : Design} (c : Carries text design)
     (rows : List (List Bool)) (run : ℕ → Valuation) : Type 0 where
   -- the cell of an output is a head at generation L + t P, for each cycle t, exactly when the
@@ -41,8 +41,8 @@ CarriesCycles =
     → AreInputRows design rows
     → (run : ℕ → Valuation) → IsRun design rows run → ShowsCycles c rows run
 
--- Where no more bits come, the plane goes on to show the run whose further rows are 0: so there is
--- no last generation
+-- when no further bits come, the pattern goes on to show the run whose further rows are 0: so there
+-- is no last generation
 abbrev pub CarriesOnward : Type 0
 CarriesOnward =
     (text : List ℕ) (design : Design) (c : Carries text design) (rows zeros : List (List Bool))
@@ -53,7 +53,7 @@ CarriesOnward =
     → ShowsOutput c.ports (length (rows ++ zeros)) (λ t. output_bit design (run t) output) g
     (driven (drive c.ports rows) (plane_of c.grid.rows) g) cell
 
--- the first cycles of a longer run are shown whatever the later input bits are
+-- what the pattern shows in the first cycles of a longer run does not depend on later input bits
 abbrev pub CarriesEachFront : Type 0
 CarriesEachFront =
     (text : List ℕ) (design : Design) (c : Carries text design) (rows later : List (List Bool))
@@ -61,9 +61,9 @@ CarriesEachFront =
     → driven (drive c.ports (rows ++ later)) (plane_of c.grid.rows) g
     ≡ driven (drive c.ports rows) (plane_of c.grid.rows) g
 
--- Of a text that carries the nets of a design: in a run on rows that drive the pattern, the cell of
+-- If a text carries the nets of a design, then in a run on rows that drive the pattern the cell of
 -- a net's line is a head at generation offset + t P, for each cycle t, exactly when the net's bit
--- is 1 in the cycle
+-- is 1 in the cycle.
 abbrev pub CarriesNetCycles : Type 0
 CarriesNetCycles =
     (text : List ℕ) (design : Design) (c : CarriesNets text design) (rows : List (List Bool))

@@ -11,43 +11,48 @@ ghost use Rattle.carries.specs.Laws.{OutputsHaveLines};
 ghost use Rattle.carries.specs.ContextLaws.{CarriesEachContext, CarriesNetsOfEachContext, OutputsAreIsolated, NetsAreIsolated, OneContextCarries, OneContextCarriesNets, OneContextCarriesFlat};
 ghost use Rattle.carries.specs.Shown.{CarriesCycles, CarriesNetCycles, CarriesOnward, CarriesEachFront};
 
-/// A text without OUT lines carries no model with an output.
+/// A text whose port table has no OUT line carries no design with an output.
 pub fn outputs_have_lines()
     ensures { OutputsHaveLines }
 {}
 
-/// Driven by rows of input bits, a pattern that carries a design has the cell of an output as a
-/// head at generation L + t P, for each cycle t, exactly when the output's bit is 1 in that cycle
-/// of a run, and never below L; and the cell of a net so at generation offset + t P.
+/// A pattern that carries a design shows each cycle of each run when rows of input bits drive it.
+/// An output's cell is a head at generation L + t P, for each cycle t, exactly when the output's
+/// bit is 1 in that cycle of the run, and it is never a head below L. A net's cell is a head at
+/// generation offset + t P exactly when the net's bit is 1 in cycle t.
 pub fn carries_cycles()
     ensures outputs { CarriesCycles }
     ensures nets { CarriesNetCycles }
 {}
 
-/// Without further input bits it goes on, without a last generation, to show the run whose further
-/// input bits are 0; and what it shows of the first cycles does not depend on later input bits.
+/// When no further input bits come, the pattern goes on to show the run whose further input bits
+/// are 0, without a last generation. What it shows of the first cycles does not depend on later
+/// input bits.
 pub fn carries_onward()
     ensures onward { CarriesOnward }
     ensures each_front { CarriesEachFront }
 {}
 
-/// Driven by rows of input bits in several contexts, a pattern that carries a design in them has
-/// the cell of an output as a head at generation L + 32 c + t P, for each cycle t of context c,
-/// exactly when the output's bit is 1 in that cycle of a run on the rows of c, and never below L;
-/// and the cell of a net so at generation offset + 32 c + t P.
+/// A pattern that carries a design in several contexts shows each cycle of a run for each context
+/// when rows of input bits drive it. An output's cell is a head at generation L + 32 c + t P, for
+/// each cycle t of context c, exactly when the output's bit is 1 in that cycle of a run on the rows
+/// of c, and it is never a head below L. A net's cell is a head at generation offset + 32 c + t P
+/// exactly when the net's bit is 1 in that cycle.
 pub fn carries_each_context()
     ensures outputs { CarriesEachContext }
     ensures nets { CarriesNetsOfEachContext }
 {}
 
-/// At these generations such a pattern shows the same under two drives that agree on context c,
-/// whatever the rows of the other contexts are.
+/// Under two drives that have the same rows for context c, an output's cell is a head at the same
+/// generations L + 32 c + t P, and a net's cell at the same generations offset + 32 c + t P,
+/// whatever rows the other contexts have.
 pub fn contexts_are_isolated()
     ensures outputs { OutputsAreIsolated }
     ensures nets { NetsAreIsolated }
 {}
 
-/// To carry a design, its nets or a flat netlist in one context, from the start on, is to carry it.
+/// A text carries a design, its nets or a flat netlist exactly when it carries it in one context
+/// that begins with the start state.
 pub fn one_context_carries()
     ensures design { OneContextCarries }
     ensures nets { OneContextCarriesNets }
@@ -55,9 +60,10 @@ pub fn one_context_carries()
 {}
 
 /// A text that runs by itself on rows of input bits has one pattern and one table. In a run that
-/// goes on with bits 0 it has the cell of an output as a head at a generation exactly when this is
-/// L + t P for a cycle t in which the output's bit is 1, without a last generation; and the cell of
-/// a net so with offset for L. On the rows with rows of 0 after them it runs by itself, too.
+/// goes on with bits 0, an output's cell is a head exactly at the generations L + t P of the cycles
+/// t in which the output's bit is 1, without a last generation. The same holds for a net's cell,
+/// with its offset in place of L. The text also runs by itself on the rows with rows of 0 after
+/// them.
 pub fn runners_go_on()
     ensures one_way { RunsInOneWay }
     ensures onward { RunnersGoOn }

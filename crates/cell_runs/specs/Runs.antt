@@ -1,4 +1,4 @@
--- What a list of cells gives cycle by cycle, on rows of input bits, one for each cycle.
+-- What a list of cells gives, cycle by cycle, on rows of input bits, one row for each cycle.
 use Rattle.std.specs.Prelude.{ℕ, zero, suc, ◌≡◌, ◌≤◌, Bool, List, [], length, map, get_or}
 use Rattle.std.specs.List.{range_with_len}
 use Rattle.cell_core.specs.declared.cells.Src.{Src}
@@ -10,7 +10,7 @@ use Rattle.netlist_meaning.specs.Valuation.{Valuation, IsRun}
 use Rattle.netlist_run.specs.Runs.{bits_in_run}
 use Rattle.lifted_designs.specs.Computes.{ComputesDesign}
 
--- the bits of the latches in a cycle: at first those with which they start, and later what they
+-- the bits of the latches in a cycle: first those with which they start, and later those that they
 -- read in the cycle before
 abbrev pub state_in_cycle : CellList → List (List Bool) → ℕ → List Bool
 state_in_cycle list rows zero = list.starts
@@ -28,8 +28,8 @@ shown_by list rows cycles =
     map (λ source. map (λ cycle. bit_in_cycle list rows cycle source)
     (range_with_len 0 cycles)) list.outs
 
--- A list that computes a design, with a source for each of its main outputs, gives the bits that
--- these have in a run of the design on the rows.
+-- A list that computes a design, with a source for each of the design's main outputs, gives the
+-- bits that these outputs have in a run of the design on the rows.
 abbrev pub ListsRunAsDesigns : Type 0
 ListsRunAsDesigns =
     (list : CellList) (design : Design) (rows : List (List Bool)) (run : ℕ → Valuation) (cycles : ℕ)

@@ -9,8 +9,8 @@ use lists::List;
 use std::alloc::{AllocError, Global};
 use std::mem;
 
-/// The bits of the latches, and those that the inputs, the cells and the outputs had in the cycle
-/// before; `next` is room for the latches' next bits.
+/// The bits of the latches, and the bits that the inputs, the cells and the outputs had in the
+/// cycle before; `next` is room for the latches' next bits.
 #[derive(Drop)]
 pub struct CycleBits {
     row: Vec<bool>,
@@ -20,7 +20,7 @@ pub struct CycleBits {
     next: Vec<bool>,
 }
 
-// The bit of that number, and 0 where there is none.
+// The bit of that number, or 0 if there is none.
 fn bit_at(bits: &[bool], number: u32) -> bool
     ensures { result ≡ flag_at bits.now number }
 {
@@ -30,7 +30,7 @@ fn bit_at(bits: &[bool], number: u32) -> bool
     }
 }
 
-// The bit of a source, where the inputs, the latches and the first cells have these bits.
+// The bit of a source, if the inputs, the latches and the first cells have these bits.
 fn source_bit(row: &[bool], state: &[bool], made: &[bool], source: Src) -> bool
     ensures { result ≡ source_bit row.now state.now made.now source }
 {
@@ -43,7 +43,7 @@ fn source_bit(row: &[bool], state: &[bool], made: &[bool], source: Src) -> bool
     }
 }
 
-// The bit that a cell makes of them.
+// The bit that a cell makes, if the inputs, the latches and the first cells have these bits.
 fn cell_bit(row: &[bool], state: &[bool], made: &[bool], cell: Cell) -> bool
     ensures { result ≡ cell_bit row.now state.now made.now cell }
 {
@@ -54,7 +54,7 @@ fn cell_bit(row: &[bool], state: &[bool], made: &[bool], cell: Cell) -> bool
     }
 }
 
-// Puts the bits of the inputs in a cycle in the place of others.
+// Replaces a row by the bits of the inputs in a cycle.
 fn put_row(streams: &[List<bool>], cycle: usize, row: &mut Vec<bool>) -> Result<(), AllocError>
     requires { All (λ bits. cycle < length bits) streams.now }
     ensures { OnOk result (row.new.items ≡ bits_across streams.now cycle) }
@@ -66,7 +66,7 @@ fn put_row(streams: &[List<bool>], cycle: usize, row: &mut Vec<bool>) -> Result<
     Ok(())
 }
 
-// Puts the bits of cells, the first of them first, in the place of others.
+// Replaces bits by those of cells, from the first cell on.
 fn put_cells(
     cells: &[Cell],
     row: &[bool],
@@ -83,7 +83,7 @@ fn put_cells(
     Ok(())
 }
 
-// Puts the bits of sources in the place of others.
+// Replaces bits by those of sources.
 fn put_sources(
     sources: &[Src],
     row: &[bool],
@@ -102,7 +102,7 @@ fn put_sources(
 }
 
 impl CycleBits {
-    /// The latches have the bits with which they start.
+    /// Makes the state in which the latches have the bits with which they start.
     pub fn at_start(alloc: Global, list: &CellList) -> Result<CycleBits, AllocError>
         ensures { IfOk result (λ bits. bits.state.items ≡ list.now.starts) }
     {
@@ -116,7 +116,7 @@ impl CycleBits {
         })
     }
 
-    /// The bits of a cycle, and in place of the latches' bits their next ones.
+    /// Computes the bits of a cycle, and replaces the latches' bits by their next ones.
     pub fn run_cycle(
         &mut self,
         list: &CellList,

@@ -10,7 +10,7 @@ use lists::List;
 use std::alloc::{AllocError, Global};
 use streams::Streams;
 
-// A list of so many bits of 0 for each output.
+// For each output a list of `cycles` bits that are 0.
 fn dark_lists(alloc: Global, outputs: usize, cycles: usize) -> Result<Vec<List<bool>>, AllocError>
     ensures { IfOk result (λ lists. lists.items ≡ replicate outputs (replicate cycles false)) }
 {
@@ -31,7 +31,7 @@ fn put_bit(lists: &mut [List<bool>], number: usize, place: usize, bit: bool)
     lists[number].as_mut_slice()[place] = bit;
 }
 
-// Puts a bit for each list at a place of it.
+// Puts a bit at a place of each list.
 fn put_column(lists: &mut [List<bool>], place: usize, column: &[bool])
     requires many { length column.now ≡ length lists.old }
     requires long { All (λ bits. place < length bits) lists.old }
@@ -45,8 +45,8 @@ fn put_column(lists: &mut [List<bool>], place: usize, column: &[bool])
     }
 }
 
-/// The bits of each output, cycle after cycle: the latches begin with their starts, and each input
-/// has the bits of its stream. A call asks for streams of as many bits as there are cycles.
+/// Returns the bits of each output, cycle after cycle. The latches begin with their starts, and
+/// each input has the bits of its stream. A call needs streams with a bit for each cycle.
 pub fn run(
     alloc: Global,
     list: &CellList,

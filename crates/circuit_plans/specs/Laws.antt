@@ -1,9 +1,9 @@
--- The starts of a circuit are told by the bits of its loops.
+-- The bits of a circuit's loops tell the circuit's starts.
 use Rattle.std.specs.Prelude.{ℕ, ◌<◌, ◌≡◌, Bool}
 use Rattle.lane_core.specs.declared.plan.Plan.{Plan}
 use Rattle.circuit_plans.specs.Circuits.{IsCircuit, starts_with_one, starts_where}
 
--- a test that holds of the loops that start with 1 gives the plan's list of starts
+-- a test that holds exactly for the loops that start with 1 gives the plan's list of starts
 abbrev pub StartsAreOfLoops : Type 0
 StartsAreOfLoops =
     (plan : Plan) → IsCircuit plan → (holds : ℕ → Bool)

@@ -1,4 +1,5 @@
--- What a plan's columns do to sources on lanes: each gate makes a cell of the two that it finds.
+-- What a plan's columns do to sources on lanes: each gate makes a cell of the two sources that it
+-- finds.
 use Rattle.std.specs.Prelude.{ℕ, ◌+◌, ◌-◌, List, [], ◌∷◌, ◌++◌, map, fold, length, slice_index_or, slice_set, replicate}
 use Rattle.std.specs.List.{range_with_len}
 use Rattle.lane_core.specs.declared.instr.Instr.{Instr}
@@ -12,7 +13,7 @@ use Rattle.cell_core.specs.declared.cells.Src.TheVariants.{Input, Latch, Zero, C
 use Rattle.cell_core.specs.declared.cells.Cell.{Cell}
 use Rattle.cell_core.specs.declared.cells.Cell.TheVariants as cell
 
--- the cells so far, and what is on each lane
+-- the cells so far, and the source on each lane
 pub record Lanes : Type 0 where
   pub cells : List Cell
   pub sources : List Src
@@ -31,7 +32,8 @@ cells_made (Xor i) a b = cell.Xor a b ∷ []
 cells_made (Or i) a b = cell.Or a b ∷ []
 cells_made (AndNot i) a b = cell.AndNot a b ∷ []
 
--- what it puts on its upper lane, where the next cell has this number, and on its lower lane
+-- what an instruction puts on its upper lane, if the next cell has this number, and below, on its
+-- lower lane
 abbrev pub upper_source : Instr → ℕ → Src → Src → Src
 upper_source (Swap i) next a b = b
 upper_source (Fork i) next a b = a
@@ -67,7 +69,7 @@ lift_column lanes column = lift_instrs lanes column.instrs
 abbrev pub lift_columns : Lanes → List Column → Lanes
 lift_columns lanes columns = fold lift_column lanes columns
 
--- inputs put on lanes, from the one of this number on
+-- the sources with inputs put on lanes, from the input of this number on
 abbrev pub sources_with_inputs : ℕ → List ℕ → List Src → List Src
 sources_with_inputs i [] sources = sources
 sources_with_inputs i (lane ∷ lanes) sources =
@@ -83,7 +85,8 @@ entry_sources plan =
 abbrev pub entry_lanes : Plan → Lanes
 entry_lanes plan = record { cells = []; sources = entry_sources plan }
 
--- what leaves them on these lanes, and on those of loops
+-- the sources that leave the columns on these lanes, and below, those that leave on the lanes of
+-- loops
 abbrev pub sources_on : List Src → List ℕ → List Src
 sources_on sources lanes = map (source_on sources) lanes
 

@@ -5,7 +5,9 @@ use Rattle.cell_core.specs.declared.list.CellList.{CellList}
 use Rattle.circuit_plans.specs.Circuits.{first_bits}
 use Rattle.circuit_plans.specs.Lifted.{entry_lanes, lift_columns, sources_on, sources_leaving}
 
--- what the list of a plan is
+-- the list of a plan: its inputs are the plan's, its cells are those that the columns make, its
+-- outputs and latches are the sources that leave the columns, its starts are those of the loops,
+-- and it has no nets
 pub record IsListOf (plan : Plan) (list : CellList) : Type 0 where
   pub inputs : list.inputs ≡ length plan.ins
   pub cells : list.cells ≡ (lift_columns (entry_lanes plan) plan.columns).cells

@@ -26,7 +26,7 @@ fn put_inputs(sources: &mut [Src], lanes: &[u32])
     }
 }
 
-// So many lanes, with inputs on some of them.
+// `free` lanes, with inputs on some of them.
 fn input_sources(alloc: Global, free: u32, ins: &[u32]) -> Result<Vec<Src>, AllocError>
     requires few { length ins.now < 2 ^ 32 }
     requires on_lanes { All (λ lane. lane < free) ins.now }
@@ -38,7 +38,7 @@ fn input_sources(alloc: Global, free: u32, ins: &[u32]) -> Result<Vec<Src>, Allo
     Ok(sources)
 }
 
-// The loops, after other lanes.
+// Adds the loops after the other lanes.
 fn push_loops(sources: &mut Vec<Src>, loops: u32) -> Result<(), AllocError>
     ensures { OnOk result (sources.new.items ≡
         sources.old.items ++ map Latch (range_with_len 0 loops)) }
@@ -49,7 +49,7 @@ fn push_loops(sources: &mut Vec<Src>, loops: u32) -> Result<(), AllocError>
     Ok(())
 }
 
-/// What enters the columns, lane by lane.
+/// Returns what enters the columns, lane by lane.
 pub fn entry_sources(alloc: Global, plan: &Plan) -> Result<Vec<Src>, AllocError>
     requires admissible { IsAdmissible plan.now }
     requires few { length plan.now.ins < 2 ^ 32 }

@@ -14,7 +14,7 @@ fn source_on(sources: &[Src], lane: usize) -> Src
     }
 }
 
-/// On these lanes.
+/// Returns the sources on these lanes.
 pub fn sources_on(alloc: Global, sources: &[Src], lanes: &[u32]) -> Result<Vec<Src>, AllocError>
     ensures { IfOk result (λ on. on.items ≡ sources_on sources.now lanes.now) }
 {
@@ -25,7 +25,7 @@ pub fn sources_on(alloc: Global, sources: &[Src], lanes: &[u32]) -> Result<Vec<S
     Ok(on)
 }
 
-/// On the lanes of so many loops, the first of which leaves on the lowest.
+/// Returns the sources on the lanes of so many loops; the first loop leaves on the lowest lane.
 pub fn sources_leaving(
     alloc: Global,
     sources: &[Src],

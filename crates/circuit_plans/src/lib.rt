@@ -13,5 +13,6 @@ mod lifting;
 mod loops;
 
 pub use lifting::cells_of;
+// The answer of `cells_of` when memory runs out.
 pub use lists::OutOfMemory as LiftError;
 pub use loops::{first_bits, starts_of_bits};

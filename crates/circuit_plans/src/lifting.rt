@@ -104,7 +104,7 @@ fn lift_columns(
     Ok(())
 }
 
-// The list of a plan's columns, from what enters them, lane by lane.
+// The list of cells that a plan's columns make of what enters them, lane by lane.
 fn list_of(
     alloc: Global,
     plan: &Plan,
@@ -131,10 +131,10 @@ fn list_of(
     })
 }
 
-/// The cells that the columns of a plan make, column by column and in each by lane, with its loops
-/// as latches. Its nets are not looked at, and the list has none. It names no constant 1: where a
-/// plan was made with a loop of constant 1, that is a latch here, which starts with 1 and feeds
-/// itself.
+/// Returns the cells that the columns of a plan make, column by column and in each column by lane,
+/// with the plan's loops as latches. It does not look at the plan's nets, and the list has none.
+/// The list names no constant 1: a loop of constant 1 of the plan is a latch here, which starts
+/// with 1 and feeds itself.
 pub fn cells_of(alloc: Global, plan: &Plan) -> Result<CellList, LiftError>
     requires admissible { IsAdmissible plan.now }
     ensures list { IfOk result (IsListOf plan.now) }

@@ -7,8 +7,8 @@ use lane_core::{Plan, Start, Starts};
 use lists::List;
 use std::alloc::{AllocError, Global};
 
-/// The name of the edge at which a loop enters the first column, of so many lanes and loops: by the
-/// cell there.
+/// Returns the edge at which a loop enters the first column, in a plan of so many lanes and loops,
+/// by the edge's cell.
 pub fn loop_start(lanes: u32, loops: u32, number: u32) -> Start
     requires { loops ≤ lanes }
     ensures { result ≡ loop_start lanes loops number }
@@ -28,8 +28,8 @@ fn starts_with_one(plan: &Plan, number: u32) -> bool
     plan.starts.has(start.x, start.y)
 }
 
-/// The bits with which the loops of a plan start, where electrons stand only where loops enter the
-/// columns.
+/// Returns the bits with which the loops of a plan start, if electrons stand only where loops enter
+/// the columns: 1 for a loop if an electron stands where it enters.
 pub fn first_bits(alloc: Global, plan: &Plan) -> Result<Vec<bool>, AllocError>
     requires { plan.now.latches ≤ plan.now.lanes }
     ensures { IfOk result (λ bits. bits.items ≡ first_bits plan.now) }
@@ -41,7 +41,7 @@ pub fn first_bits(alloc: Global, plan: &Plan) -> Result<Vec<bool>, AllocError>
     Ok(bits)
 }
 
-// Puts a start at the end, where the bit is 1.
+// Adds a start if the bit is 1.
 fn push_if(found: &mut Vec<Start>, bit: bool, start: Start) -> Result<(), AllocError>
     ensures { OnOk result (found.new.items ≡ found.old.items ++ alone_if bit start) }
 {
@@ -51,7 +51,7 @@ fn push_if(found: &mut Vec<Start>, bit: bool, start: Start) -> Result<(), AllocE
     Ok(())
 }
 
-/// The starts of loops that start with these bits, one for each loop.
+/// Returns the starts of loops that start with these bits, one bit for each loop.
 pub fn starts_of_bits(alloc: Global, lanes: u32, bits: &[bool]) -> Result<Starts, AllocError>
     requires { length bits.now ≤ lanes }
     ensures { IfOk result (λ starts. starts.list ≡

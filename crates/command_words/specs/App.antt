@@ -1,21 +1,21 @@
--- The command line as clap sees it: one required subcommand, each with its options of one value,
--- and its last words.
+-- The command line as clap sees it: one required subcommand, with its options of one value and its
+-- last words.
 use Rattle.std.specs.Prelude.{List, [], ◌∷◌, Some, codes, true}
 use Rattle.clap.specs.Walk.{Rule, Text}
 use Rattle.clap.specs.Simple.{App, new_app, new_rule, with_rule, with_subcommand}
 use Rattle.clap.specs.Lexer.{usize_max}
 use Rattle.clap.specs.declared.builder.action.ArgAction.TheVariants.{Set, Append}
 
--- `--name VALUE`, which may be missing
+-- an option `--name VALUE` that may be missing
 abbrev pub free_option : Text → Rule
 free_option name = record (new_rule name) { long = Some name; action = Some Set }
 
--- `--name VALUE`, which is required
+-- a required option `--name VALUE`
 abbrev pub required_option : Text → Rule
 required_option name =
     record (new_rule name) { long = Some name; required = true; action = Some Set }
 
--- zero or more words, last
+-- any number of words, last
 abbrev pub stream_words : Rule
 stream_words =
     record (new_rule (codes "streams")) {
@@ -23,7 +23,7 @@ stream_words =
       action = Some Append;
     }
 
--- the command with these options too, which are required
+-- the command with these required options added
 abbrev pub with_required : App → List Text → App
 with_required a [] = a
 with_required a (name ∷ names) = with_required (with_rule a (required_option name)) names
@@ -61,7 +61,7 @@ aiger_app = new_app (codes "aiger")
 abbrev pub lift_app : App
 lift_app = new_app (codes "lift")
 
--- the program, which has neither a help nor a version of clap's own
+-- the program, without clap's help and version
 abbrev pub bare_app : App
 bare_app = let a = new_app (codes "blifww") in record a {
   top = record a.top {
@@ -72,7 +72,7 @@ bare_app = let a = new_app (codes "blifww") in record a {
   };
 }
 
--- the command with these as its subcommands too
+-- the command with these subcommands added
 abbrev pub with_subcommands : App → List App → App
 with_subcommands a [] = a
 with_subcommands a (sub ∷ subs) = with_subcommands (with_subcommand a sub.top) subs

@@ -8,7 +8,7 @@ use Rattle.command_words.specs.declared.app.Argument.{Argument}
 use Rattle.command_words.specs.declared.app.CommandForm.{CommandForm}
 use Rattle.command_words.specs.declared.app.Argument.TheVariants.{Required, Free, Streams}
 
--- `--name VALUE`
+-- an option `--name VALUE`
 abbrev pub option_by : Text → Bool → Rule
 option_by name required =
     record (new_rule name) { long = Some name; required = required; action = Some Set }
@@ -18,7 +18,7 @@ rule_for (Required name) = option_by name.now true
 rule_for (Free name) = option_by name.now false
 rule_for Streams = stream_words
 
--- the command with these arguments too
+-- the command with these arguments added
 abbrev pub with_arguments : App → List Argument → App
 with_arguments a [] = a
 with_arguments a (argument ∷ arguments) = with_arguments (with_rule a (rule_for argument)) arguments
@@ -27,7 +27,7 @@ with_arguments a (argument ∷ arguments) = with_arguments (with_rule a (rule_fo
 abbrev pub app_for : CommandForm → App
 app_for form = with_arguments (new_app form.name.now) form.arguments.now
 
--- the program with the commands of these forms too
+-- the program with the commands of these forms added
 abbrev pub with_forms : App → List CommandForm → App
 with_forms a [] = a
 with_forms a (form ∷ forms) = with_forms (with_subcommand a (app_for form).top) forms

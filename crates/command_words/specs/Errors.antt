@@ -1,4 +1,4 @@
--- Why words are refused, by what clap says of them.
+-- Why words are refused, by clap's error.
 use Rattle.clap.specs.Values.{kind_of}
 use Rattle.clap.specs.declared.error.Error.{Error}
 use Rattle.clap.specs.declared.error.kind.ErrorKind.{ErrorKind}

@@ -10,7 +10,7 @@ abbrev pub are_digits : List ℕ → Bool
 are_digits [] = false
 are_digits (b ∷ bs) = list_all is_ascii_digit (b ∷ bs)
 
--- the number that the digits write, where it lies between two bounds; leading zeros are free
+-- the number that the digits write, if it lies between two bounds; leading zeros are allowed
 abbrev pub number_between : ℕ → ℕ → List ℕ → Option ℕ
 number_between least most text =
     if are_digits text && (nat_le least (digits_value 10 text)
@@ -18,13 +18,13 @@ number_between least most text =
     then Some (digits_value 10 text)
     else None
 
--- the name of an option that takes a number, and the least and the greatest that it takes
+-- an option that takes a number: its name, and the least and the greatest number that it takes
 pub record NumberRange : Type 0 where
   pub name : List ℕ
   pub least : ℕ
   pub most : ℕ
 
--- the number that the text writes in digits, where the option takes it
+-- the number that the text writes in digits, if the option takes it
 abbrev pub number_taken : NumberRange → List ℕ → Option ℕ
 number_taken range text = number_between range.least range.most text
 
@@ -59,7 +59,7 @@ size_range = record { name = codes "size"; least = 1; most = 128 }
 abbrev pub contexts_range : NumberRange
 contexts_range = record { name = codes "contexts"; least = 1; most = 4294967295 }
 
--- the options of the commands but `tape` that take numbers
+-- the options that take numbers, of the commands except `tape`
 abbrev pub number_ranges : List NumberRange
 number_ranges =
     cycles_range ∷ generation_range ∷ x_range ∷ y_range ∷ width_range ∷ height_range ∷ seed_range

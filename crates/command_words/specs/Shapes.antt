@@ -12,8 +12,8 @@ use Rattle.command_words.specs.declared.command.View.{View}
 use Rattle.command_words.specs.declared.command.Command.{Command}
 use Rattle.command_words.specs.declared.command.Command.TheVariants.{Compile, Simulate, Eval, Probe, Window, Make, Self_, Tape, Aiger, Vcd, Lift}
 
--- a command with its values, of which the words that give the streams, or the start states of
--- contexts, stand last
+-- a command with its values; the words that give the streams, or the start states of contexts,
+-- stand last
 pub data CommandValues : Type 0 where
   compile : (contexts : ℕ) → (starts : List Text) → CommandValues
   simulate : (cycles : ℕ) → (streams : List Text) → CommandValues
@@ -41,14 +41,14 @@ values_of Aiger = aiger
 values_of (Vcd cycles streams) = vcd cycles (map string_bytes streams)
 values_of Lift = lift
 
--- each number of the view is one that its option takes
+-- the options take each number of the view
 abbrev pub HasViewInRange : View → Type 0
 HasViewInRange view =
     TakesNumber generation_range view.generation × TakesNumber x_range view.x
     × TakesNumber y_range view.y
     × TakesNumber width_range view.width × TakesNumber height_range view.height
 
--- each number of the command is one that its option takes
+-- the options take each number of the command
 abbrev pub HasNumbersInRange : CommandValues → Type 0
 HasNumbersInRange (compile contexts starts) = TakesNumber contexts_range contexts
 HasNumbersInRange (simulate cycles streams) = TakesNumber cycles_range cycles
@@ -63,7 +63,7 @@ HasNumbersInRange aiger = ⊤
 HasNumbersInRange (vcd cycles streams) = TakesNumber cycles_range cycles
 HasNumbersInRange lift = ⊤
 
--- the number that the matches give an option, where it is in its range
+-- the number that the matches give an option, if it is in the option's range
 abbrev pub number_met : NumberRange → List Row → Option ℕ
 number_met range rows = option_and_then (number_taken range) (first_of range.name rows)
 
@@ -71,8 +71,8 @@ number_met range rows = option_and_then (number_taken range) (first_of range.nam
 abbrev pub streams_met : List Row → List Text
 streams_met rows = unwrap_or (all_of (codes "streams") rows) []
 
--- how many contexts there are, by the text that gives them and the words: without a text there is
--- one, and there are no words
+-- the number of contexts, by the text that gives it and the words: without a text there is one, and
+-- there are no words
 abbrev pub contexts_by : Option Text → List Text → Option ℕ
 contexts_by (Some text) words = number_taken contexts_range text
 contexts_by None [] = Some 1
@@ -81,7 +81,7 @@ contexts_by None (word ∷ words) = None
 abbrev pub contexts_met : List Row → Option ℕ
 contexts_met rows = contexts_by (first_of contexts_range.name rows) (streams_met rows)
 
--- for each command its values by the matches of its options and words
+-- the values of each command, by the matches of its options and words
 abbrev pub compile_by : List Row → Option CommandValues
 compile_by rows = option_map (λ contexts. compile contexts (streams_met rows)) (contexts_met rows)
 
@@ -137,29 +137,29 @@ values_by_name name rows =
 abbrev pub values_met : Option (Text × List Row) → Option CommandValues
 values_met = option_and_then (λ met. values_by_name met.0 met.1)
 
--- the command that clap's matches for the words name, with its values, where its numbers lie in
--- their ranges
+-- the values of the command that clap's matches for the words name, if its numbers lie in their
+-- ranges
 abbrev pub command_values : List Text → Option CommandValues
 command_values words = values_met (subcommand_of blifww_app words)
 
--- each number that the rows give an option of these is in its range
+-- each number that the rows give to one of these options is in the option's range
 abbrev pub AreInRanges : List NumberRange → List Row → Type 0
 AreInRanges ranges rows =
     AllByRecursion (λ range. IfSome (first_of range.name rows)
     (λ text. is_some (number_taken range text) ≡ true)) ranges
 
--- each number that the matches give the command is in its range
+-- each number that the matches give to the command is in its range
 abbrev pub MeetsRanges : Option (Text × List Row) → Type 0
 MeetsRanges met = IfSome met (λ met. AreInRanges (ranges_of met.0) met.1)
 
--- words of `compile` stand beside a number of contexts alone
+-- words of `compile` stand only beside a number of contexts
 abbrev pub MeetsContexts : Option (Text × List Row) → Type 0
 MeetsContexts met =
     IfSome met (λ met. bytes_eq met.0 (codes "compile") ≡ true
     → is_some (first_of (codes "contexts") met.1) ≡ false → streams_met met.1 ≡ [])
 
--- The words are a command: a parse of them by clap can fail for want of memory alone, each number
--- lies in its range, and `compile` has words with `--contexts` alone.
+-- The words are a command: clap's parse of them can fail for lack of memory alone, each number lies
+-- in its range, and `compile` has words only with `--contexts`.
 pub record IsCommand (words : List Text) : Type 0 where
   pub taken : takes blifww_app words ≡ true
   pub in_range : MeetsRanges (subcommand_of blifww_app words)
@@ -187,18 +187,18 @@ pub record IsPlain (command : Text) (options : List (Text × Text))
   pub words_are : words ≡ program ∷ command ∷ option_words options ++ streams
   pub plain : list_all is_plain_word streams ≡ true
 
--- the text writes the number in digits, and it is in its range
+-- the text writes the number in digits, and the number is in its range
 abbrev pub Writes : NumberRange → Text → ℕ → Type 0
 Writes range text number = number_taken range text ≡ Some number
 
--- these options give this path: there is none, and it is `-`, or one
+-- these options give this path: there is no option and the path is `-`, or one option gives it
 abbrev pub GivesPath : List (Text × Text) → Text → Type 0
 GivesPath [] path = path ≡ codes "-"
 GivesPath (given ∷ []) path = (given ≡ (codes "path", path)) × (is_plain_word path ≡ true)
 GivesPath _ path = ⊥
 
--- these options give words this number of contexts: there is none, it is 1, and there are no words,
--- or there is one
+-- these options give words this number of contexts: there is no option, the number is 1 and there
+-- are no words, or one option gives the number
 abbrev pub GivesContexts : List (Text × Text) → ℕ → List Text → Type 0
 GivesContexts [] contexts starts = (contexts ≡ 1) × (starts ≡ [])
 GivesContexts (given ∷ []) contexts starts =
@@ -210,9 +210,9 @@ abbrev pub IsDrivenCommand : Text → NumberRange → ℕ → List Text → List
 IsDrivenCommand command range cycles streams words =
     (n : Text) × IsPlain command ((codes "cycles", n) ∷ []) streams words × Writes range n cycles
 
--- The plainest form of a command with these values: the program's name, the command's, its options
--- in the order of the table, each as two words with numbers in digits and in their ranges, and then
--- its words. Of `probe` the path may be missing, and of `compile` the contexts.
+-- The plainest form of a command with these values: the program's name, the command's name, its
+-- options in the order of the table, each as two words with numbers in digits and in their ranges,
+-- and then its words. `probe` may lack the path, and `compile` the contexts.
 abbrev pub IsWritten : CommandValues → List Text → Type 0
 IsWritten (compile contexts starts) words =
     (options : List (Text × Text)) × IsPlain (codes "compile") options starts words

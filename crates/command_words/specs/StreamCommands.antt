@@ -1,4 +1,4 @@
--- What the commands are read as.
+-- The values of commands.
 use Rattle.std.specs.Prelude.{◌≡◌, ⊤, ℕ, List, Option, Some, None, Ok, Err, Result}
 use Rattle.clap.specs.Walk.{Row, Text}
 use Rattle.command_words.specs.Numbers.{NumberRange, cycles_range, tape_cycles_range}
@@ -11,14 +11,14 @@ use Rattle.command_words.specs.declared.command.StreamCommand.TheVariants.{Simul
 use Rattle.command_words.specs.declared.error.WordsError.{WordsError}
 use Rattle.command_words.specs.declared.error.WordsError.TheVariants.{Usage, NoMemory}
 
--- with a number of cycles and words
+-- the values of a command that streams drive, with a number of cycles and words
 abbrev pub values_by : StreamCommand → ℕ → List Text → CommandValues
 values_by Simulate cycles streams = simulate cycles streams
 values_by Eval cycles streams = eval cycles streams
 values_by Tape cycles streams = tape cycles streams
 values_by Vcd cycles streams = vcd cycles streams
 
--- the numbers of cycles that it takes
+-- the numbers of cycles that the command takes
 abbrev pub range_of : StreamCommand → NumberRange
 range_of Tape = tape_cycles_range
 range_of _ = cycles_range
@@ -35,8 +35,8 @@ values_of_kind kind.Self_ rows = self_by rows
 values_of_kind kind.Aiger rows = Some aiger
 values_of_kind kind.Lift rows = Some lift
 
--- a command has the values that were met, with numbers in their ranges, and where words are refused
--- as none there are no values
+-- a command has the values that were met, with numbers in their ranges; if words are refused as no
+-- command, there are no values
 abbrev pub Reads : Option CommandValues → Result Command WordsError → Type 0
 Reads values (Ok command) =
     (values ≡ Some (values_of command)) × HasNumbersInRange (values_of command)

@@ -10,11 +10,11 @@ use std::alloc::{AllocError, Global};
 
 // What a command takes after its name.
 pub enum Argument {
-    // An option of one value, which is required.
+    // A required option of one value.
     Required(&'static str),
-    // An option of one value, which may be missing.
+    // An option of one value that may be missing.
     Free(&'static str),
-    // Words of any number, last.
+    // Any number of words, last.
     Streams,
 }
 
@@ -35,7 +35,7 @@ fn option<'a>(alloc: Global, name: &'static str, required: bool) -> Arg<'a>
         .action(ArgAction::Set)
 }
 
-// Words of any number, last.
+// Any number of words, last.
 fn streams<'a>(alloc: Global) -> Arg<'a>
     ensures rule { rule_of result ≡ stream_words }
     ensures local { result.global ≡ false }
@@ -45,7 +45,7 @@ fn streams<'a>(alloc: Global) -> Arg<'a>
         .action(ArgAction::Append)
 }
 
-// The argument as clap knows it.
+// The argument in clap's form.
 fn arg_of<'a>(alloc: Global, argument: &Argument) -> Arg<'a>
     ensures rule { rule_of result ≡ rule_for argument.now }
     ensures local { result.global ≡ false }
@@ -57,7 +57,7 @@ fn arg_of<'a>(alloc: Global, argument: &Argument) -> Arg<'a>
     }
 }
 
-// The command of a form.
+// Makes the command of a form.
 pub fn command_with<'a>(alloc: Global, form: &CommandForm) -> Result<Command<'a>, AllocError>
     ensures app { IfOk result (λ c. app_of c ≡ app_for form.now) }
     ensures plain { IfOk result (λ c. (fields_of c).has_globals ≡ false) }

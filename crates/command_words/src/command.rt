@@ -15,8 +15,8 @@ use clap::ArgMatches;
 use lists::List;
 use std::alloc::{AllocError, Global};
 
-/// A part of the plane at a generation: `width` cells of each of `height` rows, the first of which
-/// is the cell `x`, `y`.
+/// A part of the plane at a generation: `height` rows of `width` cells, of which the first is the
+/// cell at column `x` and row `y`.
 #[derive(Clone, Copy, PartialEq, Eq)]
 pub struct View {
     pub generation: u64,
@@ -26,12 +26,12 @@ pub struct View {
     pub height: u64,
 }
 
-/// A command with its values. `cycles` says how many, and `streams` are the words that give the
-/// streams.
+/// A command with its values. `cycles` is the number of cycles, and `streams` are the words that
+/// give the streams.
 #[derive(Drop)]
 pub enum Command {
-    /// `contexts` is 1, and there are no `starts`, where the words give no number of contexts.
-    /// `starts` are the words that give the start states.
+    /// `starts` are the words that give the start states. If the words give no number of contexts,
+    /// `contexts` is 1 and there are no `starts`.
     Compile {
         contexts: u64,
         starts: List<String>,
@@ -44,7 +44,7 @@ pub enum Command {
         cycles: usize,
         streams: List<String>,
     },
-    /// `path` is `-` where the words give none.
+    /// `path` is `-` if the words give none.
     Probe {
         cycles: usize,
         net: String,
@@ -76,7 +76,7 @@ pub enum Command {
     Lift,
 }
 
-// A command that is driven by streams.
+// A command that streams drive.
 #[derive(Clone, Copy)]
 enum StreamCommand {
     Simulate,
@@ -86,7 +86,7 @@ enum StreamCommand {
 }
 
 impl StreamCommand {
-    // How many cycles the options give it.
+    // The number of cycles that the options give.
     fn cycles_in(self, found: &ArgMatches<'_>) -> Option<usize>
         ensures value { result ≡ number_met (range_of self) (rows_of (found_of found.now)) }
         ensures bounds { IfSome result (TakesNumber (range_of self)) }
@@ -200,8 +200,7 @@ fn has_words(found: &ArgMatches<'_>) -> bool
     !found.get_strs("streams").unwrap_or(&[]).is_empty()
 }
 
-// How many contexts there are: one where the words do not say it, and none where there are last
-// words then.
+// The number of contexts: one if no option gives it, and none if there are last words then.
 fn contexts_in(found: &ArgMatches<'_>) -> Option<u64>
     ensures value { result ≡ contexts_met (rows_of (found_of found.now)) }
     ensures bounds { IfSome result (TakesNumber contexts_range) }
@@ -213,7 +212,7 @@ fn contexts_in(found: &ArgMatches<'_>) -> Option<u64>
     }
 }
 
-// Each command by what clap has found for its options and words.
+// For each command its values, by what clap has found for its options and words.
 fn compile_in(alloc: Global, found: &ArgMatches<'_>) -> Result<Command, WordsError>
     ensures { Reads (compile_by (rows_of (found_of found.now))) result }
 {
@@ -351,15 +350,15 @@ fn length_fits(words: &[String])
     words.len();
 }
 
-/// The command that the words of a command line ask for. The first word is the program's name, and
-/// after it stands one of `compile [--contexts C word..]`, `simulate --cycles N word..`,
+/// Returns the command that the words of a command line ask for. The first word is the program's
+/// name, and after it stands one of `compile [--contexts C word..]`, `simulate --cycles N word..`,
 /// `eval --cycles N word..`, `probe --cycles N --net NAME [--path PATH] word..`,
 /// `window --gen G --x X --y Y --width W --height H word..`, `make --seed S --size K`,
 /// `self --seed S --size K --cycles N`, `tape --cycles N word..`, `aiger`, `vcd --cycles N word..`,
-/// `lift`. Numbers are in decimal digits, with or without leading zeros: C from 1 to 4,294,967,295,
-/// N from 1 to 1,048,576, but of `tape` to 4,096, G to 4,294,967,296, X and Y to 4,294,967,295, W
-/// and H from 1 to 4,096, S to 2,147,483,647, K from 1 to 128. `Usage` comes only where the words
-/// are no command, and each other answer but `NoMemory` only where they have its values.
+/// `lift`. Numbers are in decimal digits, with or without leading zeros: C from 1 to 4,294,967,295;
+/// N from 1 to 1,048,576, but for `tape` to 4,096; G to 4,294,967,296; X and Y to 4,294,967,295; W
+/// and H from 1 to 4,096; S to 2,147,483,647; K from 1 to 128. `Usage` comes only if the words are
+/// no command, and a command only if the words have its values.
 pub fn command_of(alloc: Global, words: &[String]) -> Result<Command, WordsError>
     ensures ok { IfOk result (λ c. command_values (map string_bytes words.now) ≡
         Some (values_of c)) }

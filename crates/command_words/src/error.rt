@@ -5,7 +5,7 @@ use clap::Error;
 use clap::error::ErrorKind;
 use std::alloc::AllocError;
 
-/// Why the words of a command line give no command.
+/// The error of `command_of`: why the words of a command line give no command.
 #[derive(Clone, Copy)]
 pub enum WordsError {
     /// The words are no command, or a number is out of its range.

@@ -11,8 +11,8 @@ fn has_only_digits(text: &str) -> bool
     text.as_bytes().iter().all(|byte| byte.is_ascii_digit())
 }
 
-/// The number that the text writes in decimal digits, without a sign, if it lies between the
-/// bounds.
+/// Returns the number that the text writes in decimal digits, without a sign, if it lies between
+/// the bounds.
 pub fn number_between(text: &str, least: u64, most: u64) -> Option<u64>
     ensures value { result ≡ number_between least most text.now }
     ensures bounds { IfSome result (λ number. (least ≤ number) × (number ≤ most)) }

@@ -10,7 +10,7 @@ use crate::app::{Argument, CommandForm, command_with};
 use clap::Command;
 use std::alloc::{AllocError, Global};
 
-// What a command takes that is driven by streams.
+// What a command takes that streams drive.
 const DRIVEN: &[Argument] = &[Argument::Required("cycles"), Argument::Streams];
 
 const COMMANDS: &[CommandForm] = &[
@@ -76,7 +76,7 @@ const COMMANDS: &[CommandForm] = &[
     },
 ];
 
-// The program's own level, which has neither a help nor a version of clap's own.
+// The program's own level, without clap's help and version.
 fn bare_command<'a>(alloc: Global) -> Command<'a>
     ensures { app_of result ≡ bare_app }
 {
@@ -87,7 +87,7 @@ fn bare_command<'a>(alloc: Global) -> Command<'a>
         .disable_version_flag(true)
 }
 
-// The program with this subcommand too, if it was made.
+// The program with this subcommand added, if the subcommand was made.
 fn with_command<'a>(
     program: Command<'a>,
     command: Result<Command<'a>, AllocError>,
@@ -102,7 +102,7 @@ fn with_command<'a>(
     }
 }
 
-// The program with commands of these forms too.
+// The program with commands of these forms added.
 fn with_commands<'a>(
     alloc: Global,
     program: Command<'a>,
@@ -118,7 +118,7 @@ fn with_commands<'a>(
     Ok(whole)
 }
 
-/// The program's command line, with one subcommand for each command.
+/// Makes the program's command line, with one subcommand for each command.
 pub fn blifww_command<'a>(alloc: Global) -> Result<Command<'a>, AllocError>
     ensures { IfOk result (λ c. app_of c ≡ blifww_app) }
 {

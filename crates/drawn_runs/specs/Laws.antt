@@ -24,20 +24,20 @@ pub record IsListDrawn (grid : Grid) (table : Ports) (plan : Plan) (list : CellL
   pub cells : IsListOf plan list
   pub few_cells : length list.cells < 2 ^ 64
 
--- It is so for some plan.
+-- The list has the cells of some plan that the pattern with its table draws.
 abbrev pub DrawsList : Grid → Ports → CellList → Type 0
 DrawsList grid table list = (plan : Plan) × IsListDrawn grid table plan list
 
--- Driven by the streams the pattern shows the bits of the list's outputs, and each injection meets
--- a conductor.
+-- When the streams drive the pattern, it shows the bits of the list's outputs, and each injection
+-- meets a conductor.
 pub record ShowsItsList (grid : Grid) (table : Ports) (list : CellList)
     (streams : Streams) : Type 0 where
   pub bits : shown_bits table streams (plane_of grid.rows)
       ≡ shown_by list (rows_of streams) streams.cycles
   pub quiet : (g : ℕ) → first_miss table streams (plane_of grid.rows) g ≡ None
 
--- So does each pattern that draws a list, whose table is sound and names cells of the pattern's
--- box.
+-- Each pattern that draws a list shows that list, if its table is sound and names cells of the
+-- pattern's box.
 abbrev pub DrawingsShowTheirLists : Type 0
 DrawingsShowTheirLists =
     (grid : Grid) (table : Ports) → IsWritable grid → IsSoundTable table

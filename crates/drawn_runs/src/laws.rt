@@ -7,8 +7,8 @@ use lifted_designs::lists_compute;
 use pattern_writing::written_text_reads;
 use shown_runs::{carriers_are_quiet, carriers_show_runs};
 
-/// A pattern that is the drawing of a plan shows, under streams, the bits of the plan's cells, and
-/// each injection meets a conductor.
+/// When streams drive a pattern that is the drawing of a plan, the pattern shows the bits of the
+/// plan's cells, and each injection meets a conductor.
 pub fn drawings_show_their_lists()
     ensures { DrawingsShowTheirLists }
 {

@@ -1,4 +1,4 @@
-// The bits that a pattern shows, by its cells where it is a circuit's drawing.
+// The bits that a pattern shows, computed by its cells if it is a circuit's drawing.
 ghost use Rattle.std.specs.Prelude.{◌≡◌, ◌<◌, ◌≤◌, ◌^◌, ⊤, length, IfOk, IfErr, OnOk, IsTrue, MatchOption, None};
 ghost use Rattle.ww_rule.specs.Grid.{plane_of};
 ghost use Rattle.ww_rule.specs.Patterns.{grid_of};
@@ -21,11 +21,11 @@ use streams::Streams;
 use tile_match::{AuditError, audit};
 use ww_rule::Pattern;
 
-// So many cells of a pattern are looked at in the time of one generation.
+// The number of a pattern's cells that can be looked at in the time of one generation.
 const CELLS_A_GENERATION: u128 = 128;
 
-// Whether there is one context, and its run takes longer than a look at each cell of the pattern,
-// and goes not too far.
+// Whether there is one context, and its run takes longer than a look at each cell of the pattern
+// and stays within the limit of generations.
 fn pays(pattern: &Pattern, ports: &Ports, streams: &Streams) -> bool
     requires cycles { 0 < streams.now.cycles }
     requires streams { AreFor ports.now streams.now }
@@ -53,8 +53,8 @@ fn list_of(alloc: Global, plan: &Plan) -> Result<CellList, AllocError>
     }
 }
 
-// The cells of the plan that a pattern with its table draws, and none where that is no plan, or a
-// name is bad.
+// The cells of the plan that a pattern with its table draws, or none if it draws no plan or a name
+// is bad.
 fn list_drawn(
     alloc: Global,
     pattern: &Pattern,
@@ -70,7 +70,7 @@ fn list_drawn(
     }
 }
 
-// The cells to run in the pattern's place: those that it draws, where that pays.
+// The cells to run in the pattern's place: those that it draws, if that pays.
 fn list_to_run(
     alloc: Global,
     pattern: &Pattern,
@@ -90,8 +90,8 @@ fn list_to_run(
     list_drawn(alloc, pattern, ports)
 }
 
-/// The bits that each output of a pattern shows in each context, as `drive::simulate` answers them.
-/// A call asks also for a table that is sound, and whose cells lie in the pattern's box. Where the
+/// Returns the bits that each output of a pattern shows in each context, as `drive::simulate` does.
+/// A call also needs a table that is sound, and whose cells lie in the pattern's box. If the
 /// pattern is the drawing of a circuit's plan, and its run takes longer than finding that out, no
 /// generation is run: the plan's cells are evaluated cycle after cycle, and the bits are the same.
 pub fn simulate(

@@ -16,8 +16,8 @@ use Rattle.drive.specs.declared.error.SimulateError.TheVariants.{NoMemory, TooFa
 use Rattle.drive.specs.Misses.{first_of_misses}
 use Rattle.drive.specs.Shown.{column_of_cell, columns_of_cells}
 
--- for each context and each input of the table one stream, with a bit for each cycle; there is a
--- context, and where there are more, each has 32 generations of the period
+-- each context and each input of the table has one stream, with a bit for each cycle; there is at
+-- least one context, and if there are more, each has 32 generations of the period
 pub record AreFor (ports : Ports) (streams : Streams) : Type 0 where
   pub same : streams.c ≡ ports.c
   pub contexts : ports.c ≢ 0
@@ -37,15 +37,15 @@ injections_of ports streams =
     flat_map (λ cycle. injections_from (cycle * ports.p) 32 (cells_of ports.ins)
     (cycle_rows streams cycle)) (range_with_len 0 streams.cycles)
 
--- the cells that are so made heads
+-- the heads that the streams make due
 abbrev pub due_by : Ports → Streams → Due
 due_by ports streams = due_of_contexts ports.p (cells_of ports.ins) (contexts_of streams)
 
--- the pattern's planes, where the streams drive it
+-- the pattern's planes when the streams drive it
 abbrev pub driven_by : Ports → Streams → Plane → ℕ → Plane
 driven_by ports streams plane = driven (due_by ports streams) plane
 
--- the first injection up to a generation at a cell that is no conductor before it
+-- the first injection up to a generation whose cell is no conductor before it
 abbrev pub first_miss : Ports → Streams → Plane → ℕ → Option Injection
 first_miss ports streams plane g =
     first_of_misses (injections_of ports streams) (due_by ports streams) plane g
@@ -56,27 +56,27 @@ abbrev pub bits_of_cell : Ports → Streams → Plane → (first context : ℕ) 
 bits_of_cell ports streams plane first context cell =
     column_of_cell (driven_by ports streams plane) ports.p streams.cycles first context cell
 
--- those of each of these cells in each context: all cells of context 0 first
+-- the bits of each of these cells in each context: all cells of context 0 first
 abbrev pub bits_of_cells : Ports → Streams → Plane → (first : ℕ) → List (ℕ × ℕ) → List (List Bool)
 bits_of_cells ports streams plane first cells =
     columns_of_cells (driven_by ports streams plane) ports.c ports.p streams.cycles first cells
 
--- the bits of an output in a context: its cell's from generation L on
+-- the bits of an output in a context: those of its cell, from generation L on
 abbrev pub shown_at : Ports → Streams → Plane → (context : ℕ) → PortLine → List Bool
 shown_at ports streams plane context out =
     bits_of_cell ports streams plane ports.l context (out.x, out.y)
 
--- those of each output in each context: all outputs of context 0 first
+-- the bits of each output in each context: all outputs of context 0 first
 abbrev pub shown_bits : Ports → Streams → Plane → List (List Bool)
 shown_bits ports streams plane =
     flat_map (λ context. map (shown_at ports streams plane context) ports.outs)
     (range_with_len 0 ports.c)
 
--- the most generations that a run may need
+-- the greatest number of generations that a run may need
 abbrev pub greatest_generation : ℕ
 greatest_generation = 4294967296
 
--- the generation of the last of the bits that begin at a generation
+-- the generation at which the last bits are shown, if the first ones are shown at `first`
 abbrev pub last_from : (first : ℕ) → Ports → Streams → ℕ
 last_from first ports streams = first + 32 * (ports.c - 1) + (streams.cycles - 1) * ports.p
 
@@ -84,7 +84,7 @@ last_from first ports streams = first + 32 * (ports.c - 1) + (streams.cycles - 1
 abbrev pub last_generation : Ports → Streams → ℕ
 last_generation ports streams = last_from ports.l ports streams
 
--- why a run does not go on, where this is its first miss
+-- why a run with this first miss does not go on
 abbrev pub HasRunCause : Option Injection → SimulateError → Type 0
 HasRunCause miss NoMemory = ⊤
 HasRunCause miss (TooFar generations) = ⊥

@@ -14,15 +14,15 @@ use Rattle.drive.specs.declared.run.Orientation.TheVariants.{Upright, Turned}
 use Rattle.drive.specs.declared.run.Run.{Run}
 use Rattle.drive.specs.Misses.{misses, first_of_misses}
 
--- all bands have come to a generation
+-- all bands are at a generation
 abbrev pub AreAt : ℕ → BandedPattern → Type 0
 AreAt g pattern = (b : ℕ) → b < length pattern.generations → generation_of pattern b ≡ g
 
--- the pattern's planes, where the injections drive it
+-- the pattern's planes when the injections drive it
 abbrev pub evolution : BandedPattern → ℕ → Plane
 evolution pattern = driven (due_of_list pattern.injections) (plane_of pattern.grid.rows)
 
--- whether the cell of one of the injections is no conductor before it, and the first such up to a
+-- the cell of an injection is no conductor before it; and below, the first such injection up to a
 -- generation
 abbrev pub injection_misses : BandedPattern → Injection → Bool
 injection_misses pattern = misses (due_of_list pattern.injections) (plane_of pattern.grid.rows)
@@ -32,7 +32,7 @@ first_miss_in pattern g =
     first_of_misses pattern.injections (due_of_list pattern.injections)
     (plane_of pattern.grid.rows) g
 
--- the planes of a pattern that lies in its bands in an orientation, and an injection of it
+-- the planes of a pattern that lies in its bands in this orientation, and below, an injection of it
 abbrev pub laid : Orientation → (ℕ → Plane) → ℕ → Plane
 laid Upright planes = planes
 laid Turned planes = λ g. turned (planes g)
@@ -45,13 +45,13 @@ injection_laid Turned injection = injection_turned injection
 abbrev pub planes_of : Run → ℕ → Plane
 planes_of run = laid run.orientation (evolution run.bands)
 
--- and the first miss up to each generation
+-- the first miss of a run up to each generation
 abbrev pub first_miss_of : Run → ℕ → Option Injection
 first_miss_of run = λ g. option_map (injection_laid run.orientation) (first_miss_in run.bands g)
 
--- What holds of each run; its width, its rows and the rows of a band are those of its bands. The
--- injections from its next one on are those of later generations. One that is still shows at each
--- later generation what it shows now, with no other miss.
+-- What holds of each run: its width, its rows and the rows of a band are those of its bands, and
+-- the injections from its next one on are those of later generations. A run that is still shows at
+-- each later generation what it shows now, with no other miss.
 pub record IsBandRun (run : Run) : Type 0 where
   pub whole : IsBandedPattern run.bands
   pub at : AreAt run.generation run.bands
@@ -67,7 +67,7 @@ pub record IsBandRun (run : Run) : Type 0 where
   pub no_more : run.is_still ≡ true → (g : ℕ) → run.generation ≤ g
       → first_miss_in run.bands g ≡ first_miss_in run.bands run.generation
 
--- A run has gone on, to a generation at most.
+-- A run has gone on, at most to generation `last`.
 pub record HasGoneOn (last : ℕ) (old new : Run) : Type 0 where
   pub run : IsBandRun new
   pub order : new.generation ≤ last

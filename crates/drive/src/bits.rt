@@ -16,10 +16,10 @@ use std::alloc::{AllocError, Global};
 use streams::{Streams, columns_of};
 use ww_rule::Pattern;
 
-/// The most generations that a run may need.
+/// The greatest number of generations that a run may need.
 pub const GREATEST_GENERATION: u128 = 4_294_967_296;
 
-// Puts the bits that cells show at the end of a row.
+// Adds the bits that cells show to a row.
 fn push_bits(row: &mut Vec<bool>, run: &Run, cells: &[(u64, u64)]) -> Result<(), AllocError>
     requires { IsBandRun run.now }
     ensures { OnOk result (row.new.items ≡
@@ -31,8 +31,8 @@ fn push_bits(row: &mut Vec<bool>, run: &Run, cells: &[(u64, u64)]) -> Result<(),
     Ok(())
 }
 
-// The bits that cells show in a cycle, one context after the other, the first of them at a
-// generation.
+// The bits that cells show in a cycle, one context after the other; the first context shows them at
+// generation `first`.
 fn row_of_cycle(
     alloc: Global,
     run: &mut Run,
@@ -55,7 +55,7 @@ fn row_of_cycle(
     Ok(row)
 }
 
-// Those of each cycle, up to the first in which an injection's cell is no conductor.
+// The rows of all cycles, up to the first cycle in which an injection's cell is no conductor.
 fn rows_of_cycles(
     alloc: Global,
     run: &mut Run,
@@ -112,7 +112,8 @@ fn columns_of_cells(
     Ok(columns_of(alloc, &rows, rows[0].len())?)
 }
 
-/// The generation of the last of the bits that begin at a generation.
+/// Returns the generation at which the last bits are shown under streams, if the first ones are
+/// shown at `first`.
 pub fn last_from(first: u64, ports: &Ports, streams: &Streams) -> u128
     requires cycles { 0 < streams.now.cycles }
     requires streams { AreFor ports.now streams.now }
@@ -123,13 +124,13 @@ pub fn last_from(first: u64, ports: &Ports, streams: &Streams) -> u128
     first as u128 + before_last
 }
 
-/// The bits that cells show in each context, cycle after cycle, while streams drive a pattern: all
-/// cells of context 0 come first, and bit t of a cell in context k is 1 exactly where the cell is a
-/// head at generation `first + 32 k + t p`. A call asks for at least one cycle, for one stream of
-/// as many bits for each context and input, and for inputs inside the pattern's box; the cells may
-/// lie anywhere. `TooFar` comes where the last of these generations is over 4,294,967,296, and
-/// nothing is then run; `NotQuiet` names the first injection up to that generation whose cell is no
-/// conductor before the injections of its own.
+/// Returns the bits that cells show in each context, cycle after cycle, while streams drive a
+/// pattern. All cells of context 0 come first. Bit t of a cell in context k is 1 exactly if the
+/// cell is a head at generation `first + 32 k + t p`. A call needs at least one cycle, one stream
+/// with a bit for each cycle for each input of each context, and inputs inside the pattern's box;
+/// the cells may lie anywhere. `TooFar` comes if the last of these generations is over
+/// 4,294,967,296, and then nothing is run. `NotQuiet` names the first injection up to that
+/// generation whose cell is no conductor before the injections of its generation.
 pub fn bits_of_cells(
     alloc: Global,
     pattern: Pattern,

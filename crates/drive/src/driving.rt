@@ -1,4 +1,4 @@
-// The injections that streams say.
+// The injections that streams give.
 ghost use Rattle.std.specs.Prelude.{◌≡◌, ◌+◌, ◌*◌, ◌<◌, ◌^◌, ◌++◌, length, map, take, drop, IfOk, OnOk};
 ghost use Rattle.std.specs.List.{range_with_len};
 ghost use Rattle.ww_rule.specs.Due.{AreInOrderFrom};
@@ -12,11 +12,10 @@ use std::alloc::Global;
 use streams::{Streams, bits_across};
 use ww_rule::Injection;
 
-/// How many generations a context comes after the one before it.
+/// The number of generations from one context to the next.
 pub const CONTEXT_GENERATIONS: u64 = 32;
 
-// Puts the injections of a row at the end: at a generation, the cells of the inputs whose bits are
-// 1.
+// Adds the injections of a row: at one generation, at the cells of the inputs whose bits are 1.
 fn push_row(
     due: &mut Vec<Injection>,
     generation: u128,
@@ -40,8 +39,8 @@ fn push_row(
     Ok(())
 }
 
-// Puts the injections of a cycle at the end, which begins at a generation: those of one context
-// after the other, each with a row of the bits.
+// Adds the injections of a cycle that begins at a generation, one context after the other. `bits`
+// has the row of each context.
 fn push_cycle(
     due: &mut Vec<Injection>,
     generation: u128,
@@ -70,11 +69,11 @@ fn push_cycle(
     Ok(())
 }
 
-/// The cells that streams make heads, each with its generation: the cell of an input at generation
-/// `32 k + t p` for each context k and each cycle t in which its bit is 1, where p is the table's
-/// period. They are sorted by generation; those of one generation are of one context, in the order
-/// of the inputs. A call asks for one stream of as many bits as there are cycles for each context
-/// and input.
+/// Returns the cells that streams make heads, each with its generation: the cell of an input at
+/// generation `32 k + t p` for each context k and each cycle t in which the input's bit is 1, where
+/// p is the table's period. The injections are sorted by generation; those of one generation are of
+/// one context, in the order of the inputs. A call needs one stream with a bit for each cycle for
+/// each input of each context.
 pub fn injections(
     alloc: Global,
     ports: &Ports,

@@ -1,19 +1,19 @@
-// What a call answers where it gives no injections or no bits.
+// The error of a run.
 ghost use Rattle.std.specs.Prelude.{◌≡◌, ◌<◌, ◌^◌};
 
 use crate::DriveError;
 use std::alloc::{AllocError, AllocFailed};
 use ww_rule::Injection;
 
-/// Why a pattern was not run.
+/// The error of `simulate` and `bits_of_cells`: why a pattern was not run.
 #[derive(Clone, Copy, Debug)]
 pub enum SimulateError {
-    /// There was no memory for it.
+    /// Memory ran out.
     NoMemory,
-    /// The run needs so many generations, which is over the limit of 4,294,967,296.
+    /// The run needs this number of generations, which is over the limit of 4,294,967,296.
     TooFar { generations: u128 },
-    /// An injection is due at this generation and this cell, by its column and row, which is no
-    /// conductor before the injections of that generation.
+    /// An injection is due at this generation at this cell, by its column and row, but the cell is
+    /// no conductor before the injections of that generation.
     NotQuiet { generation: u64, x: u64, y: u64 },
 }
 
@@ -44,7 +44,7 @@ impl From<DriveError> for SimulateError {
 }
 
 impl SimulateError {
-    /// The cause of an injection whose cell is no conductor.
+    /// Returns the error for an injection whose cell is no conductor.
     pub fn not_quiet(injection: Injection) -> SimulateError
         requires { injection.generation < 2 ^ 64 }
         ensures { result ≡ simulating.NotQuiet injection.generation injection.x injection.y }

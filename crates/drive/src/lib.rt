@@ -14,6 +14,7 @@ mod simulation;
 pub use bits::{GREATEST_GENERATION, bits_of_cells, last_from};
 pub use driving::{CONTEXT_GENERATIONS, injections};
 pub use error::SimulateError;
+// The answer of `injections` and `Run::of_streams` when memory runs out.
 pub use lists::OutOfMemory as DriveError;
 pub use run::Run;
 pub use simulation::simulate;

@@ -15,7 +15,7 @@ fn is_conductor(pattern: &Pattern, x: u64, y: u64) -> bool
     matches!(row.get(x as usize), Some(State::Conductor))
 }
 
-/// The first of injections of generation 0 at a cell that is no conductor.
+/// Returns the first of these injections of generation 0 whose cell is no conductor.
 pub fn first_on_pattern(pattern: &Pattern, injections: &[Injection]) -> Option<Injection>
     requires { All (λ i. i.generation ≡ 0) injections.now }
     ensures { (due : Due) → result ≡ find (misses due (plane_of pattern.now.rows)) injections.now }

@@ -5,7 +5,7 @@ ghost use Rattle.drive.specs.Runs.{AreAt};
 
 use band_core::Bands;
 
-// Moves a band on by one generation, and tells whether nothing could change in it.
+// Moves a band on by one generation, and returns whether nothing could change in it.
 fn move_on(bands: &mut Bands, b: usize) -> bool
     requires band { b < length bands.old.generations }
     requires room { generation_of bands.old b + 1 < 2 ^ 64 }
@@ -22,8 +22,8 @@ fn move_on(bands: &mut Bands, b: usize) -> bool
     }
 }
 
-/// Moves all bands on from a generation to the next one, and tells whether nothing could change in
-/// any of them.
+/// Moves all bands on from a generation to the next one, and returns whether nothing could change
+/// in any of them.
 pub fn move_all(bands: &mut Bands, generation: u64) -> bool
     requires at { AreAt generation bands.old }
     requires room { generation + 1 < 2 ^ 64 }

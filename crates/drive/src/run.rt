@@ -21,20 +21,20 @@ use std::alloc::Global;
 use streams::Streams;
 use ww_rule::{Injection, Pattern, State};
 
-/// How many rows a band has at least.
+/// The least number of rows of a band.
 const LEAST_BAND_ROWS: usize = 512;
 
-/// How many rows are marked in one word of a band: its rows are a multiple of them.
+/// The number of rows that are marked in one word of a band: its rows are a multiple of them.
 const ROWS_OF_A_WORD: usize = 64;
 
-/// How many rows a band has at most.
+/// The greatest number of rows of a band.
 const MOST_BAND_ROWS: usize = 1 << 20;
 
-/// How many bands there are at most, where they have more than the least number of rows and fewer
-/// than the most.
+/// The greatest number of bands, if they have more than the least number of rows and fewer than the
+/// greatest.
 const MOST_BANDS: usize = 32;
 
-/// How many cells of a row stand in one word of a band.
+/// The number of cells of a row in one word of a band.
 const WORD_CELLS: u64 = 64;
 
 /// How a run's pattern lies in its bands: as it was given, or with its columns as rows.
@@ -44,10 +44,10 @@ pub enum Orientation {
     Turned,
 }
 
-/// A driven pattern in bands, in an orientation, how many columns and rows lie there, and the
-/// generation of its bands. The injections from the next one on are of later generations; `missed`
-/// is the first of the others at a cell that was no conductor before it. Where the run is still, no
-/// cell changes any more.
+/// A driven pattern in bands, with its orientation, the number of columns and rows in the bands,
+/// and the bands' generation. The injections from the next one on are of later generations;
+/// `missed` is the first of the earlier ones whose cell was no conductor before it. When a run is
+/// still, no cell changes any more.
 #[derive(Drop)]
 pub struct Run {
     bands: Bands,
@@ -61,8 +61,8 @@ pub struct Run {
     is_still: bool,
 }
 
-// How many rows a band has, where there are so many rows: a generation looks at each band, also
-// where it sleeps.
+// The number of rows of a band, if there are so many rows. A generation looks at each band, even at
+// one that sleeps.
 fn band_rows(rows: usize) -> u32
     ensures { 0 < result }
 {
@@ -71,7 +71,7 @@ fn band_rows(rows: usize) -> u32
         .next_multiple_of(ROWS_OF_A_WORD) as u32
 }
 
-// Whether a row would not fill one word, and there are more rows than columns.
+// Whether a row fills less than one word, and there are more rows than columns.
 fn is_narrow(pattern: &Pattern) -> bool {
     pattern.width < WORD_CELLS && pattern.width < pattern.height
 }
@@ -95,8 +95,8 @@ fn turned_all(injections: Vec<Injection>) -> Vec<Injection>
 }
 
 impl Run {
-    // The run of a pattern under injections, at generation 0, which lie in the bands in this
-    // orientation.
+    // The run of a pattern under injections, at generation 0. The pattern and the injections lie in
+    // the bands in this orientation.
     fn begin(
         alloc: Global,
         pattern: Pattern,
@@ -130,9 +130,9 @@ impl Run {
         })
     }
 
-    /// The run of a pattern that streams drive, at generation 0. A call asks for one stream for
-    /// each context and input, of any number of cycles, and for inputs inside the pattern's box.
-    /// `NoMemory` is the one error.
+    /// Makes the run of a pattern that streams drive, at generation 0. A call needs one stream, of
+    /// any number of cycles, for each input of each context, and inputs inside the pattern's box.
+    /// `NoMemory` is the only error.
     pub fn of_streams(
         alloc: Global,
         pattern: Pattern,
@@ -156,8 +156,8 @@ impl Run {
         Run::begin(alloc, turned, turned_all(due), Orientation::Turned)
     }
 
-    // 1 where the cell at column `x - 1` and row `y - 1` in the bands is a head; 0 stands for a
-    // place left of the bands or above them.
+    // 1 if the cell at column `x - 1` and row `y - 1` in the bands is a head; a 0 for x or y means
+    // the place left of the bands or above them.
     fn head_before(&self, x: u128, y: u128) -> usize
         requires { IsBandRun self.now }
         ensures counted { result ≡ count_head (
@@ -189,7 +189,8 @@ impl Run {
         over + beside + under
     }
 
-    // Whether the cell of an injection of the next generation will be no conductor before it.
+    // Whether the cell of an injection of the next generation will be no conductor before the
+    // injection.
     fn misses(&self, injection: &Injection) -> bool
         requires run { IsBandRun self.now }
         requires next { injection.now.generation ≡ self.now.generation + 1 }
@@ -201,7 +202,7 @@ impl Run {
         !matches!(next, State::Conductor)
     }
 
-    // The first of injections of the next generation whose cell will be no conductor before it.
+    // The first injection of the next generation whose cell will be no conductor before it.
     fn first_missed(&self, due: &[Injection]) -> Option<Injection>
         requires run { IsBandRun self.now }
         requires next { All (λ i. i.generation ≡ self.now.generation + 1) due.now }
@@ -216,7 +217,7 @@ impl Run {
     }
 
     // The place of the first injection that will be left at the next generation, and the first miss
-    // up to it.
+    // up to that generation.
     fn look_ahead(&self) -> (usize, Option<Injection>)
         requires { IsBandRun self.now }
         ensures next { result.0 ≤ length self.now.bands.injections }
@@ -251,8 +252,8 @@ impl Run {
         self.generation += 1;
     }
 
-    /// Goes on to this generation, which is not before the run's own, or stops before it where no
-    /// cell changes any more.
+    /// Goes on to this generation, which is not before the run's own, or stops earlier if no cell
+    /// changes any more.
     pub fn go_on(&mut self, generation: u64)
         requires run { IsBandRun self.old }
         requires order { self.old.generation ≤ generation }
@@ -278,8 +279,8 @@ impl Run {
         self.next_injection >= self.bands.injections().len()
     }
 
-    /// Goes on to this generation, which is not before the run's own, or stops before it where no
-    /// injection is left: then nothing more can miss, whatever the pattern shows.
+    /// Goes on to this generation, which is not before the run's own, or stops earlier if no
+    /// injection is left: then no more can miss, whatever the pattern shows.
     pub fn pass_injections(&mut self, generation: u64)
         requires run { IsBandRun self.old }
         requires order { self.old.generation ≤ generation }
@@ -295,8 +296,8 @@ impl Run {
         }
     }
 
-    /// The state of a cell, by its column and row in the pattern. All cells beyond the pattern's
-    /// box are empty.
+    /// Returns the state of a cell, by its column and row in the pattern. All cells beyond the
+    /// pattern's box are empty.
     pub fn state(&self, x: u128, y: u128) -> State
         requires { IsBandRun self.now }
         ensures { result ≡ planes_of self.now self.now.generation (pos x) (pos y) }
@@ -307,7 +308,7 @@ impl Run {
         }
     }
 
-    // The same by the column and row in the bands.
+    // The state of a cell, by its column and row in the bands.
     fn state_in_bands(&self, x: u128, y: u128) -> State
         requires { IsBandRun self.now }
         ensures { result ≡ evolution self.now.bands self.now.generation (pos x) (pos y) }
@@ -319,7 +320,7 @@ impl Run {
         self.bands.cell(b, x as u64, y as u64)
     }
 
-    /// Whether a cell is a head.
+    /// Returns whether a cell is a head.
     pub fn is_head(&self, x: u64, y: u64) -> bool
         requires { IsBandRun self.now }
         ensures { result ≡ is_head (planes_of self.now self.now.generation (pos x) (pos y)) }
@@ -327,8 +328,8 @@ impl Run {
         matches!(self.state(x as u128, y as u128), State::Head)
     }
 
-    /// The first injection up to the run's generation at a cell that was no conductor before the
-    /// injections of its own generation.
+    /// Returns the first injection up to the run's generation whose cell was no conductor before
+    /// the injections of its generation.
     pub fn missed(&self) -> Option<Injection>
         requires { IsBandRun self.now }
         ensures first { result ≡ first_miss_of self.now self.now.generation }
@@ -341,7 +342,7 @@ impl Run {
         }
     }
 
-    /// Nothing where there is no such injection, and else `NotQuiet` with it.
+    /// Returns `NotQuiet` with the injection that `missed` returns, if there is one.
     pub fn quiet(&self) -> Result<(), SimulateError>
         requires run { IsBandRun self.now }
         requires room { self.now.generation < 2 ^ 64 }

@@ -19,13 +19,13 @@ fn cells_of(alloc: Global, lines: &[PortLine]) -> Result<Vec<(u64, u64)>, AllocE
     lines.iter().map(|line| (line.x, line.y)).collect(alloc)
 }
 
-/// The bits that each output of a pattern shows in each context, cycle after cycle, while streams
-/// drive the pattern: all outputs of context 0 come first, and bit t of an output in context k is 1
-/// exactly where its cell is a head at generation `l + 32 k + t p`. A call asks for at least one
-/// cycle, for one stream of as many bits for each context and input, and for inputs inside the
-/// pattern's box. `TooFar` comes where the last of these generations is over 4,294,967,296, and
-/// nothing is then run; `NotQuiet` names the first injection up to that generation whose cell is no
-/// conductor before the injections of its own.
+/// Returns the bits that each output of a pattern shows in each context, cycle after cycle, while
+/// streams drive the pattern. All outputs of context 0 come first. Bit t of an output in context k
+/// is 1 exactly if its cell is a head at generation `l + 32 k + t p`. A call needs at least one
+/// cycle, one stream with a bit for each cycle for each input of each context, and inputs inside
+/// the pattern's box. `TooFar` comes if the last of these generations is over 4,294,967,296, and
+/// then nothing is run. `NotQuiet` names the first injection up to that generation whose cell is no
+/// conductor before the injections of its generation.
 pub fn simulate(
     alloc: Global,
     pattern: Pattern,

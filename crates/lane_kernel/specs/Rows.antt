@@ -6,11 +6,11 @@ use Rattle.ww_rule.specs.Wireworld.{Plane, heads_around, next_plane}
 use Rattle.ww_rule.specs.Grid.{framed}
 use Rattle.lists.specs.Bits.{has_bit}
 
--- is the bit of a cell set? Beyond the words there is none.
+-- the bit of a cell is set; beyond the words none is
 abbrev pub is_set : List ℕ → ℕ → Bool
 is_set words x = has_bit (get_or words (x / 64) 0) (x % 64)
 
--- what three bits say of a cell
+-- the state of a cell with these three bits
 abbrev pub state_of : Bool → Bool → Bool → State
 state_of head tail wire = cond head Head (cond tail Tail (cond wire Conductor Empty))
 
@@ -18,7 +18,7 @@ state_of head tail wire = cond head Head (cond tail Tail (cond wire Conductor Em
 abbrev pub row_state : List ℕ → List ℕ → List ℕ → ℕ → State
 row_state heads tails wires x = state_of (is_set heads x) (is_set tails x) (is_set wires x)
 
--- three rows by column and row: of the upper and the lower one the heads alone
+-- the states of three rows, by column and row; the upper and the lower row have heads alone
 abbrev pub three_rows : List ℕ → List ℕ → List ℕ → List ℕ → List ℕ → ℕ → ℕ → State
 three_rows above heads below tails wires x zero = state_of (is_set above x) false false
 three_rows above heads below tails wires x (suc zero) = row_state heads tails wires x
@@ -29,7 +29,8 @@ three_rows above heads below tails wires x (suc (suc (suc y))) = Empty
 abbrev pub plane_of_rows : List ℕ → List ℕ → List ℕ → List ℕ → List ℕ → Plane
 plane_of_rows above heads below tails wires = framed (three_rows above heads below tails wires)
 
--- the heads around the cell of column x of the middle row, and its state one generation on
+-- the number of heads around the cell of column x in the middle row, and below, the cell's state
+-- one generation later
 abbrev pub heads_in_rows : List ℕ → List ℕ → List ℕ → List ℕ → List ℕ → ℕ → ℕ
 heads_in_rows above heads below tails wires x =
     heads_around (plane_of_rows above heads below tails wires) (pos x) (pos 1)
@@ -44,6 +45,6 @@ AreDisjoint heads tails wires =
     (x : ℕ) → ((is_set heads x && is_set tails x) || (is_set heads x && is_set wires x)
     || (is_set tails x && is_set wires x)) ≡ false
 
--- by so many heads around it a conductor becomes a head
+-- with so many heads around it a conductor becomes a head
 abbrev pub is_one_or_two : ℕ → Bool
 is_one_or_two n = n == 1 || n == 2

@@ -1,4 +1,4 @@
--- Rows of words that make a step, and what a step asks of them.
+-- Rows of words that step by one generation, and what a step asks of them.
 use Rattle.std.specs.Prelude.{ℕ, ◌<◌, ◌≤◌, ◌≡◌, List, length, get_or}
 use Rattle.lane_kernel.specs.Spans.{IsBeyond}
 use Rattle.lane_kernel.specs.Words.{heads_word, wires_word}
@@ -10,15 +10,15 @@ pub record AreEquallyLong (above heads below tails wires : List ℕ) : Type 0 wh
   pub long_tails : length tails ≡ length heads
   pub long_wires : length wires ≡ length heads
 
--- a row's words one generation on
+-- the words of a row one generation later
 pub record IsStepped (above heads below tails wires new_heads new_wires : List ℕ) : Type 0 where
   pub long_heads : length new_heads ≡ length heads
   pub long_wires : length new_wires ≡ length heads
   pub heads_are : (j : ℕ) → get_or new_heads j 0 ≡ heads_word above heads below wires j
   pub wires_are : (j : ℕ) → get_or new_wires j 0 ≡ wires_word above heads below tails wires j
 
--- The words of a row from one place up to another are those one generation on, the new heads in the
--- tails' place; all others are as they were.
+-- The words of a row from one place up to another are those one generation later, with the new
+-- heads in the tails' place; all other words are unchanged.
 pub record AreWordsStepped (lo hi : ℕ)
     (above heads below tails wires new_tails new_wires : List ℕ) : Type 0 where
   pub long_tails : length new_tails ≡ length heads

@@ -8,8 +8,8 @@ ghost use Rattle.lane_kernel.specs.Steps.{IsStepped};
 
 use crate::words::{alone, new_heads, new_wires};
 
-// The new heads of word j of a row, where the light of the row and the heads beside it lie in this
-// word and nothing comes over its borders: no other word gets any.
+// The new heads of word j of a row, if the light of the row and the heads beside it lie in this
+// word and nothing comes over its borders: no other word gets any heads.
 fn heads_in(above: &[u64], heads: &[u64], below: &[u64], wires: &[u64], j: usize) -> u64
     requires within { j < length heads.now }
     requires near { AreDarkWhere (IsBeyond j (j + 1)) above.now heads.now below.now }
@@ -21,9 +21,9 @@ fn heads_in(above: &[u64], heads: &[u64], below: &[u64], wires: &[u64], j: usize
     new_heads(alone(above[j]), alone(heads[j]), alone(below[j]), wires[j])
 }
 
-/// The next generation of a row in place, where the row's light and the heads beside it lie in word
-/// j and nothing comes over its borders: no other word is looked at. Answers whether the row is lit
-/// then.
+/// Steps a row by one generation in place, if the row's light and the heads beside it lie in word j
+/// and nothing comes over its borders: no other word is looked at. Returns whether the row is then
+/// lit.
 pub fn step_one_word(
     above: &[u64],
     heads: &mut [u64],

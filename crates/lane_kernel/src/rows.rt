@@ -6,7 +6,7 @@ ghost use Rattle.lane_kernel.specs.Steps.{AreEquallyLong, AreWordsStepped, IsSte
 use crate::lanes::step_four;
 use crate::words::{new_heads, new_wires, words_near};
 
-// The new word of a row at j, its new heads in the tails' place.
+// Steps word j of a row; its new heads take the tails' place.
 fn step_one(
     above: &[u64],
     heads: &[u64],
@@ -30,8 +30,8 @@ fn step_one(
     tails[j] = fired;
 }
 
-/// The new words of a row, as if it stood alone, four at once where there are enough, and else one:
-/// the new heads in the tails' place, the new wires in the wires'.
+/// Steps the words of a row as if it stood alone, four at once while there are enough, and then one
+/// at a time. The new heads take the tails' place, and the new wires the wires' place.
 pub fn step_words(above: &[u64], heads: &[u64], below: &[u64], tails: &mut [u64], wires: &mut [u64])
     requires { AreEquallyLong above.now heads.now below.now tails.old wires.old }
     ensures { IsStepped
@@ -49,11 +49,11 @@ pub fn step_words(above: &[u64], heads: &[u64], below: &[u64], tails: &mut [u64]
     }
 }
 
-/// The next generation of a row that stands between two others, with nothing beyond the rows' ends:
-/// bit i of word j is cell 64 j + i. A new head stands where a wire has one or two heads among its
-/// eight neighbours, a new wire where a wire gave no head or a tail stood, and the new tails are
-/// the old heads. Where no cell has its bit in two rows this is the rule, and none has it
-/// afterwards.
+/// Computes the next generation of a row between two others, with nothing beyond the rows' ends.
+/// Bit i of word j is cell 64 j + i. A new head stands where a wire has one or two heads among its
+/// eight neighbours, a new wire where a wire becomes no head or a tail stood, and the new tails are
+/// the old heads. If no cell has its bit in two rows, this is the rule of Wireworld, and no cell
+/// has its bit in two rows afterwards.
 pub fn step_rows(
     above: &[u64],
     heads: &[u64],

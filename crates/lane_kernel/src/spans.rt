@@ -1,4 +1,4 @@
-// A row that is dark but for a span of its words.
+// A row that is dark except for a span of its words.
 ghost use Rattle.std.specs.Prelude.{◌≡◌, ◌-◌, ◌<◌, ◌≤◌, ◌==◌, ◌&&◌, true, ℕ, length};
 ghost use Rattle.lists.specs.Items.{number_at};
 ghost use Rattle.lane_kernel.specs.Spans.{AreDarkWhere, IsBeyond, IsDarkBeyond, IsLitWithin, has_head, stays_east, stays_west, stays_within};
@@ -6,7 +6,7 @@ ghost use Rattle.lane_kernel.specs.Steps.{IsStepped};
 
 use crate::rows::step_words;
 
-/// Puts the words of another row from one place up to another into a row.
+/// Copies the words of another row, from place `lo` up to `hi`, into a row.
 pub fn put_words(row: &mut [u64], lo: usize, hi: usize, from: &[u64])
     requires order { lo ≤ hi }
     requires within { hi ≤ length row.old }
@@ -38,8 +38,8 @@ fn has_last(above: &[u64], heads: &[u64], below: &[u64], j: usize) -> bool
     ((above[j] | heads[j] | below[j]) >> 63) & 1 == 1
 }
 
-/// Whether nothing of three rows of heads comes over the borders of the words from `lo` up to `hi`:
-/// no head stands at a border, or the border is an end of the rows.
+/// Returns whether nothing of three rows of heads comes over the borders of the words from `lo` up
+/// to `hi`: no head stands at a border, or the border is an end of the rows.
 pub fn stays_within(above: &[u64], heads: &[u64], below: &[u64], lo: usize, hi: usize) -> bool
     requires order { lo < hi }
     requires within { hi ≤ length heads.now }
@@ -51,8 +51,8 @@ pub fn stays_within(above: &[u64], heads: &[u64], below: &[u64], lo: usize, hi: 
         && (!has_last(above, heads, below, hi - 1) || hi == heads.len())
 }
 
-/// Where the heads of three rows whose words before `first` are dark come to in the west: a word
-/// further, if one stands at that border.
+/// Returns how far west the heads of three rows come whose words before `first` are dark: one word
+/// further if a head stands at that border.
 pub fn western_end(above: &[u64], heads: &[u64], below: &[u64], first: usize) -> usize
     requires within { first < length heads.now }
     requires near { AreDarkWhere (λ j. j < first) above.now heads.now below.now }
@@ -66,7 +66,7 @@ pub fn western_end(above: &[u64], heads: &[u64], below: &[u64], first: usize) ->
     }
 }
 
-/// Where the heads of three rows whose words from `end` on are dark come to in the east.
+/// Returns how far east the heads of three rows come whose words from `end` on are dark.
 pub fn eastern_end(above: &[u64], heads: &[u64], below: &[u64], end: usize) -> usize
     requires some { 0 < end }
     requires within { end ≤ length heads.now }
@@ -82,9 +82,9 @@ pub fn eastern_end(above: &[u64], heads: &[u64], below: &[u64], end: usize) -> u
     }
 }
 
-/// The next generation of a row whose light, with the heads beside it, lies in the words from `lo`
-/// up to `hi`, where nothing comes over the borders of these: no other word is looked at. The new
-/// heads stand in the tails' place, the new wires in the wires'; the heads are the new tails.
+/// Steps a row by one generation, if its light and the heads beside it lie in the words from `lo`
+/// up to `hi` and nothing comes over the borders of these: no other word is looked at. The new
+/// heads take the tails' place, and the new wires the wires' place; the heads are the new tails.
 pub fn step_span(
     above: &[u64],
     heads: &[u64],

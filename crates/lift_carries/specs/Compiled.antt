@@ -1,4 +1,4 @@
--- What is written of a plan that was compiled for one context is the plan's drawing.
+-- The text that is written of a plan for one context spells the plan's drawing.
 use Rattle.std.specs.Prelude.{◌≡◌, List, [], ◌∷◌, Bool}
 use Rattle.lane_core.specs.declared.plan.Plan.{Plan}
 use Rattle.lane_core.specs.Plans.{IsAdmissible}
@@ -20,14 +20,14 @@ pub record StartsOneContext (plan : Plan) (bits : List Bool) : Type 0 where
   pub edges : HasStartEdges plan
   pub on_loops : StartsContexts plan (bits ∷ []) (start_edges plan)
 
--- an admissible plan without a tape that starts one context is a circuit's plan, whose loops start
--- with these bits
+-- an admissible plan without a tape that starts one context is a circuit's plan, and its loops
+-- start with these bits
 abbrev pub OneContextIsCircuit : Type 0
 OneContextIsCircuit =
     (plan : Plan) → IsAdmissible plan → plan.tape ≡ [] → (bits : List Bool)
     → StartsOneContext plan bits → IsCircuit plan × (first_bits plan ≡ bits)
 
--- and the start edges of every circuit's plan start one context
+-- the start edges of every circuit's plan start one context
 abbrev pub CircuitsStartOneContext : Type 0
 CircuitsStartOneContext = (plan : Plan) → IsCircuit plan → StartsOneContext plan (first_bits plan)
 

@@ -1,4 +1,4 @@
--- A text that spells the drawing of a plan carries the netlist that is lifted of it.
+-- A text that spells the drawing of a plan carries the netlist that is lifted from it.
 use Rattle.std.specs.Prelude.{ℕ, ◌<◌, ◌^◌, ◌≡◌, false, List, length}
 use Rattle.ww_rule.specs.Grid.{Grid}
 use Rattle.lane_core.specs.declared.plan.Plan.{Plan}
@@ -12,8 +12,8 @@ use Rattle.lifted_designs.specs.Lifted.{lifted_design}
 use Rattle.tile_match.specs.Circuit.{IsPlanDrawing}
 use Rattle.tile_match.specs.Names.{has_bad_name}
 
--- A text spells a plan: it spells a pattern and a port table, which are the drawing of the plan,
--- and no name in the table is bad. The list has the cells of the plan.
+-- A text spells a plan: it spells a pattern and a port table that are the drawing of the plan, and
+-- no name in the table is bad. The list has the cells of the plan.
 pub record SpellsPlan (text : List ℕ) (grid : Grid) (ports : Ports) (plan : Plan)
     (list : CellList) : Type 0 where
   pub spells : Spells text grid ports

@@ -28,18 +28,19 @@ pub fn lifts_carry()
     lifted_have_runs();
 }
 
-/// An admissible plan without a tape that starts one context starts only where its loops enter the
-/// columns.
+/// If an admissible plan without a tape starts one context, its starts are only where its loops
+/// enter the columns.
 pub fn one_context_is_circuit()
     ensures { OneContextIsCircuit }
 {}
 
-/// Where electrons stand only where loops enter the columns, a plan starts one context.
+/// A plan whose electrons stand only where loops enter the columns starts one context.
 pub fn circuits_start_one_context()
     ensures { CircuitsStartOneContext }
 {}
 
-/// The text that is written of what is compiled for one context spells the drawing of the plan.
+/// The text that is written of what a compiler makes for one context spells the drawing of the
+/// plan.
 pub fn compiled_are_drawings()
     ensures { CompiledAreDrawings }
 {

@@ -23,7 +23,7 @@ pub record ComputesDesign (list : CellList) (design : Design) : Type 0 where
       → map (bit_of list inputs (state_in_order design state)) list.latches
       ≡ state_in_order design (latches_after design bits)
 
--- a list that names no constant 1 computes the netlist that is lifted of it, with a name for each
+-- a list that names no constant 1 computes the netlist that is lifted from it, with a name for each
 -- input and each output
 abbrev pub ListsComputeLifted : Type 0
 ListsComputeLifted =

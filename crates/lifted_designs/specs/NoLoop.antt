@@ -1,5 +1,5 @@
--- The netlist that is lifted of a list has no combinational loop: a cell reads earlier cells, and
--- nobody reads an output.
+-- The netlist that is lifted from a list has no combinational loop: a cell reads earlier cells, and
+-- no cover reads an output.
 use Rattle.std.specs.Prelude.{◌<◌, ◌^◌, ◌≡◌, false, List, length}
 use Rattle.netlist_core.specs.Names.{Name}
 use Rattle.netlist_meaning.specs.Nets.{Net}

@@ -16,47 +16,48 @@ ghost use Rattle.lifted_designs.specs.Reads.{ReadAsLifted};
 ghost use Rattle.lifted_designs.specs.Runs.{LiftedHaveRuns};
 ghost use Rattle.lifted_designs.specs.Words.{WordsAreRead};
 
-/// A list of cells that names no constant 1 computes the netlist that is lifted of it.
+/// A list of cells that names no constant 1 computes the netlist that is lifted from it.
 pub fn lists_compute()
     ensures { ListsComputeLifted }
 {}
 
-/// The netlist has a run on any rows of input bits, where its ports have names of their own.
+/// The lifted netlist has a run on any rows of input bits, if no two of its ports share a name.
 pub fn lifted_have_runs()
     ensures { LiftedHaveRuns }
 {}
 
-/// The netlist breaks no rule on models, where its ports have names of their own.
+/// The lifted netlist breaks no rule on models, if no two of its ports share a name.
 pub fn lifted_are_faultless()
     ensures { LiftedAreFaultless }
 {}
 
-/// It breaks no rule on clocks: it has none.
+/// The lifted netlist breaks no rule on clocks: it has none.
 pub fn lifted_have_no_clock_fault()
     ensures { LiftedHaveNoClockFault }
 {}
 
-/// It has no combinational loop, where its ports have names of their own.
+/// The lifted netlist has no combinational loop, if no two of its ports share a name.
 pub fn lifted_have_no_loop()
     ensures { LiftedHaveNoLoop }
 {}
 
-/// The lines say the lifted model.
+/// The lines of the lifted netlist make one model, the lifted one.
 pub fn lines_say()
     ensures { LinesSayLifted }
 {}
 
-/// No line breaks a rule on lines.
+/// No line of the lifted netlist breaks a rule on lines.
 pub fn lines_break_none()
     ensures { LinesBreakNone }
 {}
 
-/// A text with these lines is the lifted netlist, without a fault by a rule on lines or models.
+/// A text with these lines is the lifted netlist, and has no fault by a rule on lines or models.
 pub fn texts_read()
     ensures { ReadAsLifted }
 {}
 
-/// A text of lines of words has these logical lines. A word may hold `\`, but not at its end.
+/// The logical lines of a text of lines of words are these lines. A word may hold `\`, but not at
+/// its end.
 pub fn words_are_read()
     ensures { WordsAreRead }
 {}

@@ -1,4 +1,4 @@
--- The netlist that the text of a seed and a number of gates says.
+-- The netlist of the text of a seed and a number of gates.
 use Rattle.std.specs.Prelude.{◌≤◌, ℕ, true, false, ◌+◌, ◌-◌, List, [], ◌∷◌, codes, None}
 use Rattle.netlist_core.specs.declared.model.Cover.{Cover}
 use Rattle.netlist_core.specs.declared.model.LatchRow.{LatchRow}
@@ -11,7 +11,8 @@ use Rattle.made_netlists.specs.declared.gate.GateKind.TheVariants.{And, Or, Xor,
 use Rattle.made_netlists.specs.declared.gate.Gate.{Gate}
 use Rattle.made_netlists.specs.Text.{drawn_gates, latch_data, made_text, net_name, net_of_gate}
 
--- the cover of a kind, of these inputs and this output, at a line: a row for each line of its text
+-- the cover of a gate of a kind, with these inputs and this output, at a line: a row for each row
+-- of its text
 abbrev pub gate_cover : GateKind → ℕ → List ℕ → List ℕ → List ℕ → Cover
 gate_cover And line a b out =
     record { line = line; ins = a ∷ b ∷ []; out = out; rows = codes "11" ∷ []; on = true }
@@ -34,7 +35,7 @@ gate_cover Xor line a b out =
 gate_cover Nand line a b out =
     record { line = line; ins = a ∷ b ∷ []; out = out; rows = codes "11" ∷ []; on = false }
 
--- the line after a gate of a kind that begins at this one
+-- the line after a gate of a kind that begins at `line`
 abbrev pub line_after : GateKind → ℕ → ℕ
 line_after And line = line + 1 + 1
 line_after Or line = line + 1 + 1 + 1

@@ -1,4 +1,4 @@
--- The text of a netlist that is made from a seed: so many gates on four inputs and two latches.
+-- The text of a netlist that is made from a seed: a number of gates on four inputs and two latches.
 use Rattle.std.specs.Prelude.{ℕ, ◌==◌, ◌+◌, ◌*◌, ◌-◌, nat_lt, cond, List, ◌++◌, map, flat_map, codes, decimal}
 use Rattle.std.specs.List.{range_with_len}
 use Rattle.made_netlists.specs.declared.gate.GateKind.{GateKind}
@@ -37,8 +37,8 @@ drawn_gate seed j = record {
 abbrev pub drawn_gates : ℕ → ℕ → List Gate
 drawn_gates seed size = map (drawn_gate seed) (range_with_len 0 size)
 
--- The two draws after those of so many gates give the data of latch 0 and of latch 1, among all
--- nets.
+-- The two draws after those of the gates give the nets of the data of latch 0 and of latch 1, among
+-- all nets.
 abbrev pub latch_data : ℕ → ℕ → ℕ → ℕ
 latch_data seed size l = draw_after seed (3 * size + l) (net_of_gate size)
 
@@ -59,12 +59,12 @@ head_text last data0 data1 =
     ++ (net_name last ++ (codes " q0 q1\n.latch "
     ++ (net_name data0 ++ (codes " q0 0\n.latch " ++ (net_name data1 ++ codes " q1 1\n")))))
 
--- the text of a seed and a number of gates, of at least one
+-- the text of a seed and a number of gates, which is at least one
 abbrev pub made_text : ℕ → ℕ → List ℕ
 made_text seed size =
     head_text (net_of_gate (size - 1)) (latch_data seed size 0) (latch_data seed size 1)
     ++ (flat_map drawn_gate_text (drawn_gates seed size) ++ codes ".end\n")
 
--- the state after it
+-- the state after the draws of this text
 abbrev pub made_state : ℕ → ℕ → ℕ
 made_state seed size = state_after seed (3 * size + 2)

@@ -16,7 +16,7 @@ pub enum GateKind {
 }
 
 impl GateKind {
-    // The kind of a number that was drawn.
+    // The kind that a drawn number gives.
     fn of(number: u32) -> GateKind
         ensures { result ≡ drawn_kind number }
     {
@@ -28,7 +28,7 @@ impl GateKind {
         }
     }
 
-    /// The rows of its cover, each with its line end.
+    /// Returns the rows of the gate's cover, each with its line end.
     pub fn rows(self) -> &'static [u8]
         ensures { result.now ≡ kind_rows self }
     {
@@ -41,7 +41,7 @@ impl GateKind {
     }
 }
 
-/// A gate, with the numbers of the nets that it reads, and of its own.
+/// A gate, with the numbers of the two nets that it reads, and of its own net.
 #[derive(Clone, Copy)]
 pub struct Gate {
     pub kind: GateKind,
@@ -72,7 +72,7 @@ fn draw_gate(state: &mut u32, before: u32) -> Gate
     }
 }
 
-/// Draws so many gates.
+/// Draws `size` gates.
 pub fn draw_gates(alloc: Global, state: &mut u32, size: u32) -> Result<Vec<Gate>, AllocError>
     requires state { state.old < 2 ^ 31 }
     requires few { size < 2 ^ 31 }

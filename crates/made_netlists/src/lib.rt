@@ -10,5 +10,6 @@ pub mod laws;
 mod made;
 
 pub use generator::draw;
+// The answer of `make` when memory runs out.
 pub use lists::OutOfMemory as MakeError;
 pub use made::{Made, make};

@@ -9,14 +9,14 @@ use itoa::Buffer;
 use lists::Bytes;
 use std::alloc::{AllocError, Global};
 
-/// A text, and the state from which more may be drawn.
+/// A netlist's text, and the state from which more may be drawn.
 #[derive(Drop)]
 pub struct Made {
     pub text: Bytes,
     pub state: u32,
 }
 
-// Puts the name of the net of a number after a text.
+// Adds the name of a net to a text.
 fn push_name(text: &mut Vec<u8>, net: u32) -> Result<(), AllocError>
     ensures { OnOk result (text.new.items ≡ text.old.items ++ net_name net) }
 {
@@ -32,7 +32,7 @@ fn push_name(text: &mut Vec<u8>, net: u32) -> Result<(), AllocError>
     text.extend_from_slice(buffer.format(number).as_bytes())
 }
 
-// Puts the lines before the gates after a text.
+// Adds the lines before the gates to a text.
 fn push_head(text: &mut Vec<u8>, last: u32, latched: (u32, u32)) -> Result<(), AllocError>
     ensures { OnOk result (text.new.items ≡ text.old.items ++ head_text last latched.0 latched.1) }
 {
@@ -45,7 +45,7 @@ fn push_head(text: &mut Vec<u8>, last: u32, latched: (u32, u32)) -> Result<(), A
     text.extend_from_slice(b" q1 1\n")
 }
 
-// Puts the `.names` line of a gate after a text.
+// Adds the `.names` line of a gate to a text.
 fn push_names(text: &mut Vec<u8>, gate: Gate) -> Result<(), AllocError>
     ensures { OnOk result (text.new.items ≡
         text.old.items ++ names_text gate.first gate.second gate.out) }
@@ -59,7 +59,7 @@ fn push_names(text: &mut Vec<u8>, gate: Gate) -> Result<(), AllocError>
     text.extend_from_slice(b"\n")
 }
 
-// Puts the lines of gates after a text.
+// Adds the lines of gates to a text.
 fn push_gates(text: &mut Vec<u8>, gates: &[Gate]) -> Result<(), AllocError>
     ensures { OnOk result (text.new.items ≡ text.old.items ++ flat_map drawn_gate_text gates.now) }
 {
@@ -70,7 +70,7 @@ fn push_gates(text: &mut Vec<u8>, gates: &[Gate]) -> Result<(), AllocError>
     Ok(())
 }
 
-/// The text and the state of a seed and a number of gates.
+/// Makes the text of a seed and a number of gates, and returns it with the state after its draws.
 pub fn make(alloc: Global, seed: u32, size: u32) -> Result<Made, MakeError>
     requires seed { seed < 2 ^ 31 }
     requires some { 0 < size }

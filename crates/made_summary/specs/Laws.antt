@@ -1,4 +1,4 @@
--- What is written of a plan reads back, and few enough cycles are always in time.
+-- The text that is written of a plan reads back, and few enough cycles are always in time.
 use Rattle.std.specs.Prelude.{ℕ, ◌≤◌, ◌<◌, ◌+◌, ◌-◌, ◌*◌, ◌^◌, List}
 use Rattle.ww_rule.specs.Grid.{AreInBox}
 use Rattle.lane_core.specs.declared.plan.Plan.{Plan}
@@ -26,19 +26,19 @@ pub record ReadsAsPlan (plan : Plan) (ports : Ports) : Type 0 where
   pub spells : Spells (pattern_text (start_grid plan) ports) (start_grid plan) ports
   pub inside : AreInBox (start_grid plan).width (start_grid plan).height (cells_of ports.ins)
 
--- So it is of an admissible plan and its table for the design of a text.
+-- The text of an admissible plan and its table, for the design of a text, reads as these.
 abbrev pub WrittenPlansRead : Type 0
 WrittenPlansRead =
     (text : List ℕ) (design : Design) (flat : Flat) (plan : Plan) (ports : Ports)
     → IsDesignOf text design → weight design < 2 ^ 31 → IsFlatOf design flat
     → IsAdmissible plan → IsTableOf flat plan 1 ports → ReadsAsPlan plan ports
 
--- the most columns of a plan of a design of that weight
+-- the greatest number of columns of a plan of a design of that weight
 abbrev pub most_columns : ℕ → ℕ
 most_columns w = 256 * ((w + 1) * (w + 1))
 
--- and the most generations to the last bits: through the columns, and for each further cycle once
--- round three loops
+-- the greatest number of generations to the last bits: through the columns, and for each further
+-- cycle once round three loops
 abbrev pub most_generations : (w cycles : ℕ) → ℕ
 most_generations w cycles = 32 * most_columns w + 32 * (cycles - 1) * (2 * most_columns w + 12)
 
@@ -48,7 +48,7 @@ RunsAreBounded =
     → last_generation ports (drawn_streams seed size cycles)
     ≤ most_generations (weight (made_design seed size)) cycles
 
--- where these are within the limit, no cause says that a run goes too far
+-- if this number is within the limit, no run goes too far
 abbrev pub FewCyclesAreInTime : Type 0
 FewCyclesAreInTime =
     (seed size cycles generations : ℕ)

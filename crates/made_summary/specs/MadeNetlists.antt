@@ -1,4 +1,4 @@
--- What the design of a made text is.
+-- The design of a made text.
 use Rattle.std.specs.Prelude.{ℕ, ◌≡◌, ◌≤◌, ◌+◌, ◌-◌, ◌*◌, List, [], ◌∷◌, length, codes}
 use Rattle.netlist_core.specs.declared.flat.Flat.{Flat}
 use Rattle.netlist_core.specs.Names.{Name}
@@ -10,15 +10,16 @@ use Rattle.netlist_text.specs.NetlistText.{IsNetlist}
 use Rattle.made_netlists.specs.Text.{made_text, net_name, net_of_gate}
 use Rattle.made_netlists.specs.Design.{made_design}
 
--- the names of its inputs, and of its outputs: the last gate and the two latches
+-- the names of the inputs of a made design, and below, of its outputs: the last gate and the two
+-- latches
 abbrev pub made_in_names : List Name
 made_in_names = codes "i0" ∷ codes "i1" ∷ codes "i2" ∷ codes "i3" ∷ []
 
 abbrev pub made_out_names : ℕ → List Name
 made_out_names size = net_name (net_of_gate (size - 1)) ∷ codes "q0" ∷ codes "q1" ∷ []
 
--- A flat netlist of it has four inputs, three outputs, two latches, a cover for each gate, and no
--- clocks.
+-- A flat netlist of a made design has four inputs, three outputs, two latches, a cover for each
+-- gate, and no clocks.
 pub record HasMadeSizes (size : ℕ) (flat : Flat) : Type 0 where
   pub ins : length flat.ins ≡ 4
   pub outs : length flat.outs ≡ 3
@@ -37,7 +38,7 @@ MadeAreNetlists =
 abbrev pub MadeHaveWeights : Type 0
 MadeHaveWeights = (seed size : ℕ) → weight (made_design seed size) ≤ 11 + 7 * size
 
--- Its IN names are those, and no others.
+-- The IN names of a made design are these, and no others, and its outputs have these names.
 pub record HasMadeNames (seed size : ℕ) : Type 0 where
   pub ins : IsInNames (made_design seed size) made_in_names
   pub no_other_ins : (names : List Name) → IsInNames (made_design seed size) names

@@ -1,4 +1,4 @@
--- The outputs of a run of a netlist, and what is told of it.
+-- The outputs of a run of a netlist, and the netlist's summary.
 use Rattle.std.specs.Prelude.{ℕ, ◌≡◌, ◌≤◌, ◌<◌, ⊤, Bool, List, None, length}
 use Rattle.ww_rule.specs.Grid.{plane_of}
 use Rattle.grid_assembly.specs.PlanDrawing.{start_grid}
@@ -22,7 +22,7 @@ pub record AreOutputsIn (design : Design) (streams : Streams) (simulated : List 
   pub runs : ShowsRun design streams evaluated
   pub are : outputs ≡ outputs_by_name (main_outputs design) simulated evaluated
 
--- the summary is of this netlist and its plan under the streams
+-- this is the summary of this netlist and its plan under the streams
 pub record IsToldOf (netlist : Netlist) (planned : Planned) (streams : Streams)
     (summary : Summary) : Type 0 where
   pub weight : summary.weight ≡ netlist.flat.weight
@@ -34,13 +34,13 @@ pub record IsToldOf (netlist : Netlist) (planned : Planned) (streams : Streams)
   pub outputs : AreOutputsIn netlist.design streams
       (shown_bits planned.ports streams (plane_of (start_grid planned.plan).rows)) summary.outputs
 
--- the plan's pattern is quiet where the streams drive it, up to the last bits that are shown
+-- the plan's pattern is quiet up to the last bits that are shown, when the streams drive it
 abbrev pub IsQuietUnder : Planned → Streams → Type 0
 IsQuietUnder planned streams =
     first_miss planned.ports streams (plane_of (start_grid planned.plan).rows)
     (last_generation planned.ports streams) ≡ None
 
--- why a run up to this generation is not told
+-- why a run up to this generation gives no summary
 abbrev pub HasTooFarCause : ℕ → SummaryError → Type 0
 HasTooFarCause last NoMemory = ⊤
 HasTooFarCause last (TooFar generations) =

@@ -1,4 +1,4 @@
--- What is told of a made netlist, its plan and its run.
+-- The summary of a made netlist, its plan and its run.
 use Rattle.std.specs.Prelude.{ℕ, ◌≡◌, ◌≤◌, ◌<◌, ◌+◌, ◌*◌, Bool, List, [], length, get_or, map, ⊤}
 use Rattle.std.specs.List.{range_with_len}
 use Rattle.lane_core.specs.declared.plan.Plan.{Plan}
@@ -21,9 +21,9 @@ use Rattle.made_summary.specs.declared.summarizing.Summary.{Summary}
 use Rattle.made_summary.specs.declared.error.SummaryError.{SummaryError}
 use Rattle.made_summary.specs.declared.error.SummaryError.TheVariants.{NoMemory, TooFar}
 
--- The plan is admissible, and the written text of it and its table, of one context, carries the
--- made design. It is small, by the design's weight, with a loop for each of the two latches and at
--- most one more.
+-- The plan is admissible, and the text that is written of it and its table, of one context, carries
+-- the made design. The plan is small, by the design's weight, with a loop for each of the two
+-- latches and at most one more.
 pub record IsMadePlan (seed size : ℕ) (plan : Plan) (ports : Ports) : Type 0 where
   pub admissible : IsAdmissible plan
   pub carries : Carries (pattern_text (start_grid plan) ports) (made_design seed size)
@@ -35,7 +35,7 @@ pub record IsMadePlan (seed size : ℕ) (plan : Plan) (ports : Ports) : Type 0 w
       ((weight (made_design seed size) + 1) * (weight (made_design seed size) + 1))
   pub loops : plan.latches ≤ 3
 
--- the outputs of these names, each with what is simulated and what is evaluated of it
+-- the outputs of these names, each with its simulated and its evaluated bits
 abbrev pub output_at : (names : List Name) → (simulated evaluated : List (List Bool)) → ℕ
     → OutputBits
 output_at names simulated evaluated k =
@@ -60,8 +60,8 @@ output_in_run run cycles name =
       evaluated = bits_in_run run cycles name;
     }
 
--- the weight of the made design, the numbers of such a plan, which shows the last bits within the
--- limit of generations, and the outputs in a run of the design on the drawn streams
+-- the summary has the weight of the made design, the numbers of such a plan, which shows the last
+-- bits within the limit of generations, and the outputs in a run of the design on the drawn streams
 pub record Summarizes (seed size cycles : ℕ) (summary : Summary) : Type 0 where
   pub weight : summary.weight ≡ weight (made_design seed size)
   pub plan : Plan
@@ -77,8 +77,8 @@ pub record Summarizes (seed size cycles : ℕ) (summary : Summary) : Type 0 wher
   pub outputs : summary.outputs ≡ map (output_in_run run cycles)
       (main_outputs (made_design seed size))
 
--- why there is no summary: the last bits of such a plan are shown too late, at the generation that
--- is told
+-- why there is no summary: the pattern of such a plan shows its last bits at this generation, which
+-- is too late
 abbrev pub HasSummaryCause : (seed size cycles : ℕ) → SummaryError → Type 0
 HasSummaryCause seed size cycles NoMemory = ⊤
 HasSummaryCause seed size cycles (TooFar generations) =

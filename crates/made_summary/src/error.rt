@@ -1,4 +1,4 @@
-// Why there is no summary.
+// The error of a summary.
 ghost use Rattle.std.specs.Prelude.{◌≡◌};
 ghost use Rattle.made_summary.specs.declared.error.SummaryError.TheVariants.{NoMemory};
 
@@ -6,7 +6,7 @@ use lists::OutOfMemory;
 use std::alloc::{AllocError, AllocFailed};
 use thiserror::Error;
 
-/// Why there is no summary.
+/// The error of `summarize`: why there is no summary.
 #[derive(Clone, Copy, Debug, PartialEq, Eq, Error)]
 pub enum SummaryError {
     /// The last bits are shown at this generation, which is over the limit of 4,294,967,296.

@@ -19,8 +19,8 @@ pub fn written_plans_read()
     tables_are_readable();
 }
 
-/// The last bits are shown by a generation that the weight and the number of cycles bound, and
-/// where that is within the limit no run goes too far.
+/// The weight and the number of cycles bound the generation of the last bits; if that bound is
+/// within the limit, no run goes too far.
 pub fn few_cycles_are_in_time()
     ensures bounded { RunsAreBounded }
     ensures in_time { FewCyclesAreInTime }

@@ -26,7 +26,7 @@ pub struct MadePlan {
     pub state: u32,
 }
 
-// The netlist of a text that is one.
+// The netlist of a text that is a netlist.
 fn netlist_in(alloc: Global, text: &[u8]) -> Result<Netlist, AllocError>
     requires { (design : Design) × IsNetlist text.now design }
     ensures netlist { IfOk result (λ n. IsNetlist text.now n.design) }
@@ -42,7 +42,7 @@ fn netlist_in(alloc: Global, text: &[u8]) -> Result<Netlist, AllocError>
     }
 }
 
-/// The netlist of a seed and a number of gates, with its plan.
+/// Makes the netlist of a seed and a number of gates, with its plan.
 pub fn plan_made(alloc: Global, seed: u32, size: u32) -> Result<MadePlan, SummaryError>
     requires seed { seed < 2 ^ 31 }
     requires some_gate { 0 < size }

@@ -1,4 +1,4 @@
-// What is told of a made netlist.
+// The summary of a made netlist.
 ghost use Rattle.std.specs.Prelude.{◌≡◌, ◌<◌, ◌≤◌, ◌^◌, All, length, IfOk, IfErr, OnOk};
 ghost use Rattle.ww_rule.specs.Grid.{AreInBox, plane_of};
 ghost use Rattle.lane_core.specs.Plans.{IsAdmissible};
@@ -33,8 +33,8 @@ pub struct OutputBits {
     pub evaluated: List<bool>,
 }
 
-/// The weight of a netlist, the lanes and columns of its plan, the period `p` and the latency `l`
-/// of its pattern in generations, and the bits of its outputs.
+/// The summary of a netlist: its weight, the lanes and columns of its plan, the period `p` and the
+/// latency `l` of its pattern in generations, and the bits of its outputs.
 #[derive(Drop)]
 pub struct Summary {
     pub weight: u64,
@@ -88,7 +88,7 @@ fn outputs_by_name(
     Ok(List::of(outputs))
 }
 
-// What is told of a plan, with the weight of its netlist and its outputs.
+// The summary of a plan, with the weight of its netlist and its outputs.
 fn told(weight: u64, planned: &Planned, outputs: List<OutputBits>) -> Summary
     ensures weight { result.weight ≡ weight }
     ensures lanes { result.lanes ≡ planned.now.plan.lanes }
@@ -139,7 +139,7 @@ fn shown_by(
     }
 }
 
-// The netlist's outputs, with these bits that its pattern shows and those that the netlist gives.
+// The netlist's outputs, with the bits that its pattern shows and those that the netlist gives.
 fn outputs_in(
     alloc: Global,
     netlist: Netlist,
@@ -159,7 +159,7 @@ fn outputs_in(
     Ok(outputs)
 }
 
-// What is told of a netlist and its plan under streams.
+// The summary of a netlist and its plan under streams.
 fn told_by(
     alloc: Global,
     netlist: Netlist,
@@ -189,9 +189,9 @@ fn told_by(
     Ok(told(weight, planned, outputs))
 }
 
-/// The netlist of a seed and a number of gates, made, compiled, simulated and evaluated under so
-/// many cycles of bits that are drawn on after it. `TooFar` comes once the netlist is compiled,
-/// where the pattern would show the last bits after generation 4,294,967,296.
+/// Makes, compiles, simulates and evaluates the netlist of a seed and a number of gates, under
+/// `cycles` cycles of bits that are drawn after the netlist. `TooFar` comes after the netlist is
+/// compiled, if the pattern would show the last bits after generation 4,294,967,296.
 pub fn summarize(
     alloc: Global,
     seed: u32,

@@ -25,7 +25,7 @@ pub record CoversSay : Type 0 where
   pub off : (rows : List (List ℕ)) (bits : List Bool) → rows ≢ []
       → (cover_value rows false bits ≡ false) ↔ Any (λ row. HoldsUnder row bits) rows
 
--- a valuation is one by its bits at the design's nets alone, and so are the outputs
+-- the bits at the design's nets alone decide whether bits are a valuation, and what its outputs are
 pub record OnlyNetsMatter (design : Design) : Type 0 where
   pub solves : (inputs : List Bool) (state : LatchState) (bits others : Valuation)
       → AgreeOnNets design bits others → IsValuation design inputs state bits
@@ -33,19 +33,19 @@ pub record OnlyNetsMatter (design : Design) : Type 0 where
   pub outputs : (bits others : Valuation) → AgreeOnNets design bits others
       → output_bits design bits ≡ output_bits design others
 
--- so it is where each formal is a name of its model, no line names one with two actuals, and no
--- clock net is read or driven
+-- only the nets matter if each formal is a name of its model, no line names one with two actuals,
+-- and no clock net is read or driven
 abbrev pub WiredDesignsHaveNets : Type 0
 WiredDesignsHaveNets = (design : Design) → IsWired design → OnlyNetsMatter design
 
--- a list is another one without some of its names, in the same order
+-- the first list is the second without some of its ports, in the same order
 pub data IsSublist : List Port → List Port → Type 0 where
   nothing : IsSublist [] []
   without : {p : Port} {some all : List Port} → IsSublist some all → IsSublist some (p ∷ all)
   with : {p : Port} {some all : List Port} → IsSublist some all → IsSublist (p ∷ some) (p ∷ all)
 
 -- The words at fault stand in the order of the models' own lists, in which the words of one line
--- stand as on the line: so the first of the earliest line is that line's first.
+-- stand as on the line. So the first word of the earliest line is that line's first.
 pub record WordsKeepOrder : Type 0 where
   pub ports : (m : Model) → IsSublist (duplicate_ports m) (m.ins ++ m.clocks ++ m.outs)
   pub drivers : (models : List Model) (m : Model)

@@ -1,4 +1,4 @@
--- What the definitions say of single designs.
+-- What the definitions mean for single designs.
 use Rattle.std.specs.Prelude.{map, ℕ, zero, suc, cond, ◌+◌, ◌*◌, ◌^◌, ◌<◌, ◌≡◌, ◌≢◌, List, [], ◌∷◌, Bool, false, not, length, All, ◌==◌, slice_get, get_or, Some, codes}
 use Rattle.netlist_core.specs.declared.model.Design.{Design}
 use Rattle.netlist_core.specs.Names.{Name}
@@ -11,7 +11,7 @@ use Rattle.netlist_rules.specs.Clocks.{IsClockRead, IsTwoClocks, HasOneClock}
 use Rattle.netlist_meaning.specs.Loop.{IsCombinationalLoop}
 use Rattle.netlist_meaning.specs.Weight.{weight}
 
--- 0 in the cycles of even numbers, and 1 in those of odd ones
+-- 0 in even cycles, and 1 in odd ones
 abbrev pub is_odd_cycle : ℕ → Bool
 is_odd_cycle zero = false
 is_odd_cycle (suc n) = not (is_odd_cycle n)
@@ -33,15 +33,15 @@ abbrev pub LatchBreaksLoop : Type 0
 LatchBreaksLoop =
     (n q : Name) → n ≢ q → (nets : List Net) → ¬ IsCombinationalLoop (toggle_design n q) nets
 
--- a cover that reads its own output is one
+-- a cover that reads its own output is a combinational loop
 abbrev pub CoverReadsItself : Type 0
 CoverReadsItself = IsCombinationalLoop loop_design (net_at [] (codes "x") ∷ [])
 
--- models that each place the next one twice
+-- the weight of a tower of models, in which each model but the last places the next one twice
 abbrev pub TowerWeighs : Type 0
 TowerWeighs = (n : ℕ) → n < 2 ^ 64 → weight (tower_design n) + 2 ≡ 3 * 2 ^ n
 
--- weights
+-- the weights of single designs
 pub record HasWeights : Type 0 where
   pub adder : weight adder_design ≡ 74
   pub widest : weight (wide_design 8190) ≡ 8192
@@ -52,15 +52,15 @@ pub record HasWeights : Type 0 where
 abbrev pub ControlIsNoInput : Type 0
 ControlIsNoInput = IsInNames clocked_design (codes "d" ∷ [])
 
--- a cover that reads the control is the fault, on its line
+-- a cover that reads the control is a fault, on the cover's line
 abbrev pub CoverReadsClock : Type 0
 CoverReadsClock = IsClockRead read_clock_design 5 (codes "clk")
 
--- a second latch with another control is the fault, on its line
+-- a second latch with another control is a fault, on the latch's line
 abbrev pub LatchHasOtherClock : Type 0
 LatchHasOtherClock = IsTwoClocks two_clocks_design 6 (codes "e")
 
--- the number of some bits, the lowest first
+-- the number that bits spell, the lowest bit first
 abbrev pub number_spelled : List Bool → ℕ
 number_spelled [] = 0
 number_spelled (bit ∷ bits) = cond bit 1 0 + 2 * number_spelled bits
@@ -79,7 +79,7 @@ pub record IsAdder (design : Design) : Type 0 where
 abbrev pub AdderAdds : Type 0
 AdderAdds = IsAdder adder_design
 
--- a first bit, and then the bit of the row before
+-- in cycle 0 the given bit, and in each later cycle the row of the cycle before
 abbrev pub delayed : Bool → List (List Bool) → ℕ → List Bool
 delayed first rows zero = first ∷ []
 delayed first rows (suc cycle) = get_or rows cycle []
@@ -92,11 +92,11 @@ pub record IsDelay (first : Bool) (design : Design) : Type 0 where
   pub gives : (rows : List (List Bool)) (run : ℕ → Valuation) → IsRun design rows run → (cycle : ℕ)
       → cycle < length rows → output_bits design (run cycle) ≡ delayed first rows cycle
 
--- a latch delays its input, and starts as 1 where its init is 1, and as 0 for any other
+-- a latch delays its input; it starts as 1 if its init is 1, and as 0 for any other init
 abbrev pub LatchDelays : Type 0
 LatchDelays = (init : ℕ) → IsDelay (init == 1) (latch_design init)
 
--- so does one with a control among the inputs, and init 2
+-- a latch with init 2 and a control among the inputs also delays its input, and starts as 0
 abbrev pub ClockedLatchDelays : Type 0
 ClockedLatchDelays = IsDelay false clocked_design
 
@@ -112,7 +112,7 @@ pub record HasSharedClock : Type 0 where
   pub one_clock : HasOneClock shared_design
   pub in_names : IsInNames shared_design (codes "d" ∷ [])
 
--- a second latch without a control is the fault, with `-` for its control
+-- a second latch without a control is a fault, with `-` for its control
 abbrev pub LatchHasNoClock : Type 0
 LatchHasNoClock = IsTwoClocks half_clocked_design 5 (codes "-")
 

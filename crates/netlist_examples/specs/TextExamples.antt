@@ -1,4 +1,4 @@
--- Texts with what they say: lines, models and faults, each computed from the definitions.
+-- Texts and what they mean: lines, models and faults, each computed from the definitions.
 use Rattle.std.specs.Prelude.{◌≡◌, ℕ, Bool, true, false, List, [], ◌∷◌, map, codes, Some, None}
 use Rattle.netlist_core.specs.declared.model.Trigger.{Trigger}
 use Rattle.netlist_core.specs.declared.model.Trigger.TheVariants.{Rise, Fall}
@@ -17,7 +17,7 @@ use Rattle.netlist_rules.specs.FaultNames.{fault_on}
 use Rattle.netlist_core.specs.Names.{at_line}
 use Rattle.blif_text.specs.Faults.{HasFault, IsDesignOf}
 
--- the text's fault; the text has none
+-- `Breaks`: the text has this fault; `IsFaultless`: the text has none
 abbrev pub Breaks : List ℕ → FaultKind → ℕ → List ℕ → Type 0
 Breaks text kind line word = HasFault (logical_lines text) (fault_on kind line word)
 
@@ -37,7 +37,7 @@ ports line names = map (at_line line) names
 abbrev pub cover : ℕ → List (List ℕ) → List ℕ → List (List ℕ) → Bool → Cover
 cover line ins out rows on = record { line = line; ins = ins; out = out; rows = rows; on = on }
 
--- a latch without and with a control
+-- a latch without a control, and below it one with a control
 abbrev pub free_latch : ℕ → List ℕ → List ℕ → ℕ → LatchRow
 free_latch line input output init =
     record { line = line; input = input; output = output; kind = None; control = None; init = init }
@@ -126,7 +126,7 @@ pub record LineExamples : Type 0 where
   pub two_backslashes : logical_lines (codes "a\\\\\nb\n") ≡ (logical 1 ((codes "a\\b") ∷ [])) ∷ []
   -- a text of one `\` has no line
   pub only_backslash : logical_lines (codes "\\") ≡ []
-  -- nor has a text of one `#`
+  -- a text of one `#` has no line
   pub only_hash : logical_lines (codes "#") ≡ []
   -- vertical tab and form feed are blanks; a lone byte 13 is no word
   pub other_blanks : logical_lines (97 ∷ 11 ∷ 98 ∷ 12 ∷ 99 ∷ [])
@@ -141,7 +141,7 @@ pub record ModelExamples : Type 0 where
       ((flat_model 1 (codes "or") (ports 2 ((codes "a") ∷ (codes "b") ∷ []))
       (ports 3 ((codes "y") ∷ [])) ((cover 4 ((codes "a") ∷ (codes "b")
       ∷ []) (codes "y") ((codes "1-") ∷ (codes "-1") ∷ []) true) ∷ []) ([])) ∷ [])
-  -- an annotation gives nothing
+  -- an annotation adds nothing
   pub annotated : IsDesignWith
       (codes ".model or\n.inputs a b\n.outputs y\n.area 2\n.names a b y\n10 1\n.end\n")
       ((flat_model 1 (codes "or") (ports 2 ((codes "a") ∷ (codes "b") ∷ []))
@@ -233,13 +233,13 @@ pub record FaultlessExamples : Type 0 where
   pub parameter : IsFaultless (codes ".model m\n.param size 4\n.end\n")
   -- lists of ports may be empty
   pub empty_lists : IsFaultless (codes ".model m\n.inputs\n.outputs\n.clock\n.end\n")
-  -- a type of latch that is taken
+  -- the latch type `re` is accepted
   pub rising_latch : IsFaultless (codes ".model m\n.inputs a c\n.outputs q\n.latch a q re c\n")
   -- a row of a cover without inputs
   pub constant_row : IsFaultless (codes ".model m\n.outputs y\n.names y\n1\n")
   -- rows of one output
   pub rows_alike : IsFaultless (codes ".model m\n.inputs a\n.outputs y\n.names a y\n1 0\n0 0\n")
-  -- covers of their own outputs
+  -- two covers, each with an output of its own
   pub covers_apart : IsFaultless
       (codes ".model m\n.inputs a\n.outputs y z\n.names a y\n1 1\n.names a z\n1 0\n")
   -- `.model` may follow `.end`
@@ -249,9 +249,9 @@ pub record FaultlessExamples : Type 0 where
   -- a name in `.inputs` and `.clock` is one input
   pub input_and_clock : IsFaultless
       (codes ".model m\n.inputs a c\n.clock c\n.outputs a2\n.names a a2\n1 1\n")
-  -- `NIL` is not read
+  -- the control `NIL` is no net, so it needs no driver
   pub no_control : IsFaultless (codes ".model m\n.inputs a\n.outputs q\n.latch a q re NIL 0\n")
-  -- a model that is placed with each pin
+  -- a model that is placed with all of its pins
   pub placed : IsFaultless
       (codes ".model m\n.inputs a\n.outputs y\n.subckt s p=a q=y\n.end\n.model s\n.inputs p\n.outputs q\n.names p q\n1 1\n.end\n")
   -- an output formal may have no pin

@@ -5,7 +5,8 @@ use Rattle.blif_text.specs.declared.logical.Logical.{Logical}
 use Rattle.blif_text.specs.Models.{models_of, begins_model, is_row, first_word}
 use Rattle.blif_text.specs.LineFaults.{is_annotation}
 
--- Annotations give nothing: before another directive, or at the end, one may be left out.
+-- Annotations add nothing: one that stands before another directive, or at the end, may be left
+-- out.
 abbrev pub begins_with_row : List Logical → Bool
 begins_with_row [] = false
 begins_with_row (l ∷ lines) = is_row l
@@ -16,7 +17,7 @@ AnnotationsGiveNothing =
     → is_annotation (first_word line) ≡ true → begins_with_row after ≡ false
     → models_of (before ++ line ∷ after) ≡ models_of (before ++ after)
 
--- Lines are cut before each `.model`: what stands before it and what it begins have their own
+-- Lines are cut before each `.model`: the lines before it and the lines from it on have their own
 -- models.
 abbrev pub ModelsAreCut : Type 0
 ModelsAreCut =

@@ -1,9 +1,9 @@
-// Designs of which the definitions give what a reader expects.
+// Designs for which the definitions give what a reader expects.
 ghost use Rattle.netlist_examples.specs.Instances.{AdderAdds, LatchBreaksLoop, LatchToggles};
 ghost use Rattle.netlist_examples.specs.OneCover.{OneCoverComputes};
 
-/// A latch with init 0 that takes the inverse of its output gives 0 and 1 in turn, in a run that is
-/// there.
+/// A latch with init 0 that takes the inverse of its output has a run, and in every run its output
+/// is 0 and 1 in turn.
 pub fn latch_toggles()
     ensures { LatchToggles }
 {}

@@ -5,7 +5,7 @@ use Rattle.cell_plans.specs.PlanOf.{IsPlanOf}
 use Rattle.netlist_core.specs.declared.flat.Flat.{Flat}
 use Rattle.plan_carries.specs.Compiled.{ComputesFlat}
 
--- a list of cells computes the flat netlist, and the plan is one of it
+-- a list of cells computes the flat netlist, and the plan is a plan of that list
 pub record IsPlanned (flat : Flat) (plan : Plan) : Type 0 where
   pub list : CellList
   pub computes : ComputesFlat flat list

@@ -13,26 +13,27 @@ use Rattle.netlist_core.specs.declared.flat.Net.{Net as FlatNet}
 use Rattle.netlist_core.specs.declared.flat.Flat.{Flat}
 use Rattle.netlist_meaning.specs.Flat.{listed_nets, node_at, FlatDriver, FlatDrives}
 
--- at the entry of a lane
+-- the place is the entry of the lane
 abbrev pub IsEntry : ℕ → NetPlace → Type 0
 IsEntry lane place = (place.lane ≡ lane) × (place.after ≡ None)
 
--- at the exit of a column, on the upper lane of an instruction of it that makes a cell
+-- the place is the exit of a column, on the upper lane of an instruction of the column that makes a
+-- cell
 abbrev pub IsCellExit : Plan → NetPlace → Type 0
 IsCellExit plan place =
     (cell : Cell) × IsExitOf plan.columns (cell_instr place.lane cell) place.after
 
--- listed net k is driven by this input, latch or cover
+-- this input, latch or cover drives listed net k
 abbrev pub DrivesNet : Flat → FlatDriver → ℕ → FlatNet → Type 0
 DrivesNet flat driver k net =
     (k < length (listed_nets flat)) × FlatDrives flat driver (get_or (listed_nets flat) k net).class
 
--- Each listed net, in order, has a place. Where an input or a latch drives it, this is the entry of
--- the input's lane or of the lane of the latch's loop; where a cover does, it is an entry, or the
--- exit of a column that makes a cell there; where the cover is a constant by its text, it is an
--- entry, for constant 1 that of the lane of its loop, the one after those of the latches; and where
--- a cover of two nets is an OR, an XOR or an AND-NOT, it is the exit of a column with that
--- instruction.
+-- Each listed net, in order, has a place. If an input or a latch drives it, the place is the entry
+-- of the input's lane or of the lane of the latch's loop. If a cover drives it, the place is an
+-- entry, or the exit of a column that makes a cell there. If the cover is a constant by its text,
+-- the place is an entry; for constant 1 it is the entry of the lane of that constant's loop, the
+-- one after the loops of the latches. If the cover has two inputs and is an OR, an XOR or an
+-- AND-NOT, the place is the exit of a column with that instruction.
 pub record HasNetPlaces (flat : Flat) (plan : Plan) : Type 0 where
   pub many : length plan.nets ≡ length (listed_nets flat)
   pub inputs : (k i : ℕ) (net : FlatNet) (place : NetPlace)

@@ -15,9 +15,9 @@ use Rattle.row_placer.specs.Entries.{AreAtEntries}
 use Rattle.cell_meaning.specs.Mapped.{IsMapped}
 use Rattle.cell_meaning.specs.Needs.{any_needs_one}
 
--- The plan is small, by the weight w: at most 4 w + 4 lanes, and at most 256 (w + 1) (w + 1)
--- columns, which have at most as many instructions. It has a loop for each latch, and at most one
--- more, where covers need constant 1.
+-- The plan is small. If w is the weight, it has at most 4 w + 4 lanes, at most 256 (w + 1) (w + 1)
+-- columns, and in them at most that many instructions. It has a loop for each latch, and at most
+-- one more, if covers need constant 1.
 pub record IsSmall (flat : Flat) (plan : Plan) : Type 0 where
   pub lanes : plan.lanes ≤ 4 * flat.weight + 4
   pub columns : length plan.columns ≤ 256 * ((flat.weight + 1) * (flat.weight + 1))
@@ -26,8 +26,8 @@ pub record IsSmall (flat : Flat) (plan : Plan) : Type 0 where
   pub no_more_loops : any_needs_one flat ≡ false → plan.latches ≡ length flat.latches
 
 -- The plan computes a list of cells of the flat netlist. Its listed nets are at the entries of
--- their sources or at the exits of their cells. Its loops are the latches in order, and exactly
--- where the list names constant 1 one more. Its start edges start one context, each latch with its
+-- their sources or at the exits of their cells. It has a loop for each latch, in order, and one
+-- more exactly if the list names constant 1. Its start edges start one context: each latch with its
 -- start, and constant 1 with 1.
 pub record ComputesCells (flat : Flat) (plan : Plan) : Type 0 where
   pub list : CellList
@@ -38,8 +38,8 @@ pub record ComputesCells (flat : Flat) (plan : Plan) : Type 0 where
   pub loops : plan.latches ≡ length flat.latches + cond (names_one list) 1 0
   pub starts : StartsContexts plan (loop_state list (start_bits flat) ∷ []) (start_edges plan)
 
--- Where there are no nets but clock nets there is no lane and no column. Where nets are listed
--- there are some of both.
+-- If all nets are clock nets, there is no lane and no column. If nets are listed, there is at least
+-- one of each.
 pub record HasLanes (flat : Flat) (plan : Plan) : Type 0 where
   pub none : nets_but_clocks flat ≡ [] → (plan.lanes ≡ 0) × (plan.columns ≡ [])
   pub some : listed_nets flat ≢ [] → (1 ≤ plan.lanes) × (1 ≤ length plan.columns)

@@ -21,7 +21,7 @@ NamesAreWords =
     → Contains design.models model → (name : Name) → Contains (model_names model) name
     → IsNameWord name
 
--- and so are those of the nets
+-- the names of a design's nets are words
 abbrev pub NetsAreWords : Type 0
 NetsAreWords =
     (text : List ℕ) (design : Design) → IsDesignOf text design → (net : Net) → IsNet design net

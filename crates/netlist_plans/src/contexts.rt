@@ -36,7 +36,7 @@ fn push_one(bits: &mut Vec<bool>, wanted: bool) -> Result<(), AllocError>
     Ok(())
 }
 
-// The bits with which the loops of a plan start, where the latches start with these.
+// The bits with which the loops of a plan start when the latches start with these bits.
 fn loop_starting_bits(
     alloc: Global,
     plan: &Plan,
@@ -49,7 +49,7 @@ fn loop_starting_bits(
     Ok(List::of(bits))
 }
 
-// Those of all contexts.
+// The starting bits of the loops in all contexts.
 fn all_loop_bits(
     alloc: Global,
     plan: &Plan,
@@ -64,10 +64,10 @@ fn all_loop_bits(
     Ok(all)
 }
 
-/// The plan that `plan_netlist` makes of a flat netlist, in several contexts, in each of which the
-/// latches start with these bits, in order. There are at most as many contexts as its period has
-/// macro steps of 32 generations. Where the starts of all contexts have no room on the ways back of
-/// its loops, it gets columns without instructions.
+/// Makes the plan of `plan_netlist` start several contexts. `starts` has a list for each context,
+/// with the bit that each latch starts with, in order. There are at most as many contexts as the
+/// plan's period has macro steps of 32 generations. If the starts of all contexts have no room on
+/// the ways back of the plan's loops, the plan gets columns without instructions.
 pub fn plan_contexts(
     alloc: Global,
     flat: &Flat,

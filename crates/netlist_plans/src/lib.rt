@@ -12,11 +12,12 @@ ghost use Rattle.netlist_plans.specs.Names.{TextsHavePortNames};
 ghost use Rattle.netlist_plans.specs.TextNames.{NamesAreWords, NetsAreWords};
 
 pub use contexts::plan_contexts;
+// The answer of `plan_netlist`, `plan_contexts` and `load_netlist` when memory runs out.
 pub use lists::OutOfMemory as NetlistPlanError;
 pub use planning::{Planned, plan_netlist};
 pub use taping::load_netlist;
 
-/// The names of a text's models, and so those of its design's nets, have a byte and no blank.
+/// The names of a text's models, and of its design's nets, have at least one byte and no blank.
 pub fn names_are_words()
     ensures names { NamesAreWords }
     ensures nets { NetsAreWords }

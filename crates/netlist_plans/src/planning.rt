@@ -27,14 +27,14 @@ use plan_carries::{plans_have_ports, texts_carry_flats};
 use plan_ports::of_plan;
 use std::alloc::Global;
 
-/// A plan, and where its ports and nets are.
+/// A plan, and its port table: where its ports and nets are.
 #[derive(Drop)]
 pub struct Planned {
     pub plan: Plan,
     pub ports: Ports,
 }
 
-// The lists of cells of a sound flat netlist, each of which computes it.
+// Lists of cells of a sound flat netlist; each list computes the netlist.
 fn cell_lists(alloc: Global, flat: &Flat, order: &Order) -> Result<Vec<CellList>, NetlistPlanError>
     requires sound { IsSound flat.now }
     requires weighed { IsWeighed flat.now }
@@ -49,7 +49,7 @@ fn cell_lists(alloc: Global, flat: &Flat, order: &Order) -> Result<Vec<CellList>
     Ok(lists)
 }
 
-// The plan of one of these lists.
+// The plan of one of the lists of cells.
 fn plan_of_cells(alloc: Global, flat: &Flat, order: &Order) -> Result<Plan, NetlistPlanError>
     requires sound { IsSound flat.now }
     requires weighed { IsWeighed flat.now }
@@ -62,8 +62,8 @@ fn plan_of_cells(alloc: Global, flat: &Flat, order: &Order) -> Result<Plan, Netl
     Ok(chosen.plan)
 }
 
-/// A plan of a sound flat netlist, for an order of its covers in which each comes after those that
-/// it reads. Its names and places are to stand in a port table.
+/// Makes a plan of a sound flat netlist, with its port table. `order` is an order of its covers in
+/// which each cover comes after those that it reads.
 pub fn plan_netlist(alloc: Global, flat: &Flat, order: &Order) -> Result<Planned, NetlistPlanError>
     requires sound { IsSound flat.now }
     requires weighed { IsWeighed flat.now }

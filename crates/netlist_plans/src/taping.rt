@@ -23,10 +23,10 @@ use plan_tapes::load;
 use std::alloc::Global;
 use streams::Streams;
 
-/// The plan that `plan_netlist` makes of a flat netlist, with streams of its inputs on its tape,
-/// and the table of that plan, which names no input. The text of both runs by itself: nothing
-/// drives it, and it shows the run on the streams, and on 0 from then on. There are streams for one
-/// context, of 1 to 4,096 cycles.
+/// Puts streams of the inputs on the tape of the plan that `plan_netlist` makes, and returns that
+/// plan with its table, which names no input. The text of both runs by itself: nothing drives it,
+/// and it shows the run whose input bits are those of the streams, and 0 from then on. The streams
+/// are those of one context, of 1 to 4,096 cycles.
 pub fn load_netlist(
     alloc: Global,
     flat: &Flat,

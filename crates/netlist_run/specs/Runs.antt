@@ -26,7 +26,7 @@ abbrev pub output_rows : Design → ℕ → (ℕ → Valuation) → List (List B
 output_rows design cycles run =
     map (λ cycle. output_bits design (run cycle)) (range_with_len 0 cycles)
 
--- the run of the first cycles, with the outputs that they gave and the state after them
+-- the run of the first cycles, the outputs' bits in them, and the state after them
 pub record Ran (design : Design) (streams : Streams) (cycles : ℕ) (rows : List (List Bool))
     (state : List Bool) : Type 0 where
   pub run : ℕ → Valuation
@@ -35,7 +35,7 @@ pub record Ran (design : Design) (streams : Streams) (cycles : ℕ) (rows : List
   pub are_rows : rows ≡ output_rows design cycles run
   pub state_is : state ≡ state_in_order design (latches_in design (start_state design) run cycles)
 
--- the outputs' bits, row by row, in a run of any design of this flat netlist
+-- the outputs' bits, row by row, in a run of any design whose flat netlist this is
 abbrev pub AreRowsInRun : Flat → Streams → List (List Bool) → Type 0
 AreRowsInRun flat streams rows =
     (design : Design) (order : List ℕ) → AreParts design flat order

@@ -5,5 +5,6 @@
 
 mod running;
 
+// The answer of `run` when memory runs out.
 pub use lists::OutOfMemory as RunError;
 pub use running::run;

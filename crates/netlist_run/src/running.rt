@@ -15,7 +15,7 @@ use netlist_text::Netlist;
 use std::alloc::{AllocError, Global};
 use streams::{Streams, columns_of};
 
-// Puts the bit at a place of each list.
+// Puts the bit at `place` of each list into a row.
 fn put_column(lists: &[List<bool>], place: usize, row: &mut [bool])
     requires long { All (λ bits. place < length bits) lists.now }
     requires many { length row.old ≡ length lists.now }
@@ -26,8 +26,8 @@ fn put_column(lists: &[List<bool>], place: usize, row: &mut [bool])
     }
 }
 
-// The outputs' bits of each cycle that a machine shows under the streams, over a row for its inputs
-// and one for its outputs.
+// The outputs' bits of each cycle that a machine shows under the streams. `row` and `shown` are
+// room for its inputs' and its outputs' bits.
 fn machine_rows(
     alloc: Global,
     machine: &mut Machine<'_>,
@@ -53,7 +53,7 @@ fn machine_rows(
     Ok(rows)
 }
 
-// The same for a machine in its first state.
+// The outputs' bits of each cycle, for a machine in its first state.
 fn rows_in_run(
     alloc: Global,
     flat: &Flat,
@@ -89,8 +89,8 @@ fn columns_in_run(
     Ok(columns_of(alloc, &rows, flat.outs.len())?)
 }
 
-/// The bits of each main output, cycle after cycle, in the netlist's run under the streams of its
-/// inputs.
+/// Returns the bits of each main output, cycle after cycle, in the netlist's run under the streams
+/// of its inputs.
 pub fn run(alloc: Global, netlist: Netlist, streams: &Streams) -> Result<List<List<bool>>, RunError>
     requires parts { AreParts netlist.design netlist.flat netlist.order.nodes }
     requires many { length streams.now.bits ≡ length netlist.flat.ins }

@@ -1,4 +1,5 @@
--- What a compiler makes of a flat netlist, part by part: each part by what the one before it is.
+-- What a compiler makes of a flat netlist, part by part: each part is described by the one before
+-- it.
 use Rattle.std.specs.Prelude.{◌≡◌, ℕ, Bool, List, []}
 use Rattle.netlist_core.specs.declared.flat.Flat.{Flat}
 use Rattle.netlist_meaning.specs.Flat.{IsSound, IsNamed}
@@ -12,16 +13,16 @@ use Rattle.cell_meaning.specs.Computes.{ComputesByPlan}
 use Rattle.pattern_reading.specs.declared.ports.Ports.{Ports}
 use Rattle.plan_ports.specs.Tables.{IsTableOf, HasPortNames, HasTablePlaces}
 
--- the list computes the flat netlist: in each of its valuations, outputs, latches' data and listed
--- nets have their bits
+-- the list computes the flat netlist: in each of the netlist's valuations its outputs, its latches'
+-- data and its listed nets have the bits that the list computes
 pub record ComputesFlat (flat : Flat) (list : CellList) : Type 0 where
   pub mapped : IsMapped flat list
   pub bits : (inputs state : List Bool) (bits : ℕ → Bool) → IsFlatValuation flat inputs state bits
       → HasBits flat list inputs state bits
 
 -- The flat netlist is sound and has an order, and its names and places can stand in a port table.
--- The list computes it, the plan computes the list and has no tape, and the table is the plan's, of
--- so many contexts.
+-- The list computes the netlist, the plan computes the list and has no tape, and the table is the
+-- plan's, for this number of contexts.
 pub record IsCompiled (flat : Flat) (list : CellList) (plan : Plan) (contexts : ℕ)
     (ports : Ports) : Type 0 where
   pub sound : IsSound flat

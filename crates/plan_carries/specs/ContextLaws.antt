@@ -1,5 +1,5 @@
--- What is compiled of a flat netlist shows it in several contexts, where the loops' starts of each
--- context lie on their ways back.
+-- The pattern that is compiled of a flat netlist shows it in several contexts, if the starts of
+-- each context's loops lie on the loops' ways back.
 use Rattle.std.specs.Prelude.{ℕ, ◌<◌, ◌≡◌, Bool, List, length, map, All}
 use Rattle.tile_core.specs.declared.kind.Kind.{Kind}
 use Rattle.tile_core.specs.Drawing.{Drawing}
@@ -27,8 +27,8 @@ use Rattle.carries.specs.DesignContexts.{CarriesNetsInContexts}
 use Rattle.plan_carries.specs.Compiled.{IsCompiled}
 use Rattle.plan_carries.specs.Pictures.{grid_with}
 
--- the edges start the loops of a list's plan with these bits of the latches, in order, in each
--- context, and with 1 that of constant 1
+-- in each context the edges start the loops of the latches with these bits, in order, and the loop
+-- of constant 1 with 1
 pub record StartsLatches (flat : Flat) (list : CellList) (plan : Plan) (starts : List (List Bool))
     (lit : Lit) : Type 0 where
   pub long : All (λ start. length start ≡ length flat.latches) starts
@@ -44,14 +44,14 @@ PlanesShowContexts =
     → (lit : Lit) → StartsLatches flat list plan starts lit
     → ShowsFlatContexts (plane_with library plan lit) ports flat starts
 
--- of every admissible plan and all lit edges, the rows of the drawing are its plane
+-- for every admissible plan and any lit edges, the rows of the drawing are its plane
 abbrev pub PicturesArePlanes : Type 0
 PicturesArePlanes =
     (plan : Plan) → IsAdmissible plan → (lit : Lit)
     → IsPatternOf (grid_with plan lit) (plane_with shipped_drawing plan lit)
 
--- and the text that is written of these rows and the plan's table carries the flat netlist in these
--- contexts, of which there is one or more
+-- the text that is written of these rows and the plan's table carries the flat netlist in these
+-- contexts, if there is at least one
 abbrev pub TextsCarryContexts : Type 0
 TextsCarryContexts =
     (flat : Flat) (list : CellList) (plan : Plan) (ports : Ports) (starts : List (List Bool))

@@ -1,5 +1,5 @@
--- What is compiled of a flat netlist shows its runs, and a text that carries a design's flat
--- netlist carries the design.
+-- The pattern that is compiled of a flat netlist shows its runs, and a text that carries a design's
+-- flat netlist carries the design.
 use Rattle.std.specs.Prelude.{ℕ, List, [], ◌∷◌}
 use Rattle.tile_core.specs.declared.kind.Kind.{Kind}
 use Rattle.tile_core.specs.Drawing.{Drawing}
@@ -24,17 +24,18 @@ use Rattle.plan_ports.specs.Tables.{HasPortsOf}
 use Rattle.plan_carries.specs.Compiled.{ComputesFlat, IsCompiled}
 use Rattle.plan_carries.specs.ContextLaws.{StartsLatches}
 
--- a plan that computes the list of a flat netlist has its inputs and outputs
+-- a plan that computes the list of a flat netlist has the netlist's inputs and outputs
 abbrev pub PlansHavePorts : Type 0
 PlansHavePorts =
     (flat : Flat) (list : CellList) (plan : Plan) → ComputesFlat flat list
     → ComputesByPlan list plan → HasPortsOf flat plan
 
--- the plan's start edges start one context, the loops of the latches as the flat netlist starts
+-- the plan's start edges start one context: each latch's loop starts as the latch does in the flat
+-- netlist
 abbrev pub StartsAsFlat : Flat → CellList → Plan → Type 0
 StartsAsFlat flat list plan = StartsLatches flat list plan (start_bits flat ∷ []) (start_edges plan)
 
--- the plane of a plan that starts so, drawn with any library of tiles that keep the timing law,
+-- the plane of a plan with such starts, drawn with any library of tiles that keep the timing law,
 -- shows the flat netlist's runs
 abbrev pub PlanesShowRuns : Type 0
 PlanesShowRuns =
@@ -43,7 +44,7 @@ PlanesShowRuns =
     → IsCompiled flat list plan 1 ports → StartsAsFlat flat list plan
     → ShowsFlatRuns (start_plane library plan) ports flat
 
--- and the text that is written of the plan's pattern and its table carries the flat netlist
+-- the text that is written of the plan's pattern and its table carries the flat netlist
 abbrev pub TextsCarryFlats : Type 0
 TextsCarryFlats =
     (flat : Flat) (list : CellList) (plan : Plan) (ports : Ports)

@@ -1,4 +1,4 @@
--- The box of cells of a plan whose edges are lit so.
+-- The box of cells of a plan with given lit edges.
 use Rattle.std.specs.Prelude.{ℕ, pos, List, map}
 use Rattle.std.specs.List.{range_with_len}
 use Rattle.ww_rule.specs.declared.pattern.State.{State}
@@ -15,7 +15,7 @@ picture_row plan lit y =
     map (λ x. plane_with shipped_drawing plan lit (pos x) (pos y))
     (range_with_len 0 (size_of plan).0)
 
--- the rows of the drawing; of the plan's start edges it is the plan's pattern
+-- the rows of the drawing; with the plan's start edges they are the plan's pattern
 abbrev pub grid_with : Plan → Lit → Grid
 grid_with plan lit =
     record {

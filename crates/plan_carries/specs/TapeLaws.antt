@@ -1,5 +1,4 @@
--- The plan of what is compiled of a flat netlist, with bits of the inputs on its tape, runs by
--- itself.
+-- A compiled plan with bits of the inputs on its tape runs by itself.
 use Rattle.std.specs.Prelude.{ℕ, ◌≡◌, Bool, List, length}
 use Rattle.lane_core.specs.declared.plan.Plan.{Plan}
 use Rattle.lane_core.specs.Tape.{AreTapeLists, tape_rows}
@@ -30,8 +29,8 @@ TapesRunByThemselves =
     → RunsByItselfFlat (pattern_text (start_grid (with_tape bits plan)) table) flat
     (tape_rows (with_tape bits plan))
 
--- a text that runs by itself as the flat netlist of a design does so as the design, whoever wrote
--- the text
+-- a text that runs by itself as the flat netlist of a design also runs by itself as the design,
+-- whoever wrote the text
 abbrev pub DesignsRunByThemselves : Type 0
 DesignsRunByThemselves =
     (text : List ℕ) (design : Design) (flat : Flat) (rows : List (List Bool))

@@ -17,24 +17,24 @@ use plan_ports::tables_are_readable;
 use plan_tapes::tapes_show_rows;
 use tile_library::Shipped;
 
-/// A plan that computes the cells of a flat netlist has its inputs and outputs.
+/// A plan that computes the cells of a flat netlist has the netlist's inputs and outputs.
 pub fn plans_have_ports()
     ensures { PlansHavePorts }
 {}
 
-/// The plane of the plan, with edges lit that start the loops of several contexts, shows the runs
-/// of the flat netlist in each.
+/// The plane of the plan shows the runs of the flat netlist in several contexts, if the lit edges
+/// start the loops of each context.
 pub fn planes_show_contexts()
     ensures { PlanesShowContexts }
 {}
 
-/// Whichever edges of an admissible plan are lit, the rows of the drawing are its plane.
+/// The rows of the drawing of an admissible plan are its plane, whichever edges are lit.
 pub fn pictures_are_planes()
     ensures { PicturesArePlanes }
 {}
 
-/// The text that is written of these rows and the plan's table carries the flat netlist in these
-/// contexts.
+/// The text that is written of the drawing and the plan's table carries the flat netlist in several
+/// contexts, if the lit edges start the loops of each.
 pub fn texts_carry_contexts()
     ensures { TextsCarryContexts }
 {
@@ -46,7 +46,7 @@ pub fn texts_carry_contexts()
 }
 
 /// A text that carries the flat netlist of a design without a fault in contexts carries the design
-/// and its nets in them.
+/// and its nets in these contexts.
 pub fn designs_are_carried_in_contexts()
     ensures { DesignsAreCarriedInContexts }
 {}
@@ -83,8 +83,8 @@ pub fn tapes_run_by_themselves()
     planes_show_runs();
 }
 
-/// A text that runs by itself as the flat netlist of a design without a fault does so as the
-/// design.
+/// A text that runs by itself as the flat netlist of a design without a fault also runs by itself
+/// as the design.
 pub fn designs_run_by_themselves()
     ensures { DesignsRunByThemselves }
 {}

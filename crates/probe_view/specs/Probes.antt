@@ -16,27 +16,27 @@ use Rattle.probe_view.specs.declared.error.ProbeError.TheVariants.{NoMemory, NoS
 abbrev pub has_name_and_path : (name path : List ℕ) → NetLine → Bool
 has_name_and_path name path net = bytes_eq net.name name && bytes_eq net.path path
 
--- the net of a name in the model of a path
+-- the net of this name in the model of this path
 abbrev pub net_named : Ports → (name path : List ℕ) → Option NetLine
 net_named ports name path = find (has_name_and_path name path) ports.nets
 
--- its bits in a context, cycle after cycle: 1 where its cell is a head at generation offset + 32 c
--- + t P
+-- the bits of a net in a context, cycle after cycle: 1 where its cell is a head at generation
+-- offset + 32 c + t P
 abbrev pub probed_at : Ports → Streams → Plane → (context : ℕ) → NetLine → List Bool
 probed_at ports streams plane context net =
     bits_of_cell ports streams plane net.offset context (net.x, net.y)
 
--- those in each context
+-- the bits of a net in each context
 abbrev pub probed_bits : Ports → Streams → Plane → NetLine → List (List Bool)
 probed_bits ports streams plane net =
     map (λ context. probed_at ports streams plane context net) (range_with_len 0 ports.c)
 
--- the generation of the last of them
+-- the generation of the last bit of a net
 abbrev pub last_probed : Ports → Streams → NetLine → ℕ
 last_probed ports streams net = last_from net.offset ports streams
 
 -- There is such a net, all its bits are shown within the limit of generations, each injection up to
--- there meets a conductor, and these are the bits.
+-- the last bit meets a conductor, and these are the bits.
 pub record HasProbed (ports : Ports) (streams : Streams) (plane : Plane) (name path : List ℕ)
     (bits : List (List Bool)) : Type 0 where
   pub net : NetLine
@@ -53,8 +53,8 @@ pub record IsTooFar (ports : Ports) (streams : Streams) (name path : List ℕ)
   pub needed : generations ≡ last_probed ports streams net
   pub far : greatest_generation < generations
 
--- There is such a net, all its bits are shown within the limit, and the first injection up to there
--- that meets no conductor is this one.
+-- There is such a net, all its bits are shown within the limit, and this is the first injection up
+-- to the last bit that meets no conductor.
 pub record IsNotQuiet (ports : Ports) (streams : Streams) (plane : Plane) (name path : List ℕ)
     (generation x y : ℕ) : Type 0 where
   pub net : NetLine
@@ -72,7 +72,7 @@ HasProbeCause ports streams plane name path (TooFar generations) =
 HasProbeCause ports streams plane name path (NotQuiet generation x y) =
     IsNotQuiet ports streams plane name path generation x y
 
--- why the cell of a net gives no bits
+-- the error of a probe for each error of its run
 abbrev pub probe_error : SimulateError → ProbeError
 probe_error simulating.NoMemory = NoMemory
 probe_error (simulating.TooFar generations) = TooFar generations

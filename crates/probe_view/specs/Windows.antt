@@ -9,13 +9,13 @@ use Rattle.drive.specs.Driving.{first_miss}
 use Rattle.probe_view.specs.declared.error.WindowError.{WindowError}
 use Rattle.probe_view.specs.declared.error.WindowError.TheVariants.{NoMemory, NotQuiet}
 
--- the tags of so many cells of a row, from column x on: `.` for an empty cell, `A`, `B`, `C` for a
--- head, a tail, a conductor
+-- the tags of `width` cells of a row, from column x on: `.` for an empty cell, `A` for a head, `B`
+-- for a tail, `C` for a conductor
 abbrev pub window_tags : Plane → (row x width : ℕ) → List ℕ
 window_tags plane row x width =
     map (λ column. tag_of (plane (pos column) (pos row))) (range_with_len x width)
 
--- so many rows from row y on, a line for each
+-- `height` lines, one for each row from row y on
 abbrev pub window_text : Plane → (x y width height : ℕ) → List ℕ
 window_text plane x y width height =
     flat_map (λ row. window_tags plane row x width ++ 10 ∷ []) (range_with_len y height)

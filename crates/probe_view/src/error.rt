@@ -5,7 +5,7 @@ use drive::{DriveError, SimulateError};
 use std::alloc::{AllocError, AllocFailed};
 use thiserror::Error;
 
-/// Why a net's bits are not shown.
+/// The error of `probe`: why a net's bits are not shown.
 #[derive(Clone, Copy, Debug, Error)]
 pub enum ProbeError {
     #[error("out of memory")]
@@ -13,22 +13,22 @@ pub enum ProbeError {
     /// No net of the table has the name and the path. This is looked at first.
     #[error("there is no such net")]
     NoSuchNet,
-    /// The run needs so many generations, which is over the limit of 4,294,967,296.
+    /// The run needs this number of generations, which is over the limit of 4,294,967,296.
     #[error("the run needs {generations} generations")]
     TooFar { generations: u128 },
-    /// An injection of this generation is due at this cell, by its column and row, which is no
-    /// conductor before the injections of that generation.
+    /// An injection of this generation is due at this cell, by its column and row, but the cell is
+    /// no conductor before the injections of that generation.
     #[error("generation {generation}: cell {x} {y} is no conductor")]
     NotQuiet { generation: u64, x: u64, y: u64 },
 }
 
-/// Why a part of a plane is not shown.
+/// The error of `window`: why a part of a plane is not shown.
 #[derive(Clone, Copy, Debug, Error)]
 pub enum WindowError {
     #[error("out of memory")]
     NoMemory,
-    /// An injection of this generation is due at this cell, by its column and row, which is no
-    /// conductor before the injections of that generation.
+    /// An injection of this generation is due at this cell, by its column and row, but the cell is
+    /// no conductor before the injections of that generation.
     #[error("generation {generation}: cell {x} {y} is no conductor")]
     NotQuiet { generation: u64, x: u64, y: u64 },
 }

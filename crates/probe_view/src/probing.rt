@@ -21,7 +21,7 @@ fn has_name_and_path(net: &NetLine, name: &[u8], path: &[u8]) -> bool
     net.name.as_slice() == name && net.path.as_slice() == path
 }
 
-// The net of a name in the model of a path.
+// The net of this name in the model of this path.
 fn net_named<'a>(nets: &'a [NetLine], name: &[u8], path: &[u8]) -> Option<&'a NetLine>
     ensures { option_copied result ≡ find (has_name_and_path name.now path.now) nets.now }
 {
@@ -33,14 +33,14 @@ fn net_named<'a>(nets: &'a [NetLine], name: &[u8], path: &[u8]) -> Option<&'a Ne
     None
 }
 
-/// The bits that a net shows in each context, cycle after cycle, while streams drive the pattern:
-/// bit t in context c is 1 exactly where the net's cell is a head at generation
+/// Returns the bits that a net shows in each context, cycle after cycle, while streams drive the
+/// pattern. Bit t in context c is 1 exactly if the net's cell is a head at generation
 /// `offset + 32 c + t p`. The net is the one of this name in the model of this path, which is `-`
-/// for the main model. A call asks for at least one cycle, for one stream of as many bits for each
-/// context and input, and for inputs inside the pattern's box; the net's cell may lie anywhere.
-/// `TooFar` comes where the last of these generations is over 4,294,967,296, and nothing is then
-/// run; `NotQuiet` names the first injection up to that generation whose cell is no conductor
-/// before the injections of its own.
+/// for the main model. A call needs at least one cycle, one stream with a bit for each cycle for
+/// each input of each context, and inputs inside the pattern's box; the net's cell may lie
+/// anywhere. `TooFar` comes if the last of these generations is over 4,294,967,296, and then
+/// nothing is run. `NotQuiet` names the first injection up to that generation whose cell is no
+/// conductor before the injections of its generation.
 pub fn probe(
     alloc: Global,
     pattern: Pattern,

@@ -14,7 +14,7 @@ use pattern_writing::tag_of;
 use std::alloc::{AllocError, Global};
 use ww_rule::{Injection, Pattern};
 
-// Puts the tags of so many cells of a row at the end of a text.
+// Adds the tags of `width` cells of a row to a text.
 fn push_tags(text: &mut Vec<u8>, run: &Run, row: u128, x: u64, width: u64) -> Result<(), AllocError>
     requires { IsBandRun run.now }
     ensures { OnOk result (text.new.items ≡
@@ -27,7 +27,7 @@ fn push_tags(text: &mut Vec<u8>, run: &Run, row: u128, x: u64, width: u64) -> Re
     Ok(())
 }
 
-// The lines of so many rows.
+// The lines of `height` rows.
 fn lines_of(
     alloc: Global,
     run: &Run,
@@ -48,12 +48,12 @@ fn lines_of(
     Ok(text)
 }
 
-/// A part of the plane that a pattern has come to at a generation, while streams drive it: `height`
-/// lines of `width` tags, `.`, `A`, `B` or `C`, each ended by byte 10. The first tag is that of
-/// column x and row y, counted from the pattern's upper left cell; all beyond the pattern's box is
-/// empty. A call asks for one stream, of any number of cycles, for each context and input, and for
-/// inputs inside the pattern's box. `NotQuiet` names the first injection up to the generation whose
-/// cell is no conductor before the injections of its own.
+/// Returns a part of the plane that a pattern has come to at a generation while streams drive it:
+/// `height` lines of `width` tags, `.`, `A`, `B` or `C`, each line ended by byte 10. The first tag
+/// is that of column x and row y, counted from the pattern's upper left cell; all cells beyond the
+/// pattern's box are empty. A call needs one stream, of any number of cycles, for each input of
+/// each context, and inputs inside the pattern's box. `NotQuiet` names the first injection up to
+/// the generation whose cell is no conductor before the injections of its generation.
 pub fn window(
     alloc: Global,
     pattern: Pattern,

@@ -51,7 +51,7 @@ use Rattle.refusals.specs.declared.causes.TextError.TheVariants as text
 use Rattle.refusals.specs.declared.refusal.Refusal.{Refusal}
 use Rattle.refusals.specs.declared.refusal.Refusal.TheVariants.{Usage, TooLong, ReadFault, WriteFault, NoMemory, Text}
 
--- the exit status for a cause that lies in a text
+-- the exit status for a cause
 abbrev pub status_of_cause : Cause → ℕ
 status_of_cause (NetlistFault fault) = 1
 status_of_cause (WeightTooLarge weight) = 4
@@ -87,14 +87,14 @@ rle_fault_name rle.BadItem = codes "G4 BadItem"
 rle_fault_name rle.CellOutside = codes "G5 CellOutside"
 rle_fault_name rle.NoEnd = codes "G6 NoEnd"
 
--- those of a port table
+-- the faults of a port table as they are printed
 abbrev pub port_fault_name : PortFaultKind → List ℕ
 port_fault_name port.BadLine = codes "H1 BadLine"
 port_fault_name port.BadOrder = codes "H2 BadOrder"
 port_fault_name port.CellOutside = codes "H3 CellOutside"
 port_fault_name port.Twice = codes "H4 Twice"
 
--- those of streams
+-- the faults of streams as they are printed
 abbrev pub stream_fault_name : StreamFaultKind → List ℕ
 stream_fault_name stream.NoEquals = codes "NoEquals"
 stream_fault_name stream.BadContext = codes "BadContext"
@@ -104,7 +104,7 @@ stream_fault_name stream.BadBit = codes "BadBit"
 stream_fault_name stream.BadLength = codes "BadLength"
 stream_fault_name stream.MissingInput = codes "MissingInput"
 
--- those of start words
+-- the faults of start words as they are printed
 abbrev pub start_fault_name : StartFaultKind → List ℕ
 start_fault_name start.NoEquals = codes "NoEquals"
 start_fault_name start.BadContext = codes "BadContext"
@@ -167,7 +167,7 @@ aig_loop_line literals = codes "loop:" ++ (spaced_numbers literals ++ codes "\n"
 abbrev pub circuit_line : List ℕ → List ℕ
 circuit_line name = codes "not a circuit: " ++ (name ++ codes "\n")
 
--- the one line that tells such a cause
+-- the one line that tells a cause
 abbrev pub cause_line : Cause → List ℕ
 cause_line (NetlistFault fault) = netlist_line fault
 cause_line (WeightTooLarge weight) =
@@ -203,85 +203,85 @@ refusal_line WriteFault = codes "write fault\n"
 refusal_line NoMemory = codes "no memory\n"
 refusal_line (Text cause) = cause_line cause
 
--- the refusal for each way in which words are no command,
+-- the refusal for each error of the words
 abbrev pub words_refusal : WordsError → Refusal
 words_refusal words_of.Usage = Usage
 words_refusal words_of.NoMemory = NoMemory
 
--- not all is read,
+-- the refusal for each error of reading standard input
 abbrev pub read_refusal : ReadAllError → Refusal
 read_refusal read_all.ReadFault = ReadFault
 read_refusal read_all.TooLong = TooLong
 read_refusal read_all.NoMemory = NoMemory
 
--- and a text gives no output
+-- the refusal for each error of a text
 abbrev pub text_refusal : TextError → Refusal
 text_refusal (text.Refused cause) = Text cause
 text_refusal text.NoMemory = NoMemory
 
--- a text gives no output: it is no netlist's,
+-- the error of a text that is no netlist
 abbrev pub netlist_error : NetlistError → TextError
 netlist_error (netlist_of.Fault fault) = text.Refused (NetlistFault fault)
 netlist_error (netlist_of.TooLarge weight) = text.Refused (WeightTooLarge weight)
 netlist_error (netlist_of.Loop names) = text.Refused (Loop names)
 netlist_error netlist_of.NoMemory = text.NoMemory
 
--- no circuit's,
+-- the error of a text that is no circuit
 abbrev pub aig_error : AigReadError → TextError
 aig_error (aig_of.Fault fault) = text.Refused (AigAtFault fault)
 aig_error aig_of.NoMemory = text.NoMemory
 
--- its circuit has no plan,
+-- the error of a text whose circuit has no plan
 abbrev pub lower_error : LowerError → TextError
 lower_error (planning.TooLarge weight) = text.Refused (WeightTooLarge weight)
 lower_error (planning.Loop literals) = text.Refused (AigLoop literals)
 lower_error planning.NoMemory = text.NoMemory
 
--- it is no pattern's,
+-- the error of a text that is no pattern
 abbrev pub pattern_error : RleReadError → TextError
 pattern_error (pattern_of.Fault fault) = text.Refused (Pattern fault)
 pattern_error (pattern_of.TooLarge width height) = text.Refused (GridTooLarge width height)
 pattern_error pattern_of.NoMemory = text.NoMemory
 
--- its port table is at fault,
+-- the error of a text whose port table is at fault
 abbrev pub table_error : PortReadError → TextError
 table_error (ports_of.Fault fault) = text.Refused (PortTable fault)
 table_error ports_of.NoMemory = text.NoMemory
 
--- the streams are at fault,
+-- the error of a text for which the streams are at fault
 abbrev pub streams_error : StreamError → TextError
 streams_error (streams_of.Fault fault) = text.Refused (Streams fault)
 streams_error streams_of.NoMemory = text.NoMemory
 
--- the start words are at fault,
+-- the error of a text for which the start words are at fault
 abbrev pub starts_error : StartError → TextError
 starts_error (starts_of.Fault fault) = text.Refused (StartWord fault)
 starts_error starts_of.NoMemory = text.NoMemory
 
--- the pattern is not run,
+-- the error of a text whose pattern is not run
 abbrev pub simulate_error : SimulateError → TextError
 simulate_error (simulating.TooFar generations) = text.Refused (TooFar generations)
 simulate_error (simulating.NotQuiet generation x y) = text.Refused (NotQuiet generation x y)
 simulate_error simulating.NoMemory = text.NoMemory
 
--- its net is not shown,
+-- the error of a text whose net is not shown
 abbrev pub probe_refusal : List ℕ → ProbeError → TextError
 probe_refusal name probing.NoSuchNet = text.Refused (NoSuchNet name)
 probe_refusal name (probing.TooFar generations) = text.Refused (TooFar generations)
 probe_refusal name (probing.NotQuiet generation x y) = text.Refused (NotQuiet generation x y)
 probe_refusal name probing.NoMemory = text.NoMemory
 
--- it is no circuit,
+-- the error of a text that is the drawing of no circuit
 abbrev pub audit_error : AuditError → TextError
 audit_error (auditing.NotCircuit fault) = text.Refused (NotCircuit fault)
 audit_error auditing.NoMemory = text.NoMemory
 
--- a part of its plane is not,
+-- the error of a text of which a part of the plane is not shown
 abbrev pub window_error : WindowError → TextError
 window_error (viewing.NotQuiet generation x y) = text.Refused (NotQuiet generation x y)
 window_error viewing.NoMemory = text.NoMemory
 
--- or a made netlist is not
+-- the error of a made netlist without a summary
 abbrev pub summarizing_error : SummaryError → TextError
 summarizing_error (summarizing.TooFar generations) = text.Refused (TooFar generations)
 summarizing_error summarizing.NoMemory = text.NoMemory

@@ -24,30 +24,30 @@ pub enum Cause {
     NetlistFault(Fault),
     /// The netlist, or the circuit, weighs more than the limit.
     WeightTooLarge { weight: u64 },
-    /// Covers read each other in a circle, whose nets have these names.
+    /// Covers read each other in a circle; these are the names of the circle's nets.
     Loop(List<Name>),
     /// The circuit's text breaks a rule.
     AigAtFault(AigFault),
-    /// AND gates read each other in a circle, whose left sides are these literals.
+    /// AND gates read each other in a circle; these are the literals of their left sides.
     AigLoop(List<u64>),
-    /// The text is no pattern's.
+    /// The text is no pattern.
     Pattern(RleFault),
     /// The pattern's box has more cells than are read.
     GridTooLarge { width: u64, height: u64 },
-    /// The pattern's port table is at fault.
+    /// The pattern's port table has this fault.
     PortTable(PortFault),
-    /// The words say no streams for the inputs.
+    /// The words are no streams for the inputs.
     Streams(StreamFault),
-    /// The words say no starts for the latches.
+    /// The words are no starts for the latches.
     StartWord(StartFault),
-    /// No net of the pattern's port table has this name, which is asked for, and the path.
+    /// No net of the pattern's port table has this name and the path that is asked for.
     NoSuchNet(Name),
-    /// The simulation needs so many generations, which is over the limit.
+    /// The simulation needs this number of generations, which is over the limit.
     TooFar { generations: u128 },
-    /// The plan has room for `limit` contexts, and more are asked for.
+    /// More contexts are asked for than the `limit` for which the plan has room.
     TooManyContexts { contexts: u64, limit: u64 },
-    /// An injection is due at this generation and cell, which is no conductor before the injections
-    /// of that generation.
+    /// An injection is due at this generation and cell, but the cell is no conductor before the
+    /// injections of that generation.
     NotQuiet { generation: u64, x: u64, y: u64 },
     /// The pattern with its port table is no circuit.
     NotCircuit(CircuitFault),
@@ -56,7 +56,7 @@ pub enum Cause {
 impl Cause {
     ghost use Rattle.refusals.specs.Refusals.{status_of_cause};
 
-    /// The exit status.
+    /// Returns the exit status.
     pub fn status(&self) -> u8
         ensures { result ≡ status_of_cause self.now }
     {
@@ -75,7 +75,7 @@ impl Cause {
     }
 }
 
-/// Why a text gives no output.
+/// Why a text gives no output: a command refuses it, or memory ran out.
 #[derive(Drop)]
 pub enum TextError {
     Refused(Cause),

@@ -70,7 +70,7 @@ impl From<Failed> for Refusal {
 impl Refusal {
     ghost use Rattle.refusals.specs.Refusals.{status_of};
 
-    /// The exit status.
+    /// Returns the exit status.
     pub fn status(&self) -> u8
         ensures { result ≡ status_of self.now }
     {

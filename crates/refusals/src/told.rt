@@ -1,5 +1,5 @@
-// The lines that tell refusals. Each is gathered on a page, and written at once where it is no
-// longer than one. They take no memory.
+// The lines that tell refusals. Each line is gathered on a page, and written at once if it fits one
+// page. Telling takes no memory.
 ghost use Rattle.std.specs.Prelude.{◌≡◌, ℕ, List, ◌++◌, take, OnOk, OnErr};
 ghost use Rattle.std.specs.Io.KnownBytes.{Appends};
 ghost use Rattle.ww_base.specs.Faults.{HasCause};
@@ -21,7 +21,7 @@ use start_words::StartFaultKind;
 use tile_match::CircuitFault;
 use ww_base::{Failed, Page, Sink, write_all, write_pieces};
 
-// A fault of a pattern's text as it is printed.
+// The printed name of a fault of a pattern's text.
 fn rle_fault_name(kind: RleFaultKind) -> &'static [u8]
     ensures { result.now ≡ rle_fault_name kind }
 {
@@ -35,7 +35,7 @@ fn rle_fault_name(kind: RleFaultKind) -> &'static [u8]
     }
 }
 
-// A fault of a port table as it is printed.
+// The printed name of a fault of a port table.
 fn port_fault_name(kind: PortFaultKind) -> &'static [u8]
     ensures { result.now ≡ port_fault_name kind }
 {
@@ -47,7 +47,7 @@ fn port_fault_name(kind: PortFaultKind) -> &'static [u8]
     }
 }
 
-// A fault of streams as it is printed.
+// The printed name of a fault of streams.
 fn stream_fault_name(kind: StreamFaultKind) -> &'static [u8]
     ensures { result.now ≡ stream_fault_name kind }
 {
@@ -62,7 +62,7 @@ fn stream_fault_name(kind: StreamFaultKind) -> &'static [u8]
     }
 }
 
-// A fault of start words as it is printed.
+// The printed name of a fault of start words.
 fn start_fault_name(kind: StartFaultKind) -> &'static [u8]
     ensures { result.now ≡ start_fault_name kind }
 {
@@ -75,7 +75,7 @@ fn start_fault_name(kind: StartFaultKind) -> &'static [u8]
     }
 }
 
-// Why a pattern is no circuit, as it is printed.
+// The printed reason why a pattern is no circuit.
 fn circuit_fault_name(fault: CircuitFault) -> &'static [u8]
     ensures { result.now ≡ circuit_fault_name fault }
 {
@@ -110,7 +110,7 @@ fn tell_grid<E: Sink>(err: &mut E, width: u64, height: u64) -> Result<(), Failed
     write_pieces(err, &[b"too large: grid ", x, b" by ", y, b"\n"])
 }
 
-// Tells how many generations are too many.
+// Tells the number of generations, which is over the limit.
 fn tell_generations<E: Sink>(err: &mut E, generations: u128) -> Result<(), Failed>
     ensures { Tells (cause_line (Cause.TooFar generations))
         (E.written err.old) (E.written err.new) (E.faults err.old) (E.faults err.new) result }
@@ -153,7 +153,7 @@ fn tell_circuit<E: Sink>(err: &mut E, fault: CircuitFault) -> Result<(), Failed>
     write_pieces(err, &[b"not a circuit: ", circuit_fault_name(fault), b"\n"])
 }
 
-// Tells how many contexts are too many.
+// Tells the number of contexts, which is over the limit.
 fn tell_contexts<E: Sink>(err: &mut E, contexts: u64, limit: u64) -> Result<(), Failed>
     ensures { Tells (cause_line (Cause.TooManyContexts contexts limit))
         (E.written err.old) (E.written err.new) (E.faults err.old) (E.faults err.new) result }
@@ -249,7 +249,7 @@ fn tell_weight<E: Sink>(err: &mut E, weight: u64) -> Result<(), Failed>
     )
 }
 
-// Puts each name on a page, after a blank.
+// Adds each name to a page, after a blank.
 fn put_spaced<E: Sink>(err: &mut E, page: &mut Page, names: &[Bytes]) -> Result<(), Failed>
     ensures ok { OnOk result ((rest : List ℕ) →
         Wrote (E.written err.old) (E.written err.new) (E.faults err.old) (E.faults err.new)
@@ -280,7 +280,7 @@ fn tell_loop<E: Sink>(err: &mut E, names: &[Bytes]) -> Result<(), Failed>
     page.flush(err)
 }
 
-// Puts each number on a page, in decimal, after a blank.
+// Adds each number to a page, in decimal, after a blank.
 fn put_numbers<E: Sink>(err: &mut E, page: &mut Page, numbers: &[u64]) -> Result<(), Failed>
     ensures ok { OnOk result ((rest : List ℕ) →
         Wrote (E.written err.old) (E.written err.new) (E.faults err.old) (E.faults err.new)
@@ -314,7 +314,7 @@ fn tell_aig_loop<E: Sink>(err: &mut E, literals: &[u64]) -> Result<(), Failed>
 }
 
 impl Cause {
-    // Writes the one line that tells the cause, or a front of it where a write fails.
+    // Writes the one line that tells the cause, or a prefix of it if a write fails.
     fn tell<E: Sink>(&self, err: &mut E) -> Result<(), Failed>
         ensures ok { OnOk result (Appends (E.written err.old) (E.written err.new)
             (cause_line self.now)) }
@@ -348,7 +348,7 @@ impl Cause {
 }
 
 impl Refusal {
-    /// Writes the one line that tells the refusal, or a front of it where a write fails.
+    /// Writes the one line that tells the refusal, or a prefix of it if a write fails.
     pub fn tell<E: Sink>(&self, err: &mut E) -> Result<(), Failed>
         ensures ok { OnOk result (Appends (E.written err.old) (E.written err.new)
             (refusal_line self.now)) }

@@ -1,4 +1,4 @@
--- What a text that runs by itself shows, whatever streams one gives: it has no inputs, so they
+-- What a text that runs by itself shows, whatever streams are given: it has no inputs, so they
 -- drive nothing.
 use Rattle.std.specs.Prelude.{ℕ, ◌≡◌, ◌≤◌, Bool, List, length, map, None, Some, slice_get}
 use Rattle.ww_rule.specs.Grid.{plane_of}
@@ -14,9 +14,9 @@ use Rattle.netlist_run.specs.Runs.{bits_in_run}
 use Rattle.probe_view.specs.Probes.{probed_at}
 use Rattle.shown_runs.specs.ShownRuns.{ShowsTheRun, net_bits_in_run}
 
--- In a run of the design on the rows, and on any number of rows of 0 after them, for up to as many
--- cycles: each output shows the bits of the main output of its name, and each net its bits. So
--- `simulate` shows of the text what the netlist gives on the rows, and goes on with 0.
+-- In a run of the design on the rows, and on any number of rows of 0 after them, for at most as
+-- many cycles: each output shows the bits of the main output of its name, and each net shows its
+-- bits. So `simulate` shows for the text what the netlist gives on the rows, and goes on with 0.
 pub record RunnerShows {text : List ℕ} {design : Design} {rows : List (List Bool)}
     (k : RunsByItself text design rows) (run : ℕ → Valuation) (streams : Streams) : Type 0 where
   pub outs : ShowsTheRun (plane_of k.grid.rows) k.ports design streams 0 run

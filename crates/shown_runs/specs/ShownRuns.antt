@@ -24,9 +24,9 @@ use Rattle.drive.specs.Driving.{AreFor, first_miss, shown_at, shown_bits}
 use Rattle.netlist_run.specs.Runs.{bits_in_run}
 use Rattle.probe_view.specs.Probes.{probed_at, probed_bits}
 
--- Driven by the streams, each output of the pattern shows in a context the bits of the main output
--- of its name in the run; and so, output by output, the pattern shows there what the netlist gives,
--- and lines of names and bits, whatever their form, are the same.
+-- When the streams drive the pattern, each output of the pattern shows in a context the bits of the
+-- main output of its name in the run. So, output by output, the pattern shows in that context what
+-- the netlist gives; and lines of names and bits, whatever their form, are the same.
 pub record ShowsTheRun (plane : Plane) (ports : Ports) (design : Design) (streams : Streams)
     (context : ℕ) (run : ℕ → Valuation) : Type 0 where
   pub each : All (λ out. shown_at ports streams plane context out
@@ -37,8 +37,8 @@ pub record ShowsTheRun (plane : Plane) (ports : Ports) (design : Design) (stream
       → flat_map (λ out. line out.name (shown_at ports streams plane context out)) ports.outs
       ≡ flat_map (λ name. line name (bits_in_run run streams.cycles name)) (main_outputs design)
 
--- Under streams for the table's inputs the design has a run in each context, from its start on, and
--- whatever the runs are, the pattern shows those of each context.
+-- Under streams for the table's inputs the design has a run in each context, from the context's
+-- start on, and for all such runs the pattern shows the run of each context.
 pub record ShowsContextsRuns {text : List ℕ} {design : Design} {starts : List LatchState}
     (k : CarriesContexts text design starts) (streams : Streams) : Type 0 where
   pub runs : ℕ → ℕ → Valuation
@@ -58,8 +58,8 @@ CarriersShowContexts =
     (k : CarriesContexts text design starts) (streams : Streams) → AreFor k.ports streams
     → ShowsContextsRuns k streams
 
--- Of a text that carries a design in one context: under streams for the table's inputs the design
--- has a run, and each of its runs is so shown
+-- if a text carries a design in one context, then under streams for the table's inputs the design
+-- has a run, and the pattern shows each of its runs
 pub record ShowsEachRun {text : List ℕ} {design : Design} (c : Carries text design)
     (streams : Streams) : Type 0 where
   pub run : ℕ → Valuation
@@ -75,7 +75,7 @@ CarriersShowRuns =
     (text : List ℕ) (design : Design) (c : Carries text design) (streams : Streams)
     → AreFor c.ports streams → ShowsEachRun c streams
 
--- Each injection meets a conductor: a text that carries a design is quiet where streams for the
+-- Each injection meets a conductor: a text that carries a design is quiet when streams for the
 -- table's inputs drive it.
 abbrev pub CarriersAreQuiet : Type 0
 CarriersAreQuiet =
@@ -88,16 +88,16 @@ OneContextIsQuiet =
     (text : List ℕ) (design : Design) (c : Carries text design) (streams : Streams)
     → AreFor c.ports streams → (g : ℕ) → first_miss c.ports streams (plane_of c.grid.rows) g ≡ None
 
--- What words say for the inputs of a sound table, in as many contexts as it has, are streams for
--- it.
+-- The streams that words give to the inputs of a sound table, in as many contexts as the table has,
+-- are streams for the table.
 abbrev pub StreamsAreFor : Type 0
 StreamsAreFor =
     (ports : Ports) (words : List (List ℕ)) (streams : Streams) → IsSoundTable ports
     → streams.c ≡ ports.c → HasStreams streams.c words
     (names_of ports.ins) streams.cycles streams.bits → AreFor ports streams
 
--- What words say for the IN names of the design, in as many contexts as it is carried in, they say
--- for the inputs of the table, and they are streams for it.
+-- The streams that words give to the IN names of the design, in as many contexts as it is carried
+-- in, are those that they give to the inputs of the table, and they are streams for the table.
 abbrev pub StreamsMatchInContexts : Type 0
 StreamsMatchInContexts =
     (text : List ℕ) (design : Design) (starts : List LatchState)
@@ -108,8 +108,8 @@ StreamsMatchInContexts =
     → HasStreams streams.c words (names_of k.ports.ins) streams.cycles streams.bits
     × AreFor k.ports streams
 
--- In one context, words say the same streams for the inputs of the table and for the IN names of
--- the design, one for each input.
+-- In one context, words give the inputs of the table and the IN names of the design the same
+-- streams, one for each input.
 abbrev pub StreamsMatch : Type 0
 StreamsMatch =
     (text : List ℕ) (design : Design) (c : Carries text design) (words names : List (List ℕ))
@@ -119,8 +119,8 @@ StreamsMatch =
     → HasStreams 1 words names others.cycles others.bits
     → (streams ≡ others) × AreFor c.ports streams
 
--- the line of a net of the design that is no clock net, with the net's name and the path of its
--- place
+-- the line is that of a net of the design that is no clock net, with the net's name and the path of
+-- its place
 pub record IsLineOf (design : Design) (line : NetLine) (net : Net) : Type 0 where
   pub is_net : IsNet design net
   pub no_clock : ¬ IsClockNet design net
@@ -132,9 +132,9 @@ abbrev pub net_bits_in_run : (ℕ → Valuation) → ℕ → Net → List Bool
 net_bits_in_run run cycles net =
     map (λ cycle. run cycle net.place net.name) (range_with_len 0 cycles)
 
--- Of a text that carries the nets of a design in contexts: each net line is that of a net, and
--- driven by streams for the table's inputs its cell shows in each context the net's bits in every
--- run from the context's start on.
+-- If a text carries the nets of a design in contexts, then each net line is that of a net, and when
+-- streams for the table's inputs drive the pattern, the line's cell shows in each context the net's
+-- bits in every run from the context's start on.
 abbrev pub CarriersShowNetsInContexts : Type 0
 CarriersShowNetsInContexts =
     (text : List ℕ) (design : Design) (starts : List LatchState)
@@ -147,7 +147,7 @@ CarriersShowNetsInContexts =
     → probed_at k.carried.ports streams (plane_of k.carried.grid.rows) context line
     ≡ net_bits_in_run run streams.cycles net)
 
--- and so in one context, of which all bits are
+-- The same holds in one context, the only one for which the line's cell shows bits.
 abbrev pub CarriersShowNets : Type 0
 CarriersShowNets =
     (text : List ℕ) (design : Design) (c : CarriesNets text design) (number : ℕ) (line : NetLine)

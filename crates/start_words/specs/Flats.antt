@@ -11,7 +11,7 @@ use Rattle.netlist_core.specs.LatchNames.{class_named, drives_class}
 use Rattle.netlist_meaning.specs.Flat.{class_of}
 use Rattle.start_words.specs.Words.{Latches, bit_set}
 
--- the names of the main model whose nets are joined with latches' outputs, each with its class
+-- the class of the main model's net of each name, if that net is joined with a latch's output
 abbrev pub flat_latches : Flat → Latches
 flat_latches flat name =
     option_and_then (λ class. then_some
@@ -23,11 +23,11 @@ flat_start_bit flat words context latch =
     unwrap_or (bit_set (flat_latches flat) context (class_of flat latch.output) words)
     (latch.init == 1)
 
--- those of all flat latches, in order
+-- the bits with which all flat latches start in a context, in order
 abbrev pub flat_start_bits : Flat → List (List ℕ) → (context : ℕ) → List Bool
 flat_start_bits flat words context = map (flat_start_bit flat words context) flat.latches
 
--- those in so many contexts
+-- the bits with which the flat latches start in each context
 abbrev pub flat_starts : Flat → List (List ℕ) → (contexts : ℕ) → List (List Bool)
 flat_starts flat words contexts = map (flat_start_bits flat words) (range_with_len 0 contexts)
 

@@ -1,4 +1,4 @@
--- What is proved of start words, for every design.
+-- Laws of start words, for every design.
 use Rattle.std.specs.Prelude.{ℕ, ◌≡◌, List, [], Some, None, map, slice_get}
 use Rattle.netlist_core.specs.declared.model.Design.{Design}
 use Rattle.netlist_core.specs.declared.model.LatchRow.{LatchRow}
@@ -21,7 +21,8 @@ pub record IsFlatLatch (design : Design) (flat : Flat) (position : ℕ) (place :
   pub is_latch : latch_at design place number ≡ Some latch
   pub is_flat : slice_get flat.latches position ≡ Some (flat_latch design place latch)
 
--- the flat latch whose output is joined with that net of the main model
+-- the flat latch at this position is one whose output is joined with the main model's net of that
+-- name
 pub record HasNamedLatch (design : Design) (flat : Flat) (name : Name) (position : ℕ) : Type 0 where
   pub place : Place
   pub latch : LatchRow
@@ -29,8 +30,8 @@ pub record HasNamedLatch (design : Design) (flat : Flat) (name : Name) (position
   pub is_net : IsNet design (net_at [] name)
   pub joined : Joined design (net_at place latch.output) (net_at [] name)
 
--- a name names the flat latch whose output is joined with that net of the main model, and none
--- exactly where there is none
+-- a name names the flat latch whose output is joined with the main model's net of that name, and no
+-- latch exactly if there is none
 pub record NamesLatches (design : Design) (flat : Flat) (name : Name) : Type 0 where
   pub named : (position : ℕ) → latch_named flat name ≡ Some position
       → HasNamedLatch design flat name position
@@ -42,14 +43,15 @@ NamedLatchesAreJoined =
     (design : Design) (flat : Flat) → AreFaultless design.models → IsFlatOf design flat
     → (name : Name) → NamesLatches design flat name
 
--- names name the same latches in the flat netlist of a design, so the words have the same faults
--- there,
+-- names name the same latches in the flat netlist of a design, so words have the same faults in
+-- both
 abbrev pub LatchesAreFlat : Type 0
 LatchesAreFlat =
     (design : Design) (flat : Flat) → AreFaultless design.models → IsFlatOf design flat
     → (name : Name) → flat_latches flat name ≡ latches_of design name
 
--- and the bits of the flat latches in each context, in order, are those of the states
+-- the bits of the flat latches in each context, in order, are those of the states that the words
+-- give
 abbrev pub StartsAreFlat : Type 0
 StartsAreFlat =
     (design : Design) (flat : Flat) → AreFaultless design.models → IsFlatOf design flat
@@ -57,7 +59,7 @@ StartsAreFlat =
     → flat_starts flat words contexts ≡ map (state_in_order design)
     (starts_of_words design words contexts)
 
--- no words mean the start state, in every context
+-- without words the latches start in the start state, in every context
 abbrev pub NoWordsMeanStart : Type 0
 NoWordsMeanStart =
     (design : Design) (context : ℕ) → start_of_words design [] context ≡ start_state design

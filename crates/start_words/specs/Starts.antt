@@ -12,15 +12,15 @@ use Rattle.netlist_meaning.specs.FlatOf.{at_places, class_of_net, is_same_net}
 use Rattle.netlist_meaning.specs.Valuation.{LatchState}
 use Rattle.start_words.specs.Words.{Latches, bit_set}
 
--- whether a net of the main model has the name
+-- a net of the main model has the name
 abbrev pub is_main_name : Design → Name → Bool
 is_main_name design name = list_any (is_same_net (net_at [] name)) (nets_in_order design)
 
--- the class of a latch's output: the position of its root, by which joined nets are told
+-- the class of a latch's output: the position of its root, which joined nets share
 abbrev pub output_class : Design → Place → LatchRow → ℕ
 output_class design place latch = class_of_net design (net_at place latch.output)
 
--- the names of the main model whose nets are joined with latches' outputs, each with its class
+-- the class of the main model's net of each name, if that net is joined with a latch's output
 abbrev pub latches_of : Design → Latches
 latches_of design name =
     let class = class_of_net design (net_at [] name) in
@@ -28,7 +28,7 @@ latches_of design name =
     && list_any (λ other. other == class)
     (at_places design (λ model. model.latches) (output_class design))) class
 
--- the bit with which a latch starts: the one that the words set in this context, else 1 where its
+-- the bit with which a latch starts: the bit that the words set in this context, or else 1 if its
 -- init is 1
 abbrev pub start_by_words : Design → List (List ℕ) → (context : ℕ) → Place → Option LatchRow → Bool
 start_by_words design words context place None = false
@@ -41,7 +41,7 @@ abbrev pub start_of_words : Design → List (List ℕ) → (context : ℕ) → L
 start_of_words design words context place number =
     start_by_words design words context place (latch_at design place number)
 
--- the states of so many contexts, in order
+-- the start states of `contexts` contexts, in order
 abbrev pub starts_of_words : Design → List (List ℕ) → (contexts : ℕ) → List LatchState
 starts_of_words design words contexts =
     map (start_of_words design words) (range_with_len 0 contexts)

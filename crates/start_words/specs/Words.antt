@@ -1,7 +1,7 @@
 -- Start words, as `1:q=0`: the number of a context, a net of the main model, and the bit with which
--- the latch that drives this net starts in that context. They mean something for given `latches`,
--- which tell for each name of the main model the class of its net, where that net is joined with a
--- latch's output.
+-- the latch that drives this net starts in that context. Their meaning depends on `latches`, which
+-- give for each name of the main model the class of its net, if that net is joined with a latch's
+-- output.
 use Rattle.std.specs.Prelude.{ℕ, ◌≡◌, ◌==◌, ◌&&◌, ◌||◌, ◌++◌, not, if◌then◌else◌, Bool, false, List, [], ◌∷◌, Some, None, ⊤, codes}
 use Rattle.std.specs.declared.option.Option.{Option}
 use Rattle.std.specs.List.{list_any, find}
@@ -15,7 +15,7 @@ use Rattle.start_words.specs.declared.error.StartFaultKind.TheVariants.{NoEquals
 use Rattle.start_words.specs.declared.error.StartError.{StartError}
 use Rattle.start_words.specs.declared.error.StartError.TheVariants.{NoMemory, Fault}
 
--- for a name of the main model the class of its net, where a latch's output is of that class
+-- for a name of the main model the class of its net, if a latch's output is of that class
 abbrev pub Latches : Type 0
 Latches = Name → Option ℕ
 
@@ -27,26 +27,26 @@ context_in word = context_of (name_in word)
 abbrev pub net_of_word : List ℕ → Name
 net_of_word word = name_after (name_in word)
 
--- whether a word's bits are the one character `1`; whether they are one character, `0` or `1`
+-- a word's bits are the one character `1`; and below, they are one character, `0` or `1`
 abbrev pub is_char_one : List ℕ → Bool
 is_char_one bits = bytes_eq bits (codes "1")
 
 abbrev pub is_one_bit : List ℕ → Bool
 is_one_bit bits = is_char_one bits || bytes_eq bits (codes "0")
 
--- whether the word sets the latch whose output is of this class in this context
+-- the word sets the latch whose output is of this class in this context
 abbrev pub sets : Latches → ℕ → ℕ → List ℕ → Bool
 sets latches context class word =
     context_in word == context && option_map_or (λ named. named == class)
     (latches (net_of_word word)) false
 
--- whether one of these words sets the latch of this name in this context
+-- one of these words sets the latch of this name in this context
 abbrev pub is_latch_set : Latches → ℕ → Name → List (List ℕ) → Bool
 is_latch_set latches context name words =
     option_map_or (λ class. list_any (sets latches context class) words) (latches name) false
 
--- What is at fault in a word that stands after these others, where there are so many contexts; of
--- several faults the first in this order.
+-- The fault of a word that stands after these others, if there are so many contexts: the first of
+-- these rules that it breaks.
 abbrev pub start_word_fault : Latches → (contexts : ℕ) → (before : List (List ℕ)) → List ℕ
     → Option StartFaultKind
 start_word_fault latches contexts before word =
@@ -60,7 +60,7 @@ start_word_fault latches contexts before word =
 abbrev pub start_fault : List ℕ → StartFaultKind → StartFault
 start_fault word kind = record { kind = kind; word = word }
 
--- the first word at fault among the later ones, where others stand before them
+-- the first fault among the later words, if the words `before` stand before them
 abbrev pub first_fault_after : Latches → (contexts : ℕ) → (before later : List (List ℕ))
     → Option StartFault
 first_fault_after latches contexts before [] = None
@@ -72,13 +72,13 @@ first_fault_after latches contexts before (word ∷ words) =
 abbrev pub first_fault : Latches → (contexts : ℕ) → List (List ℕ) → Option StartFault
 first_fault latches contexts words = first_fault_after latches contexts [] words
 
--- why words are refused
+-- why words are refused: their first fault, or lack of memory
 abbrev pub HasStartCause : Latches → (contexts : ℕ) → List (List ℕ) → StartError → Type 0
 HasStartCause latches contexts words NoMemory = ⊤
 HasStartCause latches contexts words (Fault fault) = first_fault latches contexts words ≡ Some fault
 
--- the bit that the words give to the latch whose output is of this class, in this context, where
--- one of them does
+-- the bit that the words give to the latch whose output is of this class, in this context, if one
+-- of them does
 abbrev pub bit_set : Latches → (context class : ℕ) → List (List ℕ) → Option Bool
 bit_set latches context class words =
     option_map (λ word. is_char_one (bits_in word)) (find (sets latches context class) words)

@@ -1,4 +1,4 @@
-// Why start words are refused.
+// The error of `Starts::read`.
 ghost use Rattle.std.specs.Prelude.{◌≡◌};
 ghost use Rattle.start_words.specs.declared.error.StartError.TheVariants.{NoMemory};
 
@@ -6,14 +6,15 @@ use lists::Bytes;
 use std::alloc::{AllocError, AllocFailed};
 
 /// The faults of start words, by the names that the program prints. The first word at fault is
-/// answered, and of one word the first of these.
+/// reported, with the first of these faults that it has.
 #[derive(Clone, Copy, Debug, PartialEq, Eq)]
 pub enum StartFaultKind {
     /// The word has no `=`.
     NoEquals,
-    /// Before the last `=` there is no `:`, or before its first one no number of a context.
+    /// There is no `:` before the last `=`, or no number of a context before the first `:`.
     BadContext,
-    /// What stands between is no net of the main model that is joined with a latch's output.
+    /// What stands between the first `:` and the last `=` is no net of the main model that is
+    /// joined with a latch's output.
     NoSuchLatch,
     /// An earlier word sets this latch in this context.
     TwiceLatch,
@@ -28,12 +29,12 @@ pub struct StartFault {
     pub word: Bytes,
 }
 
-/// Why no starts were read.
+/// The error of `Starts::read`: why no starts were read.
 #[derive(Drop)]
 pub enum StartError {
-    /// There was no memory for them.
+    /// Memory ran out.
     NoMemory,
-    /// The words are at fault.
+    /// The words have this fault.
     Fault(StartFault),
 }
 

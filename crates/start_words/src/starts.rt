@@ -17,7 +17,7 @@ pub struct Starts {
     pub bits: BTreeMap<(u64, u32), bool>,
 }
 
-// The answer where a word is at fault: the fault, with a copy of the word.
+// The error for a word at fault: the fault with a copy of the word, or `NoMemory`.
 fn refusal(alloc: Global, kind: StartFaultKind, word: &[u8]) -> StartError
     ensures { (result ≡ NoMemory) ⊎ (result ≡ Fault (start_fault word.now kind)) }
 {
@@ -31,9 +31,9 @@ fn refusal(alloc: Global, kind: StartFaultKind, word: &[u8]) -> StartError
 }
 
 impl Starts {
-    /// The starts that words as `1:q=0` set for the latches of a flat netlist: each names one of so
-    /// many contexts, from 0, a net of the main model that is joined with a latch's output, and a
-    /// bit. A word is cut at its last `=`, and before that at its first `:`.
+    /// Reads the starts that words such as `1:q=0` set for the latches of a flat netlist. Each word
+    /// names a context, from 0 and below `contexts`, a net of the main model that is joined with a
+    /// latch's output, and a bit. A word is cut at its last `=`, and before that at its first `:`.
     pub fn read(
         alloc: Global,
         flat: &Flat,
@@ -63,7 +63,7 @@ impl Starts {
         Ok(Starts { bits })
     }
 
-    // The bit with which a latch starts in a context: the one that is set, else its init.
+    // The bit with which a latch starts in a context: the bit that is set, or else its init.
     fn bit(&self, flat: &Flat, latch: &FlatLatch, context: u64) -> bool
         ensures { (words : List (List ℕ))
             → AreBitsSet (flat_latches flat.now) self.now.bits words
@@ -92,8 +92,8 @@ impl Starts {
         Ok(List::of(bits))
     }
 
-    /// The bits with which the latches of the flat netlist start in each of so many contexts: one
-    /// list for each context, with one bit for each latch.
+    /// Returns the bits with which the latches of the flat netlist start in each context: one list
+    /// for each context, with one bit for each latch.
     pub fn in_contexts(
         &self,
         alloc: Global,

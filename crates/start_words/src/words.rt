@@ -1,5 +1,4 @@
-// One start word: the context, the class of the latch's output and the bit, or what is at fault in
-// it.
+// One start word: the context, the class of the latch's output and the bit, or the word's fault.
 ghost use Rattle.std.specs.Prelude.{◌≡◌, ◌<◌, ◌^◌, ℕ, List, length, false, Some, None, IfOk, IfErr};
 ghost use Rattle.std.specs.Bool.{then_some};
 ghost use Rattle.std.specs.List.{list_any};
@@ -13,8 +12,8 @@ use netlist_core::{Flat, FlatLatch, latch_named};
 use std::collections::BTreeMap;
 use word_cuts::{cut, cut_at_context};
 
-/// What a word without a fault sets: in this context the latch whose output is of this class, to
-/// this bit.
+/// What a word without a fault sets: in this context the latch whose output is of this class starts
+/// with this bit.
 #[derive(Clone, Copy)]
 pub struct LatchStart {
     pub context: u64,
@@ -22,7 +21,7 @@ pub struct LatchStart {
     pub bit: bool,
 }
 
-/// The class of a latch's output.
+/// Returns the class of a latch's output.
 pub fn output_class(flat: &Flat, latch: &FlatLatch) -> u32
     ensures { result ≡ class_of flat.now latch.now.output }
 {
@@ -63,7 +62,7 @@ fn is_latch_set(set: &BTreeMap<(u64, u32), bool>, context: u64, class: u32) -> b
     set.contains_key(&(context, class))
 }
 
-/// What a word sets that stands after those that set these bits, or what is at fault in it.
+/// Returns what a word sets, or the word's fault. `set` has the bits that the words before it set.
 pub fn start_in(
     flat: &Flat,
     set: &BTreeMap<(u64, u32), bool>,

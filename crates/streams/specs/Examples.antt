@@ -5,7 +5,7 @@ use Rattle.streams.specs.declared.error.StreamFaultKind.{StreamFaultKind}
 use Rattle.streams.specs.declared.error.StreamFaultKind.TheVariants.{NoEquals, BadContext, UnknownInput, TwiceInput, BadBit, BadLength, MissingInput}
 use Rattle.streams.specs.Streams.{HasStreams, HasStreamFault, stream_fault}
 
--- words, and what is said of them: the fault, and the word at fault or the missing input
+-- words, their fault, and the word at fault or the missing input
 pub record FaultExample : Type 0 where
   pub words : List (List ℕ)
   pub kind : StreamFaultKind
@@ -27,19 +27,20 @@ fault_examples =
     ∷ said (codes "a01" ∷ []) NoEquals (codes "a01")
     ∷ said (codes "c=01" ∷ []) UnknownInput (codes "c=01")
     ∷ said (codes "a=012" ∷ codes "b=01" ∷ []) BadBit (codes "a=012")
-    -- of one word the first rule counts, and of several words the first
+    -- the first rule that a word breaks counts, and the first word at fault
     ∷ said (codes "c=2" ∷ []) UnknownInput (codes "c=2")
     ∷ said (codes "a=01" ∷ codes "a=2" ∷ []) TwiceInput (codes "a=2")
     ∷ said (codes "a=0" ∷ codes "b" ∷ []) BadLength (codes "a=0")
-    -- cut at the last `=`
+    -- a word is cut at its last `=`
     ∷ said (codes "a=1=01" ∷ []) UnknownInput (codes "a=1=01")
-    -- a `:` is of the name
+    -- with one context a `:` is part of the name
     ∷ said (codes "0:a=01" ∷ []) UnknownInput (codes "0:a=01")
     ∷ []
 
 abbrev pub fault_examples_in_contexts : List FaultExample
 fault_examples_in_contexts =
-    -- no number, numbers that are no context's, zeros in front, and what is no number
+    -- words without a number, with a number of no context, with leading zeros, and with something
+    -- else before the `:`
     said (codes "a=01" ∷ []) BadContext (codes "a=01")
     ∷ said (codes "2:a=01" ∷ []) BadContext (codes "2:a=01")
     ∷ said (codes "18446744073709551617:a=01" ∷ []) BadContext (codes "18446744073709551617:a=01")
@@ -55,23 +56,23 @@ fault_examples_in_contexts =
     ∷ said (codes "1:a=2" ∷ []) BadBit (codes "1:a=2")
     ∷ said (codes "1:a=0" ∷ []) BadLength (codes "1:a=0")
     ∷ said (codes "1:a=" ∷ []) BadLength (codes "1:a=")
-    -- the lowest context first, and in it the first input
+    -- the lowest context comes first, and in it the first input
     ∷ said (codes "1:b=01" ∷ codes "0:a=01" ∷ []) MissingInput (codes "0:b")
     ∷ said (codes "0:b=01" ∷ codes "0:a=01" ∷ []) MissingInput (codes "1:a")
     ∷ []
 
--- the words in any order
+-- the words may stand in any order
 abbrev pub HasStreamsInAnyOrder : Type 0
 HasStreamsInAnyOrder =
     HasStreams 1 (codes "b=11" ∷ codes "a=01" ∷ []) (codes "a" ∷ codes "b" ∷ []) 2
     ((false ∷ true ∷ []) ∷ (true ∷ true ∷ []) ∷ [])
 
--- a name with a `=`
+-- a name may have a `=`
 abbrev pub HasStreamOfNameWithEquals : Type 0
 HasStreamOfNameWithEquals =
     HasStreams 1 (codes "a=b=10" ∷ []) (codes "a=b" ∷ []) 2 ((true ∷ false ∷ []) ∷ [])
 
--- in two contexts, all inputs of context 0 first, and a name with a `:`
+-- in two contexts all inputs of context 0 come first, and a name may have a `:`
 abbrev pub HasStreamsInContexts : Type 0
 HasStreamsInContexts =
     HasStreams 2 (codes "1:a=11" ∷ codes "0::=10" ∷ codes "1::=00" ∷ codes "0:a=01" ∷ [])

@@ -16,7 +16,7 @@ AreNamesOf known names =
     (name : List ℕ) → set.contains_by (λ k. slice_cmp nat_cmp name k.now) known
     ≡ is_among name names
 
--- inputs in the order of their contexts, and in a context of their names' bytes
+-- inputs are ordered by their contexts, and in a context by the bytes of their names
 abbrev pub input_cmp : ℕ × Bor (List ℕ) → ℕ × Bor (List ℕ) → Ordering
 input_cmp a b = ordering_then (nat_cmp a.0 b.0) (slice_cmp nat_cmp a.1.now b.1.now)
 

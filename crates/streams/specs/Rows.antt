@@ -7,19 +7,19 @@ use Rattle.streams.specs.declared.streams.Streams.{Streams}
 abbrev pub bits_across : List (List Bool) → ℕ → List Bool
 bits_across lists place = map (λ bits. unwrap_or (slice_get bits place) false) lists
 
--- where there is one context: the bits of all inputs in a cycle
+-- the bits of all inputs in a cycle, if there is one context
 abbrev pub stream_row : Streams → ℕ → List Bool
 stream_row streams cycle = bits_across streams.bits cycle
 
--- and a row of input bits for each cycle
+-- a row of input bits for each cycle, if there is one context
 abbrev pub rows_of : Streams → List (List Bool)
 rows_of streams = map (stream_row streams) (range_with_len 0 streams.cycles)
 
--- each context has as many inputs
+-- the number of inputs of each context
 abbrev pub inputs_each : Streams → ℕ
 inputs_each streams = length streams.bits / streams.c
 
--- the streams of the inputs of a context, as those of one context
+-- the streams of a context's inputs, as streams of one context
 abbrev pub in_context : Streams → (context : ℕ) → Streams
 in_context streams context = record {
   cycles = streams.cycles;

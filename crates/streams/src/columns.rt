@@ -6,7 +6,7 @@ ghost use Rattle.streams.specs.Rows.{bits_across};
 use lists::List;
 use std::alloc::{AllocError, Global};
 
-/// The bit at a place of each list.
+/// Returns the bit at `place` of each list.
 pub fn bits_across(
     alloc: Global,
     lists: &[List<bool>],
@@ -22,7 +22,7 @@ pub fn bits_across(
     Ok(column)
 }
 
-/// The columns of lists of a length, in order.
+/// Returns the columns of lists of length `long`, in order.
 pub fn columns_of(
     alloc: Global,
     lists: &[List<bool>],

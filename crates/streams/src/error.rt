@@ -1,45 +1,46 @@
-// What a call answers where it gives no streams.
+// The error of `Streams::read`.
 ghost use Rattle.std.specs.Prelude.{◌≡◌};
 
 use lists::Bytes;
 use std::alloc::{AllocError, AllocFailed};
 
 /// The faults of stream words, by the names that the program prints. The first word at fault is
-/// answered, and of one word the first of these; `MissingInput` comes where no word is at fault.
+/// reported, with the first of these faults that it has. `MissingInput` comes if no word is at
+/// fault.
 #[derive(Clone, Copy, Debug, PartialEq, Eq)]
 pub enum StreamFaultKind {
     /// The word has no `=`.
     NoEquals,
-    /// There are several contexts, or none, and the word does not begin with the number of one, in
-    /// decimal digits without leading zeros, and a `:` before its last `=`.
+    /// There are several contexts, or none, and the word does not begin with the number of a
+    /// context, in decimal digits without leading zeros, and a `:` before its last `=`.
     BadContext,
-    /// What stands before the last `=`, after the number of a context where there are several, is
-    /// no input's name.
+    /// What stands before the last `=`, after the number of a context if there are several, is no
+    /// input's name.
     UnknownInput,
-    /// An earlier word is for the same input of the same context.
+    /// An earlier word is for the same input in the same context.
     TwiceInput,
     /// A character after the last `=` is neither `0` nor `1`.
     BadBit,
-    /// There are not as many bits as cycles.
+    /// The number of bits is not the number of cycles.
     BadLength,
-    /// No word is for this input, in this context.
+    /// No word is for this input in this context.
     MissingInput,
 }
 
-/// A fault, and the word at fault, or the name of the input that is missing, with several contexts
-/// as `1:a`.
+/// A fault, with the word at fault or the name of the missing input. With several contexts this
+/// name is given as `1:a`.
 #[derive(Drop)]
 pub struct StreamFault {
     pub kind: StreamFaultKind,
     pub word: Bytes,
 }
 
-/// Why no streams were read.
+/// The error of `Streams::read`: why no streams were read.
 #[derive(Drop)]
 pub enum StreamError {
-    /// There was no memory for them.
+    /// Memory ran out.
     NoMemory,
-    /// The words are at fault.
+    /// The words have this fault.
     Fault(StreamFault),
 }
 

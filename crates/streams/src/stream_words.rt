@@ -10,7 +10,7 @@ use lists::{Bytes, List};
 use std::alloc::{AllocError, Global};
 use std::collections::{BTreeMap, BTreeSet};
 
-/// The answer where a word is at fault: the fault, with a copy of the word.
+/// Returns the error for a word at fault: the fault with a copy of the word, or `NoMemory`.
 pub fn refusal(alloc: Global, kind: StreamFaultKind, word: &[u8]) -> StreamError
     ensures { (result ≡ NoMemory) ⊎ (result ≡ Fault (stream_fault word.now kind)) }
 {
@@ -34,8 +34,8 @@ fn known_names(alloc: Global, names: &[Bytes]) -> Result<BTreeSet<&[u8]>, AllocE
     Ok(known)
 }
 
-/// The bits that words give to inputs of these names in so many contexts, or the first word at
-/// fault.
+/// Returns the bits that words give to inputs of these names in each context, or the fault of the
+/// first word at fault.
 pub fn bits_by_input<'a>(
     alloc: Global,
     words: &'a [String],

@@ -12,8 +12,9 @@ use std::alloc::{AllocError, Global};
 use std::collections::BTreeMap;
 use word_cuts::with_context;
 
-/// Streams of bits for the inputs in each of `c` contexts, all for as many cycles: with n inputs,
-/// list `k n + i` is the stream of input i in context k, and its bit t is the input's in cycle t.
+/// Streams of bits for the inputs in each of `c` contexts, all for `cycles` cycles. With n inputs,
+/// list `k n + i` is the stream of input i in context k, and bit t of the list is the input's bit
+/// in cycle t.
 #[derive(Drop)]
 pub struct Streams {
     pub cycles: usize,
@@ -41,7 +42,7 @@ fn bits_for<'a>(
     given.get(&(context, name)).copied()
 }
 
-// The answer where an input has no bits.
+// The error for an input without bits.
 fn missing(alloc: Global, name: &[u8], context: u64, contexts: u64) -> StreamError
     ensures { (result ≡ NoMemory) ⊎ (result ≡ Fault (missing_fault contexts (context, name.now))) }
 {
@@ -54,7 +55,7 @@ fn missing(alloc: Global, name: &[u8], context: u64, contexts: u64) -> StreamErr
     }
 }
 
-// Puts the streams of the inputs of a context at the end, where each is given its bits.
+// Adds the streams of a context's inputs, if each input is given its bits.
 fn push_context<'a>(
     alloc: Global,
     streams: &mut Vec<List<bool>>,
@@ -81,8 +82,8 @@ fn push_context<'a>(
     Ok(())
 }
 
-// The streams of the inputs of each context, where each is given its bits. Without inputs it does
-// not count the contexts.
+// The streams of the inputs of each context, if each input is given its bits. Without inputs the
+// contexts are not counted.
 fn streams_of<'a>(
     alloc: Global,
     given: &BTreeMap<(u64, &'a [u8]), &'a [u8]>,
@@ -110,12 +111,12 @@ fn streams_of<'a>(
 }
 
 impl Streams {
-    /// The streams that words say for the inputs of these names in each of c contexts: with one
-    /// context words as `a=0110`, with more as `1:a=0110`, with a context's number below c in
-    /// front, without leading zeros. Each word has one bit for each cycle, and there is one word
-    /// for each input of each context, in any order. A word is cut at its last `=`, and before that
-    /// at its first `:`, so that a name may have both. With a c of 0 there are no streams, and each
-    /// word is at fault.
+    /// Reads the streams that words give to the inputs of these names in each of c contexts. With
+    /// one context a word is `a=0110`; with more it is `1:a=0110`, which begins with the number of
+    /// a context, below c, without leading zeros. Each word has one bit for each cycle, and there
+    /// is one word for each input of each context, in any order. A word is cut at its last `=`, and
+    /// before that at its first `:`, so a name may have both. If c is 0, there are no streams, and
+    /// each word is at fault.
     pub fn read(
         alloc: Global,
         words: &[String],

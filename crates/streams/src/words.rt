@@ -1,4 +1,4 @@
-// One stream word: the name of an input and its bits, or what is at fault in it.
+// One stream word: the name of an input and its bits, or the word's fault.
 ghost use Rattle.std.specs.Prelude.{◌≡◌, ◌&&◌, ℕ, List, true, false, Some, None, IfOk, IfErr};
 ghost use Rattle.std.specs.List.{list_any, list_all};
 ghost use Rattle.word_cuts.specs.Cuts.{is_equals_sign, name_in, bits_in, names_context};
@@ -10,7 +10,7 @@ use crate::error::StreamFaultKind;
 use std::collections::{BTreeMap, BTreeSet};
 use word_cuts::{cut, cut_if_several};
 
-/// The bits of a word without a fault, and the input that it is for.
+/// A word without a fault: the input that it is for, and its bits.
 #[derive(Clone, Copy)]
 pub struct StreamWord<'a> {
     pub context: u64,
@@ -42,8 +42,8 @@ fn is_taken<'a>(given: &BTreeMap<(u64, &'a [u8]), &'a [u8]>, context: u64, name:
     given.contains_key(&(context, name))
 }
 
-/// The input and the bits of a word that stands after those that gave their bits, or what is at
-/// fault in it.
+/// Returns the input and the bits of a word, or the word's fault. `given` has the bits of the words
+/// before it.
 pub fn cut_sound<'a>(
     known: &BTreeSet<&[u8]>,
     given: &BTreeMap<(u64, &'a [u8]), &'a [u8]>,

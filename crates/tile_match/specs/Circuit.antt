@@ -8,8 +8,8 @@ use Rattle.grid_assembly.specs.PlanDrawing.{start_grid}
 use Rattle.pattern_reading.specs.declared.ports.Ports.{Ports}
 use Rattle.pattern_reading.specs.Ports.{cells_of}
 
--- the plan has a box of this width and height, and of the table the period, the latency, and the
--- cells of inputs and outputs, in order; the table is that of one context
+-- the plan has this width and height, and the table's period, latency, and cells of inputs and
+-- outputs, in order; the table is that of one context
 pub record HasBoxAndPorts (width height : ℕ) (ports : Ports) (plan : Plan) : Type 0 where
   pub size : size_of plan ≡ (width, height)
   pub period : ports.p ≡ period_of plan

@@ -1,4 +1,4 @@
--- Cells of rows that are those of a plan's drawing.
+-- Rows of cells that are part of a plan's drawing.
 use Rattle.std.specs.Prelude.{ℕ, pos, ◌<◌, ◌≤◌, ◌≡◌, List, [], get_or}
 use Rattle.ww_rule.specs.declared.pattern.State.{State}
 use Rattle.ww_rule.specs.declared.pattern.State.TheVariants.{Empty}
@@ -6,12 +6,12 @@ use Rattle.tile_library.specs.Drawings.{shipped_drawing}
 use Rattle.lane_core.specs.declared.plan.Plan.{Plan}
 use Rattle.plan_layout.specs.Tape.{drawn_plane}
 
--- the cells of a row from one x up to another are those of row y of the drawing
+-- the cells from one x up to another are those of row y of the drawing
 pub record IsSpanDrawn (plan : Plan) (cells : List State) (y from until : ℕ) : Type 0 where
   pub each : (x : ℕ) → from ≤ x → x < until
       → get_or cells x Empty ≡ drawn_plane shipped_drawing plan (pos x) (pos y)
 
--- so are those of the rows from one y up to another
+-- the rows from one y up to another are so, too
 pub record IsBoxDrawn (plan : Plan) (rows : List (List State))
     (top bottom from until : ℕ) : Type 0 where
   pub each : (y : ℕ) → top ≤ y → y < bottom → IsSpanDrawn plan (get_or rows y []) y from until

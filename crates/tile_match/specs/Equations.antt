@@ -7,13 +7,13 @@ use Rattle.pattern_reading.specs.declared.ports.PortLine.{PortLine}
 use Rattle.pattern_reading.specs.declared.ports.Ports.{Ports}
 use Rattle.pattern_reading.specs.Ports.{cells_of}
 
--- the cells of ports are at one x, in the rows of signals of different lanes below a limit
+-- the cells of ports are at one x, in the signal rows of different lanes below a limit
 pub record ArePortsAt (x limit : ℕ) (lines : List PortLine) : Type 0 where
   pub lanes : List ℕ
   pub distinct : AreDistinctBelow limit lanes
   pub cells : cells_of lines ≡ map (λ lane. (x, row_of lane)) lanes
 
--- no cells, and no ports but nets
+-- a box without cells, and a table without inputs and outputs
 pub record IsBareBox (width height : ℕ) (ports : Ports) : Type 0 where
   pub width_is : width ≡ 0
   pub height_is : height ≡ 0
@@ -22,7 +22,7 @@ pub record IsBareBox (width height : ℕ) (ports : Ports) : Type 0 where
   pub ins : ports.ins ≡ []
   pub outs : ports.outs ≡ []
 
--- so many lanes, columns and loops
+-- a box and ports of so many lanes, columns and loops
 pub record IsFilledBox (width height : ℕ) (ports : Ports) (lanes columns loops : ℕ) : Type 0 where
   pub some_lanes : 1 ≤ lanes
   pub some_columns : 1 ≤ columns

@@ -1,4 +1,4 @@
--- The plan that is read of a pattern with a table.
+-- The plan that is read from a pattern with a table.
 use Rattle.std.specs.Prelude.{ℕ, ◌≡◌, ◌-◌, List, [], map, length}
 use Rattle.ww_rule.specs.declared.pattern.State.{State}
 use Rattle.ww_rule.specs.Grid.{Grid}
@@ -22,7 +22,7 @@ pub record IsBodyRead (rows : List (List State)) (lanes columns loops : ℕ)
   pub nets_are : plan.nets ≡ []
   pub no_tape : plan.tape ≡ []
 
--- a plan has the box, the period, the latency and the ports of a pattern with the table of one
+-- a plan has the box, the period, the latency and the ports of a pattern with a table of one
 -- context, and the columns and starts that the pattern shows
 pub record IsPlanRead (grid : Grid) (ports : Ports) (plan : Plan) : Type 0 where
   pub size : IsSizeOfPlan grid.width grid.height ports.p ports.l plan.lanes

@@ -1,7 +1,7 @@
 -- How many lanes, columns and loops a box, a period and a latency have.
 use Rattle.std.specs.Prelude.{ℕ, ◌<◌, ◌≡◌, ◌^◌, ◌*◌, ◌+◌, ◌≤◌, ◌==◌, ◌↔◌, cond}
 
--- so many lanes, columns and loops are those of a plan with this box, this period and this latency
+-- a plan of so many lanes, columns and loops has this box, this period and this latency
 pub record IsSizeOfPlan (width height period latency lanes columns loops : ℕ) : Type 0 where
   pub few_lanes : lanes < 2 ^ 32
   pub few_columns : columns < 2 ^ 40

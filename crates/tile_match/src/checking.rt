@@ -1,4 +1,5 @@
-// The audit: the plan that is read is drawn again, and compared.
+// The audit: the plan that is read of a pattern is drawn again, and the drawing compared with the
+// pattern.
 ghost use Rattle.std.specs.Prelude.{◌≡◌, [], false, IfOk, OnOk};
 ghost use Rattle.std.specs.Result.{IsErrOf};
 ghost use Rattle.ww_rule.specs.Patterns.{grid_of};
@@ -19,8 +20,8 @@ use std::alloc::Global;
 use tile_library::Shipped;
 use ww_rule::Pattern;
 
-/// The plan of which a pattern with a port table is the drawing, without the places of nets; or the
-/// first reason for which there is none.
+/// Returns the plan of which a pattern with a port table is the drawing, without the places of
+/// nets, or the first reason why there is none.
 pub fn audit(alloc: Global, pattern: &Pattern, ports: &Ports) -> Result<Plan, AuditError>
     ensures drawn { IfOk result (λ plan. IsPlanDrawing (grid_of pattern.now) ports.now plan) }
     ensures named { OnOk result (has_bad_name ports.now ≡ false) }

@@ -1,4 +1,4 @@
-// The columns of the body that rows of cells show.
+// The columns of the body, read from rows of cells.
 ghost use Rattle.std.specs.Prelude.{◌≡◌, ◌+◌, ◌*◌, ◌<◌, ◌^◌, ◌++◌, map, option_to_list, IfOk, OnOk};
 ghost use Rattle.tile_match.specs.Blocks.{column_shown, columns_shown};
 
@@ -46,7 +46,7 @@ fn column_shown(alloc: Global, rows: &CellRows, lanes: u32, x: u64) -> Result<Co
     })
 }
 
-/// So many columns right of the turns of so many loops.
+/// Returns `count` columns, which begin right of the turns of the loops.
 pub fn columns_shown(
     alloc: Global,
     rows: &CellRows,

@@ -1,5 +1,5 @@
-// Whether rows of cells are the drawing of a plan: block by block, and in a block row by row, by
-// runs of equal cells.
+// Whether rows of cells are the drawing of a plan: compared block by block, in a block row by row,
+// and in a row by runs of equal cells.
 ghost use Rattle.std.specs.Prelude.{◌≡◌, ◌↔◌, ◌<◌, ◌≤◌, ◌+◌, ◌-◌, ◌*◌, ◌^◌, ◌/◌, ◌%◌, ◌==◌, [], All, IsTrue, IfOk, IfSome, IfNone, length, take, drop};
 ghost use Rattle.std.specs.List.{list_any};
 ghost use Rattle.lane_core.specs.Plans.{IsAdmissible, size_of};
@@ -35,7 +35,7 @@ fn are_all(cells: &[State], state: State) -> bool
     cells.iter().all(|cell| is_same(*cell, state))
 }
 
-// So many cells of a row from a place on.
+// `count` cells of a row, from a place on.
 fn cells_from(cells: &[State], from: usize, count: usize) -> &[State]
     requires { from + count ≤ length cells.now }
     ensures { result.now ≡ take count (drop from cells.now) }
@@ -43,8 +43,8 @@ fn cells_from(cells: &[State], from: usize, count: usize) -> &[State]
     &cells[from..from + count]
 }
 
-// How many cells from x on are alike in the plan's drawing, where the pattern's cells there are so
-// too, and none where these are not.
+// How many equal cells, from x on, the plan's drawing has that the pattern has too; none if the
+// pattern's cells differ.
 fn drawn_run(plan: &Plan, slot: Slot, cells: &[State], y: u64, x: u64, until: u64) -> Option<u64>
     requires admissible { IsAdmissible plan.now }
     requires slot { slot_of slot ≡ drawn_tiling plan.now (x / 32) (y / 16) }
@@ -66,8 +66,8 @@ fn drawn_run(plan: &Plan, slot: Slot, cells: &[State], y: u64, x: u64, until: u6
     }
 }
 
-// Whether the cells of row y of a block in which `slot` stands, from x on as far as `until`, are
-// the plan's.
+// Whether the cells of row y in a block with this `slot`, from x on as far as `until`, are the
+// plan's.
 fn is_span_drawn(plan: &Plan, slot: Slot, cells: &[State], y: u64, from: u64, until: u64) -> bool
     requires admissible { IsAdmissible plan.now }
     requires slot { slot_of slot ≡ drawn_tiling plan.now (from / 32) (y / 16) }
@@ -112,7 +112,7 @@ fn is_block_drawn(
     true
 }
 
-// Whether the rows of a lane are the plan's, where it is known whether the lane has an output.
+// Whether the rows of a lane are the plan's. The caller knows whether the lane has an output.
 fn is_lane_drawn(plan: &Plan, rows: &CellRows, width: u64, lane: u64, is_out: bool) -> bool
     requires admissible { IsAdmissible plan.now }
     requires no_tape { plan.now.tape ≡ [] }
@@ -138,7 +138,7 @@ fn is_lane_drawn(plan: &Plan, rows: &CellRows, width: u64, lane: u64, is_out: bo
     true
 }
 
-/// Whether a pattern of a plan's size is the plan's pattern.
+/// Returns whether a pattern of a plan's size is the plan's pattern.
 pub fn is_drawn(alloc: Global, pattern: &Pattern, plan: &Plan) -> Result<bool, AllocError>
     requires admissible { IsAdmissible plan.now }
     requires no_tape { plan.now.tape ≡ [] }

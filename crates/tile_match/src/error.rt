@@ -1,23 +1,23 @@
-// What the audit answers where it gives no plan.
+// The error of the audit.
 ghost use Rattle.std.specs.Prelude.{◌≡◌};
 ghost use Rattle.tile_match.specs.declared.error.AuditError.TheVariants.{NoMemory};
 
 use std::alloc::{AllocError, AllocFailed};
 use thiserror::Error;
 
-/// Why a pattern with a port table is no circuit: the first that holds.
+/// Why a pattern with a port table is no circuit: the first kind that applies.
 #[derive(Clone, Copy, Debug, PartialEq, Eq)]
 pub enum CircuitFault {
-    /// No circuit's plan has the pattern's box, and the table's period, latency and port cells, or
+    /// No circuit's plan has the pattern's box and the table's period, latency and port cells, or
     /// the table is that of several contexts.
     Ports,
-    /// A name cannot stand in a netlist's text, or is that of an input and of an output.
+    /// A name cannot stand in a netlist's text, or an input and an output share it.
     Names,
-    /// None of those plans draws the pattern.
+    /// No plan with that box and these ports draws the pattern.
     Cells,
 }
 
-/// Why there is no plan.
+/// The error of `audit`: why there is no plan.
 #[derive(Clone, Copy, Debug, Error)]
 pub enum AuditError {
     #[error("not a circuit")]

@@ -5,7 +5,7 @@ ghost use Rattle.std.specs.List.{list_any};
 
 use std::alloc::{AllocError, Global};
 
-/// Whether no lane stands twice, of lanes that are below a limit.
+/// Returns whether no lane stands twice. All lanes are below the limit.
 pub fn are_distinct(alloc: Global, lanes: &[u32], limit: u32) -> Result<bool, AllocError>
     requires below { All (λ lane. lane < limit) lanes.now }
     ensures { IfOk result (λ distinct. IsTrue distinct ↔ AllPairs (λ a b. a ≢ b) lanes.now) }
@@ -21,7 +21,7 @@ pub fn are_distinct(alloc: Global, lanes: &[u32], limit: u32) -> Result<bool, Al
     Ok(true)
 }
 
-/// A mark for each of so many lanes: whether it is one of these.
+/// Returns a mark for each lane below the limit: whether it is one of `lanes`.
 pub fn marks_of(alloc: Global, lanes: &[u32], limit: u32) -> Result<Vec<bool>, AllocError>
     requires below { All (λ lane. lane < limit) lanes.now }
     ensures { IfOk result (λ marks.
@@ -35,7 +35,7 @@ pub fn marks_of(alloc: Global, lanes: &[u32], limit: u32) -> Result<Vec<bool>, A
     Ok(marks)
 }
 
-/// Whether a lane is marked.
+/// Returns whether a lane is marked.
 pub fn is_marked(marks: &[bool], lane: u64) -> bool
     ensures { result ≡ flag_at marks.now lane }
 {

@@ -1,4 +1,4 @@
-// The plan that a pattern with a port table shows, where some plan has its box and ports.
+// The plan that a pattern with a port table shows, if some plan has its box and ports.
 ghost use Rattle.std.specs.Prelude.{◌≡◌, ◌<◌, ◌≤◌, ◌-◌, ◌*◌, ◌+◌, ◌^◌, [], IfOk, MatchOption};
 ghost use Rattle.ww_rule.specs.Patterns.{grid_of};
 ghost use Rattle.tile_match.specs.Circuit.{HasSomePlan};
@@ -14,7 +14,7 @@ use pattern_reading::Ports;
 use std::alloc::{AllocError, Global};
 use ww_rule::{CellRows, Pattern};
 
-// A plan of a size without ports, with the columns and the starts that rows of cells show.
+// A plan of this size without ports, with the columns and the starts that rows of cells show.
 fn body_shown(alloc: Global, rows: &CellRows, size: Size) -> Result<Plan, AllocError>
     requires few { size.columns < 2 ^ 40 }
     requires loops { size.loops ≤ size.lanes }
@@ -34,7 +34,7 @@ fn body_shown(alloc: Global, rows: &CellRows, size: Size) -> Result<Plan, AllocE
     })
 }
 
-/// The plan that is shown, and none where no plan has the box and the ports.
+/// Returns the plan that the pattern shows, or none if no plan has the box and the ports.
 pub fn plan_shown(
     alloc: Global,
     pattern: &Pattern,

@@ -7,7 +7,7 @@ ghost use Rattle.tile_match.specs.Blocks.{cell_shown, is_filled_in, instr_in};
 use lane_core::Instr;
 use ww_rule::{CellRows, State};
 
-/// The cell at column x and row y, and empty past the rows.
+/// Returns the cell at column x and row y; past the rows it is empty.
 pub fn cell_shown(rows: &CellRows, x: u64, y: u64) -> State
     ensures { result ≡ cell_shown rows.now x y }
 {
@@ -32,7 +32,7 @@ fn is_filled_in(rows: &CellRows, x: u64, y: u64) -> bool
     is_filled(cell_shown(rows, x, y))
 }
 
-/// Whether a state is a head.
+/// Returns whether a state is a head.
 pub fn is_head(state: State) -> bool
     ensures { result ≡ is_head state }
 {
@@ -42,7 +42,7 @@ pub fn is_head(state: State) -> bool
     }
 }
 
-/// The instruction that is shown in the block of a lane that begins at column x.
+/// Returns the instruction that a lane's block shows, if any; the block begins at column x.
 pub fn instr_in(rows: &CellRows, x: u64, lane: u32) -> Option<Instr>
     requires { x < 2 ^ 63 }
     ensures { result ≡ instr_in rows.now x lane }

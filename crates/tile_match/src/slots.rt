@@ -1,5 +1,5 @@
-// What stands in a block of a plan without a tape, where it is known whether its lane has an
-// output: so the outputs are not gone through for each block.
+// What stands in a block of a plan without a tape. The caller knows whether the block's lane has an
+// output, so the outputs are not gone through for each block.
 ghost use Rattle.std.specs.Prelude.{◌≡◌, ◌==◌, cond, []};
 ghost use Rattle.std.specs.List.{list_any};
 ghost use Rattle.tile_core.specs.declared.kind.Kind.TheVariants as kind;
@@ -14,7 +14,7 @@ use lane_core::Plan;
 use plan_layout::{Piece, Slot, slot_drawn_at};
 use tile_core::Kind;
 
-// What stands next to the body's end, `off` lanes above its lowest one.
+// What stands next to the body's end, `off` lanes above the body's lowest lane.
 fn end_slot(loops: u32, off: u32, is_out: bool) -> Slot
     ensures { slot_of result
         ≡ cond is_out (Whole Output) (turn_slot loops 0 off kind.East kind.EastSouth kind.South) }
@@ -30,7 +30,7 @@ fn end_slot(loops: u32, off: u32, is_out: bool) -> Slot
     }
 }
 
-/// What stands in the block of this tile column and this lane.
+/// Returns what stands in the block of this tile column and this lane.
 pub fn slot_in(plan: &Plan, column: u64, lane: u64, is_out: bool) -> Slot
     requires admissible { IsAdmissible plan.now }
     requires no_tape { plan.now.tape ≡ [] }

@@ -34,7 +34,7 @@ fn bits_shown(
     Ok(starts)
 }
 
-/// The starts of the loops that start with 1.
+/// Returns the starts of the loops that start with 1.
 pub fn starts_shown(
     alloc: Global,
     rows: &CellRows,

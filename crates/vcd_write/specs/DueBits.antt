@@ -5,13 +5,12 @@ use Rattle.vcd_write.specs.declared.due_bits.DueBit.{DueBit}
 use Rattle.vcd_write.specs.declared.due_bits.DueBits.{DueBits}
 use Rattle.vcd_write.specs.declared.due_bits.Raster.{Raster}
 
--- in the order of their generations, from one on
+-- the bits stand in the order of their generations, from g on
 abbrev pub AreDueFrom : ℕ → List DueBit → Type 0
 AreDueFrom g [] = ⊤
 AreDueFrom g (bit ∷ bits) = (g ≤ bit.generation) × AreDueFrom bit.generation bits
 
--- Whether the first of some bits that are due comes no later than the first of others; it does
--- where there are no others.
+-- There is a first bit that comes no later than the first of the others; without others it does.
 abbrev pub comes_first : List DueBit → List DueBit → Bool
 comes_first [] others = false
 comes_first (bit ∷ bits) [] = true
@@ -24,7 +23,7 @@ pub record AreInOrder (g period : ℕ) (due : DueBits) : Type 0 where
   pub begun : AreDueFrom g due.begun.items
   pub near : All (λ bit. bit.generation ≤ g + period) due.begun.items
 
--- The bit was taken from the front of one of the queues.
+-- The bit was the first of one of the queues, and was taken from it.
 abbrev pub IsTakenFrom : DueBit → DueBits → DueBits → Type 0
 IsTakenFrom bit old new =
     ((old.unbegun.items ≡ bit ∷ new.unbegun.items) × (old.begun.items ≡ new.begun.items))
@@ -42,7 +41,7 @@ next_bit raster bit =
     } ∷ []
     else []
 
--- The place is one of the raster, and the bit and those of its variable after it come up to the
+-- The place is one of the raster, and the bit and the later bits of its variable come up to the
 -- raster's last generation.
 pub record IsWithin (raster : Raster) (bit : DueBit) : Type 0 where
   pub some : raster.variables ≢ 0
@@ -50,23 +49,23 @@ pub record IsWithin (raster : Raster) (bit : DueBit) : Type 0 where
   pub early : (j : ℕ) → bit.place + j * raster.variables < raster.bits
       → bit.generation + j * raster.period ≤ raster.last
 
--- Planes show such bits at the cell of a bit that is due: its own at its generation, and those of
--- the same variable after it, each a period later.
+-- The bits are those that planes show at the cell of a bit that is due: its own at its generation,
+-- and each later one of its variable a period later.
 abbrev pub ShowsDueBits : (shown : ℕ → Bool) → (ℕ → Plane) → Raster → DueBit → Type 0
 ShowsDueBits shown planes raster bit =
     (j : ℕ) → bit.place + j * raster.variables < raster.bits
     → shown (bit.place + j * raster.variables)
     ≡ is_head (planes (bit.generation + j * raster.period) (pos bit.x) (pos bit.y))
 
--- a place of one of these bits, or of one of the same variable after it
+-- the place is that of one of these bits, or of a later one of the same variable
 pub record IsStillDue (raster : Raster) (due : List DueBit) (place : ℕ) : Type 0 where
   pub bit : DueBit
   pub is_there : Contains due bit
   pub cycles : ℕ
   pub is_later : place ≡ bit.place + cycles * raster.variables
 
--- These bits are due at first, where planes show so: each of them is shown, and each place of the
--- raster is to come.
+-- These bits are due first, and planes show the others after them: each bit is shown, and each
+-- place of the raster is still due.
 pub record AreFirstBits (shown : ℕ → Bool) (planes : ℕ → Plane) (raster : Raster)
     (due : List DueBit) : Type 0 where
   pub each : All (ShowsDueBits shown planes raster) due

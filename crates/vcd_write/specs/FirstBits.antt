@@ -12,7 +12,7 @@ first_bit place variable = record {
   y = variable.net.y;
 }
 
--- those of variables, at places from this one on
+-- the first bits of variables, at places from this one on
 abbrev pub first_due_bits : (place : ℕ) → List NetInContext → List DueBit
 first_due_bits place [] = []
 first_due_bits place (variable ∷ variables) =

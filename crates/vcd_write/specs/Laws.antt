@@ -4,7 +4,7 @@ use Rattle.std.specs.List.{AllByRecursion}
 use Rattle.vcd_write.specs.Reading.{VcdForm, IsWord, ReadsAsVcd, last_time, value_at}
 use Rattle.vcd_write.specs.Writing.{Waves, vcd_form, vcd_id, vcd_text}
 
--- A text reads as one form.
+-- A text reads as at most one form.
 abbrev pub ReadsAsOneForm : Type 0
 ReadsAsOneForm = (text : List ℕ) (a b : VcdForm) → ReadsAsVcd text a → ReadsAsVcd text b → a ≡ b
 
@@ -17,7 +17,8 @@ pub record SaysWaves (w : Waves) : Type 0 where
   pub bits : (n cycle : ℕ) → n < length w.references → cycle < w.cycles
       → value_at (vcd_form w) (vcd_id n) cycle ≡ Some (w.bit n cycle)
 
--- where the references are words, and the number of cycles fits 64 bits
+-- the text of waves reads as them, if the references are words and the number of cycles fits 64
+-- bits
 abbrev pub TextsSayWaves : Type 0
 TextsSayWaves = (w : Waves) → AllByRecursion IsWord w.references → w.cycles < 2 ^ 64 → SaysWaves w
 
@@ -25,7 +26,7 @@ TextsSayWaves = (w : Waves) → AllByRecursion IsWord w.references → w.cycles 
 abbrev pub IdsAreDistinct : Type 0
 IdsAreDistinct = (n m : ℕ) → vcd_id n ≡ vcd_id m → n ≡ m
 
--- The text goes by the references and by the bits of the cycles alone.
+-- The text depends on the references and the bits of the cycles alone.
 pub record AreSameWaves (a b : Waves) : Type 0 where
   pub cycles : a.cycles ≡ b.cycles
   pub references : a.references ≡ b.references

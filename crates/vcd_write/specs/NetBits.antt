@@ -1,11 +1,11 @@
--- The bits of all nets, in rows, one a cycle.
+-- The bits of all nets, in rows, one row for each cycle.
 use Rattle.std.specs.Prelude.{◌≡◌, ◌≤◌, ◌<◌, ◌^◌, ℕ, ◌+◌, ◌*◌, ◌-◌, length, All}
 use Rattle.pattern_reading.specs.declared.ports.Ports.{Ports}
 use Rattle.vcd_write.specs.declared.due_bits.Raster.{Raster}
 use Rattle.vcd_write.specs.NetWaves.{nets_in_contexts}
 
--- The raster has a place for each bit that a net shows in so many cycles, and all are shown up to
--- its last generation.
+-- The raster has a place for each bit that a net shows in so many cycles, and all bits are shown up
+-- to its last generation.
 pub record FitsNets (ports : Ports) (cycles : ℕ) (raster : Raster) : Type 0 where
   pub some : 0 < cycles
   pub variables : raster.variables ≡ length (nets_in_contexts ports)

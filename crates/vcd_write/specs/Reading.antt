@@ -1,6 +1,6 @@
--- What a VCD text says: variables of one bit, and the bit of each at each time. A text is a line
--- for each variable, with an id and the reference under which it is shown; a line that ends these;
--- and blocks of a line with a time and lines that give values to ids.
+-- What a VCD text means: variables of one bit, and the bit of each at each time. A text consists of
+-- a line for each variable, with an id and the reference under which it is shown; a line that ends
+-- these; and blocks, each of a line with a time and lines that give values to ids.
 use Rattle.std.specs.Prelude.{◌≡◌, ◌≢◌, ◌≤◌, ◌<◌, ◌^◌, ℕ, suc, nat_le, Bool, true, if◌then◌else◌, List, [], ◌∷◌, ◌++◌, map, flat_map, AllPairs, Option, Some, None, codes, decimal}
 use Rattle.std.specs.List.{AllByRecursion, list_any}
 use Rattle.std.specs.Option.{option_or}
@@ -45,16 +45,16 @@ block_lines block = time_line block.time ∷ map value_line block.values
 abbrev pub form_lines : VcdForm → List (List ℕ)
 form_lines form = map var_line form.vars ++ (last_definition ∷ flat_map block_lines form.blocks)
 
--- bytes that are shown: no blank, no line end, and nothing past ASCII
+-- bytes of a word: no blank, no line end, and nothing past ASCII
 abbrev pub IsWord : List ℕ → Type 0
 IsWord bytes = (bytes ≢ []) × AllByRecursion (λ b. (33 ≤ b) × (b ≤ 126)) bytes
 
--- the times of blocks rise, from one that is at least this one on
+-- the times of blocks rise, and the first is at least `least`
 abbrev pub AreRising : ℕ → List VcdBlock → Type 0
 AreRising least [] = Unit {0}
 AreRising least (block ∷ blocks) = (least ≤ block.time) × AreRising (suc block.time) blocks
 
--- the first of them is at time 0
+-- the first block is at time 0
 abbrev pub BeginsAtZero : List VcdBlock → Type 0
 BeginsAtZero [] = Unit {0}
 BeginsAtZero (block ∷ blocks) = block.time ≡ 0
@@ -74,7 +74,7 @@ pub record IsInOrder (form : VcdForm) : Type 0 where
   pub known : AllByRecursion (λ block. AllByRecursion
       (λ value. has_id form.vars value.id ≡ true) block.values) form.blocks
 
--- The text reads as this.
+-- The text reads as this form.
 pub record ReadsAsVcd (text : List ℕ) (form : VcdForm) : Type 0 where
   pub lines : text ≡ ended_lines (form_lines form)
   pub in_order : IsInOrder form
@@ -85,8 +85,8 @@ last_value id [] = None
 last_value id (value ∷ values) =
     option_or (last_value id values) (if bytes_eq value.id id then Some value.bit else None)
 
--- the bit of an id at a time, where it has this one before: that of its last value in the blocks up
--- to the time
+-- the bit of an id at a time: that of its last value in the blocks up to the time, or `before` if
+-- there is none
 abbrev pub value_from : Option Bool → List ℕ → ℕ → List VcdBlock → Option Bool
 value_from before id time [] = before
 value_from before id time (block ∷ blocks) =
@@ -96,7 +96,7 @@ value_from before id time (block ∷ blocks) =
 abbrev pub value_at : VcdForm → List ℕ → ℕ → Option Bool
 value_at form id time = value_from None id time form.blocks
 
--- the time of the last block, where this one stands before the blocks; 0 where there is no block
+-- the time of the last block, or `before` if there is no block
 abbrev pub last_time_after : ℕ → List VcdBlock → ℕ
 last_time_after before [] = before
 last_time_after before (block ∷ blocks) = last_time_after block.time blocks

@@ -10,8 +10,8 @@ pub record Waves : Type 0 where
   pub references : List (List ℕ)
   pub bit : ℕ → ℕ → Bool
 
--- the digits of a number in base 94, the least one first, as the bytes from 33 on; so many at most,
--- and one more
+-- the digits of a number in base 94, the least one first, as bytes from 33 on: at most one digit
+-- more than the first number
 abbrev pub digits_94 : ℕ → ℕ → List ℕ
 digits_94 zero n = (33 + n % 94) ∷ []
 digits_94 (suc more) n = (33 + n % 94) ∷ (if n / 94 == 0 then [] else digits_94 more (n / 94))
@@ -27,8 +27,8 @@ var_of w n = record { id = vcd_id n; reference = get_or w.references n [] }
 abbrev pub are_other : Bool → Bool → Bool
 are_other a b = if a then not b else b
 
--- whether a variable's bit is written in a cycle: in the first, and where it differs from that of
--- the cycle before
+-- a variable's bit is written in a cycle: in the first, and in each in which it differs from that
+-- of the cycle before
 abbrev pub is_written : Waves → ℕ → ℕ → Bool
 is_written w cycle n = cycle == 0 || are_other (w.bit n cycle) (w.bit n (cycle - 1))
 

@@ -5,7 +5,7 @@ ghost use Rattle.vcd_write.specs.DueBits.{AreInOrder, IsTakenFrom, IsWithin, com
 use std::alloc::{AllocError, Global};
 use std::collections::VecDeque;
 
-/// A bit that is due: at this generation the cell of its variable shows it, and this is its place
+/// A bit that is due: at this generation the cell of its variable shows it. `place` is its place
 /// among all bits.
 #[derive(Clone, Copy)]
 pub struct DueBit {
@@ -15,8 +15,9 @@ pub struct DueBit {
     pub y: u64,
 }
 
-/// How all bits stand in rows, one a cycle: how many variables a row has, how many generations a
-/// cycle is, how many bits there are, and a generation up to which all of them are shown.
+/// How all bits stand in rows, one row for each cycle: the number of variables in a row, the number
+/// of generations in a cycle, the number of bits, and a generation up to which all of them are
+/// shown.
 #[derive(Clone, Copy)]
 pub struct Raster {
     pub variables: usize,
@@ -25,16 +26,16 @@ pub struct Raster {
     pub last: u64,
 }
 
-/// The next bit of each variable that has one, in two queues: of those variables of which no bit
-/// has been taken, and of those that have begun.
+/// The next bit of each variable that has one, in two queues: that of the variables of which no bit
+/// has been taken, and that of the variables that have begun.
 #[derive(Drop)]
 pub struct DueBits {
     unbegun: VecDeque<DueBit>,
     begun: VecDeque<DueBit>,
 }
 
-// Whether the first of some bits that are due comes no later than the first of others; it does
-// where there are no others.
+// Whether there is a first bit that comes no later than the first of the others; without others it
+// does.
 fn comes_first(bits: &VecDeque<DueBit>, others: &VecDeque<DueBit>) -> bool
     ensures { result ≡ comes_first bits.now.items others.now.items }
 {
@@ -46,7 +47,7 @@ fn comes_first(bits: &VecDeque<DueBit>, others: &VecDeque<DueBit>) -> bool
 }
 
 impl DueBits {
-    /// The first bit of each variable, where none has begun.
+    /// Makes the queues of the first bit of each variable; no variable has begun.
     pub fn of(alloc: Global, first: Vec<DueBit>) -> DueBits
         ensures unbegun { result.unbegun.items ≡ first.items }
         ensures begun { result.begun.items ≡ [] }
@@ -57,7 +58,7 @@ impl DueBits {
         }
     }
 
-    /// Takes the earliest bit.
+    /// Takes the earliest bit, if there is one.
     pub fn take_earliest(&mut self) -> Option<DueBit>
         ensures taken { MatchOption result (
             (self.old.unbegun.items ≡ []) × (self.old.begun.items ≡ [])
@@ -72,7 +73,7 @@ impl DueBits {
         }
     }
 
-    /// Puts the next bit of the same variable after all others that have begun, if there is one.
+    /// Puts the next bit of the same variable, if there is one, after all others that have begun.
     pub fn put_next(&mut self, bit: DueBit, raster: &Raster) -> Result<(), AllocError>
         requires { IsWithin raster.now bit }
         ensures unbegun { OnOk result (self.new.unbegun.items ≡ self.old.unbegun.items) }

@@ -17,15 +17,15 @@ use std::alloc::Global;
 use streams::Streams;
 use ww_rule::Pattern;
 
-/// The variables of all nets of a pattern in each context, with the bits that they show while
-/// streams drive the pattern: variable `c n + i` is net i in context c, where there are n nets, and
-/// its bit in cycle t is 1 exactly where the net's cell is a head at generation
-/// `offset + 32 c + t p`. All are read in one run. A call asks for at least one cycle, for one
-/// stream of as many bits for each context and input, and for inputs inside the pattern's box; the
-/// nets' cells may lie anywhere. `TooFar` comes where the last of these generations is over
-/// 4,294,967,296, and nothing is then run; `NotQuiet` names the first injection up to that
-/// generation whose cell is no conductor before the injections of its own. Without nets that
-/// generation is 0.
+/// Returns the variables of all nets of a pattern in each context, with the bits that they show
+/// while streams drive the pattern. If there are n nets, variable `c n + i` is net i in context c,
+/// and its bit in cycle t is 1 exactly if the net's cell is a head at generation
+/// `offset + 32 c + t p`. All bits are read in one run. A call needs at least one cycle, one stream
+/// with a bit for each cycle for each input of each context, and inputs inside the pattern's box;
+/// the nets' cells may lie anywhere. `TooFar` comes if the last of these generations, which is 0
+/// without nets, is over 4,294,967,296, and then nothing is run. `NotQuiet` names the first
+/// injection up to that generation whose cell is no conductor before the injections of its
+/// generation.
 pub fn of(
     alloc: Global,
     pattern: Pattern,

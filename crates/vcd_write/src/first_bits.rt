@@ -10,7 +10,7 @@ use drive::CONTEXT_GENERATIONS;
 use pattern_reading::{NetLine, Ports};
 use std::alloc::{AllocError, Global};
 
-// Puts the first bits of nets in a context at the end.
+// Adds the first bits of nets in a context.
 fn push_context(due: &mut Vec<DueBit>, nets: &[NetLine], context: u64) -> Result<(), AllocError>
     requires room { All (λ net. net.offset + 32 * context < 2 ^ 64) nets.now }
     ensures { OnOk result (
@@ -30,7 +30,7 @@ fn push_context(due: &mut Vec<DueBit>, nets: &[NetLine], context: u64) -> Result
     Ok(())
 }
 
-// Those of one context after the other.
+// The first bits of nets, one context after the other.
 fn unsorted(alloc: Global, ports: &Ports) -> Result<Vec<DueBit>, AllocError>
     requires room { All (λ net. net.offset + 32 * (ports.now.c - 1) < 2 ^ 64) ports.now.nets }
     ensures { IfOk result (λ due. due.items ≡ first_due_bits 0 (nets_in_contexts ports.now)) }
@@ -45,7 +45,7 @@ fn unsorted(alloc: Global, ports: &Ports) -> Result<Vec<DueBit>, AllocError>
     Ok(due)
 }
 
-/// Those in the order of their generations.
+/// Returns the first bits of nets in all contexts, in the order of their generations.
 pub fn sorted_first_bits(alloc: Global, ports: &Ports) -> Result<Vec<DueBit>, AllocError>
     requires room { All (λ net. net.offset + 32 * (ports.now.c - 1) < 2 ^ 64) ports.now.nets }
     ensures same { IfOk result (λ due. IsPermutation

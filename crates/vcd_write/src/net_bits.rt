@@ -27,8 +27,8 @@ fn greatest_offset(nets: &[NetLine]) -> u64
     greatest
 }
 
-/// The generation of the last bit that a net shows in the cycles of streams; 0 where there are no
-/// nets.
+/// Returns the generation of the last bit that a net shows in the cycles of streams, or 0 if there
+/// are no nets.
 pub fn last_of_all_nets(ports: &Ports, streams: &Streams) -> u128
     requires cycles { 0 < streams.now.cycles }
     requires streams { AreFor ports.now streams.now }
@@ -41,7 +41,7 @@ pub fn last_of_all_nets(ports: &Ports, streams: &Streams) -> u128
     last_from(greatest_offset(nets), ports, streams)
 }
 
-/// The raster of so many variables, if memory could have places for all bits.
+/// Returns the raster of so many variables, if memory could have places for all bits.
 pub fn raster_of(ports: &Ports, cycles: usize, variables: usize, last: u64) -> Option<Raster>
     ensures raster { IfSome result (λ raster. raster
         ≡ record {
@@ -62,9 +62,9 @@ pub fn raster_of(ports: &Ports, cycles: usize, variables: usize, last: u64) -> O
     })
 }
 
-/// The bits that nets show in a run, at the places of a raster: one row a cycle, with the nets of
-/// context 0 first. The run goes on to the last of them, or to the first after an injection whose
-/// cell was no conductor.
+/// Returns the bits that nets show in a run, at the places of a raster: one row for each cycle,
+/// with the nets of context 0 first. The run goes on to the last bit, or to the first bit after an
+/// injection whose cell was no conductor.
 pub fn bits_of_nets(
     alloc: Global,
     run: &mut Run,

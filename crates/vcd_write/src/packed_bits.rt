@@ -6,10 +6,10 @@ ghost use Rattle.lane_kernel.specs.Rows.{is_set};
 use std::alloc::{AllocError, Global};
 use std::marker::Model;
 
-/// How many bits stand in a word.
+/// The number of bits in a word.
 const WORD_BITS: usize = 64;
 
-/// Bits in order, 64 of them in a word of memory. Contracts see them as a list.
+/// A list of bits, 64 of them in a word of memory. Contracts see it as a list.
 #[derive(Drop)]
 pub struct PackedBits {
     words: Vec<u64>,
@@ -44,7 +44,7 @@ fn set_bit(words: &mut Vec<u64>, place: usize)
     words[place / WORD_BITS] |= 1 << (place % WORD_BITS);
 }
 
-// So many words of 0.
+// `count` words of 0.
 fn zero_words(alloc: Global, count: usize) -> Result<Vec<u64>, AllocError>
     ensures { IfOk result (λ words. words.items ≡ replicate count 0) }
 {
@@ -52,7 +52,7 @@ fn zero_words(alloc: Global, count: usize) -> Result<Vec<u64>, AllocError>
 }
 
 impl PackedBits {
-    /// So many bits that are all 0.
+    /// Makes `count` bits that are all 0.
     pub fn zeros(alloc: Global, count: usize) -> Result<PackedBits, AllocError>
         ensures { IfOk result (λ bits. bits ≡ replicate count false) }
     {
@@ -60,14 +60,14 @@ impl PackedBits {
         Ok(PackedBits { words, count })
     }
 
-    /// How many bits there are.
+    /// Returns the number of bits.
     pub fn len(&self) -> usize
         ensures { result ≡ length self.now }
     {
         self.count
     }
 
-    /// The bit at a place.
+    /// Returns the bit at a place.
     pub fn get(&self, place: usize) -> bool
         requires { place < length self.now }
         ensures { result ≡ flag_at self.now place }
@@ -75,7 +75,7 @@ impl PackedBits {
         is_set(&self.words, place)
     }
 
-    /// Makes the bit at a place 1.
+    /// Sets the bit at a place to 1.
     pub fn set(&mut self, place: usize)
         requires { place < length self.old }
         ensures long { length self.new ≡ length self.old }

@@ -28,9 +28,9 @@ fn read_bit(run: &mut Run, bits: &mut PackedBits, bit: DueBit)
     }
 }
 
-/// The bits that a run shows at the places of a raster, where these are the first ones of its
-/// variables, in the order of their generations. The run goes on to the last of them, or to the
-/// first after an injection whose cell was no conductor.
+/// Returns the bits that a run shows at the places of a raster. `first` has the first bit of each
+/// variable, in the order of their generations. The run goes on to the last bit, or to the first
+/// bit after an injection whose cell was no conductor.
 pub fn read_bits(
     alloc: Global,
     run: &mut Run,

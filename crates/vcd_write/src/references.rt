@@ -25,7 +25,7 @@ fn hex_digit(n: u8) -> u8
     if n < 10 { b'0' + n } else { b'A' + (n - 10) }
 }
 
-// Puts a byte at the end, or an escape that stands for it.
+// Adds a byte, or the escape that stands for it.
 fn push_byte(text: &mut Vec<u8>, byte: u8) -> Result<(), AllocError>
     ensures text { OnOk result (text.new.items ≡
         text.old.items ++ escaped_byte is_plain_in_reference byte) }
@@ -37,7 +37,7 @@ fn push_byte(text: &mut Vec<u8>, byte: u8) -> Result<(), AllocError>
     text.extend_from_slice(&[b'%', hex_digit(byte / 16), hex_digit(byte % 16)])
 }
 
-// Puts a name at the end, with escapes.
+// Adds a name, with escapes.
 fn push_name(text: &mut Vec<u8>, name: &[u8]) -> Result<(), AllocError>
     ensures text { OnOk result (text.new.items ≡ text.old.items ++ escaped_reference name.now) }
     ensures bytes { OnOk result (IsByteName name.now) }
@@ -48,7 +48,7 @@ fn push_name(text: &mut Vec<u8>, name: &[u8]) -> Result<(), AllocError>
     Ok(())
 }
 
-// The path of a model before a name.
+// The path of a model, as it stands before a name.
 fn path_before(alloc: Global, path: &[u8]) -> Result<Vec<u8>, AllocError>
     ensures { IfOk result (λ text. text.items ≡ path_before path.now) }
 {
@@ -60,7 +60,7 @@ fn path_before(alloc: Global, path: &[u8]) -> Result<Vec<u8>, AllocError>
     Ok(text)
 }
 
-// The reference of a net in one of so many contexts.
+// The reference of a net in a context.
 fn reference_of(
     alloc: Global,
     contexts: u64,
@@ -77,7 +77,7 @@ fn reference_of(
     with_context(alloc, contexts, context, &text)
 }
 
-// Puts the references of nets in a context at the end.
+// Adds the references of nets in a context.
 fn push_context(
     alloc: Global,
     references: &mut Vec<Bytes>,
@@ -97,8 +97,8 @@ fn push_context(
     Ok(())
 }
 
-/// The references of all nets in each context, those of context 0 first; and each name is one of
-/// bytes.
+/// Returns the references of all nets in each context, those of context 0 first. Each name consists
+/// of bytes.
 pub fn references_of(alloc: Global, ports: &Ports) -> Result<List<Bytes>, AllocError>
     requires { 0 < ports.now.c }
     ensures references { IfOk result (λ references.

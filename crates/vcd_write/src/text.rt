@@ -20,7 +20,7 @@ fn reference(vcd: &Vcd, n: usize) -> &[u8]
     vcd.references.get(n).as_slice()
 }
 
-// The lines of all variables.
+// Writes the lines of all variables.
 fn write_vars<O: Sink>(sink: &mut O, page: &mut Page, vcd: &Vcd) -> Result<(), Failed>
     ensures ok { OnOk result ((rest : List ℕ) →
         Wrote (O.written sink.old) (O.written sink.new) (O.faults sink.old) (O.faults sink.new)
@@ -36,7 +36,7 @@ fn write_vars<O: Sink>(sink: &mut O, page: &mut Page, vcd: &Vcd) -> Result<(), F
     Ok(())
 }
 
-// Where the bit of a variable in a cycle stands among all bits.
+// The place of a variable's bit in a cycle, among all bits.
 fn place(count: usize, cycles: usize, all: usize, n: usize, cycle: usize) -> usize
     requires whole { all ≡ cycles * count }
     requires variable { n < count }
@@ -67,7 +67,7 @@ fn is_written(vcd: &Vcd, n: usize, cycle: usize) -> bool
     cycle == 0 || bit(vcd, n, cycle) != bit(vcd, n, cycle - 1)
 }
 
-// The value of a variable in a cycle, if it is written.
+// Writes the value of a variable in a cycle, if the cycle has it.
 fn write_if_changed<O: Sink>(
     sink: &mut O,
     page: &mut Page,
@@ -91,7 +91,7 @@ fn write_if_changed<O: Sink>(
     write_value(sink, page, n, bit(vcd, n, cycle))
 }
 
-// The values of a cycle that are written.
+// Writes the values of a cycle.
 fn write_values<O: Sink>(
     sink: &mut O,
     page: &mut Page,
@@ -114,7 +114,7 @@ fn write_values<O: Sink>(
     Ok(())
 }
 
-// The blocks of all cycles.
+// Writes the blocks of all cycles.
 fn write_blocks<O: Sink>(sink: &mut O, page: &mut Page, vcd: &Vcd) -> Result<(), Failed>
     ensures ok { OnOk result ((rest : List ℕ) →
         Wrote (O.written sink.old) (O.written sink.new) (O.faults sink.old) (O.faults sink.new)
@@ -131,10 +131,10 @@ fn write_blocks<O: Sink>(sink: &mut O, page: &mut Page, vcd: &Vcd) -> Result<(),
     Ok(())
 }
 
-/// Writes the VCD text of the variables: a line for each, with its id and its reference, then at
-/// the time of each cycle the values of those whose bit is not that of the cycle before, and last
-/// the time after the last cycle. Where a write fails, a front of the text stands written. It takes
-/// no memory.
+/// Writes the VCD text of the variables: first a line for each variable, with its id and its
+/// reference; then at the time of each cycle the values of the variables whose bit differs from
+/// that of the cycle before; and last the time after the last cycle. If a write fails, a prefix of
+/// the text has been written. It takes no memory.
 pub fn write<O: Sink>(vcd: &Vcd, sink: &mut O) -> Result<(), Failed>
     ensures ok { OnOk result (
         Appends (O.written sink.old) (O.written sink.new) (vcd_text (waves_in vcd.now))

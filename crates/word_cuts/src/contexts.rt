@@ -12,7 +12,7 @@ use crate::cuts::cut_at_colon;
 use itoa::Buffer;
 use std::alloc::{AllocError, Global};
 
-// Whether the first digit is no 0 where others follow.
+// Whether the digits begin with no 0, except where 0 is the only digit.
 fn is_unpadded(digits: &[u8]) -> bool
     ensures { result ≡ is_unpadded digits.now }
 {
@@ -54,7 +54,7 @@ fn number_below(digits: &[u8], bound: u64) -> Option<u64>
     }
 }
 
-// The number of one of so many contexts, if the bytes write one, without leading zeros.
+// The number of a context, below `contexts`, if the bytes are that number without leading zeros.
 fn context_in(bytes: &[u8], contexts: u64) -> Option<u64>
     ensures { result ≡ then_some (is_unpadded_number bytes.now &&
         nat_lt (digits_value 10 bytes.now) contexts) (digits_value 10 bytes.now) }
@@ -66,8 +66,8 @@ fn context_in(bytes: &[u8], contexts: u64) -> Option<u64>
     }
 }
 
-/// The number of one of so many contexts that stands before the first `:` of a name, and what
-/// stands after it; it stands there also where there is one context.
+/// Returns the number of a context, below `contexts`, that stands before the first `:` of a name,
+/// and what stands after the `:`. The number stands there even if there is one context.
 pub fn cut_at_context(name: &[u8], contexts: u64) -> Option<(u64, &[u8])>
     ensures { MatchOption result (has_context contexts name.now ≡ false)
         (λ parts. (has_context contexts name.now ≡ true) × (parts.0 ≡ context_of name.now) ×
@@ -78,9 +78,9 @@ pub fn cut_at_context(name: &[u8], contexts: u64) -> Option<(u64, &[u8])>
     Some((context, rest))
 }
 
-/// The context of a name, and the name without it: with one context a name stands alone, and with
-/// more the number of its context and a `:` before it. `None` comes where there are several
-/// contexts, or none, and the name does not begin with the number of one and a `:`.
+/// Returns the context of a name, and the name without it. With one context the name stands alone,
+/// and with more the number of its context and a `:` stand before it. `None` comes if there are
+/// several contexts, or none, and the name does not begin with the number of a context and a `:`.
 pub fn cut_if_several(name: &[u8], contexts: u64) -> Option<(u64, &[u8])>
     ensures { MatchOption result (names_context contexts name.now ≡ false)
         (λ parts. (names_context contexts name.now ≡ true) ×
@@ -105,8 +105,8 @@ fn numbered(alloc: Global, context: u64, name: &[u8]) -> Result<Vec<u8>, AllocEr
     Ok(text)
 }
 
-/// A name as it is written for one of so many contexts: alone with one, else after the number of
-/// the context and a `:`.
+/// Returns a name as it is written for a context: alone if there is one context, and else after the
+/// context's number and a `:`.
 pub fn with_context(
     alloc: Global,
     contexts: u64,

@@ -11,7 +11,7 @@ fn bits_after(word: &[u8]) -> Option<usize>
     word.iter().rev().position(|b| *b == b'=')
 }
 
-/// The name before the last `=` of a word, and the bits after it.
+/// Returns the name before the last `=` of a word, and the bits after it.
 pub fn cut(word: &[u8]) -> Option<(&[u8], &[u8])>
     ensures { MatchOption result (list_any is_equals_sign word.now ≡ false)
         (λ parts. (list_any is_equals_sign word.now ≡ true) × (parts.0.now ≡ name_in word.now) ×
@@ -22,14 +22,14 @@ pub fn cut(word: &[u8]) -> Option<(&[u8], &[u8])>
     Some((&word[..start - 1], &word[start..]))
 }
 
-// Where the first `:` stands.
+// The place of the first `:`.
 fn colon_in(name: &[u8]) -> Option<usize>
     ensures { result ≡ position is_colon name.now }
 {
     name.iter().position(|b| *b == b':')
 }
 
-/// What stands before the first `:` of a name, and after it.
+/// Returns what stands before the first `:` of a name, and what stands after it.
 pub fn cut_at_colon(name: &[u8]) -> Option<(&[u8], &[u8])>
     ensures { MatchOption result (list_any is_colon name.now ≡ false)
         (λ parts. (list_any is_colon name.now ≡ true) ×
