@@ -81,7 +81,7 @@ fn planned_by_at(
     planned_at(alloc, other, found.spare, &found.lanes)
 }
 
-// The plan of a list at a layout that climbing found, if the cells can be put in its order.
+/// The plan of a list at a layout that climbing found, if the cells can be put in its order.
 pub fn climbed_plan(
     alloc: Global,
     list: &CellList,

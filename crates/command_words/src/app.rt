@@ -8,7 +8,7 @@ ghost use Rattle.command_words.specs.Arguments.{app_for, option_by, rule_for};
 use clap::{Arg, ArgAction, Command};
 use std::alloc::{AllocError, Global};
 
-// What a command takes after its name.
+/// What a command takes after its name.
 pub enum Argument {
     // A required option of one value.
     Required(&'static str),
@@ -18,7 +18,7 @@ pub enum Argument {
     Streams,
 }
 
-// A command's name, and what it takes.
+/// A command's name, and what it takes.
 pub struct CommandForm {
     pub name: &'static str,
     pub arguments: &'static [Argument],
@@ -57,7 +57,7 @@ fn arg_of<'a>(alloc: Global, argument: &Argument) -> Arg<'a>
     }
 }
 
-// Makes the command of a form.
+/// Makes the command of a form.
 pub fn command_with<'a>(alloc: Global, form: &CommandForm) -> Result<Command<'a>, AllocError>
     ensures app { IfOk result (λ c. app_of c ≡ app_for form.now) }
     ensures plain { IfOk result (λ c. (fields_of c).has_globals ≡ false) }

@@ -12,7 +12,7 @@ use crate::shared::{Places, find_cell};
 use cell_core::{Cell, CellError, CellList, Src};
 use std::alloc::Global;
 
-// Adds a cell, and returns its source.
+/// Adds a cell, and returns its source.
 pub fn add(
     list: &mut CellList,
     places: &mut Places,
@@ -34,7 +34,7 @@ pub fn add(
     Ok(Src::Cell(place))
 }
 
-// A source for the AND-NOT of two: 1 if the first is 1 and the second is 0.
+/// A source for the AND-NOT of two: 1 if the first is 1 and the second is 0.
 pub fn and_not(
     list: &mut CellList,
     places: &mut Places,
@@ -51,7 +51,7 @@ pub fn and_not(
     settle(list, places, alloc, Cell::AndNot(a, b))
 }
 
-// A source for the AND of two.
+/// A source for the AND of two.
 pub fn and(
     list: &mut CellList,
     places: &mut Places,
@@ -72,7 +72,7 @@ pub fn and(
     and_not(list, places, alloc, a, rest)
 }
 
-// A source for the OR of two.
+/// A source for the OR of two.
 pub fn or(
     list: &mut CellList,
     places: &mut Places,
@@ -89,7 +89,7 @@ pub fn or(
     settle(list, places, alloc, Cell::Or(a, b))
 }
 
-// A source for the product with one more column.
+/// A source for the product with one more column.
 pub fn with_column(
     list: &mut CellList,
     places: &mut Places,

@@ -9,7 +9,7 @@ use crate::shared::Places;
 use cell_core::{Cell, CellError, CellList, Src};
 use std::alloc::Global;
 
-// The source in the list for a source of the cells.
+/// The source in the list for a source of the cells.
 pub fn relocated(src: Src, sources: &[Src], made: &[Src]) -> Src
     requires { IsTrue (is_there (length sources.now) 0 (length made.now) src) }
     ensures { result ≡ relocated sources.now made.now src }
@@ -36,7 +36,7 @@ fn relocated_cell(cell: Cell, sources: &[Src], made: &[Src]) -> Cell
     }
 }
 
-// Puts the cells into the list, and returns the source of each there.
+/// Puts the cells into the list, and returns the source of each there.
 pub fn place(
     list: &mut CellList,
     places: &mut Places,

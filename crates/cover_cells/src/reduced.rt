@@ -95,7 +95,8 @@ fn turned(cell: Cell) -> Cell
     }
 }
 
-// A source with the bit of a cell, which is added only if nothing that is known to be there has it.
+/// A source with the bit of a cell, which is added only if nothing that is known to be there has
+/// it.
 pub fn settle(
     list: &mut CellList,
     places: &mut Places,

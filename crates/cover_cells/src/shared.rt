@@ -76,7 +76,7 @@ pub fn is_same_cell(a: Cell, b: Cell) -> bool
     }
 }
 
-// The source of a cell, if it is known to be there.
+/// The source of a cell, if it is known to be there.
 pub fn find_cell(list: &CellList, places: &Places, cell: Cell) -> Option<Src>
     ensures { IfSome result (λ src. IsCell list.now src cell) }
 {
@@ -87,7 +87,7 @@ pub fn find_cell(list: &CellList, places: &Places, cell: Cell) -> Option<Src>
     }
 }
 
-// The source of a cell, which is added if it is not known to be there.
+/// The source of a cell, which is added if it is not known to be there.
 pub fn share(
     list: &mut CellList,
     places: &mut Places,

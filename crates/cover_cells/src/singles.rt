@@ -5,7 +5,7 @@ ghost use Rattle.cell_meaning.specs.Singles.{is_only, are_both, are_pair, cell_o
 use cell_core::{Cell, Src};
 use lists::Bytes;
 
-// The constant that a cover of so many nets is by its text, if it is one.
+/// The constant that a cover of so many nets is by its text, if it is one.
 pub fn constant_source(nets: usize, rows: &[Bytes], on: bool) -> Option<Src>
     ensures { result ≡ constant_source nets rows.now on }
 {

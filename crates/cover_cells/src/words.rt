@@ -11,7 +11,7 @@ use cell_core::{Cell, CellError, Src};
 use lists::Bytes;
 use std::alloc::Global;
 
-// The tables of the nets themselves.
+/// The tables of the nets themselves.
 pub const NETS: [u64; 6] = [
     0xaaaa_aaaa_aaaa_aaaa,
     0xcccc_cccc_cccc_cccc,
@@ -82,7 +82,7 @@ fn row_word(row: &[u8], nets: usize) -> u64
     word
 }
 
-// The table of a cover over so many nets.
+/// The table of a cover over so many nets.
 pub fn rows_word(rows: &[Bytes], on: bool, nets: usize) -> u64
     requires { nets ≤ 6 }
     ensures { (bits : List Bool) → length bits ≡ nets →
@@ -159,7 +159,7 @@ fn are_in_order(cells: &[Cell], nets: usize) -> bool
     true
 }
 
-// Whether the cells are in order and their root has this table.
+/// Whether the cells are in order and their root has this table.
 pub fn computes(
     alloc: Global,
     cells: &[Cell],

@@ -55,8 +55,8 @@ fn weights(
     Ok(weights)
 }
 
-// Returns the weight of a design, or the greatest u64 if it is more. `Circle` comes if a model
-// leads back to itself.
+/// Returns the weight of a design, or the greatest u64 if it is more. `Circle` comes if a model
+/// leads back to itself.
 pub fn weight_or_circle(alloc: Global, design: &Design) -> Result<u64, ModelOrderError>
     ensures weight { IfOk result (λ w. w ≡ min (weight design.now) u64.MAX) }
     ensures refused { IfErr result (IsModelOrderRefusal design.now.models) }

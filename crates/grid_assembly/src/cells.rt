@@ -128,7 +128,7 @@ fn is_tail(plan: &Plan, column: u64, lane: u64, kind: Kind, place: (u32, u32)) -
         || is_lit_exit(plan, column, lane, kind, 1, place)
 }
 
-// Whether no electron stands at generation 0 in a row of a tile's box.
+/// Whether no electron stands at generation 0 in a row of a tile's box.
 #[tactic(auto, using(crate::proofs::Ports::dark_row))]
 pub fn is_row_dark(plan: &Plan, column: u64, lane: u64, kind: Kind, y: u32) -> bool
     requires admissible { IsAdmissible plan.now }
@@ -179,7 +179,7 @@ fn has_tail(plan: &Plan, column: u64, lane: u64, kind: Kind, n: usize, y: u32) -
     kind.exits()[n].1 == y && is_exit_lit(plan, column, lane, kind, n)
 }
 
-// The cell at a place in the box of a tile whose first block is at this tile column and lane.
+/// The cell at a place in the box of a tile whose first block is at this tile column and lane.
 pub fn tile_cell(plan: &Plan, column: u64, lane: u64, kind: Kind, place: (u32, u32)) -> State
     requires admissible { IsAdmissible plan.now }
     requires far { column < 2 ^ 57 }
@@ -212,7 +212,7 @@ fn piece_cell(plan: &Plan, column: u64, lane: u64, piece: Piece, place: (u32, u3
     }
 }
 
-// The cell at a place in a block in which an output cell stands.
+/// The cell at a place in a block in which an output cell stands.
 pub fn output_cell(plan: &Plan, column: u64, lane: u64, place: (u32, u32)) -> State
     requires admissible { IsAdmissible plan.now }
     requires far { column < 2 ^ 57 }

@@ -108,6 +108,7 @@ fn write_unnamed<O: Sink>(sink: &mut O, page: &mut Page, fields: &[&[u8]]) -> Re
     page.put(sink, b"\n")
 }
 
+/// Writes the version line of a table.
 pub fn write_version<O: Sink>(
     sink: &mut O,
     page: &mut Page,
@@ -133,7 +134,7 @@ pub fn write_version<O: Sink>(
     write_unnamed(sink, page, &[b"2", b"P", p, b"L", l, b"C", c])
 }
 
-// Writes the line of an input or an output.
+/// Writes the line of an input or an output.
 pub fn write_port<O: Sink>(
     sink: &mut O,
     page: &mut Page,
@@ -155,6 +156,7 @@ pub fn write_port<O: Sink>(
     write_named(sink, page, &[kind, x, y], port.name.as_slice(), &[])
 }
 
+/// Writes the line of a net.
 pub fn write_net<O: Sink>(sink: &mut O, page: &mut Page, net: &NetLine) -> Result<(), Failed>
     ensures column { column_of page.new ≡ column_of page.old }
     ensures ok { OnOk result ((rest : List ℕ) →
