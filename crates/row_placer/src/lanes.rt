@@ -1,5 +1,5 @@
 // Lanes, with their tags and clocks, and the instructions so far.
-ghost use Rattle.std.specs.Prelude.{◌≡◌, ◌==◌, ◌≤◌, ◌<◌, ◌+◌, ◌-◌, ◌*◌, ◌^◌, ◌++◌, ◌∷◌, [], length, All, set, OnOk, IfSome, IfOk, true, false};
+ghost use Rattle.std.specs.Prelude.{◌≡◌, ◌==◌, ◌≤◌, ◌<◌, ◌+◌, ◌-◌, ◌*◌, ◌^◌, ◌++◌, ◌∷◌, [], length, All, set, OnOk, IfSome, IfOk, None, true, false};
 ghost use Rattle.lane_core.specs.Instrs.{IsOnLanes, lane_of};
 ghost use Rattle.lane_core.specs.Places.{IsPlaceWithin};
 ghost use Rattle.row_placer.specs.declared.roles.Role.TheVariants.{Free, Kept, First, Second};
@@ -163,20 +163,32 @@ impl<'a> Lanes<'a> {
         self.free(lane);
     }
 
-    /// Returns a lane with this value in this role.
+    /// Returns the first lane with this value in this role, if there is one.
+    fn first_lane(&self, value: u32, role: Role) -> Option<u32>
+        ensures within { IfSome result (λ r. r < length self.now.tags.items) }
+        ensures here { IfSome result (λ r. tag_on self.now.tags.items r ≡ tag value role) }
+        ensures none { result ≡ None → count value role self.now.tags.items ≡ 0 }
+    {
+        let mut lane = 0;
+        while (lane as usize) < self.tags.len() {
+            if self.tags[lane as usize].is(value, role) {
+                return Some(lane);
+            }
+            lane += 1;
+        }
+        None
+    }
+
+    /// Returns the first lane with this value in this role. A call needs that there is one.
     fn find(&self, value: u32, role: Role) -> u32
         requires { 1 ≤ count value role self.now.tags.items }
         ensures within { result < length self.now.tags.items }
         ensures here { tag_on self.now.tags.items result ≡ tag value role }
     {
-        let mut lane = 0;
-        while (lane as usize) < self.tags.len() {
-            if self.tags[lane as usize].is(value, role) {
-                return lane;
-            }
-            lane += 1;
+        match self.first_lane(value, role) {
+            Some(lane) => lane,
+            None => unreachable!(),
         }
-        unreachable!()
     }
 
     /// Brings a lane to another one; the others keep their order.
@@ -368,9 +380,15 @@ impl<'a> Lanes<'a> {
         }
     }
 
-    /// Gives a role to a kept value: on its lane at the last use, and else on a copy, the one on
-    /// the partner's side.
-    fn fetch(&mut self, value: u32, role: Role, last: bool, partner: u32) -> Result<(), PlaceError>
+    /// Gives a role to a kept value: on its lane at the last use, and else on a copy: the one on the
+    /// partner's side, and the upper one if it has no partner.
+    fn fetch(
+        &mut self,
+        value: u32,
+        role: Role,
+        last: bool,
+        partner: Option<u32>,
+    ) -> Result<(), PlaceError>
         requires has { 1 ≤ count value Kept self.old.tags.items }
         requires free { last ≡ false → 1 ≤ count 0 Free self.old.tags.items }
         ensures exchanged { OnOk result (
@@ -387,7 +405,7 @@ impl<'a> Lanes<'a> {
             Ok(())
         } else {
             let at = self.copy(lane)?;
-            if partner > at {
+            if is_below(partner, at) {
                 self.mark(at + 1, role);
             } else {
                 self.mark(at, role);
@@ -479,7 +497,7 @@ impl<'a> Lanes<'a> {
         &mut self,
         value: u32,
         role: Role,
-        partner: u32,
+        partner: Option<u32>,
         left: &mut [u32],
     ) -> Result<(), PlaceError>
         requires role { 2 ≤ role_code role }
@@ -500,18 +518,6 @@ impl<'a> Lanes<'a> {
         Ok(())
     }
 
-    // The first lane with this value in this role, or lane 0 if there is none.
-    fn lane_of_partner(&self, value: u32, role: Role) -> u32 {
-        let mut lane = 0;
-        while (lane as usize) < self.tags.len() {
-            if self.tags[lane as usize].is(value, role) {
-                return lane;
-            }
-            lane += 1;
-        }
-        0
-    }
-
     /// Places the next gate.
     fn next(&mut self, left: &mut [u32]) -> Result<(), PlaceError>
         requires within { length self.old.made.items < length self.old.job.now.gates }
@@ -530,9 +536,9 @@ impl<'a> Lanes<'a> {
         ensures left { OnOk result (length left.new ≡ length left.old) }
     {
         let gate = *self.job.gates.get(self.made.len());
-        let partner = self.lane_of_partner(gate.second, Role::Kept);
+        let partner = self.first_lane(gate.second, Role::Kept);
         self.use_value(gate.first, Role::First, partner, left)?;
-        let partner = self.lane_of_partner(gate.first, Role::First);
+        let partner = self.first_lane(gate.first, Role::First);
         self.use_value(gate.second, Role::Second, partner, left)?;
         let value = self.job.base + self.made.len() as u32;
         self.gate(gate)?;
@@ -560,7 +566,13 @@ impl<'a> Lanes<'a> {
         Ok(())
     }
 
-    /// Gives each port a lane of its own.
+    // The lowest lane, if there is one.
+    fn lowest(&self) -> Option<u32> {
+        (self.tags.len() as u32).checked_sub(1)
+    }
+
+    /// Gives each port a lane of its own: of two copies a loop's is the lower one, since it is
+    /// brought to the lowest lanes afterwards.
     fn place_ports(&mut self, loops: u32, left: &mut [u32]) -> Result<(), PlaceError>
         requires ready { ReadyForPort self.old.job.now 0 self.old.tags.items left.old }
         requires known { ArePortsKnown self.old.job.now }
@@ -574,7 +586,7 @@ impl<'a> Lanes<'a> {
         let mut port = 0;
         while (port as usize) < self.job.ports.len() {
             let value = *self.job.ports.get(port as usize);
-            let partner = if port < loops { u32::MAX } else { 0 };
+            let partner = if port < loops { self.lowest() } else { None };
             self.use_value(value, Role::Port(port), partner, left)?;
             port += 1;
         }
@@ -622,6 +634,14 @@ impl<'a> Lanes<'a> {
             port += 1;
         }
         Ok(outs)
+    }
+}
+
+// Whether there is a partner, and it stands below a lane.
+fn is_below(partner: Option<u32>, lane: u32) -> bool {
+    match partner {
+        Some(partner) => partner > lane,
+        None => false,
     }
 }
 

@@ -6,10 +6,29 @@ use Rattle.row_placer.specs.Uses.{uses_of, owed, idle, AreCounted, ReadsBelow, A
 use Rattle.row_placer.specs.Ready.{Ready}
 use Rattle.cell_core.specs.Loops.{loop_count}
 use Rattle.row_placer.specs.Placed.{IsStart, AreAtHome}
-use Rattle.row_placer.proofs.Prepared.{job_facts, owed_small, start_ready, nothing_used}
+use Rattle.row_placer.proofs.Prepared.{JobFacts, job_facts, owed_small, start_ready, nothing_used}
 use Rattle.row_placer.proofs.Sides.{homes_within, homes_of_list}
 use Rattle.lane_homes.specs.Homes.{AreHomesAbove}
 use Rattle.row_placer.proofs.placing.prepare.Goals as goal
+use Rattle.row_placer.proofs.placing.prepare.Goals.{After-deref-2, After-count_idle-idle, After-first_home-least}
+
+-- the gates and ports by the list's counts, how many lanes must be free, and how many are above
+facts : (c : After-deref-2) → JobFacts c.args.list.now c.args.loops c.in_ok-gates.gates.items c.in_ok-ports.ports.items
+facts c =
+    job_facts c.args.list.now c.args.loops c.in_ok-gates.gates.items c.in_ok-ports.ports.items c.requires.loops c.requires.sound
+    c.in_ok-gates.ensures c.in_ok-ports.ensures
+
+few_owed : (c : After-count_idle-idle) → c.in_ok-left.owed + c.one_if-dark.result ≤ 1048577
+few_owed c =
+    let low = owed_small c.args.list.now c.args.loops c.in_ok-gates.gates.items c.deref.result.now c.in_ok-ports.ports.items c.deref-2.result.now c.in_ok-left.owed
+    (facts (goal.at.first_home-least-requires c).After-deref-2) c.deref.ensures.value c.deref-2.ensures.value c.in_ok-left.ensures.few c.requires.small in
+    let small = at_most_one c.wants_zero-zero.result in
+    omega (arith, c.one_if-dark.ensures, small, low)
+
+few_above : (c : After-first_home-least) → c.first_home-least.result + c.args.spare ≤ 2097152
+few_above c =
+    let few = few_owed (goal.at.homes_of-requires c).After-count_idle-idle in
+    omega (arith, c.first_home-least.ensures.most, few, c.requires.spare)
 
 pub gates_of-requires : goal.gates_of-requires
 gates_of-requires c = record { loops = c.requires.loops; sound = c.requires.sound; small = omega (arith, c.requires.small) }
@@ -19,18 +38,16 @@ ports_of-requires c = record { loops = c.requires.loops; sound = c.requires.soun
 
 pub count_uses-requires : goal.count_uses-requires
 count_uses-requires c =
-    let list = c.args.list.now in
-    let base = list.inputs + c.args.loops + 1 in
-    let ports = c.in_ok-ports.ports.items in
-    let facts = job_facts list c.args.loops c.in_ok-gates.gates.items ports c.requires.loops c.requires.sound c.in_ok-gates.ensures c.in_ok-ports.ensures in
+    let base = c.args.list.now.inputs + c.args.loops + 1 in
+    let known = facts c in
     let gates_are = c.deref.ensures.value in
     let ports_are = c.deref-2.ensures.value in
     record {
-      fits = omega (arith, ap length gates_are, facts.cells, c.requires.loops, c.requires.small);
-      gates = subst (λ gs. All (ReadsBelow (base + length gs)) gs) (sym gates_are) facts.gates_low;
+      fits = omega (arith, ap length gates_are, known.cells, c.requires.loops, c.requires.small);
+      gates = subst (λ gs. All (ReadsBelow (base + length gs)) gs) (sym gates_are) known.gates_low;
       ports = subst (λ gs. All (λ v. v < base + length gs) c.deref-2.result.now) (sym gates_are)
-          (subst (All (λ v. v < base + length c.in_ok-gates.gates.items)) (sym ports_are) facts.ports_low);
-      few = omega (arith, ap length gates_are, ap length ports_are, facts.cells, facts.many, c.requires.small);
+          (subst (All (λ v. v < base + length c.in_ok-gates.gates.items)) (sym ports_are) known.ports_low);
+      few = omega (arith, ap length gates_are, ap length ports_are, known.cells, known.many, c.requires.small);
     }
 
 pub wants_zero-zero-requires : goal.wants_zero-zero-requires
@@ -42,52 +59,26 @@ count_idle-idle-requires c =
     omega (arith, c.in_ok-left.ensures.long, c.one_if-dark.ensures, small)
 
 pub first_home-least-requires : goal.first_home-least-requires
-first_home-least-requires c =
-    let list = c.args.list.now in
-    let facts = job_facts list c.args.loops c.in_ok-gates.gates.items c.in_ok-ports.ports.items c.requires.loops c.requires.sound c.in_ok-gates.ensures c.in_ok-ports.ensures in
-    let low = owed_small list c.args.loops c.in_ok-gates.gates.items c.deref.result.now c.in_ok-ports.ports.items c.deref-2.result.now c.in_ok-left.owed
-    facts c.deref.ensures.value c.deref-2.ensures.value c.in_ok-left.ensures.few c.requires.small in
-    let small = at_most_one c.wants_zero-zero.result in
-    omega (arith, c.one_if-dark.ensures, small, low)
+first_home-least-requires c = let few = few_owed c in omega (arith, few)
 
 pub overflow_add-above : goal.overflow_add-above
-overflow_add-above c =
-    let list = c.args.list.now in
-    let facts = job_facts list c.args.loops c.in_ok-gates.gates.items c.in_ok-ports.ports.items c.requires.loops c.requires.sound c.in_ok-gates.ensures c.in_ok-ports.ensures in
-    let low = owed_small list c.args.loops c.in_ok-gates.gates.items c.deref.result.now c.in_ok-ports.ports.items c.deref-2.result.now c.in_ok-left.owed
-    facts c.deref.ensures.value c.deref-2.ensures.value c.in_ok-left.ensures.few c.requires.small in
-    let small = at_most_one c.wants_zero-zero.result in
-    omega (arith, c.first_home-least.ensures.most, c.one_if-dark.ensures, small, low, c.requires.small, c.requires.spare)
+overflow_add-above c = let few = few_above c in omega (arith, few)
 
 pub overflow_add-above-2 : goal.overflow_add-above-2
-overflow_add-above-2 c =
-    let list = c.args.list.now in
-    let facts = job_facts list c.args.loops c.in_ok-gates.gates.items c.in_ok-ports.ports.items c.requires.loops c.requires.sound c.in_ok-gates.ensures c.in_ok-ports.ensures in
-    let low = owed_small list c.args.loops c.in_ok-gates.gates.items c.deref.result.now c.in_ok-ports.ports.items c.deref-2.result.now c.in_ok-left.owed
-    facts c.deref.ensures.value c.deref-2.ensures.value c.in_ok-left.ensures.few c.requires.small in
-    let small = at_most_one c.wants_zero-zero.result in
-    omega (arith, c.first_home-least.ensures.most, c.one_if-dark.ensures, small, low, c.requires.small, c.requires.spare)
+overflow_add-above-2 c = let few = few_above c in omega (arith, few, c.requires.small)
 
 pub homes_of-requires : goal.homes_of-requires
 homes_of-requires c =
-    let list = c.args.list.now in
-    let facts = job_facts list c.args.loops c.in_ok-gates.gates.items c.in_ok-ports.ports.items c.requires.loops c.requires.sound c.in_ok-gates.ensures c.in_ok-ports.ensures in
-    let low = owed_small list c.args.loops c.in_ok-gates.gates.items c.deref.result.now c.in_ok-ports.ports.items c.deref-2.result.now c.in_ok-left.owed
-    facts c.deref.ensures.value c.deref-2.ensures.value c.in_ok-left.ensures.few c.requires.small in
-    let small = at_most_one c.wants_zero-zero.result in
+    let few = few_above c in
     record {
       room = omega (arith, c.first_home-least.ensures.dark, c.one_if-dark.ensures);
-      few = omega (arith, c.first_home-least.ensures.most, c.one_if-dark.ensures, small, low, c.requires.small, c.requires.spare, c.requires.loops);
+      few = omega (arith, few, c.requires.small, c.requires.loops);
     }
 
 pub overflow_add-above-3 : goal.overflow_add-above-3
 overflow_add-above-3 c =
-    let list = c.args.list.now in
-    let facts = job_facts list c.args.loops c.in_ok-gates.gates.items c.in_ok-ports.ports.items c.requires.loops c.requires.sound c.in_ok-gates.ensures c.in_ok-ports.ensures in
-    let low = owed_small list c.args.loops c.in_ok-gates.gates.items c.deref.result.now c.in_ok-ports.ports.items c.deref-2.result.now c.in_ok-left.owed
-    facts c.deref.ensures.value c.deref-2.ensures.value c.in_ok-left.ensures.few c.requires.small in
-    let small = at_most_one c.wants_zero-zero.result in
-    omega (arith, c.first_home-least.ensures.most, c.one_if-dark.ensures, small, low, c.requires.small, c.requires.spare, c.requires.loops)
+    let few = few_above (goal.at.overflow_add-above-3 c).After-first_home-least in
+    omega (arith, few, c.requires.small, c.requires.loops)
 
 pub returns-in_err-gates : goal.returns-in_err-gates
 returns-in_err-gates c =
@@ -135,24 +126,25 @@ start_tags-requires c =
 pub invariant_of-job : goal.invariant_of-job
 invariant_of-job c =
     let list = c.args.list.now in
-    let facts = job_facts list c.args.loops c.in_ok-gates.gates.items c.in_ok-ports.ports.items c.requires.loops c.requires.sound c.in_ok-gates.ensures c.in_ok-ports.ensures in
+    let known = facts (goal.at.invariant_of-job c).After-deref-2 in
     record {
-      known = subst (AreKnown (list.inputs + c.args.loops + 1)) (sym c.of.ensures) facts.known;
-      few_ports = omega (arith, ap length c.of-2.ensures, facts.many, c.requires.small);
-      few = omega (arith, ap length c.of.ensures, facts.cells, facts.base, c.requires.small);
+      known = subst (AreKnown (list.inputs + c.args.loops + 1)) (sym c.of.ensures) known.known;
+      few_ports = omega (arith, ap length c.of-2.ensures, known.many, c.requires.small);
+      few = omega (arith, ap length c.of.ensures, known.cells, known.base, c.requires.small);
     }
 
-pub returns-clause-prepared : goal.returns-clause-prepared
-returns-clause-prepared c =
+pub returns : goal.returns
+returns c =
     let list = c.args.list.now in
     let g = c.in_ok-gates.gates.items in
     let ports = c.in_ok-ports.ports.items in
     let inner = list.inputs + c.args.loops in
     let base = inner + 1 in
-    let facts = job_facts list c.args.loops g ports c.requires.loops c.requires.sound c.in_ok-gates.ensures c.in_ok-ports.ensures in
+    let known = facts (goal.at.returns c).After-deref-2 in
     let left = c.in_ok-left.left.items in
     let wide : length left ≡ base + length g = c.in_ok-left.ensures.long ∙ ap (λ gs. base + length gs) c.deref.ensures.value in
     let dark = c.wants_zero-zero.result in
+    let small = at_most_one dark in
     let first = c.first_home-least.result + c.args.spare in
     let homes = c.in_ok-homes.homes.items in
     let above = first + list.inputs in
@@ -162,50 +154,31 @@ returns-clause-prepared c =
     let is : IsStart homes left (above + c.args.loops) start = subst (λ hs. IsStart hs left (above + c.args.loops) start) c.deref-3.ensures.value (subst (λ l. IsStart c.deref-3.result.now l (above + c.args.loops) start) c.deref-4.ensures.value c.in_ok-start.ensures) in
     let counted : AreCounted left (uses_of g ++ ports) = subst (AreCounted left) (ap₂ (λ gs ps. uses_of gs ++ ps) c.deref.ensures.value c.deref-2.ensures.value) c.in_ok-left.ensures.left in
     let owes : c.in_ok-left.owed ≡ owed ports base g = c.in_ok-left.ensures.owed ∙ ap₂ (λ gs ps. owed ps base gs) c.deref.ensures.value c.deref-2.ensures.value in
+    let few : c.in_ok-left.owed ≤ length g + length ports + 1 = omega (arith, c.in_ok-left.ensures.few, ap length c.deref.ensures.value, ap length c.deref-2.ensures.value) in
     let idles : c.count_idle-idle.result ≡ idle left (length homes) = c.count_idle-idle.ensures ∙ ap (idle left) (ap (λ n. inner + n) c.one_if-dark.ensures ∙ sym s.long) in
     let ready = start_ready g ports homes left inner (above + c.args.loops) first base dark start is low counted refl wide s.long c.wants_zero-zero.ensures.used (omega arith)
     (omega (arith, owes, idles, c.first_home-least.ensures.enough, c.one_if-dark.ensures)) in
     let long : length c.of-3.result ≡ above + c.args.loops = ap length c.of-3.ensures ∙ is.long in
     record {
-      job_of = record { base = facts.base; gates = c.of.ensures ∙ c.in_ok-gates.ensures; ports = c.of-2.ensures ∙ c.in_ok-ports.ensures };
-      ready = subst (λ st. Ready (uses_of c.of.result ++ c.of-2.result) (base + 0) (owed c.of-2.result (base + 0) c.of.result) st left) (sym c.of-3.ensures)
-          (subst (λ ps. Ready (uses_of c.of.result ++ ps) (base + 0) (owed ps (base + 0) c.of.result) start left) (sym c.of-2.ensures)
-          (subst (λ gs. Ready (uses_of gs ++ ports) (base + 0) (owed ports (base + 0) gs) start left) (sym c.of.ensures) ready));
-      counted = wide ∙ ap (λ n. base + n) (sym (ap length c.of.ensures));
-      home = subst (AreAtHome homes) (sym c.of-3.ensures) is.home;
-      homes_of = homes_of_list list above (length c.of-3.result) dark homes (subst (λ n. AreHomesAbove above list.inputs n dark homes) c.requires.loops s) (long ∙ ap (λ n. above + n) c.requires.loops);
-      zero = λ k d below e. (let one : cond {A = ℕ} dark 1 0 ≡ 1 = ap (λ b. cond {A = ℕ} b 1 0) (c.wants_zero-zero.ensures.nets k d below e) in omega (arith, one, s.long, c.requires.loops));
-      ports = subst (λ gs. All (λ v. v < base + length gs) c.of-2.result) (sym c.of.ensures) (subst (All (λ v. v < base + length g)) (sym c.of-2.ensures) facts.ports_low);
-      room = omega (arith, long, c.requires.loops);
-      below = subst (λ n. All (λ lane. lane < n) homes) (sym long) low;
-    }
-
-pub returns-clause-few : goal.returns-clause-few
-returns-clause-few c =
-    let list = c.args.list.now in
-    let g = c.in_ok-gates.gates.items in
-    let ports = c.in_ok-ports.ports.items in
-    let inner = list.inputs + c.args.loops in
-    let base = inner + 1 in
-    let facts = job_facts list c.args.loops g ports c.requires.loops c.requires.sound c.in_ok-gates.ensures c.in_ok-ports.ensures in
-    let left = c.in_ok-left.left.items in
-    let wide : length left ≡ base + length g = c.in_ok-left.ensures.long ∙ ap (λ gs. base + length gs) c.deref.ensures.value in
-    let dark = c.wants_zero-zero.result in
-    let small = at_most_one dark in
-    let first = c.first_home-least.result + c.args.spare in
-    let homes = c.in_ok-homes.homes.items in
-    let above = first + list.inputs in
-    let start = c.in_ok-start.start.items in
-    let is : IsStart homes left (above + c.args.loops) start = subst (λ hs. IsStart hs left (above + c.args.loops) start) c.deref-3.ensures.value (subst (λ l. IsStart c.deref-3.result.now l (above + c.args.loops) start) c.deref-4.ensures.value c.in_ok-start.ensures) in
-    let counted : AreCounted left (uses_of g ++ ports) = subst (AreCounted left) (ap₂ (λ gs ps. uses_of gs ++ ps) c.deref.ensures.value c.deref-2.ensures.value) c.in_ok-left.ensures.left in
-    let owes : c.in_ok-left.owed ≡ owed ports base g = c.in_ok-left.ensures.owed ∙ ap₂ (λ gs ps. owed ps base gs) c.deref.ensures.value c.deref-2.ensures.value in
-    let few : c.in_ok-left.owed ≤ length g + length ports + 1 = omega (arith, c.in_ok-left.ensures.few, ap length c.deref.ensures.value, ap length c.deref-2.ensures.value) in
-    let long : length c.of-3.result ≡ above + c.args.loops = ap length c.of-3.ensures ∙ is.long in
-    record {
-      most = omega (arith, long, c.first_home-least.ensures.most, c.one_if-dark.ensures, small, few, facts.cells, facts.many, c.requires.loops);
-      empty = λ (h : list.inputs + loop_count list + length list.cells + length list.outs + length list.nets ≡ 0).
-          (let used = nothing_used base g ports (omega (arith, h, facts.cells)) (omega (arith, h, facts.many)) in
-          let unused : get_or left inner 0 ≡ 0 = counted inner (omega (arith, wide)) ∙ used.1 inner in
-          let off : cond {A = ℕ} dark 1 0 ≡ 0 = ap (λ b. cond {A = ℕ} b 1 0) (c.wants_zero-zero.ensures.none unused (omega (arith, h))) in
-          omega (arith, long, c.first_home-least.ensures.most, c.one_if-dark.ensures, off, owes, used.0, h, c.requires.loops));
+      prepared = record {
+        job_of = record { base = known.base; gates = c.of.ensures ∙ c.in_ok-gates.ensures; ports = c.of-2.ensures ∙ c.in_ok-ports.ensures };
+        ready = subst (λ st. Ready (uses_of c.of.result ++ c.of-2.result) (base + 0) (owed c.of-2.result (base + 0) c.of.result) st left) (sym c.of-3.ensures)
+            (subst (λ ps. Ready (uses_of c.of.result ++ ps) (base + 0) (owed ps (base + 0) c.of.result) start left) (sym c.of-2.ensures)
+            (subst (λ gs. Ready (uses_of gs ++ ports) (base + 0) (owed ports (base + 0) gs) start left) (sym c.of.ensures) ready));
+        counted = wide ∙ ap (λ n. base + n) (sym (ap length c.of.ensures));
+        home = subst (AreAtHome homes) (sym c.of-3.ensures) is.home;
+        homes_of = homes_of_list list above (length c.of-3.result) dark homes (subst (λ n. AreHomesAbove above list.inputs n dark homes) c.requires.loops s) (long ∙ ap (λ n. above + n) c.requires.loops);
+        zero = λ k d below e. (let one : cond {A = ℕ} dark 1 0 ≡ 1 = ap (λ b. cond {A = ℕ} b 1 0) (c.wants_zero-zero.ensures.nets k d below e) in omega (arith, one, s.long, c.requires.loops));
+        ports = subst (λ gs. All (λ v. v < base + length gs) c.of-2.result) (sym c.of.ensures) (subst (All (λ v. v < base + length g)) (sym c.of-2.ensures) known.ports_low);
+        room = omega (arith, long, c.requires.loops);
+        below = subst (λ n. All (λ lane. lane < n) homes) (sym long) low;
+      };
+      few = record {
+        most = omega (arith, long, c.first_home-least.ensures.most, c.one_if-dark.ensures, small, few, known.cells, known.many, c.requires.loops);
+        empty = λ (h : list.inputs + loop_count list + length list.cells + length list.outs + length list.nets ≡ 0).
+            (let used = nothing_used base g ports (omega (arith, h, known.cells)) (omega (arith, h, known.many)) in
+            let unused : get_or left inner 0 ≡ 0 = counted inner (omega (arith, wide)) ∙ used.1 inner in
+            let off : cond {A = ℕ} dark 1 0 ≡ 0 = ap (λ b. cond {A = ℕ} b 1 0) (c.wants_zero-zero.ensures.none unused (omega (arith, h))) in
+            omega (arith, long, c.first_home-least.ensures.most, c.one_if-dark.ensures, off, owes, used.0, h, c.requires.loops));
+      };
     }

@@ -17,13 +17,13 @@ returns-then-last c =
       kept = m.kept;
     }
 
-pub returns-then-partner-at : goal.returns-then-partner-at
-returns-then-partner-at c =
+pub returns-then-is_below : goal.returns-then-is_below
+returns-then-is_below c =
     let s = c.args.self.now in
     let copy = c.copy.new.self in
     let e = c.in_ok-at.ensures in
-    let m = c.mark-then-partner-at.ensures in
-    let new = c.mark-then-partner-at.new.self in
+    let m = c.mark-then-is_below.ensures in
+    let new = c.mark-then-is_below.new.self in
     let here = c.find-lane.ensures.here in
     let first = subst (λ t. Exchanged s.tags.items copy.tags.items free_tag t) here e.copied.exchanged in
     let next = marked copy.tags.items new.tags.items (c.in_ok-at.at + 1) c.args.value c.args.role (omega (arith, e.within, e.adds.long)) (e.copied.lower ∙ here) m.tags in
@@ -34,13 +34,13 @@ returns-then-partner-at c =
       kept = kept_on s copy new e.kept m.kept;
     }
 
-pub returns-else-partner-at : goal.returns-else-partner-at
-returns-else-partner-at c =
+pub returns-else-is_below : goal.returns-else-is_below
+returns-else-is_below c =
     let s = c.args.self.now in
     let copy = c.copy.new.self in
     let e = c.in_ok-at.ensures in
-    let m = c.mark-else-partner-at.ensures in
-    let new = c.mark-else-partner-at.new.self in
+    let m = c.mark-else-is_below.ensures in
+    let new = c.mark-else-is_below.new.self in
     let here = c.find-lane.ensures.here in
     let first = subst (λ t. Exchanged s.tags.items copy.tags.items free_tag t) here e.copied.exchanged in
     let next = marked copy.tags.items new.tags.items c.in_ok-at.at c.args.value c.args.role (omega (arith, e.within, e.adds.long)) (e.copied.upper ∙ here) m.tags in
