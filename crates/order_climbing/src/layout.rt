@@ -5,9 +5,11 @@ use std::alloc::Global;
 use std::ops::Range;
 
 /// The lane of each input, apart and above the loops, and how many lanes there are.
+/// `standing` tells of each lane above the loops which input stands there.
 #[derive(Drop)]
 pub struct Homes {
     pub ins: Vec<usize>,
+    standing: Vec<Option<usize>>,
     pub lanes: usize,
 }
 
@@ -16,6 +18,7 @@ impl Homes {
     pub fn new(alloc: Global) -> Homes {
         Homes {
             ins: Vec::new(alloc),
+            standing: Vec::new(alloc),
             lanes: 0,
         }
     }
@@ -24,18 +27,18 @@ impl Homes {
     pub fn copy(&mut self, other: &Homes) -> Result<(), CellError> {
         self.ins.clear();
         self.ins.extend_from_slice(&other.ins)?;
+        self.standing.clear();
+        self.standing.extend_from_slice(&other.standing)?;
         self.lanes = other.lanes;
         Ok(())
     }
 
     // The input that stands on a lane.
     fn input_on(&self, lane: usize) -> Option<usize> {
-        for (input, home) in self.ins.iter().enumerate() {
-            if *home == lane {
-                return Some(input);
-            }
+        match self.standing.get(lane) {
+            Some(input) => *input,
+            None => None,
         }
-        None
     }
 
     /// Whether an input stands on a lane.
@@ -51,32 +54,45 @@ impl Homes {
         let Some(old) = self.ins.get(input).copied() else {
             return;
         };
-        if let Some(other) = self.input_on(lane) {
+        let other = self.input_on(lane);
+        self.leave(old);
+        if let Some(other) = other {
             self.put(other, old);
         }
         self.put(input, lane);
     }
 
+    // No input stands on the lane.
+    fn leave(&mut self, lane: usize) {
+        if let Some(standing) = self.standing.get_mut(lane) {
+            *standing = None;
+        }
+    }
+
+    // The input stands on the lane, on which there was none.
     fn put(&mut self, input: usize, lane: usize) {
         if let Some(home) = self.ins.get_mut(input) {
             *home = lane;
         }
+        if let Some(standing) = self.standing.get_mut(lane) {
+            *standing = Some(input);
+        }
     }
 
-    /// The highest lane above the loops on which no input stands, of `above` lanes.
-    pub fn dark_lane(&self, above: usize) -> Option<usize> {
-        for lane in 0..above {
-            if !self.ins.contains(&lane) {
+    /// The highest lane above the loops on which no input stands.
+    pub fn dark_lane(&self) -> Option<usize> {
+        for (lane, input) in self.standing.iter().enumerate() {
+            if input.is_none() {
                 return Some(lane);
             }
         }
         None
     }
 
-    // The lowest of them.
-    fn free_lane(&self, above: usize) -> Option<usize> {
-        for lane in (0..above).rev() {
-            if !self.ins.contains(&lane) {
+    // The lowest lane before one on which no input stands.
+    fn free_lane(&self, end: usize) -> Option<usize> {
+        for lane in (0..end.min(self.standing.len())).rev() {
+            if self.standing[lane].is_none() {
                 return Some(lane);
             }
         }
@@ -84,7 +100,8 @@ impl Homes {
     }
 
     // The inputs, in their ranks, over the lanes above the loops.
-    fn spread(&mut self, ranked: &[(usize, usize)], above: usize) {
+    fn spread(&mut self, ranked: &[(usize, usize)]) {
+        let above = self.standing.len();
         let inputs = self.ins.len().max(1);
         for (rank, (_, input)) in ranked.iter().enumerate() {
             self.put(*input, rank.saturating_mul(above) / inputs);
@@ -93,15 +110,24 @@ impl Homes {
 
     /// So many lanes, of which `above` stand above the loops: inputs that would stand on loops'
     /// lanes go to free ones. Whether there are enough.
-    pub fn resize(&mut self, lanes: usize, above: usize) -> bool {
+    pub fn resize(&mut self, lanes: usize, above: usize) -> Result<bool, CellError> {
         self.lanes = lanes;
+        self.standing.resize(above, None)?;
+        Ok(self.lift(above))
+    }
+
+    // Inputs on loops' lanes go to the lowest free ones above. Whether there are enough. From `end`
+    // on none is free.
+    fn lift(&mut self, above: usize) -> bool {
+        let mut end = above;
         for input in 0..self.ins.len() {
             let home = self.ins.get(input).copied().unwrap_or(0);
             if home >= above {
-                let Some(lane) = self.free_lane(above) else {
+                let Some(lane) = self.free_lane(end) else {
                     return false;
                 };
                 self.put(input, lane);
+                end = lane;
             }
         }
         true
@@ -130,9 +156,7 @@ impl Layout {
         };
         layout.fill(gates, order, lanes)?;
         let ranked = by_first_reader(alloc, gates, &layout.order)?;
-        layout
-            .homes
-            .spread(&ranked, lanes.saturating_sub(gates.loops));
+        layout.homes.spread(&ranked);
         Ok(layout)
     }
 
@@ -143,6 +167,8 @@ impl Layout {
             self.order.push(*cell as usize)?;
         }
         self.homes.ins.resize(gates.inputs, 0)?;
+        let above = lanes.saturating_sub(gates.loops);
+        self.homes.standing.resize(above, None)?;
         self.homes.lanes = lanes;
         Ok(())
     }

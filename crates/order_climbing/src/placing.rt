@@ -62,7 +62,7 @@ impl<'a> Placer<'a> {
             );
         }
         if self.gates.uses_of(self.gates.zero()) > 0 {
-            if let Some(lane) = layout.homes.dark_lane(above) {
+            if let Some(lane) = layout.homes.dark_lane() {
                 self.start(self.gates.zero(), lane);
             }
         }
