@@ -130,19 +130,33 @@ impl Lanes {
     /// Brings a lane to another one; the others keep their order.
     pub fn bring(&mut self, from: usize, to: usize) {
         let number = self.standing_on(from);
-        let mut time = self.clock(from);
-        if from < to {
-            for lane in from..to {
-                time = self.shift(lane.saturating_add(1), lane, time);
-            }
+        let time = if from < to {
+            self.raise(from, to)
         } else {
-            for past in 0..from - to {
-                let lane = from.saturating_sub(past);
-                time = self.shift(lane.saturating_sub(1), lane, time);
-            }
-        }
+            self.lower(to, from)
+        };
         self.put(to, number);
         self.set_clock(to, time);
+    }
+
+    // What stands on the lanes after the first, down to the last, goes up by one lane; when the
+    // last one does.
+    fn raise(&mut self, first: usize, last: usize) -> usize {
+        let mut time = self.clock(first);
+        for lane in first..last {
+            time = self.shift(lane.saturating_add(1), lane, time);
+        }
+        time
+    }
+
+    // What stands on the lanes before the last, up to the first, goes down by one lane; when the
+    // first one does.
+    fn lower(&mut self, first: usize, last: usize) -> usize {
+        let mut time = self.clock(last);
+        for lane in (first..last).rev() {
+            time = self.shift(lane, lane.saturating_add(1), time);
+        }
+        time
     }
 
     // What stands on a lane goes to the one beside it, whose own comes to the lane at that time or
