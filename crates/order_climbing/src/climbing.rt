@@ -121,7 +121,7 @@ impl<'a> Climber<'a> {
         }
         self.other.copy(&camp.layout.homes)?;
         let above = lanes.saturating_sub(self.gates.loops);
-        if !self.other.resize(lanes, above) {
+        if !self.other.resize(lanes, above)? {
             return Ok(());
         }
         self.try_other(camp)

@@ -174,24 +174,28 @@ impl Gates {
         Ok(())
     }
 
-    fn read_port(&mut self, value: usize) -> Result<(), CellError> {
+    fn read_port(&mut self, latches: usize, src: Src) -> Result<(), CellError> {
+        let value = self.number(latches, src);
         self.count(value);
         self.ports.push(value)?;
         Ok(())
     }
 
-    fn read_ports(&mut self, list: &CellList) -> Result<(), CellError> {
-        let latches = list.starts.len();
-        for src in list.latches.as_slice() {
-            self.read_port(self.number(latches, *src))?;
-        }
-        if list.names_one() {
-            self.read_port(self.number(latches, Src::One))?;
-        }
-        for src in list.outs.as_slice() {
-            self.read_port(self.number(latches, *src))?;
+    fn read_all(&mut self, latches: usize, sources: &[Src]) -> Result<(), CellError> {
+        for src in sources {
+            self.read_port(latches, *src)?;
         }
         Ok(())
+    }
+
+    // Reads the data of the loops, of which constant 1 is the last, and then the outputs.
+    fn read_ports(&mut self, list: &CellList) -> Result<(), CellError> {
+        let latches = list.starts.len();
+        self.read_all(latches, list.latches.as_slice())?;
+        if list.names_one() {
+            self.read_port(latches, Src::One)?;
+        }
+        self.read_all(latches, list.outs.as_slice())
     }
 }
 

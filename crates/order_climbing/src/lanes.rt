@@ -130,23 +130,37 @@ impl Lanes {
     /// Brings a lane to another one; the others keep their order.
     pub fn bring(&mut self, from: usize, to: usize) {
         let number = self.standing_on(from);
-        let mut time = self.clock(from);
-        if from < to {
-            for lane in from..to {
-                time = self.shift(lane.saturating_add(1), lane, time);
-            }
+        let time = if from < to {
+            self.raise(from, to)
         } else {
-            for past in 0..from - to {
-                let lane = from.saturating_sub(past);
-                time = self.shift(lane.saturating_sub(1), lane, time);
-            }
-        }
+            self.lower(to, from)
+        };
         self.put(to, number);
         self.set_clock(to, time);
     }
 
+    // Moves what stands on the lanes after the first, down to the last, up by one lane. Returns the
+    // column after the last swap.
+    fn raise(&mut self, first: usize, last: usize) -> usize {
+        let mut time = self.clock(first);
+        for lane in first..last {
+            time = self.shift(lane.saturating_add(1), lane, time);
+        }
+        time
+    }
+
+    // Moves what stands on the lanes before the last, up to the first, down by one lane. Returns the
+    // column after the last swap.
+    fn lower(&mut self, first: usize, last: usize) -> usize {
+        let mut time = self.clock(last);
+        for lane in (first..last).rev() {
+            time = self.shift(lane, lane.saturating_add(1), time);
+        }
+        time
+    }
+
     // Moves what stands on lane `from` to lane `to` beside it, by one swap with a lane that is
-    // brought past it, no earlier than at `time`; the column after the swap.
+    // brought past it, no earlier than at `time`. Returns the column after the swap.
     fn shift(&mut self, from: usize, to: usize, time: usize) -> usize {
         let time = time.max(self.clock(from)).saturating_add(1);
         self.put(to, self.standing_on(from));

@@ -6,9 +6,11 @@ use std::alloc::Global;
 use std::ops::Range;
 
 /// The lane of each input, all distinct and above the loops, and how many lanes there are.
+/// `standing` has the input that stands on each lane above the loops.
 #[derive(Drop)]
 pub struct Homes {
     pub ins: Vec<usize>,
+    standing: Vec<Option<usize>>,
     pub lanes: usize,
 }
 
@@ -17,6 +19,7 @@ impl Homes {
     pub fn new(alloc: Global) -> Homes {
         Homes {
             ins: Vec::new(alloc),
+            standing: Vec::new(alloc),
             lanes: 0,
         }
     }
@@ -25,18 +28,18 @@ impl Homes {
     pub fn copy(&mut self, other: &Homes) -> Result<(), CellError> {
         self.ins.clear();
         self.ins.extend_from_slice(&other.ins)?;
+        self.standing.clear();
+        self.standing.extend_from_slice(&other.standing)?;
         self.lanes = other.lanes;
         Ok(())
     }
 
     // The input that stands on a lane.
     fn input_on(&self, lane: usize) -> Option<usize> {
-        for (input, home) in self.ins.iter().enumerate() {
-            if *home == lane {
-                return Some(input);
-            }
+        match self.standing.get(lane) {
+            Some(input) => *input,
+            None => None,
         }
-        None
     }
 
     /// Returns whether an input stands on a lane.
@@ -52,32 +55,45 @@ impl Homes {
         let Some(old) = self.ins.get(input).copied() else {
             return;
         };
-        if let Some(other) = self.input_on(lane) {
+        let other = self.input_on(lane);
+        self.leave(old);
+        if let Some(other) = other {
             self.put(other, old);
         }
         self.put(input, lane);
     }
 
+    // Makes the lane free.
+    fn leave(&mut self, lane: usize) {
+        if let Some(standing) = self.standing.get_mut(lane) {
+            *standing = None;
+        }
+    }
+
+    // Puts the input on a free lane.
     fn put(&mut self, input: usize, lane: usize) {
         if let Some(home) = self.ins.get_mut(input) {
             *home = lane;
         }
+        if let Some(standing) = self.standing.get_mut(lane) {
+            *standing = Some(input);
+        }
     }
 
-    /// Returns the highest of the `above` lanes above the loops on which no input stands.
-    pub fn dark_lane(&self, above: usize) -> Option<usize> {
-        for lane in 0..above {
-            if !self.ins.contains(&lane) {
+    /// Returns the highest lane above the loops on which no input stands.
+    pub fn dark_lane(&self) -> Option<usize> {
+        for (lane, input) in self.standing.iter().enumerate() {
+            if input.is_none() {
                 return Some(lane);
             }
         }
         None
     }
 
-    // The lowest of the `above` lanes on which no input stands.
-    fn free_lane(&self, above: usize) -> Option<usize> {
-        for lane in (0..above).rev() {
-            if !self.ins.contains(&lane) {
+    // Returns the lowest lane above `end` on which no input stands.
+    fn free_lane(&self, end: usize) -> Option<usize> {
+        for lane in (0..end.min(self.standing.len())).rev() {
+            if self.standing[lane].is_none() {
                 return Some(lane);
             }
         }
@@ -85,7 +101,8 @@ impl Homes {
     }
 
     // Spreads the inputs by their ranks over the lanes above the loops.
-    fn spread(&mut self, ranked: &[(usize, usize)], above: usize) {
+    fn spread(&mut self, ranked: &[(usize, usize)]) {
+        let above = self.standing.len();
         let inputs = self.ins.len().max(1);
         for (rank, (_, input)) in ranked.iter().enumerate() {
             self.put(*input, rank.saturating_mul(above) / inputs);
@@ -94,15 +111,24 @@ impl Homes {
 
     /// Sets the number of lanes, of which `above` stand above the loops. Inputs that would stand on
     /// loops' lanes go to free ones. Returns whether there are enough.
-    pub fn resize(&mut self, lanes: usize, above: usize) -> bool {
+    pub fn resize(&mut self, lanes: usize, above: usize) -> Result<bool, CellError> {
         self.lanes = lanes;
+        self.standing.resize(above, None)?;
+        Ok(self.lift(above))
+    }
+
+    // Puts inputs that stand on loops' lanes on the lowest free ones above. Returns whether there are
+    // enough. No lane from `end` on is free.
+    fn lift(&mut self, above: usize) -> bool {
+        let mut end = above;
         for input in 0..self.ins.len() {
             let home = self.ins.get(input).copied().unwrap_or(0);
             if home >= above {
-                let Some(lane) = self.free_lane(above) else {
+                let Some(lane) = self.free_lane(end) else {
                     return false;
                 };
                 self.put(input, lane);
+                end = lane;
             }
         }
         true
@@ -131,9 +157,7 @@ impl Layout {
         };
         layout.fill(gates, order, lanes)?;
         let ranked = by_first_reader(alloc, gates, &layout.order)?;
-        layout
-            .homes
-            .spread(&ranked, lanes.saturating_sub(gates.loops));
+        layout.homes.spread(&ranked);
         Ok(layout)
     }
 
@@ -144,6 +168,8 @@ impl Layout {
             self.order.push(*cell as usize)?;
         }
         self.homes.ins.resize(gates.inputs, 0)?;
+        let above = lanes.saturating_sub(gates.loops);
+        self.homes.standing.resize(above, None)?;
         self.homes.lanes = lanes;
         Ok(())
     }

@@ -2,7 +2,7 @@
 // their instructions.
 use crate::gates::{Gate, Gates};
 use crate::lanes::Lanes;
-use crate::layout::Layout;
+use crate::layout::{Homes, Layout};
 use cell_core::CellError;
 use std::alloc::Global;
 
@@ -51,22 +51,35 @@ impl<'a> Placer<'a> {
         self.lanes.clear(layout.homes.lanes)?;
         self.left.clear();
         self.left.extend_from_slice(&self.gates.uses)?;
-        for (input, lane) in layout.homes.ins.iter().enumerate() {
+        self.start_inputs(&layout.homes.ins);
+        self.start_loops(layout.homes.lanes);
+        self.start_zero(&layout.homes);
+        Ok(())
+    }
+
+    // Puts the inputs on these lanes.
+    fn start_inputs(&mut self, lanes: &[usize]) {
+        for (input, lane) in lanes.iter().enumerate() {
             self.start(input, *lane);
         }
-        let above = layout.homes.lanes.saturating_sub(self.gates.loops);
+    }
+
+    // Puts the loops on the lowest of so many lanes.
+    fn start_loops(&mut self, lanes: usize) {
+        let above = lanes.saturating_sub(self.gates.loops);
         for number in 0..self.gates.loops {
-            self.start(
-                self.gates.inputs.saturating_add(number),
-                above.saturating_add(number),
-            );
+            let value = self.gates.inputs.saturating_add(number);
+            self.start(value, above.saturating_add(number));
         }
+    }
+
+    // Puts constant 0 on the dark lane, if it is used.
+    fn start_zero(&mut self, homes: &Homes) {
         if self.gates.uses_of(self.gates.zero()) > 0 {
-            if let Some(lane) = layout.homes.dark_lane(above) {
+            if let Some(lane) = homes.dark_lane() {
                 self.start(self.gates.zero(), lane);
             }
         }
-        Ok(())
     }
 
     // Puts a value on a lane, if it is used.

@@ -35,8 +35,8 @@ fn add(
     Ok(())
 }
 
-// Adds the leaves and the cells of a window that do not go.
-fn add_all(
+// Adds the leaves of a cut that do not go.
+fn add_leaves(
     divisors: &mut Vec<Divisor>,
     cut: &Cut,
     window: &Window,
@@ -45,6 +45,11 @@ fn add_all(
     for leaf in &cut.leaves {
         add(divisors, window, gone, *leaf)?;
     }
+    Ok(())
+}
+
+// Adds the cells of a window that do not go.
+fn add_cells(divisors: &mut Vec<Divisor>, window: &Window, gone: &[u32]) -> Result<(), CellError> {
     for number in &window.order {
         add(divisors, window, gone, Src::Cell(*number))?;
     }
@@ -60,7 +65,8 @@ pub fn divisors_of(
     has_one: bool,
 ) -> Result<Vec<Divisor>, CellError> {
     let mut divisors = Vec::new(alloc);
-    add_all(&mut divisors, cut, window, gone)?;
+    add_leaves(&mut divisors, cut, window, gone)?;
+    add_cells(&mut divisors, window, gone)?;
     if has_one {
         add(&mut divisors, window, gone, Src::One)?;
     }

@@ -41,16 +41,16 @@ pub fn operands(cell: Cell) -> (Src, Src) {
 }
 
 // The source, or `to` if it is `from`.
-fn turned(src: Src, from: Src, to: Src) -> Src {
+fn patched(src: Src, from: Src, to: Src) -> Src {
     if src == from { to } else { src }
 }
 
 // The cell, which reads `to` where it read `from`.
-fn turned_cell(cell: Cell, from: Src, to: Src) -> Cell {
+fn patched_cell(cell: Cell, from: Src, to: Src) -> Cell {
     match cell {
-        Cell::Or(a, b) => Cell::Or(turned(a, from, to), turned(b, from, to)),
-        Cell::Xor(a, b) => Cell::Xor(turned(a, from, to), turned(b, from, to)),
-        Cell::AndNot(a, b) => Cell::AndNot(turned(a, from, to), turned(b, from, to)),
+        Cell::Or(a, b) => Cell::Or(patched(a, from, to), patched(b, from, to)),
+        Cell::Xor(a, b) => Cell::Xor(patched(a, from, to), patched(b, from, to)),
+        Cell::AndNot(a, b) => Cell::AndNot(patched(a, from, to), patched(b, from, to)),
     }
 }
 
@@ -286,16 +286,16 @@ impl Network {
     }
 
     // Makes a cell read the second source in place of the first.
-    fn turn(&mut self, number: u32, from: Src, to: Src) {
+    fn patch(&mut self, number: u32, from: Src, to: Src) {
         if let Some(gate) = self.gates.get_mut(number as usize) {
-            gate.cell = turned_cell(gate.cell, from, to);
+            gate.cell = patched_cell(gate.cell, from, to);
         }
     }
 
     // Makes the readers of a cell read a source in its place.
-    fn turn_all(&mut self, readers: &[u32], number: u32, by: Src) -> Result<(), CellError> {
+    fn patch_all(&mut self, readers: &[u32], number: u32, by: Src) -> Result<(), CellError> {
         for reader in readers {
-            self.turn(*reader, Src::Cell(number), by);
+            self.patch(*reader, Src::Cell(number), by);
         }
         if let Some(more) = self.readers_mut(by) {
             more.extend_from_slice(readers)?;
@@ -307,7 +307,7 @@ impl Network {
     /// only it needed.
     pub fn replace(&mut self, alloc: Global, number: u32, by: Src) -> Result<(), CellError> {
         let readers = self.take_readers(alloc, number, by);
-        self.turn_all(&readers, number, by)?;
+        self.patch_all(&readers, number, by)?;
         self.remove(alloc, number)
     }
 

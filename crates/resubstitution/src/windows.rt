@@ -161,12 +161,16 @@ impl Window {
         Ok(())
     }
 
-    // Adds the words of the cells that read the leaves, and then of those that read known cells,
-    // while these are few enough.
-    fn spread(&mut self, network: &Network, leaves: &[Src]) -> Result<(), CellError> {
+    // Adds the words of the cells that read the leaves.
+    fn add_leaf_readers(&mut self, network: &Network, leaves: &[Src]) -> Result<(), CellError> {
         for leaf in leaves {
             self.add_readers(network, *leaf)?;
         }
+        Ok(())
+    }
+
+    // Adds the words of the cells that read known cells, and so on, while these are few enough.
+    fn spread(&mut self, network: &Network) -> Result<(), CellError> {
         for place in 0..MOST_KNOWN {
             let Some(number) = self.order.get(place).copied() else {
                 break;
@@ -184,17 +188,22 @@ impl Window {
         self.cell = number;
         self.add_leaves(&cut.leaves)?;
         self.add_inside(network, &cut.inside)?;
-        self.spread(network, &cut.leaves)
+        self.add_leaf_readers(network, &cut.leaves)?;
+        self.spread(network)
     }
 
-    /// Forgets all words.
-    pub fn clear(&mut self) {
+    // Forgets the words of the cells that became known.
+    fn forget_cells(&mut self) {
         for _ in 0..self.order.len() {
             match self.order.pop() {
                 Some(number) => self.set_word(number, None),
                 None => break,
             }
         }
+    }
+
+    // Forgets the leaves, and the words of those that are cells.
+    fn forget_leaves(&mut self) {
         for _ in 0..self.leaves.len() {
             match self.leaves.pop() {
                 Some((Src::Cell(i), _)) => self.set_word(i, None),
@@ -202,6 +211,12 @@ impl Window {
                 None => break,
             }
         }
+    }
+
+    /// Forgets all words.
+    pub fn clear(&mut self) {
+        self.forget_cells();
+        self.forget_leaves();
         self.own = None;
         self.visits = 0;
     }
