@@ -1,19 +1,25 @@
 // `simulate`: the bits that a pattern's outputs show, as lines.
-ghost use Rattle.std.specs.Prelude.{◌≡◌, ◌<◌, map, flat_map, zip, string_bytes, IfOk, IfErr};
+ghost use Rattle.std.specs.Prelude.{◌≡◌, ◌<◌, ℕ, List, map, flat_map, zip, string_bytes, IfOk, IfErr};
 ghost use Rattle.std.specs.List.{range_with_len};
 ghost use Rattle.command_words.specs.Shapes.{simulate};
 ghost use Rattle.blifww_tool.specs.Answer.{output_text, IsWritableOutput};
 ghost use Rattle.blifww_tool.specs.Commands.{Prints, HasTextCause};
-ghost use Rattle.blifww_tool.specs.Driven.{names_in_context};
+ghost use Rattle.blifww_tool.specs.Driven.{names_in_context, simulation_in};
+ghost use Rattle.blifww_tool.specs.Simulation.{IsSimulation};
+ghost use Rattle.drive.specs.Driving.{AreFor};
+ghost use Rattle.pattern_reading.specs.Laws.{HasCellsInside};
+ghost use Rattle.pattern_reading.specs.SoundTable.{IsSoundTable};
 ghost use Rattle.blifww_tool.specs.Lines.{bits_line};
 
 use crate::driven::{driven_by, names_in_contexts};
 use crate::lines::output_lines;
 use crate::output::Output;
+use drive::Streams;
 use lists::{Bytes, List};
 use pattern_reading::Ports;
 use refusals::TextError;
 use std::alloc::{AllocError, Global};
+use ww_rule::Pattern;
 
 // A line for each output in each context, by the bits that it shows.
 fn shown_lines(alloc: Global, ports: &Ports, bits: &[List<bool>]) -> Result<Bytes, AllocError>
@@ -23,6 +29,29 @@ fn shown_lines(alloc: Global, ports: &Ports, bits: &[List<bool>]) -> Result<Byte
 {
     let outs = names_in_contexts(alloc, ports.outs.as_slice(), ports.c)?;
     output_lines(alloc, &outs, bits)
+}
+
+// Such lines, with the bits that a pattern's outputs show on streams.
+fn shown(
+    alloc: Global,
+    pattern: Pattern,
+    ports: &Ports,
+    streams: &Streams,
+) -> Result<Output, TextError>
+    requires cycles { 0 < streams.now.cycles }
+    requires streams { AreFor ports.now streams.now }
+    requires sound { IsSoundTable ports.now }
+    requires inside { HasCellsInside pattern.width pattern.height ports.now }
+    ensures printed { IfOk result (λ output. (cycles : ℕ) (words : List (List ℕ)) (text : List ℕ)
+        → IsSimulation cycles words text (simulation_in pattern ports.now streams.now)
+        → Prints (simulate cycles words) text (output_text output)) }
+    ensures writable { IfOk result IsWritableOutput }
+    ensures refused { IfErr result (λ e. (cycles : ℕ) (words : List (List ℕ)) (text : List ℕ)
+        → IsSimulation cycles words text (simulation_in pattern ports.now streams.now)
+        → HasTextCause (simulate cycles words) text e) }
+{
+    let bits = drawn_runs::simulate(alloc, pattern, ports, streams)?;
+    Ok(Output::Lines(shown_lines(alloc, ports, bits.as_slice())?))
 }
 
 /// Makes a line for each output of the text's pattern in each of its contexts, with the bits that
@@ -41,6 +70,5 @@ pub fn simulate(
         (simulate cycles (map string_bytes words.now)) text.now e) }
 {
     let driven = driven_by(alloc, cycles, words, text)?;
-    let bits = drawn_runs::simulate(alloc, driven.pattern, &driven.ports, &driven.streams)?;
-    Ok(Output::Lines(shown_lines(alloc, &driven.ports, bits.as_slice())?))
+    shown(alloc, driven.pattern, &driven.ports, &driven.streams)
 }

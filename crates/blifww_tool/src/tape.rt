@@ -1,5 +1,6 @@
 // `tape`: the pattern of a netlist with its streams on a tape.
-ghost use Rattle.std.specs.Prelude.{◌≡◌, ◌≤◌, All, map, length, string_bytes, IfOk, IfErr};
+ghost use Rattle.std.specs.Prelude.{◌≡◌, ◌≤◌, ℕ, List, All, map, length, string_bytes, IfOk, IfErr};
+ghost use Rattle.netlist_text.specs.NetlistText.{IsNetlist};
 ghost use Rattle.netlist_text.specs.Parts.{AreParts};
 ghost use Rattle.plan_ports.specs.Tables.{HasPortNames};
 ghost use Rattle.command_words.specs.Shapes.{tape};
@@ -40,6 +41,27 @@ fn taped(alloc: Global, netlist: &Netlist, streams: &Streams) -> Result<Output, 
     Ok(Output::Drawing(loaded))
 }
 
+// The pattern of a netlist with the streams on its tape that the words say.
+fn fed(
+    alloc: Global,
+    cycles: usize,
+    words: &[String],
+    netlist: &Netlist,
+) -> Result<Output, TextError>
+    requires some_cycle { 1 ≤ cycles }
+    requires few_cycles { cycles ≤ 4096 }
+    requires parts { AreParts netlist.now.design netlist.now.flat netlist.now.order.nodes }
+    requires names { HasPortNames netlist.now.flat }
+    ensures printed { IfOk result (λ output. (text : List ℕ) → IsNetlist text netlist.now.design
+        → Prints (tape cycles (map string_bytes words.now)) text (output_text output)) }
+    ensures writable { IfOk result IsWritableOutput }
+    ensures refused { IfErr result (λ e. (text : List ℕ) → IsNetlist text netlist.now.design
+        → HasTextCause (tape cycles (map string_bytes words.now)) text e) }
+{
+    let streams = streams_for(alloc, cycles, words, netlist)?;
+    taped(alloc, netlist, &streams)
+}
+
 /// Makes the pattern of the netlist whose text this is, which runs by itself on the streams that
 /// the words give to the netlist's inputs, and on zeros after them. Its table names no inputs.
 pub fn tape(
@@ -57,6 +79,5 @@ pub fn tape(
         (tape cycles (map string_bytes words.now)) text.now e) }
 {
     let netlist = netlist_of(alloc, text)?;
-    let streams = streams_for(alloc, cycles, words, &netlist)?;
-    taped(alloc, &netlist, &streams)
+    fed(alloc, cycles, words, &netlist)
 }

@@ -72,7 +72,9 @@ fn send<O: Sink>(output: Output, out: &mut O) -> Result<(), Failed>
         ((n : ℕ) × Appends (O.written out.old) (O.written out.new) (take n (output_text output))) }
     ensures cause { HasCause (O.faults out.old) (O.faults out.new) result }
 {
-    output.write(out)
+    let written = output.write(out);
+    drop(output);
+    written
 }
 
 // Writes what the command prints of a text.

@@ -1,7 +1,7 @@
-use Rattle.std.proofs.Common.{arith, map, string_bytes}
+use Rattle.std.proofs.Common.{map, string_bytes}
 use Rattle.std.proofs.lemmas.Result.{err_from_is_err_and, IfErr-weaker, IfOk-weaker}
 use Rattle.netlist_plans.proofs.Names.{texts_have_port_names}
-use Rattle.blifww_tool.proofs.Taped.{inputs_refused, netlist_refused, no_memory, tape_printed}
+use Rattle.blifww_tool.proofs.Taped.{netlist_refused}
 use Rattle.blifww_tool.proofs.tape.tape.Goals as goal
 
 pub returns-in_err-netlist-clause-refused : goal.returns-in_err-netlist-clause-refused
@@ -9,36 +9,15 @@ returns-in_err-netlist-clause-refused c =
     let p = err_from_is_err_and c.from_residual.result c.from_residual.ensures.1 in
     rw (p.1, p.2) (netlist_refused c.args.cycles (map string_bytes c.args.words.now) c.args.text.now c.in_err-netlist.field-0.0 c.in_err-netlist.ensures.refused)
 
-pub returns-in_err-streams-clause-refused : goal.returns-in_err-streams-clause-refused
-returns-in_err-streams-clause-refused c =
-    let p = err_from_is_err_and c.from_residual-in_err-streams.result c.from_residual-in_err-streams.ensures.1 in
-    rw (p.1, p.2) (inputs_refused c.args.cycles (map string_bytes c.args.words.now) c.args.text.now c.in_ok-netlist.netlist.design c.in_err-streams.field-0.0 c.in_ok-netlist.ensures.netlist c.in_err-streams.ensures.fault)
+pub fed-requires-clause-parts : goal.fed-requires-clause-parts
+fed-requires-clause-parts c = c.in_ok-netlist.ensures.parts
 
-pub taped-requires-clause-parts : goal.taped-requires-clause-parts
-taped-requires-clause-parts c = c.in_ok-netlist.ensures.parts
-
-pub taped-requires-clause-names : goal.taped-requires-clause-names
-taped-requires-clause-names c =
+pub fed-requires-clause-names : goal.fed-requires-clause-names
+fed-requires-clause-names c =
     texts_have_port_names c.args.text.now c.in_ok-netlist.netlist.design c.in_ok-netlist.netlist.flat c.in_ok-netlist.ensures.netlist.is.design_of c.in_ok-netlist.ensures.parts.is_flat
 
-pub taped-requires-clause-many : goal.taped-requires-clause-many
-taped-requires-clause-many c = c.in_ok-streams.ensures.many
-
-pub taped-requires-clause-long : goal.taped-requires-clause-long
-taped-requires-clause-long c = c.in_ok-streams.ensures.long
-
-pub taped-requires-clause-some : goal.taped-requires-clause-some
-taped-requires-clause-some c = let many = c.in_ok-streams.ensures.streams.many in omega (arith, many, c.requires.some_cycle)
-
-pub taped-requires-clause-few : goal.taped-requires-clause-few
-taped-requires-clause-few c = let many = c.in_ok-streams.ensures.streams.many in omega (arith, many, c.requires.few_cycles)
-
 pub returns-clause-printed : goal.returns-clause-printed
-returns-clause-printed c =
-    IfOk-weaker c.taped.result _ _
-    (λ output h. tape_printed c.args.cycles (map string_bytes c.args.words.now) c.args.text.now c.in_ok-netlist.netlist.design c.in_ok-streams.streams _ c.in_ok-netlist.ensures.netlist c.in_ok-streams.ensures.streams h)
-    c.taped.ensures.taped
+returns-clause-printed c = IfOk-weaker c.fed.result _ _ (λ output h. h c.args.text.now c.in_ok-netlist.ensures.netlist) c.fed.ensures.printed
 
 pub returns-clause-refused : goal.returns-clause-refused
-returns-clause-refused c =
-    IfErr-weaker c.taped.result _ _ (λ e h. no_memory c.args.cycles (map string_bytes c.args.words.now) c.args.text.now e h) c.taped.ensures.refused
+returns-clause-refused c = IfErr-weaker c.fed.result _ _ (λ e h. h c.args.text.now c.in_ok-netlist.ensures.netlist) c.fed.ensures.refused
