@@ -419,13 +419,14 @@ wire 2 0:a=01 => MissingInput 1:a
 #C BLIFWW 1 P 64 L 2 C 2
 #C BLIFWW IN 0 0 a";
 
-// The pattern of a name.
-fn pattern_named(name: &str) -> &'static [u8] {
+// The pattern of a name, if it is one of those above.
+fn pattern_named(name: &str) -> Option<&'static [u8]> {
     match name {
-        "wire" => WIRE,
-        "wire_down" => WIRE_DOWN,
-        "ring" => RING,
-        _ => OR_GATE,
+        "wire" => Some(WIRE),
+        "wire_down" => Some(WIRE_DOWN),
+        "ring" => Some(RING),
+        "or" => Some(OR_GATE),
+        _ => None,
     }
 }
 
@@ -441,7 +442,9 @@ fn cut(head: &str) -> Option<(&str, &str)> {
 // Fails where what a case asks shows something else than is said.
 fn expect_case(alloc: Global, asked: &str, said: &str, table: &str) -> Result<(), Fail> {
     let mut parts = asked.split_ascii_whitespace();
-    let pattern = pattern_named(parts.next().unwrap_or(""));
+    let Some(pattern) = pattern_named(parts.next().unwrap_or("")) else {
+        return Err(Fail::new(asked));
+    };
     let cycles = parts.next().unwrap_or("").parse::<usize>().unwrap_or(0);
     let mut words = Vec::new(alloc);
     for word in parts {
