@@ -4,10 +4,12 @@
 #![tactic(auto)]
 
 mod cells;
+mod draws;
 pub mod laws;
 mod list;
 
 pub use cells::{Cell, Src};
+pub use draws::Draws;
 pub use list::CellList;
 // The answer of `CellList::push` when memory runs out.
 pub use lists::OutOfMemory as CellError;

@@ -8,8 +8,8 @@ use crate::RewriteError;
 use crate::copying::copied;
 use crate::rebuilding::{KeptList, rebuilt};
 use crate::substitution::Substitution;
-use cell_core::{CellList, Src};
-use resubstitution::{Chances, Replacement, Round, replacements};
+use cell_core::{CellList, Draws, Src};
+use resubstitution::{Replacement, Round, replacements};
 use std::alloc::Global;
 
 // The greatest number of rounds that are to make cells fewer.
@@ -69,12 +69,12 @@ fn next_list(
     alloc: Global,
     now: &KeptList,
     round: Round,
-    chances: &mut Chances,
+    draws: &mut Draws,
 ) -> Result<Option<KeptList>, RewriteError>
     ensures { IfOk result (λ o. IfSome o (λ n. IsRewritten now.now.list now.now.kept.items n.list
         n.kept.items)) }
 {
-    let all = replacements(alloc, &now.list, &now.kept, round, chances)?;
+    let all = replacements(alloc, &now.list, &now.kept, round, draws)?;
     if all.is_empty() {
         return Ok(None);
     }
@@ -131,9 +131,9 @@ fn reduced(alloc: Global, list: &CellList, kept: &[Src]) -> Result<KeptList, Rew
     ensures { IfOk result (λ n. IsRewritten list.now kept.now n.list n.kept.items) }
 {
     let mut now = swept(alloc, list, kept)?;
-    let mut chances = Chances::new(0);
+    let mut draws = Draws::new(0);
     for _ in 0..ROUNDS {
-        let next = next_list(alloc, &now, Round::Fewer, &mut chances)?;
+        let next = next_list(alloc, &now, Round::Fewer, &mut draws)?;
         let is_last = next.is_none();
         now = next_or(now, next);
         if is_last {
@@ -153,14 +153,14 @@ fn wandered(
     ensures { IfOk result (λ n. IsRewritten from.now.list from.now.kept.items n.list n.kept.items) }
 {
     let mut now = begun(alloc, &from.list, &from.kept)?;
-    let mut chances = Chances::new(start);
+    let mut draws = Draws::new(start);
     for turn in 0..rounds {
         let round = if turn % 2 == 0 {
             Round::Wander
         } else {
             Round::Fewer
         };
-        let next = next_list(alloc, &now, round, &mut chances)?;
+        let next = next_list(alloc, &now, round, &mut draws)?;
         now = next_or(now, next);
     }
     Ok(now)

@@ -1,9 +1,8 @@
 // Climbing: small changes are kept if they do not make the drawing larger.
-use crate::draws::Draws;
 use crate::gates::Gates;
 use crate::layout::{Homes, Layout};
 use crate::placing::Placer;
-use cell_core::CellError;
+use cell_core::{CellError, Draws};
 use std::alloc::Global;
 use std::mem;
 

@@ -5,7 +5,6 @@
 #![tactic(auto)]
 
 mod climbing;
-mod draws;
 mod gates;
 mod lanes;
 mod layout;

@@ -1,8 +1,7 @@
 // Divisors: the sources of which a cell may be made.
-use crate::chances::Chances;
 use crate::cuts::Cut;
 use crate::windows::Window;
-use cell_core::{CellError, Src};
+use cell_core::{CellError, Draws, Src};
 use std::alloc::Global;
 
 /// A source, and its table over the leaves.
@@ -74,10 +73,10 @@ pub fn divisors_of(
 }
 
 /// Puts the divisors in a random order.
-pub fn shuffle(divisors: &mut [Divisor], chances: &mut Chances) {
+pub fn shuffle(divisors: &mut [Divisor], draws: &mut Draws) {
     for k in 0..divisors.len() {
         let last = divisors.len() - 1 - k;
-        let place = chances.below(last as u64 + 1) as usize;
+        let place = draws.below(last + 1);
         if place < divisors.len() {
             divisors.swap(place, last);
         }

@@ -4,7 +4,6 @@
 //! Theorem: `replacements`.
 #![tactic(auto)]
 
-mod chances;
 mod cuts;
 mod divisors;
 mod matching;
@@ -13,5 +12,4 @@ mod replacing;
 mod sieve;
 mod windows;
 
-pub use chances::Chances;
 pub use replacing::{Replacement, Round, replacements};

@@ -1,11 +1,10 @@
 // Replacements, one cell after another.
-use crate::chances::Chances;
 use crate::cuts::Cut;
 use crate::divisors::{Divisor, divisors_of, shuffle};
 use crate::matching::{Sorted, same};
 use crate::network::{Network, Role, operands};
 use crate::windows::Window;
-use cell_core::{Cell, CellError, CellList, Src};
+use cell_core::{Cell, CellError, CellList, Draws, Src};
 use std::alloc::Global;
 
 /// A replacement of the cell `cell`: `cells` are added at the end of the list, and then the source
@@ -49,7 +48,7 @@ struct Search {
     network: Network,
     window: Window,
     is_wandering: bool,
-    chances: Chances,
+    draws: Draws,
     found: Vec<Replacement>,
     visits_left: usize,
 }
@@ -165,7 +164,7 @@ impl Search {
         list: &CellList,
         kept: &[Src],
         round: Round,
-        chances: Chances,
+        draws: Draws,
     ) -> Result<Search, CellError> {
         let network = Network::of(alloc, list, kept)?;
         let window = Window::new(alloc, list.cells.len())?;
@@ -176,7 +175,7 @@ impl Search {
                 Round::Wander => true,
                 Round::Fewer => false,
             },
-            chances,
+            draws,
             found: Vec::new(alloc),
             visits_left: MOST_VISITS,
         })
@@ -194,7 +193,7 @@ impl Search {
         Some(Target {
             number,
             cell,
-            is_lucky: self.is_wandering && self.chances.below(4) == 0,
+            is_lucky: self.is_wandering && self.draws.below(4) == 0,
         })
     }
 
@@ -211,7 +210,7 @@ impl Search {
         };
         let mut divisors = divisors_of(alloc, cut, &self.window, gone, self.network.has_one)?;
         if target.is_lucky {
-            shuffle(&mut divisors, &mut self.chances);
+            shuffle(&mut divisors, &mut self.draws);
         }
         let most = most_new(gone.len(), target.is_lucky);
         self.spend(divisors.len().saturating_mul(divisors.len()));
@@ -374,11 +373,11 @@ pub fn replacements(
     list: &CellList,
     kept: &[Src],
     round: Round,
-    chances: &mut Chances,
+    draws: &mut Draws,
 ) -> Result<Vec<Replacement>, CellError> {
     let count = u32::try_from(list.cells.len()).unwrap_or(0);
-    let mut search = Search::begin(alloc, list, kept, round, *chances)?;
+    let mut search = Search::begin(alloc, list, kept, round, *draws)?;
     search.replace_all(alloc, count)?;
-    *chances = search.chances;
+    *draws = search.draws;
     Ok(search.found)
 }

@@ -1,13 +1,13 @@
-// Random numbers, the same ones for the same seed: the generator splitmix64.
+// Random numbers by which searches choose: each seed gives one sequence, on every machine.
 
-/// A generator of random numbers.
-#[derive(Drop)]
+/// The generator splitmix64 (Steele, Lea, Flood 2014).
+#[derive(Clone, Copy)]
 pub struct Draws {
     state: u64,
 }
 
 impl Draws {
-    /// Returns the generator of a seed.
+    /// Begins the sequence of a seed.
     pub fn new(seed: u64) -> Draws {
         Draws { state: seed }
     }
