@@ -98,8 +98,7 @@ const FAULTS: &[(&[u8], &[u8])] = &[
     (b"aag 2 1 0 1 0\n2\n4\nx\n", b"A8 BadSymbol line 4"),
     (b"aag 1 0 1 0 0\n2 0 3\n", b"A7 BadReset line 2"),
     (b"aag 1 0 1 0 0\n2 0 9\n", b"A7 BadReset line 2"),
-    // symbol lines of another form, without a name, for no input, and for an input or a latch that has
-    // a name
+    // symbol lines of another form, without a name, for no input, and for what already has a name
     (b"aag 1 1 0 0 0\n2\n\n", b"A8 BadSymbol line 3"),
     (b"aag 1 1 0 0 0\n2\ni0 \n", b"A8 BadSymbol line 3"),
     (b"aag 1 1 0 0 0\n2\ni1 a\n", b"A8 BadSymbol line 3"),
