@@ -1,4 +1,4 @@
-// Texts of many gates.
+// AIGER texts with many gates.
 ghost use Rattle.std.specs.Prelude.{◌<◌};
 
 use std::alloc::{AllocError, Global};
@@ -31,9 +31,9 @@ fn push_gates(
     Ok(())
 }
 
-/// A chain of gates of which each reads the one before and the first input, and an output that is
-/// the last one, negated. The first gate reads the last input, or the last gate where the chain is
-/// closed.
+/// Returns the text of a chain of gates. Each gate reads the first input and the gate before it;
+/// the first gate reads the last input instead, or the last gate if the chain is closed. The output
+/// is the last gate, negated.
 pub fn chain(alloc: Global, inputs: u64, gates: u64, closed: bool) -> Result<Vec<u8>, AllocError>
     requires inputs { inputs < 65536 }
     requires gates { gates < 65536 }

@@ -1,4 +1,4 @@
-// What a circuit's flat netlist is and does, as text.
+// The weight and the output bits of a circuit's flat netlist, as text.
 ghost use Rattle.std.specs.Prelude.{◌≡◌, length};
 ghost use Rattle.netlist_meaning.specs.Flat.{IsSound};
 ghost use Rattle.netlist_meaning.specs.FlatOrder.{IsOrder};
@@ -11,7 +11,7 @@ use netlist_core::{Flat, Order};
 use netlist_eval::Machine;
 use std::alloc::{AllocError, Global};
 
-// Sets each bit where the row has a `1`.
+// Sets each bit to 1 if the row has a `1` at its place, and to 0 otherwise.
 fn set_bits(bits: &mut [bool], row: &[u8])
     ensures { length bits.new ≡ length bits.old }
 {
@@ -27,7 +27,7 @@ fn push_bits(line: &mut Vec<u8>, bits: &[bool]) -> Result<(), AllocError> {
     Ok(())
 }
 
-// One cycle: adds a space and the bits of the outputs.
+// Runs one cycle, and appends a space and the bits of the outputs.
 fn push_cycle(
     line: &mut Vec<u8>,
     alloc: Global,
@@ -61,7 +61,7 @@ fn push_cycles(
     Ok(())
 }
 
-// The weight, and the bits of the outputs in each cycle.
+// The weight of the netlist, and the bits of its outputs in each cycle.
 fn machine_said(
     alloc: Global,
     machine: &mut Machine<'_>,
@@ -127,8 +127,8 @@ fn aig_said(alloc: Global, aig: &Aig, rows: &[&[u8]]) -> Result<Vec<u8>, AllocEr
     }
 }
 
-/// What is said of the circuit of a text: the weight of its flat netlist and the bits of the
-/// outputs for each row of input bits, or why there is no flat netlist.
+/// Lowers the circuit of a text to a flat netlist, and returns the weight of the netlist and its
+/// output bits for each row of input bits, or why there is no netlist.
 pub fn lowered_said(alloc: Global, text: &[u8], rows: &[&[u8]]) -> Result<Vec<u8>, AllocError> {
     read_aigs_are_sound();
     match read(alloc, text) {

@@ -1,4 +1,4 @@
-// Circuits as flat netlists: their weight, what they do, and why there is none.
+// Circuits lowered to flat netlists: their weights and output bits, or why there is no netlist.
 ghost use Rattle.std.specs.Prelude.{◌<◌};
 
 use crate::chains::chain;
@@ -7,7 +7,7 @@ use std::alloc::Global;
 use std::test::Fail;
 use ww_base::expect;
 
-// Texts, rows of input bits, and what is said.
+// Texts, rows of input bits, and what `lowered_said` returns.
 const CIRCUITS: &[(&[u8], &[&[u8]], &[u8])] = &[
     (
         b"aag 3 2 0 1 1\n2\n4\n7\n6 2 4\ni0 a\ni1 b\no0 y\n",
@@ -20,7 +20,7 @@ const CIRCUITS: &[(&[u8], &[&[u8]], &[u8])] = &[
         b"weight 11 0 1 0 1",
     ),
     (b"aag 0 0 0 1 0\n1\n", &[b"", b"", b""], b"weight 6 1 1 1"),
-    // resets: left out, the own literal, 1; a latch that reads an odd literal
+    // resets: left out, the latch's own literal, and 1; a latch that reads an odd literal
     (
         b"aag 4 0 4 4 0\n2 2\n4 4 4\n6 6 1\n8 7 1\n2\n4\n6\n8\n",
         &[b"", b"", b""],
@@ -32,13 +32,13 @@ const CIRCUITS: &[(&[u8], &[&[u8]], &[u8])] = &[
         &[b"11", b"11", b"01", b"00", b"11", b"10", b"01"],
         b"weight 33 01 10 01 01 01 10 01",
     ),
-    // an input is an output, a gate of constants, a gate that nobody reads
+    // an input that is an output, a gate of constants, and a gate that nothing reads
     (
         b"aag 4 1 0 4 2\n2\n3\n2\n8\n0\n6 1 2\n8 1 1\n",
         &[b"0", b"1"],
         b"weight 27 1010 0110",
     ),
-    // a loop through a latch is none
+    // a loop through a latch is allowed
     (
         b"aag 2 0 1 1 1\n2 4\n2\n4 3 1\n",
         &[b"", b"", b""],
@@ -47,7 +47,7 @@ const CIRCUITS: &[(&[u8], &[&[u8]], &[u8])] = &[
     // neither inputs nor outputs
     (b"aag 0 0 0 0 0\n", &[b""], b"weight 2 "),
     (b"aag 1 0 0 1 1\n2\n2 2 2\n", &[], b"loop: 2"),
-    // where a side is constant 0, where nobody reads it, and of a side that is negated
+    // loops: one side is constant 0, nothing else reads the loop, or a side is negated
     (b"aag 2 1 0 0 1\n2\n4 0 5\n", &[], b"loop: 4"),
     (
         b"aag 4 1 0 1 3\n2\n2\n4 7 2\n6 8 2\n8 2 5\n",
@@ -74,7 +74,7 @@ fn circuits_become_flat_netlists(rt: HostRuntime) -> Result<(), Fail> {
     Ok(())
 }
 
-// Chains: how many inputs and gates, whether it is closed, and what is said.
+// Chains: how many inputs and gates, whether the chain is closed, and what `lowered_said` returns.
 const CHAINS: &[(u64, u64, bool, &[u8])] = &[
     (186, 2000, false, b"weight 8192 1 1 0"),
     (187, 2000, false, b"too large: weight 8193"),
@@ -109,7 +109,7 @@ fn chains_have_weight(rt: HostRuntime) -> Result<(), Fail> {
     Ok(())
 }
 
-// How many gates stand in what is said of the loop of a text.
+// How many gates `lowered_said` lists for the loop of a text.
 fn gates_in_loop(alloc: Global, text: &[u8]) -> Result<usize, Fail> {
     let said = lowered_said(alloc, text, &[])?;
     Ok(said.iter().filter(|b| **b == b' ').count())

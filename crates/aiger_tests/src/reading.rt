@@ -1,11 +1,11 @@
-// Texts of circuits, and texts that are at fault.
+// Texts of circuits, and texts with faults.
 use crate::texts::{circuit_shown, fault_shown};
 use aiger_reader::{AigReadError, read};
 use std::alloc::{AllocError, Global};
 use std::test::Fail;
 use ww_base::expect;
 
-// The circuit of a text as one line, or its fault.
+// The circuit of a text as one line, or the text's fault.
 fn said(alloc: Global, text: &[u8]) -> Result<Vec<u8>, AllocError> {
     match read(alloc, text) {
         Ok(aig) => circuit_shown(alloc, &aig),
@@ -48,20 +48,20 @@ const CIRCUITS: &[(&[u8], &[u8])] = &[
         b"m 1, in 2, out 3, a, o0",
     ),
     (b"aag 01 01 0 00 0\n002\ni00 a", b"m 1, in 2, a"),
-    // names with spaces, of latches, in any order, and the line that ends the reading
+    // names with spaces, names of latches, names in any order, and the line at which reading ends
     (b"aag 1 1 0 0 0\n2\ni0  a b \ncat\nx\n", b"m 1, in 2,  a b "),
     (
         b"aag 2 1 1 1 0\n2\n4 2\n4\no0 y\nl0 y\ni0 y\n",
         b"m 2, in 2, latch 4 2 0, out 4, y, y",
     ),
-    // names of one number, and the plain name of another place
+    // names that end in one number, and the plain name of an input that the circuit does not have
     (
         b"aag 3 3 0 0 0\n2\n4\n6\ni0 a0\ni1 b0\ni2 i3\n",
         b"m 3, in 2, in 4, in 6, a0, b0, i3",
     ),
 ];
 
-// Texts with a fault, and the first one.
+// Texts with faults, and the fault that is reported.
 const FAULTS: &[(&[u8], &[u8])] = &[
     (b"", b"A1 BadHeader line 1"),
     (b"aag 1 0 0 1\n1\n", b"A1 BadHeader line 1"),
@@ -73,7 +73,7 @@ const FAULTS: &[(&[u8], &[u8])] = &[
     ),
     (b"aig 0 0 0 0 0\n", b"A2 Unsupported line 1"),
     (b"aag 0 0 0 0 0 0 0\n", b"A2 Unsupported line 1"),
-    // another form, and a line that is missing
+    // lines of another form, and missing lines
     (b"aag 1 1 0 0 0\n2 \n", b"A3 BadLine line 2"),
     (b"aag 1 1 0 0 0\n2\r", b"A3 BadLine line 2"),
     (b"aag 1 0 1 0 0\n2 0 0 0\n", b"A3 BadLine line 2"),
@@ -83,7 +83,7 @@ const FAULTS: &[(&[u8], &[u8])] = &[
         b"aag 1 1 0 18446744073709551615 18446744073709551615\n2\n",
         b"A3 BadLine line 3",
     ),
-    // past 2M + 1, odd, below 2
+    // literals over 2M + 1, odd, or below 2
     (b"aag 1 1 0 1 0\n2\n4\n", b"A4 BadLiteral line 3"),
     (b"aag 1 1 0 0 0\n3\n", b"A4 BadLiteral line 2"),
     (b"aag 1 1 0 0 0\n0\n", b"A4 BadLiteral line 2"),
@@ -91,20 +91,20 @@ const FAULTS: &[(&[u8], &[u8])] = &[
     (b"aag 1 1 1 0 0\n2\n2 4 5\n", b"A4 BadLiteral line 3"),
     (b"aag 1 1 1 0 0\n2\n2 0 5\n", b"A5 DefinedTwice line 3"),
     (b"aag 1 1 0 0 1\n2\n2 0 0\n", b"A5 DefinedTwice line 3"),
-    // what is not defined comes after the faults of all lines
+    // an undefined literal comes after the faults A3, A4, A5, A7 and A8 of all lines
     (b"aag 2 1 0 1 0\n2\n5\n", b"A6 Undefined line 3"),
     (b"aag 2 0 1 0 1\n2 0\n4 6 2\n", b"A4 BadLiteral line 3"),
     (b"aag 3 0 1 0 1\n2 6\n4 6 2\n", b"A6 Undefined line 2"),
     (b"aag 2 1 0 1 0\n2\n4\nx\n", b"A8 BadSymbol line 4"),
     (b"aag 1 0 1 0 0\n2 0 3\n", b"A7 BadReset line 2"),
     (b"aag 1 0 1 0 0\n2 0 9\n", b"A7 BadReset line 2"),
-    // another form, no name, no such input, one that has a name
+    // symbol lines of another form, without a name, for no input, and for what already has a name
     (b"aag 1 1 0 0 0\n2\n\n", b"A8 BadSymbol line 3"),
     (b"aag 1 1 0 0 0\n2\ni0 \n", b"A8 BadSymbol line 3"),
     (b"aag 1 1 0 0 0\n2\ni1 a\n", b"A8 BadSymbol line 3"),
     (b"aag 1 1 0 0 0\n2\ni0 a\ni00 b\n", b"A8 BadSymbol line 4"),
     (b"aag 1 0 1 0 0\n2 0\nl0 a\nl0 b\n", b"A8 BadSymbol line 4"),
-    // one name twice: a plain name is a name too, and inputs come before outputs
+    // one name twice: a plain name counts as a name, and inputs come before outputs
     (b"aag 2 2 0 0 0\n2\n4\ni0 i1\n", b"A9 SameName line 3"),
     (b"aag 2 2 0 0 0\n2\n4\ni1 i0\n", b"A9 SameName line 3"),
     (

@@ -1,4 +1,4 @@
-// What was read, as text.
+// Circuits and faults as text.
 
 use aiger_reader::{Aig, AigAnd, AigFault, AigLatch};
 use lists::Bytes;
@@ -52,15 +52,15 @@ fn push_circuit(alloc: Global, line: &mut Vec<u8>, aig: &Aig) -> Result<(), Allo
     push_names(line, aig.names.as_slice())
 }
 
-/// A circuit as one line: its greatest variable, its inputs, latches, outputs and gates, and then
-/// the names.
+/// Writes a circuit as one line: its greatest variable, its inputs, latches, outputs and gates, and
+/// then its names.
 pub fn circuit_shown(alloc: Global, aig: &Aig) -> Result<Vec<u8>, AllocError> {
     let mut line = format!(in alloc; "m {}", aig.m)?.into_bytes();
     push_circuit(alloc, &mut line, aig)?;
     Ok(line)
 }
 
-/// A fault as the program is to print it.
+/// Writes a fault as the program prints it.
 pub fn fault_shown(alloc: Global, fault: AigFault) -> Result<Vec<u8>, AllocError> {
     let kind = fault.kind;
     let line = format!(in alloc; "A{} {} line {}", kind.number(), kind.name(), fault.line)?;

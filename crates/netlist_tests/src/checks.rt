@@ -1,11 +1,11 @@
-// Texts whose models are a design, and texts whose models are at fault.
+// Texts whose models are a design, and texts whose models have a fault.
 use crate::texts::{fault_shown, models_of};
 use blif_check::{CheckError, Design, check};
 use std::alloc::{AllocError, Global};
 use std::test::Fail;
 use ww_base::expect;
 
-// The number of models of a design, or the models' fault.
+// How many models the design has, or the models' fault.
 fn checked_shown(
     alloc: Global,
     checked: &Result<Design, CheckError>,
@@ -25,13 +25,13 @@ fn expect_checked(
     expect(&checked_shown(alloc, checked)?, want)
 }
 
-// What the check of a text's models says.
+// Fails unless the check of the text's models gives this design size or fault.
 fn expect_check(alloc: Global, text: &[u8], want: &[u8]) -> Result<(), Fail> {
     let models = models_of(alloc, text)?;
     expect_checked(alloc, &check(alloc, models), want)
 }
 
-// Texts, and how many models they have or their fault.
+// Texts, and how many models their designs have, or their faults.
 const CASES: &[(&[u8], &[u8])] = &[
     (b"", b"B22 line 1: -"),
     (b".model m\n.inputs a a", b"B12 line 2: a"),

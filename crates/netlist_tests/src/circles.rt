@@ -1,4 +1,4 @@
-// Circles of models that read one another.
+// Circles of models, whose subckt lines name one another.
 use crate::texts::fault_shown;
 use lists::{Bytes, List, copied};
 use model_circles::circle_fault;
@@ -9,8 +9,8 @@ use std::alloc::{AllocError, Global};
 use std::test::Fail;
 use ww_base::expect;
 
-// A model as it is written down: its name, and for each of its subckt lines its number and the
-// letter of a model.
+// A model: its name, and for each of its subckt lines the line's number and the name of the model
+// that it instantiates. Names are single letters.
 struct Written {
     name: u8,
     subckts: &'static [(u64, u8)],
@@ -63,7 +63,7 @@ fn fault_of(alloc: Global, models: &[Model]) -> Result<Option<Fault>, AllocError
     circle_fault(alloc, models, &named)
 }
 
-// The fault of models, or nothing.
+// The models' fault as text, or no text.
 fn said(alloc: Global, models: &[Model]) -> Result<Vec<u8>, AllocError> {
     match fault_of(alloc, models)? {
         Some(fault) => fault_shown(alloc, &fault),
@@ -76,10 +76,10 @@ fn expect_fault(alloc: Global, written: &[Written], want: &[u8]) -> Result<(), F
     expect(&said(alloc, &models)?, want)
 }
 
-// Many lines of one model, which are no circle.
+// Many subckt lines of one model, which make no circle.
 const MANY: &[(u64, u8)] = &[(50, b'b'); 500];
 
-// Models, and their fault.
+// Models, and the text of their fault.
 const CIRCLES: &[(&[Written], &[u8])] = &[
     (
         &[Written {

@@ -1,4 +1,4 @@
-// The bits that covers give.
+// The values of covers.
 use crate::texts::copies_of;
 use lists::List;
 use netlist_core::Cover;
@@ -7,8 +7,8 @@ use std::alloc::{AllocError, Global};
 use std::test::Fail;
 use ww_base::expect;
 
-// A cover of rows, as it is written down: whether these end in `1`, the bits of its inputs time
-// after time, and a letter for each value.
+// A cover: its rows, whether they end in `1`, some lists of input bits, and its value for each of
+// these as a letter.
 struct Written {
     rows: &'static [&'static [u8]],
     on: bool,
@@ -16,7 +16,7 @@ struct Written {
     values: &'static [u8],
 }
 
-// The bits 00, 01, 10 and 11.
+// The input bits 00, 01, 10 and 11.
 const TWO: &[&[bool]] = &[
     &[false, false],
     &[false, true],
@@ -61,7 +61,7 @@ const COVERS: &[Written] = &[
         inputs: &[&[false], &[true]],
         values: b"10",
     },
-    // no input
+    // no inputs
     Written {
         rows: &[b""],
         on: true,
@@ -82,7 +82,7 @@ const COVERS: &[Written] = &[
     },
 ];
 
-// Only what `cover_value` reads is filled in.
+// A cover of which only the fields that `cover_value` reads are filled in.
 fn cover(alloc: Global, written: &Written) -> Result<Cover, AllocError> {
     Ok(Cover {
         line: 1,

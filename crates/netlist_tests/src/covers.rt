@@ -1,4 +1,4 @@
-// How many cells covers take.
+// How many cells covers are mapped to.
 ghost use Rattle.std.specs.Prelude.{◌≡◌, length};
 ghost use Rattle.cell_core.specs.Sources.{are_there};
 
@@ -9,7 +9,7 @@ use lists::{Bytes, List};
 use std::alloc::Global;
 use std::test::Fail;
 
-/// A list of so many inputs, without cells.
+/// Returns a list with this many inputs and nothing else.
 pub fn empty(alloc: Global, inputs: u32) -> CellList {
     CellList {
         inputs,
@@ -21,7 +21,7 @@ pub fn empty(alloc: Global, inputs: u32) -> CellList {
     }
 }
 
-/// Whether these sources are there.
+/// Returns whether all these sources are there in the list.
 pub fn are_there(list: &CellList, sources: &[Src]) -> bool
     ensures { result
         ≡ are_there list.now.inputs (length list.now.starts) (length list.now.cells) sources.now }
@@ -31,8 +31,7 @@ pub fn are_there(list: &CellList, sources: &[Src]) -> bool
     })
 }
 
-// A cover as it is written down: what it reads, its rows and whether they end in `1`, and how many
-// cells it takes.
+// A cover: its sources, its rows and whether they end in `1`, and how many cells it takes.
 struct Written {
     about: &'static str,
     sources: &'static [Src],
@@ -146,7 +145,7 @@ const COVERS: &[Written] = &[
         on: true,
         cells: 14,
     },
-    // a cover that reads one net twice, or constant 0
+    // covers that read one source twice, or constant 0
     Written {
         about: "an AND of one net",
         sources: &[Src::Input(0), Src::Input(0)],
@@ -170,7 +169,7 @@ const COVERS: &[Written] = &[
     },
 ];
 
-// How many cells a cover takes in a list.
+// How many cells the list has after the cover is mapped into it, or 99 if a source is not there.
 fn count_in(
     list: &mut CellList,
     alloc: Global,
@@ -186,7 +185,7 @@ fn count_in(
     Ok(list.cells.len())
 }
 
-// How many cells a cover takes in a list of eight inputs.
+// How many cells the cover takes in a list with eight inputs and no cells.
 fn count_of(alloc: Global, written: &Written) -> Result<usize, CellError> {
     let rows = copies_of(alloc, written.rows)?;
     let mut list = empty(alloc, 8);

@@ -1,4 +1,4 @@
-// Words that say with which bits latches start, context by context.
+// Words that set the bits with which latches start, context by context.
 ghost use Rattle.std.specs.Prelude.{◌≡◌, length};
 
 use crate::texts::joined;
@@ -10,8 +10,8 @@ use std::alloc::{AllocError, Global};
 use std::test::Fail;
 use ww_base::expect;
 
-// Two latches, of which the second starts with 1; the main model joins q0 with a net of another
-// model, and drives n by a cover.
+// Two latches: q1 of the main model starts with 1, and the one of model `l` starts with 0. The main
+// model connects its net q0 to the output of `l`, and drives n by a cover.
 const COUNTER: &[u8] =
     b".model k\n.outputs q1\n.subckt l d=n q=q0\n.latch m q1 1\n.names q0 n\n0 1\n.names q0 q1 m\n10 1\n01 1\n.end\n.model l\n.inputs d\n.outputs q\n.latch d q 0\n.end\n";
 
@@ -30,7 +30,7 @@ fn fault_shown(alloc: Global, fault: &StartFault) -> Result<Vec<u8>, AllocError>
     joined(alloc, &[kind.as_bytes(), fault.word.as_slice()])
 }
 
-// Adds bits, and a blank after them.
+// Appends the bits, and a blank after them.
 fn push_bits(shown: &mut Vec<u8>, bits: &[bool]) -> Result<(), AllocError> {
     for bit in bits {
         shown.push(if *bit { b'1' } else { b'0' })?;
@@ -38,7 +38,7 @@ fn push_bits(shown: &mut Vec<u8>, bits: &[bool]) -> Result<(), AllocError> {
     shown.extend_from_slice(b" ")
 }
 
-// The latches' bits, a word for each context.
+// The latches' bits as letters, with one word for each context.
 fn bits_shown(alloc: Global, starts: &List<List<bool>>) -> Result<Vec<u8>, AllocError> {
     let mut shown = Vec::new(alloc);
     for bits in starts.as_slice() {
@@ -64,7 +64,7 @@ fn starts_shown(
     bits_shown(alloc, &starts.in_contexts(alloc, flat, contexts)?)
 }
 
-// What the words set in so many contexts, or their fault.
+// The bits with which the latches start in each context, or the fault of the words.
 fn said(alloc: Global, flat: &Flat, words: &[String], contexts: u64) -> Result<Vec<u8>, AllocError>
     requires { length flat.now.latches ≡ 2 }
 {
@@ -75,7 +75,7 @@ fn said(alloc: Global, flat: &Flat, words: &[String], contexts: u64) -> Result<V
     }
 }
 
-// What the words set in so many contexts of a netlist with two latches, or their fault.
+// The bits with which two latches start in each context, or the fault of the words.
 fn shown(alloc: Global, flat: &Flat, words: &[&str], contexts: u64) -> Result<Vec<u8>, AllocError>
     requires { length flat.now.latches ≡ 2 }
 {
@@ -96,13 +96,13 @@ fn expect_shown(
     expect(&shown(alloc, flat, words, contexts)?, want)
 }
 
-// The same of the counter.
+// Fails unless the words set these bits in COUNTER, or have this fault.
 fn expect_starts(alloc: Global, contexts: u64, words: &[&str], want: &[u8]) -> Result<(), Fail> {
     let netlist = netlist_of(alloc, COUNTER)?;
     expect_shown(alloc, &netlist.flat, contexts, words, want)
 }
 
-// Numbers of contexts, words, and what they set: of the latches by place, q1 first.
+// Numbers of contexts, words, and the bits that the words set, first that of q1, or their fault.
 const CASES: &[(u64, &[&str], &[u8])] = &[
     (1, &[], b"10 "),
     (3, &["2:q0=1", "0:q1=0"], b"00 10 11 "),

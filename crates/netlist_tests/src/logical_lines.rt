@@ -1,4 +1,4 @@
-// Texts with their logical lines, written out as `number:word,word`.
+// Texts and their logical lines, each written as `number:word,word,;`.
 use crate::texts::push_all;
 use blif_lex::{Logical, lines};
 use std::alloc::{AllocError, Global};
@@ -53,7 +53,7 @@ const LINES: &[(&[u8], &[u8])] = &[
     (b"a\\\n#b\nc", b"1:a,;3:c,;"),
     (b"a\x0bb\x0cc\td", b"1:a,b,c,d,;"),
     (b"a\\", b"1:a,;"),
-    // no byte but the five is a blank
+    // only five bytes are blanks
     (
         b"a\0b\x85c\xa0d\x1ce\xff\xe2\x80\x83f",
         b"1:a\0b\x85c\xa0d\x1ce\xff\xe2\x80\x83f,;",

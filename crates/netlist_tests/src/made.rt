@@ -1,4 +1,4 @@
-// A known text and its state, and the first numbers that are drawn.
+// The first numbers that are drawn, and the text and the state that `make` returns.
 use crate::texts::expect_number;
 use made_netlists::{Made, draw, make};
 use std::test::Fail;

@@ -1,4 +1,4 @@
-// Lines with their models, and lines that are at fault.
+// Texts with the models that are read from them, and texts with faults.
 use crate::texts::{fault_shown, models_of, push_all};
 use blif_reader::{Model, ReadError};
 use lists::{Bytes, List};
@@ -48,7 +48,8 @@ fn push_cover(alloc: Global, shown: &mut Vec<u8>, cover: &Cover) -> Result<(), A
     shown.extend_from_slice(b";")
 }
 
-// The line of a cover or a latch, and whether the cover's rows end in `1`, or the latch has a kind.
+// Appends the line of a cover or latch, and whether the cover's rows end in `1` or the latch has a
+// kind.
 fn push_start(
     alloc: Global,
     shown: &mut Vec<u8>,
@@ -109,7 +110,7 @@ fn push_model(alloc: Global, shown: &mut Vec<u8>, model: &Model) -> Result<(), A
     Ok(())
 }
 
-// The models one after the other.
+// The models as text, one after the other.
 fn models_shown(alloc: Global, models: &[Model]) -> Result<Vec<u8>, AllocError> {
     let mut shown = Vec::new(alloc);
     for model in models {
@@ -118,7 +119,7 @@ fn models_shown(alloc: Global, models: &[Model]) -> Result<Vec<u8>, AllocError> 
     Ok(shown)
 }
 
-// The models that were read, or the fault.
+// The models that were read, or the fault, as text.
 fn read_shown(alloc: Global, read: &Result<List<Model>, ReadError>) -> Result<Vec<u8>, AllocError> {
     match read {
         Ok(models) => models_shown(alloc, models.as_slice()),
@@ -131,7 +132,7 @@ fn expect_models(alloc: Global, text: &[u8], want: &[u8]) -> Result<(), Fail> {
     expect(&read_shown(alloc, &models_of(alloc, text))?, want)
 }
 
-// Texts, and their models or their faults.
+// Texts, and their models or faults.
 const TEXTS: &[(&[u8], &[u8])] = &[
     // no lines
     (b"", b""),
@@ -172,7 +173,7 @@ const TEXTS: &[(&[u8], &[u8])] = &[
     ),
 ];
 
-// The earliest line is told, and there the lowest rule.
+// The fault is on the earliest line at fault, and there of the lowest rule.
 #[test]
 fn models_are_read(rt: HostRuntime) -> Result<(), Fail> {
     for (text, want) in TEXTS {

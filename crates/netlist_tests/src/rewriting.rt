@@ -1,4 +1,4 @@
-// Lists of cells that come to have fewer.
+// Lists of cells that are rewritten to fewer cells.
 use crate::covers::{are_there, empty};
 use crate::texts::expect_number;
 use cell_core::{Cell, CellError, CellList, Src};
@@ -7,7 +7,7 @@ use lists::List;
 use std::alloc::{AllocError, Global};
 use std::test::Fail;
 
-// Adds these cells, but for those that read what is not there.
+// Adds these cells, and skips those that read a source that is not there.
 fn add_cells(list: &mut CellList, alloc: Global, cells: &[Cell]) -> Result<(), CellError> {
     for cell in cells {
         if cell.reads_there(list.inputs as usize, list.starts.len(), list.cells.len()) {
@@ -17,7 +17,7 @@ fn add_cells(list: &mut CellList, alloc: Global, cells: &[Cell]) -> Result<(), C
     Ok(())
 }
 
-// The list with nets of these sources, if they are there.
+// The list with nets of these sources, or unchanged if one of these is not there.
 fn with_nets(list: CellList, nets: Vec<Src>) -> CellList {
     if !are_there(&list, &nets) {
         return list;
@@ -32,7 +32,7 @@ fn with_nets(list: CellList, nets: Vec<Src>) -> CellList {
     }
 }
 
-// A list of three inputs with these cells and nets.
+// A list with three inputs and these cells and nets.
 fn list_of(alloc: Global, cells: &[Cell], nets: &[Src]) -> Result<CellList, CellError> {
     let nets = nets.to_vec(alloc)?;
     let mut list = empty(alloc, 3);
@@ -40,7 +40,7 @@ fn list_of(alloc: Global, cells: &[Cell], nets: &[Src]) -> Result<CellList, Cell
     Ok(with_nets(list, nets))
 }
 
-// Adds its cells, and the sources of its nets.
+// Adds the list's cells, and the sources of its nets.
 fn push_list(page: &mut String, list: &CellList) -> Result<(), AllocError> {
     for cell in list.cells.as_slice() {
         write!(page, "{cell:?} ")?;
@@ -57,7 +57,7 @@ fn is_shown(alloc: Global, list: &CellList, want: &str) -> Result<bool, AllocErr
     Ok(page.as_str() == want)
 }
 
-// How many lists have a text, or none where the first has another one.
+// How many of the lists have this text, or 0 if the first one has another.
 fn count_of(alloc: Global, lists: &[CellList], want: &str) -> Result<u64, AllocError> {
     let mut count: u64 = 0;
     for list in lists {
@@ -70,8 +70,8 @@ fn count_of(alloc: Global, lists: &[CellList], want: &str) -> Result<u64, AllocE
     Ok(count)
 }
 
-// Of a list with these cells and nets, where these sources are kept, four lists are made that have
-// this text, also the first of all.
+// Fails unless exactly four of the lists to which these cells and nets are rewritten have this
+// text, the first one among them. The sources in `kept` are kept.
 fn expect_lists(
     alloc: Global,
     cells: &[Cell],
@@ -91,7 +91,7 @@ const XOR: &[Cell] = &[
     Cell::Or(Src::Cell(0), Src::Cell(1)),
 ];
 
-// Cells, nets, kept sources, and what is made of them.
+// Cells, nets, kept sources, and the text of what the list is rewritten to.
 const LISTS: &[(&[Cell], &[Src], &[Src], &str)] = &[
     (
         XOR,

@@ -1,4 +1,4 @@
-// Numbers and names of rules.
+// The numbers and names of rules.
 use netlist_rules::FaultKind;
 use std::test::Fail;
 

@@ -1,11 +1,11 @@
-// Texts of several parts, what texts have, and what tests compare.
+// Texts of several parts, the models and faults of texts, and a comparison of numbers.
 use blif_lex::lines;
 use blif_reader::{Fault, Model, ReadError, read};
 use lists::{Bytes, List, copied};
 use std::alloc::{AllocError, Global};
 use std::test::Fail;
 
-/// Adds parts, one after the other.
+/// Appends the parts, one after the other.
 pub fn push_all(text: &mut Vec<u8>, parts: &[&[u8]]) -> Result<(), AllocError> {
     for part in parts {
         text.extend_from_slice(part)?;
@@ -13,14 +13,14 @@ pub fn push_all(text: &mut Vec<u8>, parts: &[&[u8]]) -> Result<(), AllocError> {
     Ok(())
 }
 
-/// A text of parts.
+/// Joins the parts to one text.
 pub fn joined(alloc: Global, parts: &[&[u8]]) -> Result<Vec<u8>, AllocError> {
     let mut text = Vec::new(alloc);
     push_all(&mut text, parts)?;
     Ok(text)
 }
 
-/// Copies of texts.
+/// Returns copies of the texts.
 pub fn copies_of(alloc: Global, texts: &[&[u8]]) -> Result<Vec<Bytes>, AllocError> {
     let mut copies = Vec::new(alloc);
     for text in texts {
@@ -29,13 +29,13 @@ pub fn copies_of(alloc: Global, texts: &[&[u8]]) -> Result<Vec<Bytes>, AllocErro
     Ok(copies)
 }
 
-/// The rule, the line and the word of a fault.
+/// Writes the rule, the line and the word of a fault as text.
 pub fn fault_shown(alloc: Global, fault: &Fault) -> Result<Vec<u8>, AllocError> {
     let start = format!(in alloc; "B{} line {}: ", fault.kind.number(), fault.line)?;
     joined(alloc, &[start.as_bytes(), fault.word.as_slice()])
 }
 
-/// The models of a text.
+/// Reads the models of a text.
 pub fn models_of(alloc: Global, text: &[u8]) -> Result<List<Model>, ReadError> {
     match lines(alloc, text) {
         Ok(lines) => read(alloc, lines.as_slice()),
@@ -43,7 +43,7 @@ pub fn models_of(alloc: Global, text: &[u8]) -> Result<List<Model>, ReadError> {
     }
 }
 
-/// Fails where a number is not the one that is wanted, and tells of what it is, and both.
+/// Fails if a number is not the wanted one. The message has both, and what the number is about.
 pub fn expect_number(about: &str, said: u64, want: u64) -> Result<(), Fail> {
     if said == want {
         Ok(())

@@ -1,11 +1,11 @@
-// The weight of a model.
+// The weights of models.
 use crate::texts::{expect_number, joined, models_of};
 use blif_reader::Model;
 use netlist_core::weight_of;
 use std::alloc::Global;
 use std::test::Fail;
 
-// Fails where there is not one model alone, of this weight.
+// Fails unless there is exactly one model, and it has this weight.
 fn expect_weight(about: &str, models: &[Model], want: u64) -> Result<(), Fail> {
     match models {
         [model] => expect_number(about, weight_of(model), want),
@@ -13,7 +13,7 @@ fn expect_weight(about: &str, models: &[Model], want: u64) -> Result<(), Fail> {
     }
 }
 
-// Two full adders weigh 64 of the 74 of a two-bit adder, whose own ports and subckt lines are 10.
+// A full adder.
 const FULL_ADDER: &[u8] = b".model fa
 .inputs a b c
 .outputs s co
@@ -28,7 +28,7 @@ const FULL_ADDER: &[u8] = b".model fa
 -11 1
 ";
 
-// Lines that are added to the full adder, and its weight with them.
+// Lines to add to the full adder, and its weight with them.
 const CLOCKS: &[(&str, &[u8], u64)] = &[
     ("no clock", b"", 32),
     ("an input as the clock", b".clock a", 32),

@@ -1,4 +1,4 @@
-// Bands of small patterns, moved in given orders.
+// Bands of small patterns, which are moved in given orders.
 ghost use Rattle.std.specs.Prelude.{◌≡◌, ◌<◌, length, IfOk};
 ghost use Rattle.band_core.specs.Bands.{IsSamePattern};
 
@@ -12,7 +12,7 @@ use std::alloc::{AllocError, Global};
 use std::test::Fail;
 use ww_base::expect;
 
-// The bands of a text's pattern, which has this size and no injections.
+// The bands of a text's pattern, without injections. Fails if the pattern has another size.
 fn bands_of(alloc: Global, text: &[u8], width: u64, rows: usize, height: u32) -> Result<Bands, Fail>
     requires { 0 < height }
     ensures height { IfOk result (λ bands. bands.height ≡ height) }
@@ -36,7 +36,7 @@ enum Call {
     Skip(usize),
 }
 
-// What it answers.
+// What a call answers.
 #[derive(Clone, Copy, PartialEq)]
 enum Answer {
     Moved,
@@ -97,7 +97,7 @@ fn answered(bands: &mut Bands, call: Call) -> Answer
     }
 }
 
-// Makes calls, and tells whether they answered these.
+// Makes the calls, and returns whether all had these answers.
 fn answers_are_right(bands: &mut Bands, calls: &[(Call, Answer)]) -> bool
     ensures { IsSamePattern bands.old bands.new }
 {
@@ -110,7 +110,7 @@ fn answers_are_right(bands: &mut Bands, calls: &[(Call, Answer)]) -> bool
 
 const OK: Answer = Answer::Moved;
 
-// What the band below waits for, and what the middle one does.
+// The answers of a band that waits for the middle one, and of one that waits for the bottom one.
 const BEHIND_MIDDLE: Answer = Answer::NotReady {
     neighbour: 1,
     generation: 0,
@@ -121,7 +121,7 @@ const BEHIND_BOTTOM: Answer = Answer::NotReady {
     generation: 0,
 };
 
-// Calls with their answers, and the column's cells after them.
+// Calls with their answers, and the cells of COLUMN after them.
 const ORDERS: &[(&[(Call, Answer)], &[u8])] = &[
     (
         &[
@@ -184,7 +184,7 @@ const ORDERS: &[(&[(Call, Answer)], &[u8])] = &[
     ),
 ];
 
-// Adds all rows, one after the other.
+// Appends all rows, one after the other.
 fn push_rows(
     text: &mut Vec<u8>,
     bands: &Bands,
@@ -202,7 +202,7 @@ fn push_rows(
     Ok(())
 }
 
-// Fails where all rows, one after the other, are not these cells.
+// Fails unless the rows, one after the other, are these cells.
 fn expect_rows(
     alloc: Global,
     bands: &Bands,
@@ -220,7 +220,8 @@ fn expect_rows(
     expect(&rows, cells)
 }
 
-// The column's calls, their answers, and its cells after them, from the top down.
+// Makes the calls on bands of COLUMN. Fails unless they have these answers, and leave these cells
+// from the top down.
 fn expect_order(alloc: Global, calls: &[(Call, Answer)], cells: &[u8]) -> Result<(), Fail> {
     let mut bands = bands_of(alloc, COLUMN, 1, 3, 1)?;
     if !answers_are_right(&mut bands, calls) {
@@ -237,7 +238,7 @@ fn bands_advance_in_any_order(rt: HostRuntime) -> Result<(), Fail> {
     Ok(())
 }
 
-// One generation of all bands, from the top down.
+// Advances each band by one generation, from the top down.
 fn advance_all(bands: &mut Bands)
     ensures { IsSamePattern bands.old bands.new }
 {
@@ -246,7 +247,8 @@ fn advance_all(bands: &mut Bands)
     }
 }
 
-// Both rows of a pattern of two by three cells a generation later, by bands of this height.
+// Fails unless a pattern of two rows and three columns has these cells a generation later, in bands
+// of this height.
 fn expect_both_rows(alloc: Global, text: &[u8], height: u32, cells: &[u8]) -> Result<(), Fail>
     requires { 0 < height }
 {
@@ -255,7 +257,7 @@ fn expect_both_rows(alloc: Global, text: &[u8], height: u32, cells: &[u8]) -> Re
     expect_rows(alloc, &bands, height, 3, 2, cells)
 }
 
-// Three cells above a conductor, and both rows a generation later.
+// Patterns of three cells above a conductor, and their two rows a generation later.
 const ABOVE: &[(&[u8], &[u8])] = &[
     (b"x = 3, y = 2, rule = WireWorld\nAAA$.C.!", b"BBB.C."),
     (b"x = 3, y = 2, rule = WireWorld\nAA.$.C.!", b"BB..A."),
@@ -270,7 +272,7 @@ fn two_heads_light_a_conductor_and_three_do_not(rt: HostRuntime) -> Result<(), F
     Ok(())
 }
 
-// Patterns, and how many bands they have, each as high as a band may be.
+// Patterns, and how many bands of the greatest height they have.
 const COUNTS: &[(&[u8], usize)] = &[
     (b"x = 18446744073709551615, y = 0, rule = WireWorld\n!", 0),
     (b"x = 0, y = 18446744073709551615, rule = WireWorld\n!", 0),

@@ -1,8 +1,8 @@
-// Drawings of circuits, and patterns that are nearly so.
+// Drawings of circuits, and patterns that are almost drawings.
 use crate::runs::expect_shown;
 use std::test::Fail;
 
-// A latch that starts with 1: its output shows what the input was in the cycle before.
+// A latch that starts with 1. Its output shows the input of the cycle before.
 const LATCH: &[u8] = b"x = 97, y = 48, rule = WireWorld
 5$53.2C$35.19C.C$34.C18.2C.2C$32.2C23.8C$34.C18.2C.2C$35.C16.2C.C$36.C
 14.C.2C$37.C12.C$38.C.2C7.C$39.2C.C5.C$40.2C.2C2.C$44.3C$40.2C.2C2.C$
@@ -11,7 +11,7 @@ const LATCH: &[u8] = b"x = 97, y = 48, rule = WireWorld
 15.C66.C$16.C64.C$16.C63.C$16.C63.C$16.C63.C$16.C63.C$16.C64.C$15.C66.
 C$14.C68.C$13.C70.C$10.3C72.2C$9.C77.C$10.77C!";
 
-// The same, which starts with 0.
+// The latch, but starting with 0.
 const DARK_LATCH: &[u8] = b"x = 97, y = 48, rule = WireWorld
 5$53.2C$35.19C.C$34.C18.2C.2C$32.2C23.8C$34.C18.2C.2C$35.C16.2C.C$36.C
 14.C.2C$37.C12.C$38.C.2C7.C$39.2C.C5.C$40.2C.2C2.C$44.3C$40.2C.2C2.C$
@@ -20,7 +20,7 @@ const DARK_LATCH: &[u8] = b"x = 97, y = 48, rule = WireWorld
 66.C$16.C64.C$16.C63.C$16.C63.C$16.C63.C$16.C63.C$16.C64.C$15.C66.C$
 14.C68.C$13.C70.C$10.3C72.2C$9.C77.C$10.77C!";
 
-// One cell of its loop is left out.
+// The latch without one cell of its loop.
 const CUT_LATCH: &[u8] = b"x = 97, y = 48, rule = WireWorld
 5$53.2C$35.19C.C$34.C18.2C.2C$32.2C23.8C$34.C18.2C.2C$35.C16.2C.C$36.C
 14.C.2C$37.C12.C$38.C.2C7.C$39.2C.C5.C$40.2C.2C2.C$44.3C$40.2C.2C2.C$
@@ -29,7 +29,7 @@ const CUT_LATCH: &[u8] = b"x = 97, y = 48, rule = WireWorld
 15.C66.C$16.C64.C$16.C63.C$16.C63.C$16.C63.C$16.C63.C$16.C64.C$15.C66.
 C$14.C68.C$13.C70.C$10.3C72.C$9.C77.C$10.77C!";
 
-// The electron is one generation late.
+// The latch with its electron one generation late.
 const LATE_LATCH: &[u8] = b"x = 97, y = 48, rule = WireWorld
 5$53.2C$35.19C.C$34.C18.2C.2C$32.2C23.8C$34.C18.2C.2C$35.C16.2C.C$36.C
 14.C.2C$37.C12.C$38.C.2C7.C$39.2C.C5.C$40.2C.2C2.C$44.3C$40.2C.2C2.C$
@@ -40,20 +40,20 @@ C$14.C68.C$13.C70.C$10.3C72.2C$9.C77.C$10.77C!";
 
 const TABLE: &[u8] = b"#C BLIFWW 2 P 192 L 32 C 1\n#C BLIFWW IN 32 8 d\n#C BLIFWW OUT 64 8 q\n";
 
-// Tables and patterns, the word of the input for six cycles, and what is shown.
+// Tables, patterns, the word of the input for six cycles, and what the output shows.
 const LATCHES: &[(&[u8], &[u8], &str, &[u8])] = &[
     (TABLE, LATCH, "d=001011", b"100101,"),
     (TABLE, DARK_LATCH, "d=001011", b"000101,"),
     (TABLE, CUT_LATCH, "d=001011", b"100000,"),
     (TABLE, LATE_LATCH, "d=001011", b"000101,"),
-    // lines of nets, whatever they say
+    // net lines, whatever they say
     (
         b"#C BLIFWW 2 P 192 L 32 C 1\n#C BLIFWW IN 32 8 d\n#C BLIFWW OUT 64 8 q\n#C BLIFWW NET 32 8 0 d -\n#C BLIFWW NET 0 0 7 q -\n",
         LATCH,
         "d=001011",
         b"100101,",
     ),
-    // names that no netlist has
+    // names that no netlist can have
     (
         b"#C BLIFWW 2 P 192 L 32 C 1\n#C BLIFWW IN 32 8 d%20e\n#C BLIFWW OUT 64 8 q\n",
         LATCH,

@@ -1,4 +1,5 @@
-// Rows by hand: above, heads, below, tails and wires, and the new heads and wires.
+// Rows written by hand: the heads above, the row's heads, the heads below, the row's tails and
+// wires, and its new heads and wires.
 use lane_kernel::step_rows;
 
 #[test]

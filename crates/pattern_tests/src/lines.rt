@@ -1,7 +1,7 @@
-// Lines and numbers of small texts.
+// The lines and numbers of small texts.
 use pattern_lines::{number_in, split_line};
 
-// Texts, and the bytes of their first lines, whether these have ends, and what comes after them.
+// Texts, the bytes of their first lines, whether these lines have an end, and what follows them.
 const LINES: &[(&[u8], &[u8], bool, &[u8])] = &[
     (b"3C!", b"3C!", false, b""),
     (b"\n3C!", b"", true, b"3C!"),
@@ -11,7 +11,7 @@ const LINES: &[(&[u8], &[u8], bool, &[u8])] = &[
     (b"3C!\r\r\n", b"3C!\r", true, b""),
 ];
 
-// Whether a text's first line, after six others, and what comes after it are these.
+// Whether `split_line` cuts these bytes as line 7 from the text, and leaves this rest.
 fn is_cut(text: &[u8], bytes: &[u8], is_ended: bool, after: &[u8]) -> bool {
     if text.is_empty() || text.len() >= 100 {
         return false;
@@ -27,7 +27,7 @@ fn lines_by_their_texts(rt: HostRuntime) {
     }
 }
 
-// Digits and their numbers.
+// Texts, and the numbers that they spell in digits.
 const NUMBERS: &[(&[u8], Option<u64>)] = &[
     (b"0", Some(0)),
     (b"007", Some(7)),

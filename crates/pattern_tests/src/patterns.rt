@@ -1,4 +1,4 @@
-// Texts, and what each of them says: rows in the letters of extended RLE, or a fault and its line.
+// Texts, and what is read from each: rows in the letters of extended RLE, or a fault and its line.
 use crate::texts::drawn;
 use rle_read::{RleReadError, read};
 use std::alloc::{AllocError, Global};
@@ -24,7 +24,7 @@ fn expect_read(alloc: Global, text: &[u8], want: &[u8]) -> Result<(), Fail> {
     expect(&read_shown(alloc, &read(alloc, text))?, want)
 }
 
-// Texts, and what they say.
+// Texts, and their rows or faults.
 const TEXTS: &[(&[u8], &[u8])] = &[
     (
         b"#CXRLE Pos=0,0\nx = 3, y = 1, rule = wireworld\n3C$!\n",

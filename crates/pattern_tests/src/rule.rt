@@ -1,4 +1,4 @@
-// Small patterns by hand, in the letters of RLE: '.' is empty, A a head, B a tail and C a
+// Small patterns in the letters of RLE: '.' is an empty cell, A a head, B a tail and C a
 // conductor.
 use crate::texts::{drawn, push_all};
 use rle_read::read;
@@ -12,13 +12,13 @@ fn plane_of(alloc: Global, text: &[u8]) -> Result<Plane, Fail> {
     Ok(Plane::from_pattern(alloc, &pattern)?)
 }
 
-// Adds the width and height of a plane.
+// Appends the width and height of a plane.
 fn push_size(alloc: Global, text: &mut Vec<u8>, plane: &Plane) -> Result<(), AllocError> {
     let size = format!(in alloc; "{} {}", plane.width, plane.height)?;
     push_all(text, &[size.as_bytes()])
 }
 
-// The rows of a plane, and its width and height.
+// The rows of a plane as letters, and its width and height.
 fn shown(alloc: Global, plane: &Plane) -> Result<Vec<u8>, AllocError> {
     let mut text = drawn(alloc, &plane.rows)?;
     push_size(alloc, &mut text, plane)?;
@@ -29,7 +29,7 @@ fn expect_plane(alloc: Global, plane: &Plane, want: &[u8]) -> Result<(), Fail> {
     expect(&shown(alloc, plane)?, want)
 }
 
-// Patterns, and what is shown of them and of the same a generation later.
+// Patterns, and what `shown` returns for their planes at generations 0 and 1.
 const GENERATIONS: &[(&[u8], &[u8], &[u8])] = &[
     (
         b"x = 3, y = 1, rule = WireWorld\nACC!",
@@ -81,7 +81,7 @@ fn one_generation_by_the_rule(rt: HostRuntime) -> Result<(), Fail> {
     Ok(())
 }
 
-// An injection at the first cell, and a generation later.
+// Fails unless the plane is this one a generation later, with an injection at the first cell then.
 fn expect_driven(alloc: Global, plane: &Plane, want: &[u8]) -> Result<(), Fail> {
     if plane.width == 0 || plane.height == 0 {
         return Err(Fail::new("no cells"));

@@ -1,4 +1,4 @@
-// Streams from words, and patterns that streams drive.
+// Streams that are read from words, and patterns that they drive.
 ghost use Rattle.std.specs.Prelude.{◌≡◌, ◌*◌, ◌<◌, All, length, IfOk};
 ghost use Rattle.pattern_reading.specs.Laws.{HasCellsInside};
 ghost use Rattle.pattern_reading.specs.Ports.{cells_of};
@@ -19,7 +19,7 @@ use ww_rule::Pattern;
 // A wire of three cells.
 pub const WIRE: &[u8] = b"x = 3, y = 1, rule = WireWorld\n3C!";
 
-// The same, one below the other.
+// A wire of three cells, one below the other.
 const WIRE_DOWN: &[u8] = b"x = 1, y = 3, rule = WireWorld\nC$C$C!";
 
 // An OR gate: the inputs enter at (0, 8) and (0, 24), the output is at (32, 8).
@@ -82,7 +82,7 @@ fn push_bits(text: &mut Vec<u8>, bits: &[bool]) -> Result<(), AllocError> {
     text.extend_from_slice(b",")
 }
 
-// The bits of each output, with a comma after them.
+// The bits of each output, with a comma after each output.
 fn shown(alloc: Global, outputs: &[List<bool>]) -> Result<Vec<u8>, AllocError> {
     let mut text = Vec::new(alloc);
     for bits in outputs {
@@ -91,7 +91,7 @@ fn shown(alloc: Global, outputs: &[List<bool>]) -> Result<Vec<u8>, AllocError> {
     Ok(text)
 }
 
-// A fault, and the word at fault.
+// The kind of a fault, and the word at fault.
 fn fault_shown(alloc: Global, error: &StreamError) -> Result<Vec<u8>, AllocError> {
     let StreamError::Fault(fault) = error else {
         return Err(AllocError);
@@ -100,7 +100,7 @@ fn fault_shown(alloc: Global, error: &StreamError) -> Result<Vec<u8>, AllocError
     joined(alloc, &[kind.as_bytes(), fault.word.as_slice()])
 }
 
-// The streams that words say for inputs of so many contexts.
+// Reads the streams of these inputs, in this many contexts, from words.
 fn streams_for(
     alloc: Global,
     inputs: &[PortLine],
@@ -118,8 +118,8 @@ fn streams_for(
     Streams::read(alloc, &words, &names, cycles, contexts)
 }
 
-/// What is asked of a pattern that streams drive: what its outputs show, generation by generation,
-/// or by its cells where it is a drawing; or a dump of its nets.
+/// What a test asks of a pattern that streams drive: what its outputs show if it is run generation
+/// by generation, or by its cells if it is a drawing; or a dump of its nets.
 #[derive(Clone, Copy)]
 pub enum Asked {
     Outputs,
@@ -127,7 +127,7 @@ pub enum Asked {
     Dump,
 }
 
-/// Why a pattern is not run.
+/// Writes as text why a pattern is not run.
 pub fn refusal_said(alloc: Global, error: SimulateError) -> Result<Vec<u8>, AllocError> {
     let said = match error {
         SimulateError::TooFar { generations } => format!(in alloc; "TooFar {generations}"),
@@ -139,7 +139,7 @@ pub fn refusal_said(alloc: Global, error: SimulateError) -> Result<Vec<u8>, Allo
     Ok(said?.into_bytes())
 }
 
-// What outputs show, or why a pattern is not run.
+// The bits that the outputs show, or why the pattern is not run.
 fn outputs_said(
     alloc: Global,
     outputs: Result<List<List<bool>>, SimulateError>,
@@ -150,7 +150,7 @@ fn outputs_said(
     }
 }
 
-// What a driven pattern shows, or why it is not run.
+// What is asked of a driven pattern, or why the pattern is not run.
 fn run(
     alloc: Global,
     pattern: Pattern,
@@ -171,7 +171,7 @@ fn run(
     }
 }
 
-// What a text's pattern shows in so many cycles, or why there are no streams or no run.
+// What is asked of a text's pattern in this many cycles, or why there are no streams or no run.
 fn said(
     alloc: Global,
     text: &[u8],
@@ -190,7 +190,8 @@ fn said(
     Ok(said?)
 }
 
-/// A table and a pattern as one text, and what is said of it.
+/// Joins a table and a pattern to one text, and returns what is asked of the pattern, or why there
+/// are no streams or no run.
 pub fn said_of(
     alloc: Global,
     table: &[u8],
@@ -206,7 +207,7 @@ pub fn said_of(
     said(alloc, &text, words, cycles, asked)
 }
 
-/// Expects this of what is said.
+/// Fails unless `said_of` returns `want`.
 pub fn expect_said(
     alloc: Global,
     table: &[u8],
@@ -219,7 +220,7 @@ pub fn expect_said(
     expect(&said_of(alloc, table, pattern, words, cycles, asked)?, want)
 }
 
-/// Expects this of what the outputs show, in both ways.
+/// Fails unless the outputs show `want`, both generation by generation and by the cells.
 pub fn expect_shown(
     alloc: Global,
     table: &[u8],
@@ -232,12 +233,13 @@ pub fn expect_shown(
     expect_said(alloc, table, pattern, words, cycles, Asked::Drawn, want)
 }
 
-// A ring on which an electron goes round for ever.
+// A ring on which an electron circles for ever.
 const RING: &[u8] = b"x = 4, y = 3, rule = WireWorld\n.BA$C2.C$.2C!";
 
-// Cases, with an empty line between any two: a pattern, cycles, words, and after `=>` what is said,
-// with ` -- ` before a word on the cases from there on; then the table's lines. They are one text,
-// since a table costs its proof for each row.
+// Cases, with an empty line between any two. The first line of a case has the pattern, the cycles
+// and the words, and after `=>` what `said_of` returns; a comment after ` -- ` is about the cases
+// from there on. The lines of the port table follow. The cases are one text, since a Rust table
+// costs proof time for each row.
 const RUNS: &str = "\
 wire 2 a=11 => 11, -- a wire of each period
 #C BLIFWW 1 P 4 L 2
@@ -430,7 +432,7 @@ fn pattern_named(name: &str) -> Option<&'static [u8]> {
     }
 }
 
-// What is asked and what is said, of a case's first line.
+// Cuts a case's first line into the question and the wanted answer.
 fn cut(head: &str) -> Option<(&str, &str)> {
     let (asked, said) = head.split_once(" =>")?;
     match said.split_once(" -- ") {
@@ -439,7 +441,7 @@ fn cut(head: &str) -> Option<(&str, &str)> {
     }
 }
 
-// Fails where what a case asks shows something else than is said.
+// Fails unless the outputs show what the case says.
 fn expect_case(alloc: Global, asked: &str, said: &str, table: &str) -> Result<(), Fail> {
     let mut parts = asked.split_ascii_whitespace();
     let Some(pattern) = pattern_named(parts.next().unwrap_or("")) else {
@@ -455,7 +457,7 @@ fn expect_case(alloc: Global, asked: &str, said: &str, table: &str) -> Result<()
     expect_shown(alloc, &table, pattern, &words, cycles, want)
 }
 
-// Fails where a case is none, or does not hold.
+// Fails if the text is no case, or the case does not hold.
 fn expect_run(alloc: Global, case: &str) -> Result<(), Fail> {
     let Some((head, table)) = case.split_once('\n') else {
         return Err(Fail::new(case));

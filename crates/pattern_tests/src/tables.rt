@@ -1,4 +1,4 @@
-// Tables of known texts, and texts that are at fault.
+// The port tables of texts, and texts with faults.
 ghost use Rattle.std.specs.Prelude.{◌<◌, length, IfOk};
 ghost use Rattle.pattern_reading.specs.Spelling.{port_lines};
 
@@ -53,15 +53,14 @@ fn push_table(alloc: Global, line: &mut Vec<u8>, ports: &Ports) -> Result<(), Al
     Ok(())
 }
 
-// A table as one line: the period, the latency and the number of contexts, and then each port and
-// net.
+// A table as one line: its period, its latency, its number of contexts, and then each port and net.
 fn shown(alloc: Global, ports: &Ports) -> Result<Vec<u8>, AllocError> {
     let mut line = format!(in alloc; "{} {} {}", ports.p, ports.l, ports.c)?.into_bytes();
     push_table(alloc, &mut line, ports)?;
     Ok(line)
 }
 
-// A table, or its fault and line.
+// A table as one line, or its fault and the line at fault.
 fn read_shown(alloc: Global, read: &Result<Ports, PortReadError>) -> Result<Vec<u8>, AllocError> {
     match read {
         Ok(ports) => shown(alloc, ports),
@@ -72,7 +71,7 @@ fn read_shown(alloc: Global, read: &Result<Ports, PortReadError>) -> Result<Vec<
     }
 }
 
-// What the table of a text for a pattern of this size says.
+// Fails unless the table of a text, for a pattern of this size, is `want`.
 fn expect_table(
     alloc: Global,
     text: &[u8],
@@ -83,12 +82,12 @@ fn expect_table(
     expect(&read_shown(alloc, &read(alloc, text, width, height))?, want)
 }
 
-// The OR gate's table.
+// The table of the OR gate.
 const OR_LINES: &[u8] =
     b"#C BLIFWW 2 P 32 L 32 C 1\n#C BLIFWW IN 0 8 a\n#C BLIFWW IN 0 24 b\n#C BLIFWW OUT 32 8 y\n#C BLIFWW NET 0 8 0 a -\n#C BLIFWW NET 0 24 0 b -\n#C BLIFWW NET 31 8 31 y -\nx = 33, y = 32, rule = WireWorld\n!\n";
 
-// Texts, the sizes of their patterns, and the tables as lines, or the kinds and lines of their
-// first faults.
+// Texts, the widths and heights of their patterns, and their tables as one line each, or the kinds
+// and lines of their first faults.
 const TABLES: &[(&[u8], u64, u64, &[u8])] = &[
     (
         OR_LINES,
@@ -118,7 +117,7 @@ const TABLES: &[(&[u8], u64, u64, &[u8])] = &[
         1,
         b"32 0 1",
     ),
-    // no header, both line ends, leading zeros, and no line end at the end
+    // no header, both line ends, leading zeros, and a last line without an end
     (
         b"\t\n#\n#C BLIFWW 1 P 4 L 2\r\n#\n\n#C BLIFWW IN 002 0 a\r\n#C BLIFWW OUT 0 000 y",
         3,
@@ -250,7 +249,7 @@ fn tables_are_read(rt: HostRuntime) -> Result<(), Fail> {
     Ok(())
 }
 
-// Each byte but the line feed.
+// A name with each byte but the line feed.
 fn name_of_all_bytes(alloc: Global) -> Result<Vec<u8>, AllocError> {
     let mut name = Vec::new(alloc);
     for byte in 0..=255u8 {
@@ -261,7 +260,7 @@ fn name_of_all_bytes(alloc: Global) -> Result<Vec<u8>, AllocError> {
     Ok(name)
 }
 
-// A table whose one input has a name.
+// A table with one input, which has this name.
 fn table_with(alloc: Global, name: &[u8]) -> Result<Ports, AllocError>
     ensures { IfOk result (λ ports. 1 < length (port_lines ports)) }
 {

@@ -3,7 +3,7 @@ use pattern_writing::tag_of;
 use std::alloc::{AllocError, Global};
 use ww_rule::{CellRows, State};
 
-/// Adds the letters of cells.
+/// Appends the letters of cells.
 pub fn push_cells(text: &mut Vec<u8>, cells: &[State]) -> Result<(), AllocError> {
     for state in cells {
         text.push(tag_of(*state))?;
@@ -11,13 +11,13 @@ pub fn push_cells(text: &mut Vec<u8>, cells: &[State]) -> Result<(), AllocError>
     Ok(())
 }
 
-// Adds the letters of a row, and `$` after it.
+// Appends the letters of a row, and `$` after it.
 fn push_row(text: &mut Vec<u8>, cells: &[State]) -> Result<(), AllocError> {
     push_cells(text, cells)?;
     text.extend_from_slice(b"$")
 }
 
-/// The letters of rows, with `$` after each row.
+/// Returns the letters of rows, with `$` after each row.
 pub fn drawn(alloc: Global, rows: &CellRows) -> Result<Vec<u8>, AllocError> {
     let mut text = Vec::new(alloc);
     for y in 0..rows.len() {
@@ -26,7 +26,7 @@ pub fn drawn(alloc: Global, rows: &CellRows) -> Result<Vec<u8>, AllocError> {
     Ok(text)
 }
 
-/// Adds parts, one after the other.
+/// Appends the parts, one after the other.
 pub fn push_all(text: &mut Vec<u8>, parts: &[&[u8]]) -> Result<(), AllocError> {
     for part in parts {
         text.extend_from_slice(part)?;
@@ -34,7 +34,7 @@ pub fn push_all(text: &mut Vec<u8>, parts: &[&[u8]]) -> Result<(), AllocError> {
     Ok(())
 }
 
-/// A text of parts.
+/// Joins the parts to one text.
 pub fn joined(alloc: Global, parts: &[&[u8]]) -> Result<Vec<u8>, AllocError> {
     let mut text = Vec::new(alloc);
     push_all(&mut text, parts)?;

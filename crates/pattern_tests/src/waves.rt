@@ -1,4 +1,4 @@
-// Dumps of the nets of patterns that streams drive.
+// Dumps of the nets of patterns that are driven by streams.
 ghost use Rattle.std.specs.Prelude.{◌<◌};
 ghost use Rattle.pattern_reading.specs.Ports.{cells_of};
 ghost use Rattle.ww_rule.specs.Grid.{AreInBox};
@@ -14,7 +14,7 @@ use vcd_write::{PackedBits, Vcd, of, write};
 use ww_base::{MemSink, expect};
 use ww_rule::Pattern;
 
-// The text of variables.
+// The text of a dump.
 fn written(alloc: Global, vcd: &Vcd) -> Result<Vec<u8>, AllocError> {
     let Ok(mut sink) = MemSink::new(alloc, 8000, 1000, &[]) else {
         return Err(AllocError);
@@ -25,7 +25,7 @@ fn written(alloc: Global, vcd: &Vcd) -> Result<Vec<u8>, AllocError> {
     sink.held().to_vec(alloc)
 }
 
-/// The dump of the nets of a pattern, or why it is not run.
+/// Returns the dump of a pattern's nets, or why the pattern is not run.
 pub fn dump_said(
     alloc: Global,
     pattern: Pattern,
@@ -42,18 +42,18 @@ pub fn dump_said(
     }
 }
 
-// A table of a wire without nets, of the greatest period that two cycles allow.
+// A table of a wire, without nets and with a long period.
 const NO_NETS: &[u8] = b"#C BLIFWW 1 P 4294967296 L 2\n#C BLIFWW IN 0 0 a\n";
 
-// The same with an input on no cell of the wire.
+// A table without nets that has one input on the wire and one beside it.
 const OFF_WIRE: &[u8] = b"#C BLIFWW 1 P 32 L 2\n#C BLIFWW IN 0 0 a\n#C BLIFWW IN 0 1 b\n";
 
-// A wire of two rows, of which the second is empty.
+// A wire in the first of two rows.
 const TWO_ROWS: &[u8] = b"x = 3, y = 2, rule = WireWorld\n3C!";
 
-// Tables, patterns, words, cycles, and what is said.
+// Tables, patterns, words, cycles, and the dump or why there is none.
 const DUMPS: &[(&[u8], &[u8], &[&str], usize, &[u8])] = &[
-    // a gate, of which a net changes in the second cycle alone
+    // a gate with nets that change in the second cycle
     (
         b"#C BLIFWW 1 P 32 L 32\n#C BLIFWW IN 0 8 a\n#C BLIFWW IN 0 24 b\n#C BLIFWW OUT 32 8 y
 #C BLIFWW NET 0 8 0 a -\n#C BLIFWW NET 0 24 0 b -\n#C BLIFWW NET 32 8 32 y -\n",
@@ -78,7 +78,7 @@ const DUMPS: &[(&[u8], &[u8], &[&str], usize, &[u8])] = &[
         2,
         b"$enddefinitions $end\n#0\n#1\n#2\n",
     ),
-    // nets that begin in any order, one of them after a period and more
+    // nets whose offsets are in any order, one of them longer than a period
     (
         b"#C BLIFWW 1 P 4 L 2\n#C BLIFWW IN 0 0 a
 #C BLIFWW NET 2 0 2 y -\n#C BLIFWW NET 1 0 9 z -\n#C BLIFWW NET 0 0 0 a -\n",
@@ -88,7 +88,7 @@ const DUMPS: &[(&[u8], &[u8], &[&str], usize, &[u8])] = &[
         b"$var wire 1 ! y $end\n$var wire 1 \" z $end\n$var wire 1 # a $end\n$enddefinitions $end
 #0\n1!\n0\"\n1#\n#1\n1\"\n#2\n0!\n0\"\n0#\n#3\n1!\n1#\n#4\n",
     ),
-    // all nets of a context before those of the next
+    // all nets of a context come before those of the next
     (
         b"#C BLIFWW 1 P 64 L 2 C 2\n#C BLIFWW IN 0 0 a\n#C BLIFWW NET 2 0 2 y -\n#C BLIFWW NET 0 0 0 a 1.0\n",
         WIRE,
@@ -106,7 +106,7 @@ $var wire 1 # 1:y $end\n$var wire 1 $ 1:1.0/a $end\n$enddefinitions $end
         1,
         b"$var wire 1 ! 0/%24%24%25%20b $end\n$enddefinitions $end\n#0\n1!\n#1\n",
     ),
-    // an injection that meets no conductor, with nets and without them, where generation 0 alone is
+    // an injection that meets no conductor: with nets, and without nets, when only generation 0 is
     // needed
     (
         b"#C BLIFWW 1 P 1 L 2\n#C BLIFWW IN 0 0 a\n#C BLIFWW NET 2 0 2 y -\n",
@@ -154,7 +154,7 @@ fn push_net(alloc: Global, table: &mut Vec<u8>, net: usize) -> Result<(), AllocE
     table.extend_from_slice(line.as_bytes())
 }
 
-// A table of a wire with so many nets.
+// A table of a wire with this many nets.
 fn table_of(alloc: Global, nets: usize) -> Result<Vec<u8>, AllocError> {
     let mut table = b"#C BLIFWW 1 P 4 L 2\n#C BLIFWW IN 0 0 a\n".to_vec(alloc)?;
     for net in 0..nets {
@@ -163,7 +163,7 @@ fn table_of(alloc: Global, nets: usize) -> Result<Vec<u8>, AllocError> {
     Ok(table)
 }
 
-// The lines of a text from one of them on, so many.
+// `many` lines of a text, from line `first` on.
 fn lines(alloc: Global, text: &[u8], first: usize, many: usize) -> Result<Vec<u8>, AllocError> {
     let mut found = Vec::new(alloc);
     for line in text.split(|b| *b == b'\n').skip(first).take(many) {
@@ -176,7 +176,7 @@ fn expect_lines(alloc: Global, text: &[u8], first: usize, want: &[u8]) -> Result
     expect(&lines(alloc, text, first, 2)?, want)
 }
 
-// Expects these ids of the last two nets of many on the wire.
+// Fails unless the dump of the wire with this table has these two lines from line `first` on.
 fn expect_ids(alloc: Global, table: &[u8], first: usize, want: &[u8]) -> Result<(), Fail> {
     let said = said_of(alloc, table, WIRE, &["a=1"], 1, Asked::Dump)?;
     expect_lines(alloc, &said, first, want)
@@ -194,7 +194,7 @@ fn ids_have_digits(rt: HostRuntime) -> Result<(), Fail> {
     )
 }
 
-// Some bits around the borders of words, where two are set.
+// Bits at the borders of words, after bits 64 and 129 are set.
 fn packed(alloc: Global) -> Result<Vec<u8>, AllocError> {
     let mut bits = PackedBits::zeros(alloc, 130)?;
     if bits.len() < 130 {

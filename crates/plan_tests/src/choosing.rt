@@ -1,4 +1,4 @@
-// Which list's plan is kept, and how large it is.
+// Which of several lists is chosen for its plan, and how large the plan is.
 ghost use Rattle.std.specs.Prelude.{All, IfOk, OnOk};
 ghost use Rattle.cell_plans.specs.PlanOf.{IsPlannable};
 
@@ -18,7 +18,7 @@ const ONE_CELL: Written<'static> = Written {
     nets: &[Src::Input(0), Src::Input(1), Src::Cell(0)],
 };
 
-// The same in three.
+// An XOR of two inputs in three cells.
 const THREE_CELLS: Written<'static> = Written {
     inputs: 2,
     cells: &[
@@ -32,7 +32,7 @@ const THREE_CELLS: Written<'static> = Written {
     nets: &[Src::Input(0), Src::Input(1), Src::Cell(2)],
 };
 
-// The same in four.
+// An XOR of two inputs in four cells.
 const FOUR_CELLS: Written<'static> = Written {
     inputs: 2,
     cells: &[
@@ -47,11 +47,10 @@ const FOUR_CELLS: Written<'static> = Written {
     nets: &[Src::Input(0), Src::Input(1), Src::Cell(3)],
 };
 
-// The number of a list, and the lanes and the columns of its plan.
+// The place of the chosen list, and how many lanes and columns its plan has.
 type Choice = (usize, u32, usize);
 
-// Lists in an order, by the numbers of their cells, and the choice of the one that has the
-// smallest plan.
+// Lists, each given by its number of cells, and the choice: the list with the smallest plan.
 const CHOICES: &[(&[u8], Choice)] = &[
     (b"1", (0, 2, 1)),
     (b"3", (0, 4, 6)),
@@ -77,7 +76,7 @@ fn list_by(alloc: Global, cells: u8) -> Result<CellList, Fail>
     list_of(alloc, written)
 }
 
-// Puts a list at the end.
+// Appends a list.
 fn push_list(alloc: Global, lists: &mut Vec<CellList>, cells: u8) -> Result<(), Fail>
     requires { All IsPlannable lists.old.items }
     ensures { OnOk result (All IsPlannable lists.new.items) }
@@ -96,7 +95,7 @@ fn lists_of(alloc: Global, numbers: &[u8]) -> Result<Vec<CellList>, Fail>
     Ok(lists)
 }
 
-// The number of the list whose plan is kept, and the plan's lanes and columns.
+// The choice that `best_plan` makes.
 fn choice_of(alloc: Global, lists: &[CellList]) -> Result<Choice, Fail>
     requires { All IsPlannable lists.now }
 {

@@ -1,4 +1,4 @@
-// AIGER circuits against their plans, cycle by cycle.
+// Plans of AIGER circuits, and the streams that they make.
 ghost use Rattle.std.specs.Prelude.{IfOk};
 ghost use Rattle.lane_core.specs.Plans.{IsAdmissible};
 ghost use Rattle.aiger_text.specs.SoundAig.{IsSoundAig};
@@ -13,8 +13,7 @@ use netlist_plans::Planned;
 use std::alloc::Global;
 use std::test::Fail;
 
-// A circuit, the streams of its inputs and those of its outputs, and whether the period of its plan
-// is 32.
+// A circuit, its input and output streams, and whether the period of its plan is 32.
 struct Case {
     text: &'static [u8],
     cycles: usize,
@@ -61,7 +60,7 @@ const CASES: &[Case] = &[
         outs: &[b"1011", b"0101"],
         is_short: false,
     },
-    // outputs that are inputs, constants and each other
+    // two outputs that are one input, and an output that is constant 0
     Case {
         text: b"aag 1 1 0 3 0\n2\n2\n0\n2\n",
         cycles: 2,
@@ -81,7 +80,7 @@ fn circuit_of(alloc: Global, text: &[u8]) -> Result<Aig, Fail>
     }
 }
 
-// The streams of a circuit's inputs and those of its outputs.
+// The input and output streams of a circuit.
 #[derive(Clone, Copy)]
 struct Run {
     cycles: usize,
@@ -89,8 +88,8 @@ struct Run {
     outs: &'static [&'static [u8]],
 }
 
-// Whether a circuit's plan makes the streams, its period, the nets in its table, its lanes and its
-// columns.
+// Whether a circuit's plan makes the streams, its period, and how many nets its port table lists
+// and how many lanes and columns it has.
 #[derive(Clone, Copy)]
 struct Played {
     plays: bool,
@@ -100,7 +99,7 @@ struct Played {
     columns: usize,
 }
 
-// What is seen of a circuit: its plan, or no plan, as the gates of CIRCLE are in a circle.
+// How a circuit's plan plays, or that there is no plan, since the gates of CIRCLE form a circle.
 #[derive(Clone, Copy)]
 enum Seen {
     Plan(Played),
@@ -120,10 +119,10 @@ fn look(alloc: Global, run: Run, planned: &Planned) -> Result<Seen, Fail>
     }))
 }
 
-// The literals of the circle that is looked for.
+// The literals of the one circle that the tests expect.
 const CIRCLE: &[u64] = &[2];
 
-// What is seen of gates in a circle.
+// Fails if a circle has other literals than CIRCLE.
 fn look_at_circle(literals: &[u64]) -> Result<Seen, Fail> {
     if literals != CIRCLE {
         return Err(Fail::new(format_args!("a circle of {literals:?}")));
@@ -146,8 +145,8 @@ fn look_at(alloc: Global, text: &[u8], run: Run) -> Result<Seen, Fail> {
     see(alloc, run, &aig)
 }
 
-// Fails where a plan does not make the case's streams, has another period, or a table that lists
-// nets.
+// Fails if a plan does not make the case's streams, has another period than the case says, or has a
+// port table that lists nets.
 fn expect_played(case: &Case, played: Played) -> Result<(), Fail> {
     let is_short = played.period == 32;
     if played.plays && is_short == case.is_short && played.nets == 0 {
@@ -159,7 +158,7 @@ fn expect_played(case: &Case, played: Played) -> Result<(), Fail> {
     )))
 }
 
-// Fails where a circuit has no plan, or one that is not as the case says.
+// Fails if the circuit has no plan, or one that is not as the case says.
 fn check_case(alloc: Global, case: &Case) -> Result<(), Fail> {
     let run = Run {
         cycles: case.cycles,
@@ -180,7 +179,7 @@ fn circuits_do_what_they_say(rt: HostRuntime) -> Result<(), Fail> {
     Ok(())
 }
 
-// What is seen of a circuit in no cycle.
+// What `look_at` returns for a circuit that is run for no cycle.
 fn seen_at_rest(alloc: Global, text: &[u8]) -> Result<Seen, Fail> {
     let run = Run {
         cycles: 0,
@@ -190,7 +189,7 @@ fn seen_at_rest(alloc: Global, text: &[u8]) -> Result<Seen, Fail> {
     look_at(alloc, text, run)
 }
 
-// The lanes and the columns of a circuit's plan.
+// How many lanes and columns the circuit's plan has.
 fn box_of(alloc: Global, text: &[u8]) -> Result<(u32, usize), Fail> {
     match seen_at_rest(alloc, text)? {
         Seen::Plan(played) => Ok((played.lanes, played.columns)),

@@ -1,4 +1,4 @@
-// What lists of cells give, cycle by cycle.
+// The bits that lists of cells show at their outputs, cycle by cycle.
 ghost use Rattle.std.specs.Prelude.{◌≡◌, All, IfOk, OnOk, length};
 
 use crate::written::must;
@@ -10,7 +10,7 @@ use std::test::Fail;
 use streams::Streams;
 use ww_base::expect;
 
-// The bits of a stream, a letter for each cycle.
+// The bits of a stream. Fails unless there is a letter for each cycle.
 fn stream_of(alloc: Global, letters: &[u8], cycles: usize) -> Result<Vec<bool>, Fail>
     ensures { IfOk result (λ stream. length stream.items ≡ cycles) }
 {
@@ -22,7 +22,7 @@ fn stream_of(alloc: Global, letters: &[u8], cycles: usize) -> Result<Vec<bool>, 
     Ok(stream)
 }
 
-// Puts a stream at the end.
+// Appends a stream.
 fn push_stream(
     alloc: Global,
     bits: &mut Vec<List<bool>>,
@@ -50,7 +50,7 @@ fn streams_of(alloc: Global, ins: &[&[u8]], cycles: usize) -> Result<Streams, Fa
     })
 }
 
-// Puts a line of letters at the end of a text.
+// Appends the bits to a text, as a line of letters.
 fn push_line(text: &mut Vec<u8>, bits: &[bool]) -> Result<(), AllocError> {
     for bit in bits {
         text.push(if *bit { b'1' } else { b'0' })?;
@@ -68,7 +68,7 @@ fn lines_of(alloc: Global, lists: &[List<bool>]) -> Result<Vec<u8>, AllocError> 
     Ok(text)
 }
 
-// What the list shows under the streams.
+// The lines that the list shows at its outputs under the streams.
 fn shown_said(alloc: Global, list: &CellList, streams: &Streams) -> Result<Vec<u8>, Fail>
     requires { All (λ bits. length bits ≡ streams.now.cycles) streams.now.bits }
 {
@@ -76,8 +76,8 @@ fn shown_said(alloc: Global, list: &CellList, streams: &Streams) -> Result<Vec<u
     Ok(lines_of(alloc, shown.as_slice())?)
 }
 
-/// What a list gives at its outputs under streams of letters: a line for each output, with a letter
-/// for each cycle.
+/// Runs a list under streams of letters, and returns what its outputs show: a line for each output,
+/// with a letter for each cycle.
 pub fn list_said(
     alloc: Global,
     list: &CellList,
@@ -88,14 +88,14 @@ pub fn list_said(
     shown_said(alloc, list, &streams)
 }
 
-// Puts a line at the end of a text.
+// Appends the letters to a text, as a line.
 fn push_letters(text: &mut Vec<u8>, letters: &[u8]) -> Result<(), AllocError> {
     text.extend_from_slice(letters)?;
     text.push(b'\n')?;
     Ok(())
 }
 
-// Streams of letters, a line for each.
+// The streams as text, with a line for each.
 fn lines(alloc: Global, streams: &[&[u8]]) -> Result<Vec<u8>, AllocError> {
     let mut text = Vec::new(alloc);
     for letters in streams {
@@ -104,7 +104,7 @@ fn lines(alloc: Global, streams: &[&[u8]]) -> Result<Vec<u8>, AllocError> {
     Ok(text)
 }
 
-/// Fails where the text is not of a line for each of the streams.
+/// Fails unless the text is these streams, with a line for each.
 pub fn expect_lines(alloc: Global, said: &[u8], streams: &[&[u8]]) -> Result<(), Fail> {
     let want = lines(alloc, streams)?;
     expect(said, &want)

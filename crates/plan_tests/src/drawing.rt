@@ -7,14 +7,14 @@ use cell_core::{Cell, CellList, Src};
 use std::alloc::{AllocError, Global};
 use std::test::Fail;
 
-/// A generator of numbers.
+/// A generator of random numbers.
 #[derive(Drop)]
 pub struct Draw {
     pub state: u32,
 }
 
 impl Draw {
-    /// A number below `n`, or 0, and less than 2 ^ 16.
+    /// Draws a number that is below `n` and below 2 ^ 16, or 0 if `n` is 0.
     pub fn below(&mut self, n: u32) -> u32
         ensures { result < 2 ^ 16 }
     {
@@ -22,13 +22,13 @@ impl Draw {
         ((self.state >> 16) % n.max(1)) & 0xffff
     }
 
-    /// A bit.
+    /// Draws a bit.
     fn bit(&mut self) -> bool {
         self.below(2) == 1
     }
 }
 
-// How many inputs, latches and cells a source may be of.
+// How many inputs, latches and cells a source may come from.
 #[derive(Clone, Copy)]
 struct Counts {
     inputs: u32,
@@ -68,7 +68,7 @@ fn draw_sources(
     Ok(sources)
 }
 
-/// So many bits.
+/// Draws `count` bits.
 pub fn draw_bits(alloc: Global, draw: &mut Draw, count: u32) -> Result<Vec<bool>, AllocError>
     ensures { IfOk result (λ bits. length bits.items ≡ count) }
 {
@@ -89,7 +89,7 @@ fn draw_cell(draw: &mut Draw, counts: Counts) -> Cell {
     }
 }
 
-// Cells, each of which reads only what is before it.
+// Draws cells that read only inputs, latches, constants and earlier cells.
 fn draw_cells(alloc: Global, draw: &mut Draw, counts: Counts) -> Result<Vec<Cell>, AllocError> {
     let mut drawn = Vec::new(alloc);
     for cells in 0..counts.cells {
@@ -98,7 +98,7 @@ fn draw_cells(alloc: Global, draw: &mut Draw, counts: Counts) -> Result<Vec<Cell
     Ok(drawn)
 }
 
-// The list of these latches and cells, with outputs and nets that are drawn.
+// The list with these starts and cells, and random outputs, sources of latches and nets.
 fn draw_ports(
     alloc: Global,
     draw: &mut Draw,
@@ -123,7 +123,7 @@ fn draw_ports(
     list_of(alloc, &written)
 }
 
-/// A list of at most 4 inputs, 3 latches, 13 cells, 5 outputs and 9 nets.
+/// Draws a list with at most 4 inputs, 3 latches, 13 cells, 5 outputs and 9 nets.
 pub fn draw_list(alloc: Global, draw: &mut Draw) -> Result<CellList, Fail>
     ensures { IfOk result IsPlannable }
 {

@@ -1,4 +1,4 @@
-// The cells that the columns of plans make.
+// The lists of cells that are lifted from plans.
 ghost use Rattle.lane_core.specs.Plans.{IsAdmissible};
 
 use crate::written::{Written, must, plan_of_written};
@@ -9,7 +9,7 @@ use std::alloc::Global;
 use std::test::Fail;
 use ww_base::expect;
 
-// A bit that is 1 after each cycle in which the input is 1 and it was 0, and starts with 1.
+// A latch that starts with 1, and is 1 after a cycle if the input was 1 and the latch 0 in it.
 const PULSE: Written<'static> = Written {
     inputs: 1,
     cells: &[Cell::AndNot(Src::Input(0), Src::Latch(0))],
@@ -19,7 +19,7 @@ const PULSE: Written<'static> = Written {
     nets: &[],
 };
 
-// What of a list is first found other than it is written down; its nets are not looked at.
+// The first field of a list that differs from the list that is written down. Nets are not compared.
 fn difference(list: &CellList, written: &Written<'_>) -> &'static str {
     let cells = list.cells.as_slice() == written.cells;
     let outs = list.outs.as_slice() == written.outs;
@@ -40,8 +40,8 @@ fn difference(list: &CellList, written: &Written<'_>) -> &'static str {
     }
 }
 
-// In what the cells of a list's plan differ from the list, and whether the plan's loops start with
-// the bits of its latches.
+// Where the cells of a list's plan first differ from the list, and whether the plan's loops start
+// with the bits of the list's latches.
 #[derive(Clone, Copy)]
 struct Found {
     difference: &'static str,
@@ -79,7 +79,7 @@ fn a_plan_makes_the_cells_of_its_list(rt: HostRuntime) -> Result<(), Fail> {
     expect(found.difference.as_bytes(), b"nothing")
 }
 
-// Whether of two loops on four lanes the second alone starts with 1.
+// Whether `starts_of_bits` starts the second of two loops on four lanes with 1, and the first not.
 fn second_starts(alloc: Global) -> Result<bool, Fail> {
     let starts = starts_of_bits(alloc, 4, &[false, true])?;
     Ok(!starts.has(64, 40) && starts.has(64, 56) && starts.list.len() == 1)

@@ -1,4 +1,4 @@
-// The BLIF texts of what is lifted from plans.
+// The BLIF texts of netlists that are lifted from plans.
 ghost use Rattle.lane_core.specs.Plans.{IsAdmissible};
 
 use crate::ports::{PortRow, ports_of};
@@ -11,7 +11,8 @@ use std::alloc::Global;
 use std::test::Fail;
 use ww_base::{MemSink, expect};
 
-// A list of cells that is placed and lifted, its inputs and outputs with their names, and the text.
+// A list of cells, the ports of its inputs and outputs, and the BLIF text of the netlist that is
+// lifted from its plan.
 struct Case {
     written: Written<'static>,
     ins: &'static [PortRow],
@@ -60,7 +61,7 @@ const CASES: &[Case] = &[
         outs: &[(0, 0, b"__")],
         text: b".model lifted\n.inputs _z a\\b\n.outputs __\n.names ___z\n.names _z a\\b ___g0\n10 1\n01 1\n.names ___g0 __\n1 1\n.end\n",
     },
-    // an input at two outputs, with names of other signs
+    // an input at two outputs, with names that have `=`, `.` and `\` in them
     Case {
         written: Written {
             inputs: 1,
@@ -74,7 +75,7 @@ const CASES: &[Case] = &[
         outs: &[(0, 0, b".names"), (0, 0, b"y\\1")],
         text: b".model lifted\n.inputs a=b\n.outputs .names y\\1\n.names _z\n.names a=b .names\n1 1\n.names a=b y\\1\n1 1\n.end\n",
     },
-    // two loops, each of which reads the other
+    // two loops that read each other
     Case {
         written: Written {
             inputs: 0,
@@ -88,7 +89,7 @@ const CASES: &[Case] = &[
         outs: &[(0, 0, b"y")],
         text: b".model lifted\n.inputs\n.outputs y\n.names _z\n.latch _q1 _q0 1\n.latch _q0 _q1 0\n.names _q0 y\n1 1\n.end\n",
     },
-    // a gate of a latch and an input, which the loop reads again, and an output that is constant 0
+    // a gate that reads an input and a latch and feeds the latch, and an output that is constant 0
     Case {
         written: Written {
             inputs: 1,
@@ -104,14 +105,14 @@ const CASES: &[Case] = &[
     },
 ];
 
-// The text of what is lifted.
+// The BLIF text of a lifted netlist.
 fn text_of_lift(alloc: Global, lift: &Lift) -> Result<MemSink, Fail> {
     let mut sink = MemSink::new(alloc, 1000, 7, &[])?;
     write(lift, &mut sink)?;
     Ok(sink)
 }
 
-// The text of a plan with these ports, where there is one for each output.
+// The BLIF text of a plan with these ports. Fails unless there is one for each output.
 fn text_of(alloc: Global, plan: &Plan, ports: &Ports) -> Result<MemSink, Fail>
     requires { IsAdmissible plan.now }
 {

@@ -1,4 +1,4 @@
-// Lists of cells against their plans, cycle by cycle.
+// Lists of cells compared with their plans, cycle by cycle.
 ghost use Rattle.cell_plans.specs.PlanOf.{IsPlannable};
 
 use crate::drawing::{Draw, draw_list};
@@ -9,7 +9,7 @@ use lane_core::{Column, Instr, Plan};
 use std::alloc::Global;
 use std::test::Fail;
 
-// The OR of two inputs; a net for each of them and for the output.
+// The OR of two inputs, with a net for each input and for the output.
 const OR: Written<'static> = Written {
     inputs: 2,
     cells: &[Cell::Or(Src::Input(0), Src::Input(1))],
@@ -28,7 +28,8 @@ const NOTHING: Written<'static> = Written {
     nets: &[],
 };
 
-// Whether the plan has two lanes and one column, of the OR of the two.
+// Whether the plan has two lanes, an input on each, and one column, with the OR of the two lanes
+// and the output on lane 0.
 fn is_or(plan: &Plan) -> bool {
     plan.lanes == 2
         && plan.ins.as_slice() == [0, 1].as_slice()
@@ -40,7 +41,7 @@ fn has_one_column(columns: &[Column], instrs: &[Instr]) -> bool {
     columns.len() == 1 && columns[0].instrs.as_slice() == instrs
 }
 
-// The lanes and the columns of a plan, and whether it is the OR.
+// How many lanes and columns a plan has, and whether it is the plan of the OR.
 #[derive(Clone, Copy)]
 struct Shape {
     lanes: u32,
@@ -83,13 +84,13 @@ fn list_agrees(alloc: Global, list: &CellList, draw: &mut Draw) -> Result<bool, 
     Ok(agrees(alloc, list, &plan, draw)?)
 }
 
-// Whether the plan of a list that is drawn does what the list does.
+// Whether the plan of a random list does what the list does.
 fn drawn_agrees(alloc: Global, draw: &mut Draw) -> Result<bool, Fail> {
     let list = draw_list(alloc, draw)?;
     list_agrees(alloc, &list, draw)
 }
 
-// Fails where one of 1,000 lists that are drawn has a plan that does not what the list does.
+// Draws 1,000 lists, and fails at the first whose plan does not do what the list does.
 fn check_1000(alloc: Global, draw: &mut Draw) -> Result<(), Fail> {
     for turn in 0..1000u32 {
         if !drawn_agrees(alloc, draw)? {
@@ -99,12 +100,12 @@ fn check_1000(alloc: Global, draw: &mut Draw) -> Result<(), Fail> {
     Ok(())
 }
 
-// Where the generator stands after the first 1,000 lists.
+// The state of the generator after the first 1,000 lists.
 const AFTER_1000: u32 = 2_669_688_757;
 
-// Lists with constants as operands, doubled sources, cells that nothing reads, unused latches and
-// inputs, outputs of one source, outputs that are inputs, and none of any of these: 2,000 of them,
-// in two tests.
+// The two tests draw 2,000 lists. Among them are lists with constants as operands, doubled sources,
+// cells that nothing reads, unused latches and inputs, outputs of one source, and outputs that are
+// inputs, and lists with none of these.
 #[test]
 fn plans_do_what_random_lists_do(rt: HostRuntime) -> Result<(), Fail> {
     let mut draw = Draw { state: 1 };

@@ -10,7 +10,7 @@ pub type PortRow = (u64, u64, &'static [u8]);
 /// The cell of a net, its offset and its name.
 pub type NetRow = (u64, u64, u64, &'static [u8]);
 
-// Puts a port at the end.
+// Appends a port.
 fn push_port(alloc: Global, lines: &mut Vec<PortLine>, row: PortRow) -> Result<(), Fail> {
     let (x, y, name) = row;
     let name = copied(alloc, name)?;
@@ -25,7 +25,7 @@ fn port_lines(alloc: Global, rows: &[PortRow]) -> Result<Vec<PortLine>, Fail> {
     Ok(lines)
 }
 
-// A net, whose path is `-`.
+// A net with the path `-`.
 fn net_line(alloc: Global, row: NetRow) -> Result<NetLine, Fail> {
     let (x, y, offset, name) = row;
     let path = copied(alloc, b"-")?;
@@ -47,7 +47,7 @@ fn net_lines(alloc: Global, rows: &[NetRow]) -> Result<Vec<NetLine>, Fail> {
     Ok(lines)
 }
 
-/// Inputs, outputs and nets, of a pattern with one context, period 32 and latency 32.
+/// Makes a port table with these inputs, outputs and nets, one context, period 32 and latency 32.
 pub fn ports_of(
     alloc: Global,
     ins: &[PortRow],

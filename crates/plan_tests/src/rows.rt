@@ -1,4 +1,4 @@
-// Small circuits as lists of cells, with streams of bits that they make.
+// Small circuits as lists of cells, with their input and output streams.
 ghost use Rattle.cell_plans.specs.PlanOf.{IsPlannable};
 ghost use Rattle.lane_core.specs.Plans.{IsAdmissible};
 
@@ -10,10 +10,12 @@ use lane_core::Plan;
 use std::alloc::Global;
 use std::test::Fail;
 
-// A list, and for streams of input bits, a letter for each cycle, the streams of its outputs.
+// A list, and the streams that its outputs show under streams of its inputs. A stream has a letter
+// for each cycle.
 struct Case {
     name: &'static str,
-    // Tiles of the list's smallest plan in four orders of its cells, without climbing.
+    // How many tiles the smallest plan of the list takes in four orders of its cells, without
+    // climbing.
     plain: u64,
     list: Written<'static>,
     cycles: usize,
@@ -191,15 +193,15 @@ const CASES: &[Case] = &[
     },
 ];
 
-// The tiles of a plan, with those of its loops.
+// How many tiles a plan takes, those of its loops among them.
 fn tiles_of(plan: &Plan) -> u64 {
     let loops = u64::from(plan.latches);
     let columns = (plan.columns.len() as u64).saturating_add(loops.saturating_mul(2));
     columns.saturating_mul(u64::from(plan.lanes).saturating_add(loops))
 }
 
-// Fails where the plan does not what its list does, makes other streams than the case's, or has too
-// many tiles.
+// Fails if the plan does not do what its list does, makes streams other than the case's, or takes
+// more than `plain` tiles.
 fn check_plan(alloc: Global, case: &Case, list: &CellList, plan: &Plan) -> Result<(), Fail>
     requires { IsAdmissible plan.now }
 {
@@ -215,7 +217,7 @@ fn check_plan(alloc: Global, case: &Case, list: &CellList, plan: &Plan) -> Resul
     )))
 }
 
-// Fails where the list does not give the case's streams.
+// Fails unless the list shows the case's streams at its outputs.
 fn check_outputs(alloc: Global, case: &Case, list: &CellList) -> Result<(), Fail> {
     let said = list_said(alloc, list, case.ins, case.cycles)?;
     expect_lines(alloc, &said, case.outs)

@@ -1,4 +1,4 @@
-// What a list does in a cycle, and what its plan does.
+// Compares what a list of cells does in a cycle with what its plan does.
 ghost use Rattle.std.specs.Prelude.{◌≡◌, length, IfOk};
 ghost use Rattle.lane_core.specs.Plans.{IsAdmissible};
 
@@ -18,7 +18,7 @@ fn bit_at(bits: &[bool], i: u32) -> bool {
     bit_or_dark(bits, i as usize)
 }
 
-// The bits of a cycle: of the inputs, of the latches, and of the cells.
+// The bits of the inputs, the latches and the cells in a cycle.
 #[derive(Clone, Copy)]
 struct Cycle<'a> {
     inputs: &'a [bool],
@@ -37,7 +37,7 @@ impl Cycle<'_> {
         }
     }
 
-    // The bit of the source at a place of a list of them.
+    // The bit of the i-th source, or 0 if there is none.
     fn read_at(self, sources: &[Src], i: usize) -> bool {
         match sources.get(i) {
             Some(src) => self.read(*src),
@@ -54,7 +54,7 @@ impl Cycle<'_> {
     }
 }
 
-// The bits of the cells.
+// The bits of the list's cells.
 fn made_of(
     alloc: Global,
     list: &CellList,
@@ -104,7 +104,7 @@ fn entry(
     Ok(bits)
 }
 
-// The bits that leave this many columns.
+// The bits on all lanes after this many columns.
 fn leave(
     alloc: Global,
     plan: &Plan,
@@ -130,7 +130,7 @@ fn outs_agree(list: &CellList, plan: &Plan, cycle: Cycle<'_>, end: &[bool]) -> b
     same
 }
 
-// The bit at the place of a net.
+// The bit that stands at a net's place.
 fn net_bit(alloc: Global, plan: &Plan, place: NetPlace, entry: &[bool]) -> Result<bool, AllocError>
     requires admissible { IsAdmissible plan.now }
     requires wide { length entry.now ≡ plan.now.lanes }
@@ -162,7 +162,7 @@ fn nets_agree(
     Ok(same)
 }
 
-// The bits that the loops bring: the first loop leaves on the lowest lane.
+// The bits that the loops bring back; the first loop leaves on the lowest lane.
 fn brought(alloc: Global, plan: &Plan, end: &[bool]) -> Result<Vec<bool>, AllocError> {
     let mut bits = Vec::new(alloc);
     for loop_number in 0..plan.latches {
@@ -180,8 +180,8 @@ fn next_state(alloc: Global, list: &CellList, cycle: Cycle<'_>) -> Result<Vec<bo
     Ok(bits)
 }
 
-// The bits that loops bring for the bits of latches, the last one for constant 1 where there is one
-// for it.
+// The bits that the loops bring if the latches have these bits; the last is 1 if a loop is for
+// constant 1.
 fn loops_of(alloc: Global, state: &[bool], one: bool) -> Result<Vec<bool>, AllocError> {
     let mut bits = state.to_vec(alloc)?;
     if one {
@@ -201,13 +201,14 @@ fn loops_bring(plan: &Plan, end: &[bool], bits: &[bool]) -> bool {
     same
 }
 
-// The bits that loops bring for the latches in the next cycle.
+// The bits that the loops are to bring to the next cycle.
 fn next_loops(alloc: Global, list: &CellList, cycle: Cycle<'_>) -> Result<Vec<bool>, AllocError> {
     let state = next_state(alloc, list, cycle)?;
     loops_of(alloc, &state, list.names_one())
 }
 
-// Whether the bits that leave are those of the outputs and of the latches in the next cycle.
+// Whether the bits that leave the plan are those of the list's outputs, and those of its latches in
+// the next cycle.
 fn ends_agree(
     alloc: Global,
     list: &CellList,
@@ -219,7 +220,7 @@ fn ends_agree(
     Ok(loops_bring(plan, end, &next) && outs_agree(list, plan, cycle, end))
 }
 
-// The bits at the entry, of the bits of inputs and latches.
+// The bits at the plan's entry for the inputs and latches of a cycle.
 fn entry_of(
     alloc: Global,
     list: &CellList,
@@ -232,7 +233,7 @@ fn entry_of(
     entry(alloc, plan, cycle.inputs, &loops)
 }
 
-// Whether the plan does from these bits at its entry what the list does.
+// Whether the plan does what the list does, with these bits at its entry.
 fn agrees_from(
     alloc: Global,
     list: &CellList,
@@ -262,7 +263,8 @@ fn agrees_in(
     agrees_from(alloc, list, plan, cycle, &entry)
 }
 
-// The bits with which the loops of a plan start, by the cells at which they enter its first column.
+// The bits with which the loops of a plan start: 1 if the plan has a start at the cell where the
+// loop enters the first column.
 fn starting(alloc: Global, plan: &Plan) -> Result<Vec<bool>, AllocError>
     requires { IsAdmissible plan.now }
 {
@@ -282,7 +284,8 @@ fn starts_agree(alloc: Global, list: &CellList, plan: &Plan) -> Result<bool, All
     Ok(starts.as_slice() == loops.as_slice())
 }
 
-// Whether the plan does in a cycle what the list does; the latches then have their next bits.
+// Whether the plan does in a cycle what the list does. Afterwards `state` has the latches' next
+// bits.
 fn agrees_next(
     alloc: Global,
     list: &CellList,
@@ -303,8 +306,8 @@ fn agrees_next(
     Ok(same)
 }
 
-// Whether the plan does what the list does, in four cycles of random inputs from these bits of the
-// latches on.
+// Whether the plan does what the list does in four cycles with random inputs, of which the first
+// begins with these bits of the latches.
 fn cycles_agree(
     alloc: Global,
     list: &CellList,
@@ -322,7 +325,8 @@ fn cycles_agree(
     Ok(same)
 }
 
-/// Whether the plan does what the list does, in four cycles of random inputs.
+/// Returns whether the plan starts with the list's bits, and does what the list does in four cycles
+/// with random inputs.
 pub fn agrees(
     alloc: Global,
     list: &CellList,
@@ -337,7 +341,7 @@ pub fn agrees(
     Ok(starts && cycles)
 }
 
-// The last bits of a number, the last one first.
+// The `count` lowest bits of a number, the lowest first.
 fn bits_of(alloc: Global, number: u32, count: usize) -> Result<Vec<bool>, AllocError> {
     let mut bits = Vec::new(alloc);
     let mut rest = number;
@@ -348,7 +352,7 @@ fn bits_of(alloc: Global, number: u32, count: usize) -> Result<Vec<bool>, AllocE
     Ok(bits)
 }
 
-// Whether the plan does in a cycle of these bits what the list does.
+// Whether the plan does what the list does in a cycle with these bits.
 fn agrees_at(
     alloc: Global,
     list: &CellList,
@@ -367,8 +371,8 @@ fn agrees_at(
     agrees_in(alloc, list, plan, cycle)
 }
 
-// Whether it does for the bits of a number: those of the latches are its last ones, and those of
-// the inputs stand before.
+// Whether the plan does what the list does in a cycle with the bits of a number: its lowest bits
+// are those of the latches, and the next ones those of the inputs.
 fn agrees_for(alloc: Global, list: &CellList, plan: &Plan, number: u32) -> Result<bool, AllocError>
     requires { IsAdmissible plan.now }
 {
@@ -378,7 +382,8 @@ fn agrees_for(alloc: Global, list: &CellList, plan: &Plan, number: u32) -> Resul
     agrees_at(alloc, list, plan, &inputs, &state)
 }
 
-/// Whether the plan does what the list does, for all bits of at most eight inputs and latches.
+/// Returns whether the plan starts with the list's bits, and does what the list does in a cycle
+/// with any bits of its inputs and latches, if these are at most eight in all.
 pub fn agrees_for_all(alloc: Global, list: &CellList, plan: &Plan) -> Result<bool, AllocError>
     requires { IsAdmissible plan.now }
 {
@@ -396,7 +401,7 @@ fn is_one(stream: &[u8], cycle: usize) -> bool {
     }
 }
 
-// Whether the stream at a place has a 1 in the cycle.
+// Whether there is an i-th stream and it has a 1 in the cycle.
 fn shows_one(streams: &[&[u8]], i: usize, cycle: usize) -> bool {
     match streams.get(i) {
         Some(stream) => is_one(stream, cycle),
@@ -404,7 +409,7 @@ fn shows_one(streams: &[&[u8]], i: usize, cycle: usize) -> bool {
     }
 }
 
-// The bits of streams in a cycle, one letter of each stream.
+// The bits of the streams in a cycle, one for each stream.
 fn letters(alloc: Global, streams: &[&[u8]], cycle: usize) -> Result<Vec<bool>, AllocError> {
     let mut bits = Vec::new(alloc);
     for stream in streams {
@@ -413,7 +418,7 @@ fn letters(alloc: Global, streams: &[&[u8]], cycle: usize) -> Result<Vec<bool>, 
     Ok(bits)
 }
 
-// Whether the outputs show the letters of streams in a cycle.
+// Whether the plan's outputs show the streams' letters of a cycle.
 fn outs_show(plan: &Plan, end: &[bool], streams: &[&[u8]], cycle: usize) -> bool {
     let mut same = plan.outs.len() == streams.len();
     let lanes = plan.outs.as_slice();
@@ -423,7 +428,7 @@ fn outs_show(plan: &Plan, end: &[bool], streams: &[&[u8]], cycle: usize) -> bool
     same
 }
 
-// The bits that leave the plan in a cycle of streams, of these bits of its loops.
+// The bits that leave the plan in a cycle of the streams, if its loops bring these bits.
 fn end_of(
     alloc: Global,
     plan: &Plan,
@@ -438,8 +443,8 @@ fn end_of(
     leave(alloc, plan, plan.columns.len(), &entry)
 }
 
-// Whether the plan makes in a cycle the letters of `outs` of those of `ins`; the loops then have
-// the bits that they bring.
+// Whether the plan makes the letters of `outs` in a cycle from those of `ins`. Afterwards `loops`
+// has the bits that the loops bring to the next cycle.
 fn plays_next(
     alloc: Global,
     plan: &Plan,
@@ -455,7 +460,7 @@ fn plays_next(
     Ok(outs_show(plan, &end, outs, cycle))
 }
 
-/// Whether the plan, from its starts on, makes the streams `outs` of the streams `ins`.
+/// Returns whether the plan, from its starts on, makes the streams `outs` from the streams `ins`.
 pub fn plays(
     alloc: Global,
     plan: &Plan,

@@ -10,7 +10,7 @@ use std::alloc::Global;
 use std::test::Fail;
 use ww_base::{Failed, MemSink, expect};
 
-// A column with an OR of the two upper lanes.
+// A column with an OR of lanes 0 and 1.
 fn or_column(alloc: Global) -> Result<Column, Fail> {
     let instrs = vec![in alloc; Instr::Or(0)]?;
     Ok(Column {
@@ -26,7 +26,7 @@ fn or_columns(alloc: Global, columns: usize) -> Result<Vec<Column>, Fail> {
     Ok(made)
 }
 
-// Two lanes and columns with their OR, with the output on the upper lane.
+// A plan of two lanes, with an OR of these in each column and the output on lane 0.
 fn plan_of(alloc: Global, columns: usize) -> Result<Plan, Fail> {
     let ins = vec![in alloc; 0, 1]?;
     let outs = vec![in alloc; 0]?;
@@ -46,13 +46,13 @@ fn plan_of(alloc: Global, columns: usize) -> Result<Plan, Fail> {
 // The cells and the names of the OR's inputs.
 const INS: &[PortRow] = &[(0, 8, b"a"), (0, 24, b"b")];
 
-// The cell and the name of its output.
+// The cell and the name of the OR's output.
 const OUTS: &[PortRow] = &[(32, 8, b"y")];
 
-// The cells, the offsets and the names of its nets.
+// The cells, the offsets and the names of the OR's nets.
 const NETS: &[NetRow] = &[(0, 8, 0, b"a"), (0, 24, 0, b"b"), (31, 8, 31, b"y")];
 
-// 321 bytes.
+// The text of the OR, of 321 bytes.
 const TEXT_WITH_NETS: &[u8] = b"#C BLIFWW 2 P 32 L 32 C 1
 #C BLIFWW IN 0 8 a
 #C BLIFWW IN 0 24 b
@@ -65,7 +65,7 @@ x = 33, y = 32, rule = WireWorld
 C.C$15.C$11.2C.C$10.2C.C$9.C.2C$8.C$7.C$6.C$5.C$5C26.C!
 ";
 
-// What comes of writing a plan to a sink.
+// Writes a plan to a sink, and returns the result of the call. Fails if the plan is not admissible.
 fn write_plan(plan: &Plan, ports: &Ports, sink: &mut MemSink) -> Result<Result<(), Failed>, Fail> {
     if admissible(plan) {
         Ok(write(plan, ports, sink))
@@ -74,7 +74,7 @@ fn write_plan(plan: &Plan, ports: &Ports, sink: &mut MemSink) -> Result<Result<(
     }
 }
 
-// What comes of writing so many columns with these ports to a sink.
+// Writes the plan with this many columns and these ports to a sink.
 fn write_columns(
     alloc: Global,
     columns: usize,
@@ -85,14 +85,14 @@ fn write_columns(
     write_plan(&plan, ports, sink)
 }
 
-// What comes of writing the OR to a sink.
+// Writes the OR to a sink.
 fn write_or(alloc: Global, sink: &mut MemSink) -> Result<Result<(), Failed>, Fail> {
     let ports = ports_of(alloc, INS, OUTS, NETS)?;
     write_columns(alloc, 1, &ports, sink)
 }
 
-// A sink by its room, the most bytes that a call takes and the calls that fail; what comes of
-// writing the OR to it, and how much of the text is held then.
+// A sink: its room, the most bytes that a call takes, and the calls that fail, counted from 0. Then
+// the result of writing the OR to it, and how many bytes of the text it holds afterwards.
 struct SinkCase {
     room: usize,
     chunk: usize,
@@ -101,7 +101,8 @@ struct SinkCase {
     held: usize,
 }
 
-// A sink that takes all; sinks of no room, of room for a front, and with a third call that fails.
+// A sink that takes the whole text; one without room, two with room for a prefix, and one whose
+// third call fails.
 const SINKS: &[SinkCase] = &[
     SinkCase {
         room: 1000,
@@ -140,7 +141,7 @@ const SINKS: &[SinkCase] = &[
     },
 ];
 
-// Fails where other comes of a sink than is wanted.
+// Fails unless writing had the wanted result, and the sink holds the wanted prefix of the text.
 fn expect_sink(case: &SinkCase, written: Result<(), Failed>, held: &[u8]) -> Result<(), Fail> {
     let front = &TEXT_WITH_NETS[..case.held.min(TEXT_WITH_NETS.len())];
     if written == case.wanted && held == front {
@@ -174,21 +175,21 @@ fn no_ports(alloc: Global) -> Ports {
     }
 }
 
-// What comes of writing a hundred columns to a sink.
+// Writes a plan of 100 columns without ports to a sink.
 fn write_wide(alloc: Global, sink: &mut MemSink) -> Result<Result<(), Failed>, Fail> {
     let ports = no_ports(alloc);
     write_columns(alloc, 100, &ports, sink)
 }
 
-// Whether the text is longer than a page, with the lines of a wide plan first and the end of a
-// pattern last.
+// Whether the text is longer than 8,192 bytes, begins with the lines of the wide plan and ends as a
+// pattern does.
 fn is_wide_text(text: &[u8]) -> bool {
     text.len() > 8192
         && text.starts_with(b"#C BLIFWW 2 P 32 L 3200 C 1\nx = 3201, y = 32, rule = WireWorld\n")
         && text.ends_with(b"C!\n")
 }
 
-// A row of 3,201 cells is 13 pieces.
+// The plan has rows of 3,201 cells.
 #[test]
 fn a_wide_plan_is_written_in_lines_of_70_bytes(rt: HostRuntime) -> Result<(), Fail> {
     let mut sink = MemSink::new(rt.alloc(), 20000, 1000, &[])?;

@@ -11,8 +11,8 @@ use lists::List;
 use std::alloc::Global;
 use std::test::Fail;
 
-/// A list as it is written down: the sources of the latches, and the bits with which they begin, in
-/// the same order.
+/// A list of cells as a test writes it down. `latches` are the sources of the latches, and `starts`
+/// the bits with which the latches start, in the same order.
 #[derive(Clone, Copy)]
 pub struct Written<'a> {
     pub inputs: u32,
@@ -23,7 +23,7 @@ pub struct Written<'a> {
     pub nets: &'a [Src],
 }
 
-/// An error where it does not hold.
+/// Returns an error unless it holds.
 pub fn must(holds: bool) -> Result<(), &'static str>
     ensures { OnOk result (IsTrue holds) }
 {
@@ -58,7 +58,8 @@ fn are_there(sources: &[Src], inputs: usize, latches: usize, cells: usize) -> bo
     true
 }
 
-// Fails where no list is written down, or a large one.
+// Fails unless a list is written down whose sources are all there, and a small one: fewer than
+// 1,000 inputs, latches, outputs and cells each.
 fn check(written: &Written<'_>) -> Result<(), &'static str>
     ensures order { OnOk result (IsTrue (are_in_order written.now.inputs
         (length written.now.starts.now) 0 written.now.cells.now)) }
@@ -87,7 +88,7 @@ fn check(written: &Written<'_>) -> Result<(), &'static str>
     }
 }
 
-/// The list that is written down.
+/// Makes the list that is written down, or fails if it is none or not small.
 pub fn list_of(alloc: Global, written: &Written<'_>) -> Result<CellList, Fail>
     ensures { IfOk result IsPlannable }
 {
@@ -107,7 +108,7 @@ pub fn list_of(alloc: Global, written: &Written<'_>) -> Result<CellList, Fail>
     })
 }
 
-/// The plan of a list.
+/// Makes the plan of a list.
 pub fn plan_of_list(alloc: Global, list: &CellList) -> Result<Plan, Fail>
     requires { IsPlannable list.now }
     ensures { IfOk result IsAdmissible }
@@ -118,7 +119,7 @@ pub fn plan_of_list(alloc: Global, list: &CellList) -> Result<Plan, Fail>
     }
 }
 
-/// The plan of a list that is written down.
+/// Makes the plan of a list that is written down.
 pub fn plan_of_written(alloc: Global, written: &Written<'_>) -> Result<Plan, Fail>
     ensures { IfOk result IsAdmissible }
 {

@@ -1,4 +1,4 @@
-// Parts of docs/TOUR.md, byte for byte; an empty line ends each of them there.
+// Parts of docs/TOUR.md, byte for byte.
 pub const FLAT: &str = "weight 11
 net 0: en
 net 1: q

@@ -1,4 +1,4 @@
-// The text of each stage.
+// Writes the stages of a netlist, and compares them with the tour.
 ghost use Rattle.std.specs.Prelude.{ℕ, List};
 ghost use Rattle.netlist_text.specs.NetlistText.{IsNetlist};
 ghost use Rattle.netlist_text.specs.Parts.{AreParts};
@@ -20,7 +20,7 @@ use std::test::Fail;
 const TOGGLE: &[u8] =
     b".model toggle\n.inputs en\n.outputs q\n.latch n q 0\n.names en q n\n10 1\n01 1\n.end\n";
 
-// Puts the name of the net at a position on the page, or nothing where there is none.
+// Appends the name of the net with this number, or nothing if there is none.
 fn push_name(page: &mut Page, flat: &Flat, net: usize) {
     if let Some(known) = flat.nets.as_slice().get(net) {
         page.push_bytes(known.name.as_slice());
@@ -38,7 +38,7 @@ fn push_node(page: &mut Page, flat: &Flat, number: usize, node: &Node) {
     writeln!(page, ", line {}", node.line);
 }
 
-// Puts a line for a net on the page, with what the net is and its number there.
+// Appends a line for a net, with the kind and the number of the item that the net belongs to.
 fn push_line(page: &mut Page, flat: &Flat, what: &str, number: usize, net: usize) {
     page.push_start(what, number);
     push_name(page, flat, net);
@@ -59,7 +59,7 @@ fn push_latch(page: &mut Page, flat: &Flat, number: usize, latch: &FlatLatch) {
     writeln!(page, ", init {}", latch.init);
 }
 
-// The nets of a flat netlist, its ports, covers and latches.
+// Appends the weight of a flat netlist, its nets, ports, covers and latches.
 fn push_flat(page: &mut Page, flat: &Flat) {
     writeln!(page, "weight {}", flat.weight);
     for net in 0..flat.nets.len() {
@@ -75,7 +75,7 @@ fn push_flat(page: &mut Page, flat: &Flat) {
     }
 }
 
-// Puts a line for each item on the page.
+// Appends a line for each item.
 fn push_items<T: Debug>(page: &mut Page, what: &str, items: &[T]) {
     for (number, item) in items.iter().enumerate() {
         page.push_start(what, number);
@@ -83,7 +83,7 @@ fn push_items<T: Debug>(page: &mut Page, what: &str, items: &[T]) {
     }
 }
 
-// The cells, and the sources of the outputs, of the latches' data and of the nets.
+// Appends the cells, and the sources of the outputs, the latches' data and the nets.
 fn push_list(page: &mut Page, list: &CellList) {
     push_items(page, "cell", list.cells.as_slice());
     push_items(page, "output", list.outs.as_slice());
@@ -91,7 +91,7 @@ fn push_list(page: &mut Page, list: &CellList) {
     push_items(page, "net", list.nets.as_slice());
 }
 
-// What stands on a lane: nothing, the bit of the net at a position, or what a gate makes that no
+// What stands on a lane: nothing, the bit of the net with this number, or the bit of a gate that no
 // net names.
 #[derive(Clone, Copy)]
 enum Label {
@@ -110,7 +110,7 @@ fn push_label(page: &mut Page, flat: &Flat, label: Label) {
     page.push_str(" |");
 }
 
-// What an instruction leaves on its two lanes, of what stood there.
+// What an instruction leaves on its two lanes, from what stood there.
 fn labels_after(instr: Instr, upper: Label, lower: Label) -> (Label, Label) {
     match instr {
         Instr::Swap(_) => (lower, upper),
@@ -134,7 +134,7 @@ fn put(labels: &mut [Label], lane: u32, label: Label) {
     }
 }
 
-// Does an instruction.
+// Changes the labels as an instruction does.
 fn step(labels: &mut [Label], instr: Instr) {
     let lane = instr.lane();
     let next = lane.saturating_add(1);
@@ -143,14 +143,14 @@ fn step(labels: &mut [Label], instr: Instr) {
     put(labels, next, below);
 }
 
-// Does the instructions of a column.
+// Changes the labels as the instructions of a column do.
 fn step_all(labels: &mut [Label], column: &Column) {
     for instr in column.instrs.as_slice() {
         step(labels, *instr);
     }
 }
 
-// Names what nets show from a place on: the entry, or the exit of a column.
+// Labels the lanes of the nets whose place is here: at the entry, or at the exit of a column.
 fn name(labels: &mut [Label], plan: &Plan, after: Option<u64>) {
     for (net, place) in plan.nets.as_slice().iter().enumerate() {
         if place.after == after {
@@ -186,8 +186,8 @@ fn push_head(page: &mut Page, lanes: u32) {
     page.push_str("\n| before | |");
 }
 
-// The columns of a plan as a table: their instructions, and what stands on each lane after them.
-// The labels are of its lanes.
+// Appends the columns of a plan as a table: their instructions, and what stands on each lane after
+// them. There is a label for each lane.
 fn push_plan(page: &mut Page, flat: &Flat, plan: &Plan, labels: &mut [Label]) {
     push_head(page, plan.lanes);
     name(labels, plan, None);
@@ -223,7 +223,7 @@ fn check_plan(alloc: Global, flat: &Flat, plan: &Plan) -> Result<(), Fail> {
     check_lanes(alloc, flat, plan, &mut labels)
 }
 
-// The cells of a netlist.
+// Compares the cells of a netlist with the tour.
 fn check_cells(alloc: Global, netlist: &Netlist) -> Result<(), Fail>
     requires parts { AreParts netlist.now.design netlist.now.flat netlist.now.order.nodes }
 {
@@ -233,7 +233,7 @@ fn check_cells(alloc: Global, netlist: &Netlist) -> Result<(), Fail>
     check_list(alloc, &mapped.list)
 }
 
-// The lanes and columns of a netlist's plan.
+// Compares the lanes and columns of a netlist's plan with the tour.
 fn check_planned(alloc: Global, netlist: &Netlist) -> Result<(), Fail>
     requires of_text { (text : List ℕ) × IsNetlist text netlist.now.design }
     requires parts { AreParts netlist.now.design netlist.now.flat netlist.now.order.nodes }
@@ -244,7 +244,7 @@ fn check_planned(alloc: Global, netlist: &Netlist) -> Result<(), Fail>
     check_plan(alloc, &netlist.flat, &planned.plan)
 }
 
-// The stages of a netlist: flat, as cells, and as lanes and columns.
+// Compares the stages of a netlist with the tour: flat, as cells, and as lanes and columns.
 fn check_netlist(alloc: Global, netlist: &Netlist) -> Result<(), Fail>
     requires of_text { (text : List ℕ) × IsNetlist text netlist.now.design }
     requires parts { AreParts netlist.now.design netlist.now.flat netlist.now.order.nodes }
@@ -254,7 +254,7 @@ fn check_netlist(alloc: Global, netlist: &Netlist) -> Result<(), Fail>
     check_planned(alloc, netlist)
 }
 
-// The stages of a text's netlist.
+// Compares the stages of a text's netlist with the tour.
 fn check_stages(alloc: Global, text: &[u8]) -> Result<(), Fail> {
     let netlist = netlist_of(alloc, text)?;
     check_netlist(alloc, &netlist)

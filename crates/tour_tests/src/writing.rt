@@ -3,7 +3,7 @@ use std::alloc::{AllocError, Global};
 use std::fmt::Display;
 use std::test::Fail;
 
-// A text, and whether memory was refused to a part of it.
+// A text, and whether memory ran out for a part of it.
 #[derive(Drop)]
 pub struct Page {
     text: String,
@@ -24,7 +24,7 @@ impl Page {
         }
     }
 
-    // Puts a character for each byte on the page.
+    // Appends a character for each byte.
     pub fn push_bytes(&mut self, part: &[u8]) {
         for byte in part {
             if self.text.push(*byte as char).is_err() {
@@ -40,12 +40,12 @@ impl Page {
         }
     }
 
-    // Begins a line with what it is of, and the number of that.
+    // Begins a line with the kind and the number of its item.
     pub fn push_start(&mut self, what: &str, number: usize) {
         write!(self, "{what} {number}: ");
     }
 
-    // Fails where a part of the page is missing, or the page is not the stage.
+    // Fails if a part of the page is missing, or the page is not the stage.
     pub fn expect(&self, stage: &str) -> Result<(), Fail> {
         let page = self.text.as_str();
         if self.is_cut {

@@ -1,4 +1,4 @@
-// Bands of random patterns, moved in random orders, beside the plain step on the whole plane.
+// Bands of random patterns, which are moved in random orders and compared with whole planes.
 ghost use Rattle.std.specs.Prelude.{◌≡◌, ◌<◌, true, length, IfOk};
 ghost use Rattle.ww_rule.specs.Due.{AreInOrderFrom};
 ghost use Rattle.ww_rule.specs.Grid.{AreInBox};
@@ -13,7 +13,7 @@ use std::alloc::{AllocError, Global};
 use std::test::Fail;
 use ww_rule::{Injection, Pattern, Plane, step_driven};
 
-// The last generation that a band comes to.
+// The last generation that a band may reach.
 const LAST: u64 = 6;
 
 #[derive(Clone, Copy)]
@@ -31,7 +31,7 @@ impl Dice {
     }
 }
 
-// Adds a row of random cells.
+// Appends a row of random cells.
 fn push_random_row(text: &mut Vec<u8>, dice: &mut Dice, width: u64) -> Result<(), AllocError> {
     for _x in 0..width {
         let letter = match dice.below(8) {
@@ -45,7 +45,7 @@ fn push_random_row(text: &mut Vec<u8>, dice: &mut Dice, width: u64) -> Result<()
     text.extend_from_slice(b"$")
 }
 
-// Adds five rows, and an end.
+// Appends five rows of random cells, and the pattern's end.
 fn push_random_rows(text: &mut Vec<u8>, dice: &mut Dice, width: u64) -> Result<(), AllocError> {
     for _y in 0..5 {
         push_random_row(text, dice, width)?;
@@ -73,7 +73,8 @@ fn random_pattern(alloc: Global, dice: &mut Dice, width: u64) -> Result<Pattern,
     Ok(pattern)
 }
 
-// Two injections of one cell at one generation, another one soon after, and one that never comes.
+// Two injections at one cell and generation, one at most two generations later, and one that is
+// never reached.
 fn random_drive(alloc: Global, dice: &mut Dice, width: u64) -> Result<Vec<Injection>, AllocError>
     requires { 0 < width }
     ensures in_order { IfOk result (λ drive. AreInOrderFrom 0 drive.items) }
@@ -97,7 +98,7 @@ fn random_drive(alloc: Global, dice: &mut Dice, width: u64) -> Result<Vec<Inject
     Ok(Vec::from_array(alloc, [first, first, next, never])?)
 }
 
-// Whether an injection is of a generation, and its cell in the plane.
+// Whether an injection is at this generation, and its cell in the plane.
 fn is_due(injection: &Injection, generation: u64, plane: &Plane) -> bool
     ensures { result ≡ true →
         (injection.now.x < plane.now.width) × (injection.now.y < plane.now.height) }
@@ -107,7 +108,7 @@ fn is_due(injection: &Injection, generation: u64, plane: &Plane) -> bool
         && injection.y < plane.height
 }
 
-// The cells of injections of a generation.
+// The cells of the injections at this generation.
 fn due(
     alloc: Global,
     drive: &[Injection],
@@ -132,7 +133,7 @@ fn first_plane(alloc: Global, pattern: &Pattern, drive: &[Injection]) -> Result<
     Ok(plane.inject(&cells))
 }
 
-// The plane of a generation, from the plane before.
+// The plane of a generation, from that of the generation before.
 fn next_plane(
     alloc: Global,
     plane: &Plane,
@@ -143,7 +144,7 @@ fn next_plane(
     Ok(step_driven(alloc, plane, &cells)?)
 }
 
-// Adds the plane of the next generation.
+// Appends the plane of this generation.
 fn push_plane(
     planes: &mut Vec<Plane>,
     alloc: Global,
@@ -157,7 +158,7 @@ fn push_plane(
     Ok(())
 }
 
-// The planes of the generations, by the plain step.
+// The planes of generations 0 to LAST.
 fn planes(alloc: Global, pattern: &Pattern, drive: &[Injection]) -> Result<Vec<Plane>, Fail> {
     let mut planes = Vec::new(alloc);
     planes.push(first_plane(alloc, pattern, drive)?)?;
@@ -167,7 +168,7 @@ fn planes(alloc: Global, pattern: &Pattern, drive: &[Injection]) -> Result<Vec<P
     Ok(planes)
 }
 
-// One call on a band, whatever it answers.
+// Makes one call on a band, whatever it answers.
 fn call(bands: &mut Bands, b: usize, dice: &mut Dice)
     requires band { b < length bands.old.generations }
     requires room { generation_of bands.old b < 6 }
@@ -194,7 +195,7 @@ fn call_at_random(bands: &mut Bands, dice: &mut Dice)
     }
 }
 
-// A row of the plane of a generation, if that is there.
+// The letters of a row in the plane of a generation, or none if there is no such plane.
 fn plane_row(
     alloc: Global,
     planes: &[Plane],
@@ -208,7 +209,7 @@ fn plane_row(
     Ok(row)
 }
 
-// Whether a row of some cells shows what the plane of its band's generation has there.
+// Whether a row has cells, and the bands show it as the plane of its band's generation has it.
 fn is_right(
     alloc: Global,
     bands: &Bands,
@@ -232,7 +233,7 @@ fn is_right(
     Ok(!shown.is_empty() && shown == want)
 }
 
-// Whether all five rows do.
+// Whether the bands show all five rows as the planes have them.
 fn are_right(
     alloc: Global,
     bands: &Bands,
@@ -251,7 +252,7 @@ fn are_right(
     Ok(are_right)
 }
 
-// Whether all rows do, after calls in a random order.
+// Makes random calls, and returns whether the bands then show all rows as the planes have them.
 fn calls_are_right(
     alloc: Global,
     dice: &mut Dice,
@@ -268,7 +269,7 @@ fn calls_are_right(
     are_right(alloc, bands, height, width, planes)
 }
 
-// The same of a random pattern, which is driven at random.
+// Whether the bands of a random pattern with random injections are right after random calls.
 fn order_is_right(alloc: Global, dice: &mut Dice, height: u32, width: u64) -> Result<bool, Fail>
     requires height { 0 < height }
     requires width { 0 < width }

@@ -5,7 +5,7 @@ use band_core::Bands;
 use pattern_writing::tag_of;
 use std::alloc::AllocError;
 
-/// Adds a row of the pattern, at the generation of its band.
+/// Appends a row of the pattern, at the generation of its band.
 pub fn push_row(
     text: &mut Vec<u8>,
     bands: &Bands,
