@@ -191,7 +191,7 @@ fn is_wide_text(text: &[u8]) -> bool {
 
 // The plan has rows of 3,201 cells.
 #[test]
-fn a_wide_plan_is_written_in_lines_of_70_bytes(rt: HostRuntime) -> Result<(), Fail> {
+fn a_wide_plan_is_written_over_several_pages(rt: HostRuntime) -> Result<(), Fail> {
     let mut sink = MemSink::new(rt.alloc(), 20000, 1000, &[])?;
     let written = write_wide(rt.alloc(), &mut sink)?;
     must(written == Ok(()) && is_wide_text(sink.held()))?;
