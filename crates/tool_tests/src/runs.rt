@@ -68,13 +68,24 @@ fn matches(text: &[u8], said: &str) -> bool {
     }
 }
 
+// A word, of which `''` is the empty one.
+fn word_of(word: &str) -> &str {
+    if word == "''" { "" } else { word }
+}
+
+// Adds the words of a command.
+fn push_words(words: &mut Vec<String>, alloc: Global, command: &str) -> Result<(), AllocError> {
+    for word in command.split_ascii_whitespace() {
+        words.push(String::from_str(alloc, word_of(word))?)?;
+    }
+    Ok(())
+}
+
 /// A command's words as a command line has them.
 pub fn words_of(alloc: Global, command: &str) -> Result<Vec<String>, AllocError> {
     let mut words = Vec::new(alloc);
-    words.push(String::from_str(alloc, "blifww")?)?;
-    for word in command.split_ascii_whitespace() {
-        words.push(String::from_str(alloc, word)?)?;
-    }
+    push_words(&mut words, alloc, "blifww")?;
+    push_words(&mut words, alloc, command)?;
     Ok(words)
 }
 
