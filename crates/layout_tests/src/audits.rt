@@ -2,9 +2,11 @@
 ghost use Rattle.lane_core.specs.Plans.{IsAdmissible};
 
 use crate::fails::expect_holds;
-use crate::plans::{BARE, Written, admitted};
+use crate::packing::are_columns;
+use crate::plans::{Written, admitted};
+use crate::samples::{Sample, written};
 use grid_assembly::pattern_of;
-use lane_core::{Instr, Plan, latency, period};
+use lane_core::{Plan, latency, period};
 use lists::List;
 use pattern_reading::Ports;
 use std::alloc::{AllocError, Global};
@@ -154,39 +156,21 @@ fn patterns_are_circuits_or_not(rt: HostRuntime) -> Result<(), Fail> {
     Ok(())
 }
 
-// Each instruction beside the one of its other half.
-const FOUR_LANES: Written<'static> = Written {
-    lanes: 4,
-    columns: &[
-        &[Instr::Swap(0), Instr::Fork(2)],
-        &[Instr::Xor(1)],
-        &[Instr::Or(0), Instr::AndNot(2)],
-        &[],
-    ],
-    latches: 0,
-    starts: &[],
-    ins: &[],
-    outs: &[],
-    nets: &[],
-    tape: &[],
-};
-
 // Plans without ports: instructions, and loops of which one starts with 1.
-const PLANS: &[(&str, &Written<'static>)] = &[("four lanes", &FOUR_LANES), ("three loops", &BARE)];
+const PLANS: &[(&str, Sample)] = &[
+    ("four lanes", Sample::FourLanes),
+    ("three loops", Sample::ThreeLoops),
+];
 
 // Whether a plan was answered that has these columns and starts.
-fn is_plan(answer: &Result<Plan, AuditError>, plan: &Plan) -> bool {
-    let Ok(read) = answer else {
-        return false;
-    };
-    let same = read
-        .columns
-        .as_slice()
-        .iter()
-        .zip(plan.columns.as_slice())
-        .all(|(a, b)| a.instrs.as_slice() == b.instrs.as_slice());
-    same && read.columns.len() == plan.columns.len()
-        && read.starts.list.as_slice() == plan.starts.list.as_slice()
+fn is_plan(answer: &Result<Plan, AuditError>, want: &Written<'_>) -> bool {
+    match answer {
+        Ok(plan) => {
+            are_columns(plan.columns.as_slice(), want.columns)
+                && plan.starts.list.as_slice() == want.starts
+        }
+        Err(_) => false,
+    }
 }
 
 // The table of a plan without ports.
@@ -203,30 +187,24 @@ fn ports_of(alloc: Global, plan: &Plan) -> Ports
     }
 }
 
-// Whether a pattern with the table of a plan without ports is read as the plan.
-fn is_read(alloc: Global, pattern: &Pattern, plan: &Plan) -> bool
-    requires { IsAdmissible plan.now }
-{
-    let ports = ports_of(alloc, plan);
-    is_plan(&audit(alloc, pattern, &ports), plan)
-}
-
-fn expect_read(alloc: Global, about: &str, plan: &Plan) -> Result<(), Fail>
+// Fails where the pattern of a plan without ports is not read as it is written down.
+fn expect_read(alloc: Global, about: &str, plan: &Plan, want: &Written<'_>) -> Result<(), Fail>
     requires { IsAdmissible plan.now }
 {
     let pattern = pattern_of(alloc, plan)?;
-    expect_holds(about, is_read(alloc, &pattern, plan))
+    let ports = ports_of(alloc, plan);
+    expect_holds(about, is_plan(&audit(alloc, &pattern, &ports), want))
 }
 
-fn expect_read_again(alloc: Global, about: &str, written: &Written<'_>) -> Result<(), Fail> {
-    let plan = admitted(alloc, written)?;
-    expect_read(alloc, about, &plan)
+fn expect_read_again(alloc: Global, about: &str, want: &Written<'_>) -> Result<(), Fail> {
+    let plan = admitted(alloc, want)?;
+    expect_read(alloc, about, &plan, want)
 }
 
 #[test]
 fn drawings_are_read_as_their_plans(rt: HostRuntime) -> Result<(), Fail> {
-    for (about, written) in PLANS {
-        expect_read_again(rt.alloc(), about, written)?;
+    for (about, sample) in PLANS {
+        expect_read_again(rt.alloc(), about, &written(*sample))?;
     }
     Ok(())
 }

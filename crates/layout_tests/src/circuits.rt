@@ -5,31 +5,14 @@ ghost use Rattle.plan_layout.specs.Starts.{HasStartEdges};
 
 use crate::fails::expect_turn;
 use crate::macro_steps::edges_after;
-use crate::plans::{LOOP, Written, admitted};
+use crate::plans::{Written, admitted};
+use crate::samples::{CIRCUIT, LOOP, Sample, written};
 use grid_assembly::fill_row;
-use lane_core::{Instr, Plan, Start, run_columns};
+use lane_core::{Plan, Start, run_columns};
 use macro_grid::Edges;
 use std::alloc::Global;
 use std::test::Fail;
 use ww_rule::{CellRows, Plane, RuleError, State, step_driven};
-
-/// A circuit of five lanes, with each instruction in one of its columns, an input on every other
-/// lane, and an output on every lane.
-pub const CIRCUIT: Written<'static> = Written {
-    lanes: 5,
-    columns: &[
-        &[Instr::Fork(0), Instr::Fork(2)],
-        &[Instr::Swap(1), Instr::AndNot(3)],
-        &[Instr::Xor(0), Instr::Or(2)],
-        &[Instr::Swap(1)],
-    ],
-    latches: 0,
-    starts: &[],
-    ins: &[0, 2, 4],
-    outs: &[0, 1, 2, 3, 4],
-    nets: &[],
-    tape: &[],
-};
 
 // 129 columns and 80 rows of cells: the circuit's, and more rows than the loop's.
 fn drawn(alloc: Global, plan: &Plan) -> Result<Plane, RuleError>
@@ -219,7 +202,7 @@ fn expect_heads(
 #[test]
 fn a_loop_goes_round_by_the_rule_and_by_macro_steps(rt: HostRuntime) -> Result<(), Fail> {
     for (step, heads) in LOOP_HEADS.iter().enumerate() {
-        expect_heads(rt.alloc(), &LOOP, step as u64, heads)?;
+        expect_heads(rt.alloc(), &written(Sample::Loop), step as u64, heads)?;
     }
     Ok(())
 }

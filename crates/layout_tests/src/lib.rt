@@ -28,6 +28,8 @@ mod programs;
 #[cfg(test)]
 mod rules;
 #[cfg(test)]
+mod samples;
+#[cfg(test)]
 mod slots;
 #[cfg(test)]
 mod tapes;

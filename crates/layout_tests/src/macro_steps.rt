@@ -7,7 +7,8 @@ ghost use Rattle.plan_layout.specs.Tape.{drawn_tiling};
 ghost use Rattle.tile_library.specs.Drawings.{shipped_drawing};
 
 use crate::fails::expect_turn;
-use crate::plans::{BARE, LOOP, OR, admitted};
+use crate::plans::admitted;
+use crate::samples::{Sample, written};
 use crate::tapes::taped;
 use grid_assembly::laws::keeps_law;
 use lane_core::Plan;
@@ -71,7 +72,7 @@ fn stay_dark(alloc: Global, plan: &Plan) -> Result<(), Fail>
 
 #[test]
 fn dark_edges_stay_dark(rt: HostRuntime) -> Result<(), Fail> {
-    let plan = admitted(rt.alloc(), &OR)?;
+    let plan = admitted(rt.alloc(), &written(Sample::Or))?;
     stay_dark(rt.alloc(), &plan)
 }
 
@@ -107,7 +108,7 @@ fn goes_round(alloc: Global, plan: &Plan) -> Result<(), Fail>
 // so that lane 0 leads to lane 2 and back.
 #[test]
 fn an_electron_goes_round_a_loop(rt: HostRuntime) -> Result<(), Fail> {
-    let plan = admitted(rt.alloc(), &BARE)?;
+    let plan = admitted(rt.alloc(), &written(Sample::ThreeLoops))?;
     goes_round(rt.alloc(), &plan)
 }
 
@@ -132,6 +133,6 @@ fn runs_in(alloc: Global, plan: &Plan) -> Result<(), Fail>
 // The bit 1 of the second cycle is at the west side of one tile after the other.
 #[test]
 fn a_tape_runs_in(rt: HostRuntime) -> Result<(), Fail> {
-    let plan = taped(rt.alloc(), &LOOP, &[b"01"])?;
+    let plan = taped(rt.alloc(), &written(Sample::Loop), &[b"01"])?;
     runs_in(rt.alloc(), &plan)
 }

@@ -35,13 +35,14 @@ const FIVE_LANES_COLUMNS: &[&[Instr]] = &[
 
 const UPSIDE_DOWN_COLUMNS: &[&[Instr]] = &[&[Instr::Fork(0), Instr::Or(2), Instr::Swap(4)]];
 
-// Whether the columns are these.
-fn are_columns(columns: &[Column], want: &[&[Instr]]) -> bool {
-    let mut same = columns.len() == want.len();
-    for (column, instrs) in columns.iter().zip(want.iter()) {
-        same = same && column.instrs.as_slice() == *instrs;
+/// Whether the columns are these.
+pub fn are_columns(columns: &[Column], want: &[&[Instr]]) -> bool {
+    for (i, column) in columns.iter().enumerate() {
+        if i >= want.len() || column.instrs.as_slice() != want[i] {
+            return false;
+        }
     }
-    same
+    columns.len() == want.len()
 }
 
 fn expect_packed(

@@ -1,4 +1,4 @@
-// Plans that several tests take, and how a test writes down a plan.
+// How a test writes down a plan.
 ghost use Rattle.std.specs.Prelude.{◌≡◌, IsTrue, IfOk};
 ghost use Rattle.lane_core.specs.Instrs.{are_sorted_apart, is_above};
 ghost use Rattle.lane_core.specs.Plans.{IsAdmissible};
@@ -12,7 +12,7 @@ use std::test::Fail;
 
 /// A plan as it is written down: the instructions of each column, at most two of them, and the bits
 /// of each input on its tape, a letter for each bit.
-#[derive(Drop)]
+#[derive(Clone, Copy)]
 pub struct Written<'a> {
     pub lanes: u32,
     pub columns: &'a [&'a [Instr]],
@@ -23,56 +23,6 @@ pub struct Written<'a> {
     pub nets: &'a [NetPlace],
     pub tape: &'a [&'a [u8]],
 }
-
-/// An Or on two lanes: net 0 and net 1 are the inputs, net 2 is the output.
-pub const OR: Written<'static> = Written {
-    lanes: 2,
-    columns: &[&[Instr::Or(0)]],
-    latches: 0,
-    starts: &[],
-    ins: &[0, 1],
-    outs: &[0],
-    nets: &[
-        NetPlace {
-            lane: 0,
-            after: None,
-        },
-        NetPlace {
-            lane: 1,
-            after: None,
-        },
-        NetPlace {
-            lane: 0,
-            after: Some(0),
-        },
-    ],
-    tape: &[],
-};
-
-/// Three loops alone, of which the first starts with 1.
-pub const BARE: Written<'static> = Written {
-    lanes: 3,
-    columns: &[&[], &[], &[]],
-    latches: 3,
-    starts: &[Start { x: 96, y: 8 }],
-    ins: &[],
-    outs: &[],
-    nets: &[],
-    tape: &[],
-};
-
-/// Two lanes and a loop that starts with 1: the Or takes its bit, and the Fork gives it to the
-/// output and back to the loop.
-pub const LOOP: Written<'static> = Written {
-    lanes: 2,
-    columns: &[&[Instr::Or(0)], &[Instr::Fork(0)]],
-    latches: 1,
-    starts: &[Start { x: 32, y: 24 }],
-    ins: &[0],
-    outs: &[0],
-    nets: &[],
-    tape: &[],
-};
 
 // Whether the lanes of the second are below those of the first.
 fn is_above(first: Instr, second: Instr) -> bool

@@ -1,6 +1,7 @@
 // The rules of plans: their lanes, ports, starts and tapes.
 use crate::fails::expect_turn;
-use crate::plans::{LOOP, OR, Written, plan_of};
+use crate::plans::{Written, plan_of};
+use crate::samples::{LOOP, OR};
 use lane_core::Start;
 use macro_grid::admissible;
 use std::alloc::Global;

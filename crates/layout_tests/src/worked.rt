@@ -2,27 +2,20 @@
 ghost use Rattle.std.specs.Prelude.{IfOk};
 ghost use Rattle.lane_core.specs.Plans.{IsAdmissible};
 
-use crate::circuits::CIRCUIT;
 use crate::closing::{FIVE_LANES, THREE_COLUMNS, TWO_LOOPS, closed};
 use crate::facts::{Fact, expect_facts};
-use crate::plans::{BARE, LOOP, OR, Written, admitted};
+use crate::plans::admitted;
+use crate::samples::{Sample, written};
 use crate::tapes::taped;
-use lane_core::{Instr, NetPlace, Plan, Start};
+use lane_core::{NetPlace, Plan, Start};
 use std::alloc::Global;
 use std::test::Fail;
 use ww_rule::State;
 
 // Where a plan is from: it is written down, has these bits on its tape, or is that of a program.
 enum Origin {
-    Or,
-    Circuit,
-    Loop,
-    ForkLoop,
-    ThreeLoops,
-    LongLoops,
-    TapedOr(&'static [&'static [u8]]),
-    TapedLoop(&'static [&'static [u8]]),
-    TapedThreeLoops,
+    Written(Sample),
+    Taped(Sample, &'static [&'static [u8]]),
     FiveLanes,
     TwoLoops,
     ThreeColumns,
@@ -33,30 +26,6 @@ struct Case {
     plan: Origin,
     facts: &'static [Fact],
 }
-
-// Two lanes, two columns and a loop.
-const FORK_LOOP: Written<'static> = Written {
-    lanes: 2,
-    columns: &[&[Instr::Fork(0)], &[Instr::Or(0)]],
-    latches: 1,
-    starts: &[Start { x: 32, y: 24 }],
-    ins: &[0],
-    outs: &[0],
-    nets: &[],
-    tape: &[],
-};
-
-// Three columns without instructions, and two loops.
-const LOOPS: Written<'static> = Written {
-    lanes: 5,
-    columns: &[&[], &[], &[]],
-    latches: 2,
-    starts: &[Start { x: 64, y: 72 }],
-    ins: &[],
-    outs: &[2],
-    nets: &[],
-    tape: &[],
-};
 
 // The rows of an OR gate and its output cell.
 const OR_ROWS: &[&[u8; 33]] = &[
@@ -97,7 +66,7 @@ const OR_ROWS: &[&[u8; 33]] = &[
 const PLANS: &[Case] = &[
     Case {
         about: "an OR",
-        plan: Origin::Or,
+        plan: Origin::Written(Sample::Or),
         facts: &[
             Fact::Size(33, 32),
             Fact::Period(32),
@@ -118,7 +87,7 @@ const PLANS: &[Case] = &[
     },
     Case {
         about: "a circuit of five lanes",
-        plan: Origin::Circuit,
+        plan: Origin::Written(Sample::Circuit),
         facts: &[
             Fact::Size(129, 80),
             Fact::InCells(&[(0, 8, 0), (0, 40, 0), (0, 72, 0)]),
@@ -133,7 +102,7 @@ const PLANS: &[Case] = &[
     },
     Case {
         about: "a loop",
-        plan: Origin::Loop,
+        plan: Origin::Written(Sample::Loop),
         facts: &[
             Fact::Size(129, 48),
             Fact::Period(256),
@@ -149,12 +118,12 @@ const PLANS: &[Case] = &[
     },
     Case {
         about: "a loop of which the Fork comes first",
-        plan: Origin::ForkLoop,
+        plan: Origin::Written(Sample::ForkLoop),
         facts: &[Fact::Slots(&[b".FO*.", b"rfo7.", b"L<<J.", b"....."])],
     },
     Case {
         about: "three loops alone",
-        plan: Origin::ThreeLoops,
+        plan: Origin::Written(Sample::ThreeLoops),
         facts: &[Fact::Slots(&[
             b"r>>>>>>>7",
             b"^r>>>>>7v",
@@ -166,7 +135,7 @@ const PLANS: &[Case] = &[
     },
     Case {
         about: "loops lengthen the period",
-        plan: Origin::LongLoops,
+        plan: Origin::Written(Sample::LongLoops),
         facts: &[
             Fact::Period(448),
             Fact::Latency(96),
@@ -175,7 +144,7 @@ const PLANS: &[Case] = &[
     },
     Case {
         about: "one tile of tape before the OR, with which the output moves",
-        plan: Origin::TapedOr(&[b"01", b"11"]),
+        plan: Origin::Taped(Sample::Or, &[b"01", b"11"]),
         facts: &[
             Fact::Size(65, 32),
             Fact::OutCells(&[(64, 8, 32)]),
@@ -197,7 +166,7 @@ const PLANS: &[Case] = &[
     },
     Case {
         about: "one cycle is no tile of tape",
-        plan: Origin::TapedOr(&[b"1", b"0"]),
+        plan: Origin::Taped(Sample::Or, &[b"1", b"0"]),
         facts: &[
             Fact::Size(33, 32),
             Fact::Cells(&[
@@ -209,7 +178,7 @@ const PLANS: &[Case] = &[
     },
     Case {
         about: "eight tiles of tape before a body with one column of turns, which is drawn seven further east",
-        plan: Origin::TapedLoop(&[b"01"]),
+        plan: Origin::Taped(Sample::Loop, &[b"01"]),
         facts: &[
             Fact::Size(353, 48),
             Fact::Cells(&[
@@ -227,7 +196,7 @@ const PLANS: &[Case] = &[
     },
     Case {
         about: "sixteen tiles of tape",
-        plan: Origin::TapedLoop(&[b"110"]),
+        plan: Origin::Taped(Sample::Loop, &[b"110"]),
         facts: &[
             Fact::Size(609, 48),
             Fact::Cells(&[
@@ -244,7 +213,7 @@ const PLANS: &[Case] = &[
     },
     Case {
         about: "no tile of tape, so no tail before the body",
-        plan: Origin::TapedLoop(&[b"1"]),
+        plan: Origin::Taped(Sample::Loop, &[b"1"]),
         facts: &[
             Fact::Size(129, 48),
             Fact::Cells(&[
@@ -257,7 +226,7 @@ const PLANS: &[Case] = &[
     },
     Case {
         about: "no input, so no tape",
-        plan: Origin::TapedThreeLoops,
+        plan: Origin::Taped(Sample::ThreeLoops, &[]),
         facts: &[
             Fact::Size(289, 96),
             Fact::Cells(&[(96, 8, State::Head), (95, 8, State::Tail)]),
@@ -308,15 +277,8 @@ fn made(alloc: Global, origin: &Origin) -> Result<Plan, Fail>
     ensures { IfOk result IsAdmissible }
 {
     match origin {
-        Origin::Or => admitted(alloc, &OR),
-        Origin::Circuit => admitted(alloc, &CIRCUIT),
-        Origin::Loop => admitted(alloc, &LOOP),
-        Origin::ForkLoop => admitted(alloc, &FORK_LOOP),
-        Origin::ThreeLoops => admitted(alloc, &BARE),
-        Origin::LongLoops => admitted(alloc, &LOOPS),
-        Origin::TapedOr(bits) => taped(alloc, &OR, bits),
-        Origin::TapedLoop(bits) => taped(alloc, &LOOP, bits),
-        Origin::TapedThreeLoops => taped(alloc, &BARE, &[]),
+        Origin::Written(sample) => admitted(alloc, &written(*sample)),
+        Origin::Taped(sample, bits) => taped(alloc, &written(*sample), bits),
         Origin::FiveLanes => closed(alloc, &FIVE_LANES),
         Origin::TwoLoops => closed(alloc, &TWO_LOOPS),
         Origin::ThreeColumns => closed(alloc, &THREE_COLUMNS),

@@ -3,9 +3,10 @@
 // A list of cases is one text, since a table costs its proof for each row. A case begins with `>`
 // and a line of commands, each of
 // which reads what the one before wrote, with `|` between any two, and ` -- ` before a word on the case. The lines of a text follow,
-// which the first command reads; a case without one reads the text that its list is over. Then come
-// `== ` with the status, and the lines that the last command writes where that is 0, or tells where
-// it is another; it writes and tells no more. Where three full stops stand there, anything may.
+// which the first command reads; a case without one reads the text that the line with `@` before it
+// names. Then come `== ` with the status, and the lines that the last command writes where that is
+// 0, or tells where it is another; it writes and tells no more. Where three full stops stand there,
+// anything may.
 ghost use Rattle.std.specs.Prelude.{◌≤◌};
 
 mod circuits;
@@ -15,6 +16,7 @@ mod dumps;
 mod evaluating;
 mod failing;
 mod lifts;
+mod nets;
 mod repeating;
 mod simulating;
 mod tapes;
@@ -70,13 +72,24 @@ fn matches(text: &[u8], said: &str) -> bool {
     }
 }
 
+// A word, of which `''` is the empty one.
+fn word_of(word: &str) -> &str {
+    if word == "''" { "" } else { word }
+}
+
+// Adds the words of a command.
+fn push_words(words: &mut Vec<String>, alloc: Global, command: &str) -> Result<(), AllocError> {
+    for word in command.split_ascii_whitespace() {
+        words.push(String::from_str(alloc, word_of(word))?)?;
+    }
+    Ok(())
+}
+
 /// A command's words as a command line has them.
 pub fn words_of(alloc: Global, command: &str) -> Result<Vec<String>, AllocError> {
     let mut words = Vec::new(alloc);
-    words.push(String::from_str(alloc, "blifww")?)?;
-    for word in command.split_ascii_whitespace() {
-        words.push(String::from_str(alloc, word)?)?;
-    }
+    push_words(&mut words, alloc, "blifww")?;
+    push_words(&mut words, alloc, command)?;
     Ok(words)
 }
 
@@ -199,6 +212,27 @@ pub fn expect(is_so: bool, about: &str) -> Result<(), Fail> {
     }
 }
 
+// The text that the line with `@` names; before the first such line there is none.
+fn text_named(name: &str) -> Option<&'static str> {
+    match name {
+        "" => Some(""),
+        " gate" => Some(GATE),
+        " gate's pattern" => Some(PATTERN),
+        " toggle" => Some(compiling::TOGGLE),
+        " counter" => Some(nets::COUNTER),
+        " adder" => Some(nets::ADDER),
+        " wire" => Some(contexts::WIRE),
+        _ => None,
+    }
+}
+
+// The text that the cases of a group read, and the cases.
+fn group_of(group: &str) -> Option<(&'static str, &str)> {
+    let (name, cases) = group.split_once('\n')?;
+    let text = text_named(name)?;
+    Some((text, cases))
+}
+
 // Fails where a case ends otherwise. One without a text reads the other text.
 fn expect_case(alloc: Global, said: &str, other: &str) -> Result<(), Fail> {
     match case_of(said) {
@@ -215,7 +249,7 @@ fn expect_case(alloc: Global, said: &str, other: &str) -> Result<(), Fail> {
     }
 }
 
-// Fails where a case of a list ends otherwise.
+// Fails where one of some cases ends otherwise.
 fn expect_cases(alloc: Global, cases: &str, other: &str) -> Result<(), Fail> {
     for case in cases.split('>').skip(1) {
         expect_case(alloc, case, other)?;
@@ -223,29 +257,104 @@ fn expect_cases(alloc: Global, cases: &str, other: &str) -> Result<(), Fail> {
     Ok(())
 }
 
-#[test]
-fn commands_write_or_tell_why_not(rt: HostRuntime) -> Result<(), Fail> {
-    let alloc = rt.alloc();
-    expect_cases(alloc, circuits::CASES, "")?;
-    expect_cases(alloc, compiling::CASES, "")?;
-    expect_cases(alloc, contexts::CASES, "")?;
-    expect_cases(alloc, dumps::CASES, "")?;
-    expect_cases(alloc, evaluating::CASES, "")?;
-    expect_cases(alloc, lifts::CASES, "")?;
-    expect_cases(alloc, simulating::CASES, "")?;
-    expect_cases(alloc, tapes::CASES, "")
+// Fails where a case of a group ends otherwise.
+fn expect_group(alloc: Global, group: &str) -> Result<(), Fail> {
+    match group_of(group) {
+        Some((text, cases)) => expect_cases(alloc, cases, text),
+        None => Err(Fail::new("no text has this name")),
+    }
 }
 
+// Fails where a case of a list ends otherwise.
+fn expect_list(alloc: Global, list: &str) -> Result<(), Fail> {
+    for group in list.split('@') {
+        expect_group(alloc, group)?;
+    }
+    Ok(())
+}
+
+const LISTS: &[&str] = &[
+    circuits::CASES,
+    compiling::CASES,
+    contexts::CASES,
+    dumps::CASES,
+    evaluating::CASES,
+    lifts::CASES,
+    nets::CASES,
+    simulating::CASES,
+    tapes::CASES,
+];
+
 #[test]
-fn commands_over_one_text_write_or_tell_why_not(rt: HostRuntime) -> Result<(), Fail> {
-    let alloc = rt.alloc();
-    expect_cases(alloc, contexts::OF_THE_TOGGLE, compiling::TOGGLE)?;
-    expect_cases(alloc, contexts::OF_THE_WIRE, contexts::WIRE)?;
-    expect_cases(alloc, dumps::OF_THE_GATE, PATTERN)?;
-    expect_cases(alloc, evaluating::OF_THE_GATE, GATE)?;
-    expect_cases(alloc, lifts::OF_THE_GATE, GATE)?;
-    expect_cases(alloc, lifts::OF_THE_TOGGLE, compiling::TOGGLE)?;
-    expect_cases(alloc, simulating::OF_THE_GATE, PATTERN)?;
-    expect_cases(alloc, tapes::OF_THE_GATE, GATE)?;
-    expect_cases(alloc, tapes::OF_THE_TOGGLE, compiling::TOGGLE)
+fn commands_write_or_tell_why_not(rt: HostRuntime) -> Result<(), Fail> {
+    for list in LISTS {
+        expect_list(rt.alloc(), list)?;
+    }
+    Ok(())
+}
+
+// A text of these lines with others in the place of one.
+fn changed(alloc: Global, lines: &str, old: &str, new: &str) -> Result<Vec<u8>, AllocError> {
+    let mut text = Vec::new(alloc);
+    for line in lines.split_inclusive('\n') {
+        let kept = if line.trim_end() == old { new } else { line };
+        text.extend_from_slice(kept.as_bytes())?;
+    }
+    Ok(text)
+}
+
+// Fails where a command ends otherwise over the lines with a change.
+fn expect_change(alloc: Global, command: &str, lines: &str, change: &str) -> Result<(), Fail> {
+    match case_of(change) {
+        Some(case) => {
+            let text = changed(alloc, lines, case.commands, case.text)?;
+            let got = run_amply(alloc, command, &text)?;
+            expect(
+                got.ends(&case) && text.as_slice() != lines.as_bytes(),
+                change,
+            )
+        }
+        None => Err(Fail::new("no change")),
+    }
+}
+
+// Fails where a command ends otherwise over the lines with one of the changes.
+fn expect_changes(
+    alloc: Global,
+    (command, lines, changes): (&str, &str, &str),
+) -> Result<(), Fail> {
+    for change in changes.split('>').skip(1) {
+        expect_change(alloc, command, lines, change)?;
+    }
+    Ok(())
+}
+
+// Commands, lines that each reads, and what it writes or tells of them with other lines in the
+// place of one.
+const CHANGES: &[(&str, &str, &str)] = &[
+    ("lift", lifts::GATE_LINES, lifts::GATE_CHANGES),
+    ("lift", lifts::RING_LINES, lifts::RING_CHANGES),
+    (
+        "eval --cycles 4",
+        compiling::TOGGLE,
+        nets::OUTPUTS_OF_THE_TOGGLE,
+    ),
+    (
+        "eval --cycles 5",
+        nets::COUNTER,
+        nets::OUTPUTS_OF_THE_COUNTER,
+    ),
+    (
+        "eval --cycles 1 a0=1 a1=1 b0=1 b1=0 ci=0",
+        nets::ADDER,
+        nets::OUTPUTS_OF_THE_ADDER,
+    ),
+];
+
+#[test]
+fn commands_over_changed_lines_write_or_tell_why_not(rt: HostRuntime) -> Result<(), Fail> {
+    for change in CHANGES {
+        expect_changes(rt.alloc(), *change)?;
+    }
+    Ok(())
 }

@@ -1,21 +1,13 @@
 // What `compile` writes, driven by streams.
-use crate::runs::{Outcome, case_of, expect, run_amply, text_of, written};
+use crate::runs::{Case, case_of, expect, run_after, text_of, written};
 use std::alloc::Global;
 use std::test::Fail;
-
-// A counter of two latches.
-const COUNTER: &str =
-    ".model k\n.outputs q0 q1\n.latch n0 q0 0\n.latch n1 q1 0\n.names q0 n0\n0 1\n.names q0 q1 n1\n10 1\n01 1\n.end\n";
 
 /// A latch that turns in each cycle.
 pub const TOGGLE: &str = ".model t\n.outputs q\n.latch n q 0\n.names q n\n0 1\n.end\n";
 
 /// A netlist that turns its input.
 pub const INVERTER: &str = ".model n\n.inputs a\n.outputs y\n.names a y\n0 1\n";
-
-// An adder of two bits, of two full adders.
-const ADDER: &str =
-    ".model add\n.inputs a0 a1 b0 b1 ci\n.outputs s0 s1 c\n.subckt fa a=a0 b=b0 c=ci s=s0 co=k\n.subckt fa a=a1 b=b1 c=k s=s1 co=c\n.end\n.model fa\n.inputs a b c\n.outputs s co\n.names a b c s\n100 1\n010 1\n001 1\n111 1\n.names a b c co\n11- 1\n1-1 1\n-11 1\n.end\n";
 
 /// Patterns, by how they begin: with the times and names, of which some have escapes.
 pub const CASES: &str = "
@@ -233,42 +225,19 @@ clk # two
 q=01
 ";
 
-// Fails where a command with these words after it prints something else of a text.
-fn expect_printed(
-    alloc: Global,
-    command: &str,
-    words: &str,
-    text: &[u8],
-    lines: &str,
-    shown: &str,
-) -> Result<(), Fail> {
-    let asked = text_of(alloc, &[command, words])?;
-    let got = run_amply(alloc, &asked, text)?;
-    expect(got.is(0, lines, ""), shown)
+// Fails where commands with the words of a case after them print something else of its netlist.
+fn expect_printed(alloc: Global, commands: &str, case: &Case, shown: &str) -> Result<(), Fail> {
+    let asked = text_of(alloc, &[commands, case.commands])?;
+    let got = run_after(alloc, &asked, case.text.as_bytes())?;
+    expect(got.ends(case), shown)
 }
 
 // Fails where a netlist or its pattern prints something else.
 fn expect_shown(alloc: Global, shown: &str) -> Result<(), Fail> {
     match case_of(shown) {
         Some(case) => {
-            let text = case.text.as_bytes();
-            expect_printed(
-                alloc,
-                "eval --cycles ",
-                case.commands,
-                text,
-                case.said,
-                shown,
-            )?;
-            let pattern = written(alloc, "compile", text)?;
-            expect_printed(
-                alloc,
-                "simulate --cycles ",
-                case.commands,
-                &pattern,
-                case.said,
-                shown,
-            )
+            expect_printed(alloc, "eval --cycles ", &case, shown)?;
+            expect_printed(alloc, "compile | simulate --cycles ", &case, shown)
         }
         None => Err(Fail::new("no case")),
     }
@@ -294,161 +263,4 @@ fn expect_same(alloc: Global, command: &str) -> Result<(), Fail> {
 fn these_write_what_compile_writes(rt: HostRuntime) -> Result<(), Fail> {
     expect_same(rt.alloc(), "compile --contexts 1")?;
     expect_same(rt.alloc(), "tape --cycles 4")
-}
-
-// A netlist by its first line and its text, a number of cycles and streams, and nets, each with its
-// path and what is printed of it.
-struct NetCase {
-    model: &'static str,
-    text: &'static str,
-    words: &'static str,
-    nets: &'static str,
-}
-
-// Of nets in models below and of ports the bits are written here.
-const NET_CASES: &[NetCase] = &[
-    NetCase {
-        model: ".model t\n",
-        text: TOGGLE,
-        words: "4",
-        nets: "\
-q - q=0101
-n - n=1010
-",
-    },
-    NetCase {
-        model: ".model k\n",
-        text: COUNTER,
-        words: "5",
-        nets: "\
-q0 - q0=01010
-q1 - q1=00110
-n0 - n0=10101
-n1 - n1=01100
-",
-    },
-    NetCase {
-        model: ".model add\n",
-        text: ADDER,
-        words: "1 a0=1 a1=1 b0=1 b1=0 ci=0",
-        nets: "\
-a0 - a0=1
-a1 - a1=1
-b0 - b0=1
-b1 - b1=0
-ci - ci=0
-s0 - s0=0
-s1 - s1=0
-c - c=1
-k - k=1
-a 0 a=1
-b 0 b=1
-c 0 c=0
-s 0 s=0
-co 0 co=1
-a 1 a=1
-b 1 b=0
-c 1 c=1
-s 1 s=0
-co 1 co=1
-",
-    },
-];
-
-// The text of a model, whose first line this is, with a net as its first output.
-fn with_output(alloc: Global, model: &str, text: &str, net: &str) -> Result<String, Fail> {
-    match text.strip_prefix(model) {
-        Some(rest) => Ok(text_of(
-            alloc,
-            &[
-                model.trim_end(),
-                "\n.outputs ",
-                net.trim(),
-                "\n",
-                rest.trim_start(),
-            ],
-        )?),
-        None => Err(Fail::new("the text has another first line")),
-    }
-}
-
-// What `eval` does with the net as the netlist's first output.
-fn evaluated(alloc: Global, case: &NetCase, net: &str) -> Result<Outcome, Fail> {
-    let asked = text_of(alloc, &["eval --cycles ", case.words])?;
-    let wider = with_output(alloc, case.model, case.text, net)?;
-    run_amply(alloc, &asked, wider.as_bytes())
-}
-
-// Fails where another first line is printed. A port can't be an output once more.
-fn expect_first(alloc: Global, case: &NetCase, net: &str, line: &str) -> Result<(), Fail> {
-    let got = evaluated(alloc, case, net)?;
-    expect(got.status == 1 || got.out.starts_with(line.as_bytes()), net)
-}
-
-// Fails where a pattern shows another line at a net.
-fn expect_probed(
-    alloc: Global,
-    words: &'static str,
-    pattern: &[u8],
-    net: (&'static str, &'static str),
-    line: &str,
-) -> Result<(), Fail> {
-    let asked = text_of(
-        alloc,
-        &[
-            "probe --net ",
-            net.0,
-            " --path ",
-            net.1,
-            " --cycles ",
-            words,
-        ],
-    )?;
-    let got = run_amply(alloc, &asked, pattern)?;
-    expect(got.out.strip_suffix(b"\n") == Some(line.as_bytes()), &asked)
-}
-
-// A net with its path, and what is printed of it.
-fn cut(row: &'static str) -> Option<((&'static str, &'static str), &'static str)> {
-    let (net, rest) = row.split_once(' ')?;
-    let (path, line) = rest.split_once(' ')?;
-    Some(((net, path), line))
-}
-
-// Fails where a net shows something else in the netlist's pattern, or `eval` prints something else
-// of it, as far as the main model has it.
-fn expect_net(
-    alloc: Global,
-    case: &NetCase,
-    pattern: &[u8],
-    row: &'static str,
-) -> Result<(), Fail> {
-    match cut(row) {
-        Some((net, line)) => {
-            expect_probed(alloc, case.words, pattern, net, line)?;
-            if net.1 == "-" {
-                expect_first(alloc, case, net.0, line)
-            } else {
-                Ok(())
-            }
-        }
-        None => Err(Fail::new("a net without a path")),
-    }
-}
-
-// Fails where one of the nets does so.
-fn expect_nets(alloc: Global, case: &NetCase) -> Result<(), Fail> {
-    let pattern = written(alloc, "compile", case.text.as_bytes())?;
-    for row in case.nets.lines() {
-        expect_net(alloc, case, &pattern, row)?;
-    }
-    Ok(())
-}
-
-#[test]
-fn each_net_is_evaluated_as_it_is_probed(rt: HostRuntime) -> Result<(), Fail> {
-    for case in NET_CASES {
-        expect_nets(rt.alloc(), case)?;
-    }
-    Ok(())
 }

@@ -5,7 +5,8 @@ use itoa::Buffer;
 use std::alloc::{AllocError, Global};
 use std::test::Fail;
 
-/// Netlists in contexts.
+/// Netlists in contexts: those that cannot be, and where each starts as its words say. At the end
+/// stands a wire.
 pub const CASES: &str = "
 > compile --contexts 2 -- contexts that cannot be
 .model or
@@ -32,10 +33,7 @@ B14 Undriven line 2: q
 == 0
 0:y=1001
 1:y=1100
-";
-
-/// Over the toggle: contexts that cannot be, and each that can starts as its words say.
-pub const OF_THE_TOGGLE: &str = "
+@ toggle
 > compile --contexts 2 2:q=1 -- contexts that cannot be
 == 9
 stream: BadContext 2:q=1
@@ -86,14 +84,7 @@ $enddefinitions $end
 0#
 1$
 #2
-";
-
-/// A wire of three cells in two contexts.
-pub const WIRE: &str =
-    "#C BLIFWW 1 P 64 L 2 C 2\n#C BLIFWW IN 0 0 a\n#C BLIFWW OUT 2 0 y\n#C BLIFWW NET 1 0 1 m -\nx = 3, y = 1, rule = WireWorld\n3C!\n";
-
-/// Over the wire.
-pub const OF_THE_WIRE: &str = "
+@ wire
 > simulate --cycles 2 1:a=10 0:a=01 -- a wire in two contexts is driven
 == 0
 0:y=01
@@ -118,6 +109,10 @@ stream: TwiceInput 0:a=10
 == 9
 stream: MissingInput 1:a
 ";
+
+/// A wire of three cells in two contexts.
+pub const WIRE: &str =
+    "#C BLIFWW 1 P 64 L 2 C 2\n#C BLIFWW IN 0 0 a\n#C BLIFWW OUT 2 0 y\n#C BLIFWW NET 1 0 1 m -\nx = 3, y = 1, rule = WireWorld\n3C!\n";
 
 // The number that a text begins with.
 fn number_at(text: &[u8]) -> u64 {

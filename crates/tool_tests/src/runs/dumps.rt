@@ -1,6 +1,7 @@
 // Runs of `vcd`.
 
-/// Patterns with other tables than the gate's, and what gives no dump.
+/// Patterns with other tables than the gate's, and what gives no dump; then the gate's pattern,
+/// where the first line of the block of cycle 1 is that of the input that changes.
 pub const CASES: &str = "
 > vcd --cycles 1 a=1 -- all nets are dumped
 #C BLIFWW 1 P 4 L 2
@@ -70,11 +71,7 @@ x = 3, y = 1, rule = WireWorld
 3C!
 == 8
 H3 CellOutside line 2
-";
-
-/// Over the gate's pattern. The first line of the block of cycle 1 is that of the input that
-/// changes.
-pub const OF_THE_GATE: &str = "
+@ gate's pattern
 > vcd --cycles 2 a=01 b=00 -- all nets are dumped
 == 0
 $var wire 1 ! a $end

@@ -142,10 +142,7 @@ B19 Recursive line 2: a b
 0 1
 == 3
 loop: y
-";
-
-/// Over the gate.
-pub const OF_THE_GATE: &str = "
+@ gate
 > eval --cycles 2 a=01 b=0 -- words that give a netlist no streams
 == 9
 stream: BadLength b=0

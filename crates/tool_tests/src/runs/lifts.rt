@@ -1,8 +1,4 @@
 // Runs of `lift`.
-use crate::runs::{case_of, expect, run_amply};
-use std::alloc::{AllocError, Global};
-use std::test::Fail;
-
 /// Circuits, and what is lifted of what `aiger` and `compile` write.
 pub const CASES: &str = "
 > lift
@@ -101,10 +97,7 @@ i1 b
 o0 y
 == 0
 y=1110
-";
-
-/// Over the gate.
-pub const OF_THE_GATE: &str = "
+@ gate
 > compile | lift
 == 0
 .model lifted
@@ -130,10 +123,7 @@ not a circuit: Ports
 > compile | lift | eval --cycles 4 a=0011 b=0101 -- what is lifted prints what the pattern does
 == 0
 y=0111
-";
-
-/// Over the toggle.
-pub const OF_THE_TOGGLE: &str = "
+@ toggle
 > compile --contexts 1 0:q=1 | lift -- what the commands write is lifted in one context
 == 0
 .model lifted
@@ -150,7 +140,7 @@ q=1010
 ";
 
 // The gate's text, with a row of the drawing on each line.
-const GATE_LINES: &str = "\
+pub const GATE_LINES: &str = "\
 #C BLIFWW 2 P 32 L 32 C 1
 #C BLIFWW IN 0 8 a
 #C BLIFWW IN 0 24 b
@@ -178,7 +168,7 @@ x = 33, y = 32, rule = WireWorld
 
 // Lines of it, what stands in the place of each, and what is lifted: of no drawing nothing, and
 // ports keep their names.
-const GATE_CHANGES: &str = "
+pub const GATE_CHANGES: &str = "
 > #C BLIFWW 2 P 32 L 32 C 1
 #C BLIFWW 2 P 32 L 33 C 1
 == 12
@@ -419,7 +409,7 @@ G6 NoEnd line 23
 ";
 
 // Two loops that feed each other, the first of which starts with 1.
-const RING_LINES: &str = "\
+pub const RING_LINES: &str = "\
 #C BLIFWW 2 P 384 L 64 C 1
 #C BLIFWW OUT 128 8 q
 x = 193, y = 80, rule = WireWorld
@@ -453,7 +443,7 @@ $102.2C.2C18.C$104.C.19C$105.2C!
 ";
 
 // Lines of it in the same way: loops are lifted cell by cell.
-const RING_CHANGES: &str = "
+pub const RING_CHANGES: &str = "
 > #C BLIFWW 2 P 384 L 64 C 1
 #C BLIFWW 2 P 32 L 64 C 1
 == 12
@@ -535,42 +525,3 @@ $10.92C24.57C
 == 12
 not a circuit: Cells
 ";
-
-// A text of these lines with others in the place of one.
-fn changed(alloc: Global, lines: &str, old: &str, new: &str) -> Result<Vec<u8>, AllocError> {
-    let mut text = Vec::new(alloc);
-    for line in lines.split_inclusive('\n') {
-        let kept = if line.trim_end() == old { new } else { line };
-        text.extend_from_slice(kept.as_bytes())?;
-    }
-    Ok(text)
-}
-
-// Fails where `lift` ends otherwise over the lines with a change.
-fn expect_change(alloc: Global, lines: &str, change: &str) -> Result<(), Fail> {
-    match case_of(change) {
-        Some(case) => {
-            let text = changed(alloc, lines, case.commands, case.text)?;
-            let got = run_amply(alloc, "lift", &text)?;
-            expect(
-                got.ends(&case) && text.as_slice() != lines.as_bytes(),
-                change,
-            )
-        }
-        None => Err(Fail::new("no change")),
-    }
-}
-
-// Fails where `lift` ends otherwise over the lines with one of the changes.
-fn expect_changes(alloc: Global, lines: &str, changes: &str) -> Result<(), Fail> {
-    for change in changes.split('>').skip(1) {
-        expect_change(alloc, lines, change)?;
-    }
-    Ok(())
-}
-
-#[test]
-fn drawings_are_lifted_line_by_line(rt: HostRuntime) -> Result<(), Fail> {
-    expect_changes(rt.alloc(), GATE_LINES, GATE_CHANGES)?;
-    expect_changes(rt.alloc(), RING_LINES, RING_CHANGES)
-}

@@ -140,10 +140,7 @@ x = 3, y = 1, rule = WireWorld
 3C!
 == 4
 too large: generations 4294967298
-";
-
-/// Over the gate's pattern.
-pub const OF_THE_GATE: &str = "
+@ gate's pattern
 > simulate --cycles 2 a=01 b=0 -- words that give no streams
 == 9
 stream: BadLength b=0

@@ -1,6 +1,7 @@
 // Runs of `tape`. After a tape's cycles come zeros.
 
-/// Tapes, and what gives none.
+/// Tapes, and what gives none. A tape's table has no inputs, and of the gate's what it names stands
+/// 32 cells further east.
 pub const CASES: &str = "
 > tape --cycles 4 -- texts that give no tape
 .model m
@@ -34,10 +35,7 @@ q=100100
 0 1
 == 0
 y=10011
-";
-
-/// Over the gate. A tape's table has no inputs, and what it names stands 32 cells further east.
-pub const OF_THE_GATE: &str = "
+@ gate
 > tape --cycles 2 a=01 b=11 -- streams lie before the gate
 == 0
 #C BLIFWW 2 P 32 L 32 C 1
@@ -63,10 +61,7 @@ y=1
 > tape --cycles 1 a=1 b=0 | simulate --cycles 2
 == 0
 y=10
-";
-
-/// Over the toggle.
-pub const OF_THE_TOGGLE: &str = "
+@ toggle
 > tape --cycles 4097 -- texts that give no tape
 == 2
 usage: blifww compile|simulate|eval|probe|window|make|self|tape|aiger|vcd|lift

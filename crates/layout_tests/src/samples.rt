@@ -1,0 +1,138 @@
+// Plans that tests take by name.
+use crate::plans::Written;
+use lane_core::{Instr, NetPlace, Start};
+
+/// An Or on two lanes: net 0 and net 1 are the inputs, net 2 is the output.
+pub const OR: Written<'static> = Written {
+    lanes: 2,
+    columns: &[&[Instr::Or(0)]],
+    latches: 0,
+    starts: &[],
+    ins: &[0, 1],
+    outs: &[0],
+    nets: &[
+        NetPlace {
+            lane: 0,
+            after: None,
+        },
+        NetPlace {
+            lane: 1,
+            after: None,
+        },
+        NetPlace {
+            lane: 0,
+            after: Some(0),
+        },
+    ],
+    tape: &[],
+};
+
+/// Three loops alone, of which the first starts with 1.
+pub const BARE: Written<'static> = Written {
+    lanes: 3,
+    columns: &[&[], &[], &[]],
+    latches: 3,
+    starts: &[Start { x: 96, y: 8 }],
+    ins: &[],
+    outs: &[],
+    nets: &[],
+    tape: &[],
+};
+
+/// Two lanes and a loop that starts with 1: the Or takes its bit, and the Fork gives it to the
+/// output and back to the loop.
+pub const LOOP: Written<'static> = Written {
+    lanes: 2,
+    columns: &[&[Instr::Or(0)], &[Instr::Fork(0)]],
+    latches: 1,
+    starts: &[Start { x: 32, y: 24 }],
+    ins: &[0],
+    outs: &[0],
+    nets: &[],
+    tape: &[],
+};
+
+/// A circuit of five lanes, with each instruction in one of its columns, an input on every other
+/// lane, and an output on every lane.
+pub const CIRCUIT: Written<'static> = Written {
+    lanes: 5,
+    columns: &[
+        &[Instr::Fork(0), Instr::Fork(2)],
+        &[Instr::Swap(1), Instr::AndNot(3)],
+        &[Instr::Xor(0), Instr::Or(2)],
+        &[Instr::Swap(1)],
+    ],
+    latches: 0,
+    starts: &[],
+    ins: &[0, 2, 4],
+    outs: &[0, 1, 2, 3, 4],
+    nets: &[],
+    tape: &[],
+};
+
+// Two lanes, two columns and a loop.
+const FORK_LOOP: Written<'static> = Written {
+    lanes: 2,
+    columns: &[&[Instr::Fork(0)], &[Instr::Or(0)]],
+    latches: 1,
+    starts: &[Start { x: 32, y: 24 }],
+    ins: &[0],
+    outs: &[0],
+    nets: &[],
+    tape: &[],
+};
+
+// Three columns without instructions, and two loops.
+const LOOPS: Written<'static> = Written {
+    lanes: 5,
+    columns: &[&[], &[], &[]],
+    latches: 2,
+    starts: &[Start { x: 64, y: 72 }],
+    ins: &[],
+    outs: &[2],
+    nets: &[],
+    tape: &[],
+};
+
+// Each instruction beside the one of its other half.
+const FOUR_LANES: Written<'static> = Written {
+    lanes: 4,
+    columns: &[
+        &[Instr::Swap(0), Instr::Fork(2)],
+        &[Instr::Xor(1)],
+        &[Instr::Or(0), Instr::AndNot(2)],
+        &[],
+    ],
+    latches: 0,
+    starts: &[],
+    ins: &[],
+    outs: &[],
+    nets: &[],
+    tape: &[],
+};
+
+/// A plan that is written down above.
+#[derive(Clone, Copy)]
+pub enum Sample {
+    Or,
+    Circuit,
+    Loop,
+    ForkLoop,
+    ThreeLoops,
+    LongLoops,
+    FourLanes,
+}
+
+/// How a plan is written down. A test that names the constant in the place of this is dearer to
+/// prove.
+pub fn written(sample: Sample) -> Written<'static> {
+    match sample {
+        Sample::Or => OR,
+        Sample::Circuit => CIRCUIT,
+        Sample::Loop => LOOP,
+        Sample::ForkLoop => FORK_LOOP,
+        Sample::ThreeLoops => BARE,
+        Sample::LongLoops => LOOPS,
+        Sample::FourLanes => FOUR_LANES,
+    }
+}
