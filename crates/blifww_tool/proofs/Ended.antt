@@ -193,6 +193,18 @@ cause_is (TooManyContexts n limit) = (λ e. cc, λ e. cc)
 cause_is (NotQuiet g x y) = (λ e. cc, λ e. cc)
 cause_is (NotCircuit fault) = (λ e. cc, λ e. cc)
 
+never_done : (r : Refusal) → status_of r ≢ 0
+never_done Usage = λ e. cc
+never_done TooLong = λ e. cc
+never_done ReadFault = λ e. cc
+never_done WriteFault = λ e. cc
+never_done NoMemory = λ e. cc
+never_done (Text cause) = (cause_is cause).0
+
+-- a refusal's status is not that of a run that is done
+pub not_done : {A : Type 0} (status : ℕ) (r : Refusal) → status ≡ status_of r → status ≡ 0 → A
+not_done status r is e = absurd (never_done r (sym is ∙ e))
+
 refused_as : (c : Call) (status : ℕ) (r : Refusal) → status ≡ status_of r → status_of r ≢ 0 → status_of r ≢ 6 → GainedNothing c.out × HasReason c.words c.src r → Gained c.err (refusal_line r) → Ending c status
 refused_as c status r e z s h line =
     refused (λ k. z (sym e ∙ k)) (λ k. s (sym e ∙ k)) (record { refusal = r; reason = h.1; nothing = h.0; told = record { status_is = e; line = line } })

@@ -10,7 +10,8 @@ use Rattle.blifww_tool.specs.Simulation.{Simulation}
 use Rattle.blifww_tool.specs.declared.driven.Driven.{Driven}
 
 abbrev pub simulation_in : Pattern → Ports → Streams → Simulation
-simulation_in pattern ports streams = record { grid = grid_of pattern; ports = ports; streams = streams }
+simulation_in pattern ports streams =
+    record { grid = grid_of pattern; ports = ports; streams = streams }
 
 abbrev pub simulation_of : Driven → Simulation
 simulation_of d = simulation_in d.pattern d.ports d.streams

@@ -70,7 +70,8 @@ pub record HaveCauses (c : Call) (status : ℕ) : Type 0 where
   pub a_loop : status ≡ 3 → ¬ Asks c.words aiger
       → (text : List ℕ) × (names : List Name) × GaveAll c.src text × HasLoop text names
   pub aig_loop : status ≡ 3 → Asks c.words aiger
-      → (text : List ℕ) × (literals : List ℕ) × GaveAll c.src text × HasNoAig text (AigLoop literals)
+      → (text : List ℕ) × (literals : List ℕ) × GaveAll c.src text
+      × HasNoAig text (AigLoop literals)
   pub too_large : status ≡ 4 → (contexts : ℕ) (starts : List (List ℕ))
       → Asks c.words (compile contexts starts) → IsTooLarge c contexts starts
   pub over_a_limit : status ≡ 4 → IsOverALimit c

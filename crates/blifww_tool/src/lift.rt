@@ -1,5 +1,8 @@
 // `lift`: the netlist of the circuit that a pattern draws.
-ghost use Rattle.std.specs.Prelude.{IfOk, IfErr};
+ghost use Rattle.std.specs.Prelude.{ℕ, List, IfOk, IfErr};
+ghost use Rattle.ww_rule.specs.Patterns.{grid_of};
+ghost use Rattle.pattern_reading.specs.Pattern.{ReadsWithinLimit};
+ghost use Rattle.pattern_reading.specs.PortTable.{ReadsAsPorts};
 ghost use Rattle.command_words.specs.Shapes.{lift};
 ghost use Rattle.blifww_tool.specs.Answer.{output_text, IsWritableOutput};
 ghost use Rattle.blifww_tool.specs.Commands.{Prints, HasTextCause};
@@ -8,9 +11,34 @@ use crate::output::Output;
 use blif_write::laws::lifted_texts_read;
 use lift_carries::lifts_carry;
 use lifted_designs::{lifted_have_no_clock_fault, lifted_have_no_loop};
+use pattern_reading::Ports;
 use refusals::TextError;
 use std::alloc::Global;
 use tile_match::audit;
+use ww_rule::Pattern;
+
+// The netlist that a pattern with its port table carries, where they are the drawing of a circuit.
+fn drawn(alloc: Global, pattern: &Pattern, ports: &Ports) -> Result<Output, TextError>
+    ensures printed { IfOk result (λ output. (text : List ℕ)
+        → ReadsWithinLimit text (grid_of pattern.now)
+        → ReadsAsPorts text pattern.now.width pattern.now.height ports.now
+        → Prints lift text (output_text output)) }
+    ensures writable { IfOk result IsWritableOutput }
+    ensures refused { IfErr result (λ e. (text : List ℕ)
+        → ReadsWithinLimit text (grid_of pattern.now)
+        → ReadsAsPorts text pattern.now.width pattern.now.height ports.now
+        → HasTextCause lift text e) }
+{
+    let plan = audit(alloc, pattern, ports)?;
+    lifted_texts_read();
+    lifted_have_no_clock_fault();
+    lifted_have_no_loop();
+    lifts_carry();
+    let made = blif_write::of(alloc, &plan, ports);
+    drop(plan);
+    let lifted = made?;
+    Ok(Output::Lifted(lifted))
+}
 
 /// Makes the netlist that the text's pattern with its port table carries, if they are the drawing
 /// of a circuit.
@@ -21,11 +49,5 @@ pub fn lift(alloc: Global, text: &[u8]) -> Result<Output, TextError>
 {
     let pattern = rle_read::read(alloc, text)?;
     let ports = port_table::read(alloc, text, pattern.width, pattern.height)?;
-    let plan = audit(alloc, &pattern, &ports)?;
-    lifted_texts_read();
-    lifted_have_no_clock_fault();
-    lifted_have_no_loop();
-    lifts_carry();
-    let lifted = blif_write::of(alloc, &plan, &ports)?;
-    Ok(Output::Lifted(lifted))
+    drawn(alloc, &pattern, &ports)
 }

@@ -1,4 +1,4 @@
-use Rattle.std.proofs.Common.{ap, ◌∙◌, List, Bool, flat_map, zip, ℕ}
+use Rattle.std.proofs.Common.{ap, ◌∙◌, List, Bool, flat_map, zip}
 use Rattle.std.specs.List.{range_with_len}
 use Rattle.std.proofs.lemmas.Result.{err_from_is_err_and}
 use Rattle.ww_rule.specs.Grid.{plane_of}

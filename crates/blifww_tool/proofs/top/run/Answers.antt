@@ -1,6 +1,6 @@
-use Rattle.std.proofs.Common.{refl}
+use Rattle.std.proofs.Common.{arith, refl}
 use Rattle.blifww_tool.proofs.Headline.{aigs, dumps, headline, in_contexts, lifts, tapes}
-use Rattle.blifww_tool.proofs.Ended.{done, told, untold, ends}
+use Rattle.blifww_tool.proofs.Ended.{done, told, untold, ends, not_done}
 use Rattle.blifww_tool.proofs.Stopped.{kept}
 use Rattle.blifww_tool.proofs.top.run.Goals as goal
 
@@ -31,3 +31,39 @@ returns-in-Ok-tell-clause-ends g c =
 
 pub returns-clause-ends : goal.returns-clause-ends
 returns-clause-ends g c = ends _ 6 (untold _ c.in-Err.refusal c.in-Err.ensures.stopped c.in-Err-tell.ensures.front c.in-Err-tell.ensures.cause.failed) c.work.ensures.front
+
+pub returns-in-Ok-tell-clause-headline : goal.returns-in-Ok-tell-clause-headline
+returns-in-Ok-tell-clause-headline g c = λ e. not_done c.status.result c.in-Err.refusal c.status.ensures e
+
+pub returns-clause-headline : goal.returns-clause-headline
+returns-clause-headline g c = λ e. absurd (omega (arith, e))
+
+pub returns-in-Ok-tell-clause-contexts : goal.returns-in-Ok-tell-clause-contexts
+returns-in-Ok-tell-clause-contexts g c = λ e. not_done c.status.result c.in-Err.refusal c.status.ensures e
+
+pub returns-clause-contexts : goal.returns-clause-contexts
+returns-clause-contexts g c = λ e. absurd (omega (arith, e))
+
+pub returns-in-Ok-tell-clause-tapes : goal.returns-in-Ok-tell-clause-tapes
+returns-in-Ok-tell-clause-tapes g c = λ e. not_done c.status.result c.in-Err.refusal c.status.ensures e
+
+pub returns-clause-tapes : goal.returns-clause-tapes
+returns-clause-tapes g c = λ e. absurd (omega (arith, e))
+
+pub returns-in-Ok-tell-clause-aigs : goal.returns-in-Ok-tell-clause-aigs
+returns-in-Ok-tell-clause-aigs g c = λ e. not_done c.status.result c.in-Err.refusal c.status.ensures e
+
+pub returns-clause-aigs : goal.returns-clause-aigs
+returns-clause-aigs g c = λ e. absurd (omega (arith, e))
+
+pub returns-in-Ok-tell-clause-dumps : goal.returns-in-Ok-tell-clause-dumps
+returns-in-Ok-tell-clause-dumps g c = λ e. not_done c.status.result c.in-Err.refusal c.status.ensures e
+
+pub returns-clause-dumps : goal.returns-clause-dumps
+returns-clause-dumps g c = λ e. absurd (omega (arith, e))
+
+pub returns-in-Ok-tell-clause-lifts : goal.returns-in-Ok-tell-clause-lifts
+returns-in-Ok-tell-clause-lifts g c = λ e. not_done c.status.result c.in-Err.refusal c.status.ensures e
+
+pub returns-clause-lifts : goal.returns-clause-lifts
+returns-clause-lifts g c = λ e. absurd (omega (arith, e))
