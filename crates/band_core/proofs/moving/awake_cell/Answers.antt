@@ -15,6 +15,7 @@ use Rattle.band_core.proofs.Resting.{is_quiet}
 use Rattle.band_core.proofs.Waking.{lit_wakes, faced_wakes, due_wakes, none_wakes}
 use Rattle.lists.proofs.Options.{none_where}
 use Rattle.band_core.proofs.moving.awake_cell.Goals as goal
+use Rattle.band_core.proofs.moving.awake_cell.Goals.{After-row_below-down}
 
 pub lit_cell-requires-clause-lit : goal.lit_cell-requires-clause-lit
 lit_cell-requires-clause-lit c =
@@ -31,29 +32,35 @@ lit_cell-requires-clause-dark c none j =
     let is = c.requires.bands.each b band c.requires.band in
     ap (λ words. get_or words j 0) c.deref.ensures.value ∙ subst (λ (d : Band). d.is_dark ≡ true → (j : ℕ) → get_or d.lit.items j 0 ≡ 0) (sym c.index-bands-b.is) is.dark none j
 
-pub faced_cell-requires-clause-few_up : goal.faced_cell-requires-clause-few_up
-faced_cell-requires-clause-few_up c =
+-- the rows beside the band are as long as a dark row
+up_long : (c : After-row_below-down) → length c.row_above-up.result.heads.now ≡ length c.args.dark.now
+up_long c =
     let s = c.split_at in
     let t = c.split_at-2 in
     let w = parted c.args.bands.now s.result.0.now s.result.1.now t.result.0.now t.result.1.now c.args.b s.ensures.by_index.0 s.ensures.front_len t.ensures.by_index.0 t.ensures.front_len in
-    let b = c.args.b in
     let bands = c.args.bands.now in
     let band = c.index-bands-b.result in
-    let l = above_long (length c.args.dark.now) c.args.height c.args.rows bands c.requires.bands b band c.requires.band c.args.dark.now refl band.generation c.row_above.result.0.now (first_of c.args.bands.now s.result.0.now t.result.0.now t.result.1.now c.args.b w c.row_above.ensures.first) (later_of c.args.bands.now s.result.0.now t.result.0.now t.result.1.now c.args.b w c.row_above.result.0.now c.index-bands-b.result.generation c.row_above.ensures.later) in
-    let few = c.requires.few in
-    omega (arith, l, few)
+    above_long (length c.args.dark.now) c.args.height c.args.rows bands c.requires.bands c.args.b band c.requires.band c.args.dark.now refl band.generation c.row_above-up.result.heads.now (first_of c.args.bands.now s.result.0.now t.result.0.now t.result.1.now c.args.b w c.row_above-up.ensures.first) (later_of c.args.bands.now s.result.0.now t.result.0.now t.result.1.now c.args.b w c.row_above-up.result.heads.now c.index-bands-b.result.generation c.row_above-up.ensures.later)
 
-pub faced_cell-requires-clause-few_down : goal.faced_cell-requires-clause-few_down
-faced_cell-requires-clause-few_down c =
+down_long : (c : After-row_below-down) → length c.row_below-down.result.heads.now ≡ length c.args.dark.now
+down_long c =
     let s = c.split_at in
     let t = c.split_at-2 in
     let w = parted c.args.bands.now s.result.0.now s.result.1.now t.result.0.now t.result.1.now c.args.b s.ensures.by_index.0 s.ensures.front_len t.ensures.by_index.0 t.ensures.front_len in
-    let b = c.args.b in
     let bands = c.args.bands.now in
     let band = c.index-bands-b.result in
-    let l = below_long (length c.args.dark.now) c.args.height c.args.rows bands c.requires.bands b band c.requires.band c.args.dark.now refl band.generation c.row_below.result.0.now (last_of c.args.bands.now s.result.0.now t.result.0.now t.result.1.now c.args.b w c.row_below.ensures.last) (earlier_of c.args.bands.now s.result.0.now t.result.0.now t.result.1.now c.args.b w c.row_below.result.0.now c.index-bands-b.result.generation c.row_below.ensures.earlier) in
+    below_long (length c.args.dark.now) c.args.height c.args.rows bands c.requires.bands c.args.b band c.requires.band c.args.dark.now refl band.generation c.row_below-down.result.heads.now (last_of c.args.bands.now s.result.0.now t.result.0.now t.result.1.now c.args.b w c.row_below-down.ensures.last) (earlier_of c.args.bands.now s.result.0.now t.result.0.now t.result.1.now c.args.b w c.row_below-down.result.heads.now c.index-bands-b.result.generation c.row_below-down.ensures.earlier)
+
+pub faced_cell-requires-clause-alike : goal.faced_cell-requires-clause-alike
+faced_cell-requires-clause-alike c =
+    let k = (goal.at.faced_cell-requires-clause-alike c).After-row_below-down in
+    down_long k ∙ sym (up_long k)
+
+pub faced_cell-requires-clause-few : goal.faced_cell-requires-clause-few
+faced_cell-requires-clause-few c =
+    let up = up_long (goal.at.faced_cell-requires-clause-few c).After-row_below-down in
     let few = c.requires.few in
-    omega (arith, l, few)
+    omega (arith, up, few)
 
 module _ (e : ℕ → Plane) (due : Due) (words height rows width b : ℕ) (bands : List Band) (band : Band) (at : band ≡ get_or bands b band) (inside : b < length bands) (are : AreBands words height rows bands) (evo : IsEvolution e due width rows) (shows : AllShow e due height rows bands) where
   abbrev many : ℕ
@@ -114,10 +121,10 @@ returns-in-Some-faced_cell-clause-some c e due width evo shows =
     let found = c.in-Some-faced_cell in
     let is = is_band e due words h rows width b bands band c.index-bands-b.is c.requires.band c.requires.bands evo shows in
     let sh = shows_band e due words h rows width b bands band c.index-bands-b.is c.requires.band c.requires.bands evo shows in
-    let up = over e due words h rows width b bands band c.index-bands-b.is c.requires.band c.requires.bands evo shows c.args.dark.now c.requires.dark c.requires.ready c.row_above.result.0.now (first_of c.args.bands.now s.result.0.now t.result.0.now t.result.1.now c.args.b w c.row_above.ensures.first) (later_of c.args.bands.now s.result.0.now t.result.0.now t.result.1.now c.args.b w c.row_above.result.0.now c.index-bands-b.result.generation c.row_above.ensures.later) in
-    let down = under e due words h rows width b bands band c.index-bands-b.is c.requires.band c.requires.bands evo shows c.args.dark.now c.requires.dark c.requires.ready c.row_below.result.0.now (last_of c.args.bands.now s.result.0.now t.result.0.now t.result.1.now c.args.b w c.row_below.ensures.last) (earlier_of c.args.bands.now s.result.0.now t.result.0.now t.result.1.now c.args.b w c.row_below.result.0.now c.index-bands-b.result.generation c.row_below.ensures.earlier) in
+    let up = over e due words h rows width b bands band c.index-bands-b.is c.requires.band c.requires.bands evo shows c.args.dark.now c.requires.dark c.requires.ready c.row_above-up.result.heads.now (first_of c.args.bands.now s.result.0.now t.result.0.now t.result.1.now c.args.b w c.row_above-up.ensures.first) (later_of c.args.bands.now s.result.0.now t.result.0.now t.result.1.now c.args.b w c.row_above-up.result.heads.now c.index-bands-b.result.generation c.row_above-up.ensures.later) in
+    let down = under e due words h rows width b bands band c.index-bands-b.is c.requires.band c.requires.bands evo shows c.args.dark.now c.requires.dark c.requires.ready c.row_below-down.result.heads.now (last_of c.args.bands.now s.result.0.now t.result.0.now t.result.1.now c.args.b w c.row_below-down.ensures.last) (earlier_of c.args.bands.now s.result.0.now t.result.0.now t.result.1.now c.args.b w c.row_below-down.result.heads.now c.index-bands-b.result.generation c.row_below-down.ensures.earlier) in
     subst (λ g. IsWaking e due g (b * h) m found.x found.z) (own e due words h rows width b bands band c.index-bands-b.is c.requires.band c.requires.bands evo shows)
-    (faced_wakes e due words (b * h) m band is sh c.row_above.result.0.now c.row_below.result.0.now found.x found.z up down (subst (λ (rows : List Row). ((found.z + 1 ≡ b * h) × (is_set c.row_above.result.0.now found.x ≡ true)) ⊎ ((found.z ≡ b * h + length rows) × (is_set c.row_below.result.0.now found.x ≡ true))) c.as_slice-own.ensures.value found.ensures.some))
+    (faced_wakes e due words (b * h) m band is sh c.row_above-up.result.heads.now c.row_below-down.result.heads.now found.x found.z up down (subst (λ (rows : List Row). ((found.z + 1 ≡ b * h) × (is_set c.row_above-up.result.heads.now found.x ≡ true)) ⊎ ((found.z ≡ b * h + length rows) × (is_set c.row_below-down.result.heads.now found.x ≡ true))) c.as_slice-own.ensures.value found.ensures.some))
 
 pub returns-clause-some : goal.returns-clause-some
 returns-clause-some c =
@@ -149,12 +156,12 @@ returns-clause-quiet c q e due width evo shows =
     let m = min h (rows - b * h) in
     let is = is_band e due words h rows width b bands band c.index-bands-b.is c.requires.band c.requires.bands evo shows in
     let sh = shows_band e due words h rows width b bands band c.index-bands-b.is c.requires.band c.requires.bands evo shows in
-    let up = over e due words h rows width b bands band c.index-bands-b.is c.requires.band c.requires.bands evo shows c.args.dark.now c.requires.dark c.requires.ready c.row_above.result.0.now (first_of c.args.bands.now s.result.0.now t.result.0.now t.result.1.now c.args.b w c.row_above.ensures.first) (later_of c.args.bands.now s.result.0.now t.result.0.now t.result.1.now c.args.b w c.row_above.result.0.now c.index-bands-b.result.generation c.row_above.ensures.later) in
-    let down = under e due words h rows width b bands band c.index-bands-b.is c.requires.band c.requires.bands evo shows c.args.dark.now c.requires.dark c.requires.ready c.row_below.result.0.now (last_of c.args.bands.now s.result.0.now t.result.0.now t.result.1.now c.args.b w c.row_below.ensures.last) (earlier_of c.args.bands.now s.result.0.now t.result.0.now t.result.1.now c.args.b w c.row_below.result.0.now c.index-bands-b.result.generation c.row_below.ensures.earlier) in
+    let up = over e due words h rows width b bands band c.index-bands-b.is c.requires.band c.requires.bands evo shows c.args.dark.now c.requires.dark c.requires.ready c.row_above-up.result.heads.now (first_of c.args.bands.now s.result.0.now t.result.0.now t.result.1.now c.args.b w c.row_above-up.ensures.first) (later_of c.args.bands.now s.result.0.now t.result.0.now t.result.1.now c.args.b w c.row_above-up.result.heads.now c.index-bands-b.result.generation c.row_above-up.ensures.later) in
+    let down = under e due words h rows width b bands band c.index-bands-b.is c.requires.band c.requires.bands evo shows c.args.dark.now c.requires.dark c.requires.ready c.row_below-down.result.heads.now (last_of c.args.bands.now s.result.0.now t.result.0.now t.result.1.now c.args.b w c.row_below-down.ensures.last) (earlier_of c.args.bands.now s.result.0.now t.result.0.now t.result.1.now c.args.b w c.row_below-down.result.heads.now c.index-bands-b.result.generation c.row_below-down.ensures.earlier) in
     let unlit = none_where c.lit_cell.result c.in_default.not-Some in
     let unfaced = none_where c.faced_cell.result c.in_default-faced_cell.not-Some in
     let value = c.as_slice-own.ensures.value in
-    let dark : AreUnlit band.rows.items (b * h) c.row_above.result.0.now c.row_below.result.0.now =
+    let dark : AreUnlit band.rows.items (b * h) c.row_above-up.result.heads.now c.row_below-down.result.heads.now =
     record {
       heads = subst (λ (rows : List Row). (k x : ℕ) → k < length rows → is_set (row_heads rows k) x ≡ false) value (c.lit_cell.ensures.no_head unlit);
       tails = subst (λ (rows : List Row). (k x : ℕ) → k < length rows → is_set (row_tails rows k) x ≡ false) value (c.lit_cell.ensures.no_tail unlit);
@@ -162,11 +169,11 @@ returns-clause-quiet c q e due width evo shows =
       below = c.faced_cell.ensures.none_down unfaced;
     } in
     subst (λ g. IsQuiet e due g (b * h) m) (own e due words h rows width b bands band c.index-bands-b.is c.requires.band c.requires.bands evo shows)
-    (is_quiet e due width rows words (b * h) m band c.row_above.result.0.now c.row_below.result.0.now evo is sh up down
+    (is_quiet e due width rows words (b * h) m band c.row_above-up.result.heads.now c.row_below-down.result.heads.now evo is sh up down
     dark (none_wakes e due words (b * h) m band is sh (c.due_cell.ensures.none q)))
 
-pub row_above-requires-clause-dark : goal.row_above-requires-clause-dark
-row_above-requires-clause-dark c = c.requires.dark
+pub row_above-up-requires-clause-dark : goal.row_above-up-requires-clause-dark
+row_above-up-requires-clause-dark c = c.requires.dark
 
-pub row_below-requires-clause-dark : goal.row_below-requires-clause-dark
-row_below-requires-clause-dark c = c.requires.dark
+pub row_below-down-requires-clause-dark : goal.row_below-down-requires-clause-dark
+row_below-down-requires-clause-dark c = c.requires.dark
