@@ -4,7 +4,7 @@ ghost use Rattle.ww_rule.specs.Wireworld.{Plane, Due};
 ghost use Rattle.lane_kernel.specs.Spans.{AreZero};
 ghost use Rattle.band_core.specs.declared.band.Band.{Band};
 ghost use Rattle.band_core.specs.Bands.{not_ready, unready_neighbour};
-ghost use Rattle.band_core.specs.Band.{AreBands, AllShow, HasNoneDue, IsEvolution, IsBand, IsQuiet, IsWaking, ShowsBand, generation_at, generations_of, rows_in_band};
+ghost use Rattle.band_core.specs.Band.{AreBands, AllShow, CanMove, HasNoneDue, IsEvolution, IsBand, IsQuiet, IsWaking, ShowsBand, generation_at, generations_of, rows_in_band};
 ghost use Rattle.band_core.specs.Beside.{HaveRows, IsRowAbove, IsRowBelow, ShowRowsOf};
 
 use crate::awake::{due_cell, faced_cell, lit_cell};
@@ -113,11 +113,7 @@ fn step_beside(band: &mut Band, y: usize, before: &[Band], after: &[Band], dark:
 // It stands apart, so that a loop over sleeping bands stays small.
 #[inline(never)]
 pub fn move_band(bands: &mut [Band], b: usize, height: usize, rows: usize, dark: &[u64])
-    requires band { b < length bands.old }
-    requires room { generation_at bands.old b + 1 < 2 ^ 64 }
-    requires ready { unready_neighbour (generations_of bands.old) b ≡ None }
-    requires bands { AreBands (length dark.now) height rows bands.old }
-    requires dark { AreZero dark.now }
+    requires { CanMove height rows dark.now bands.old b }
     ensures bands { AreBands (length dark.now) height rows bands.new }
     ensures generations { generations_of bands.new
         ≡ slice_set (generations_of bands.old) b (generation_at bands.old b + 1) }
@@ -159,11 +155,7 @@ pub fn awake_cell(
     rows: usize,
     dark: &[u64],
 ) -> Option<(u64, u64)>
-    requires band { b < length bands.now }
-    requires room { generation_at bands.now b + 1 < 2 ^ 64 }
-    requires ready { unready_neighbour (generations_of bands.now) b ≡ None }
-    requires bands { AreBands (length dark.now) height rows bands.now }
-    requires dark { AreZero dark.now }
+    requires can_move { CanMove height rows dark.now bands.now b }
     requires few { length dark.now ≤ 2 ^ 58 }
     ensures some { IfSome result (λ cell.
         (e : ℕ → Plane) (due : Due) (width : ℕ)

@@ -16,8 +16,8 @@ split c =
     let t = c.split_at_mut-own in
     record {
       parts = parted c.args.bands.now s.result.0.now s.result.1.now t.result.0.now t.result.1.now c.args.b s.ensures.value s.ensures.front_len t.ensures.value t.ensures.front_len;
-      inside = c.requires.band;
-      are = c.requires.bands;
+      inside = c.requires.inside;
+      are = c.requires.are;
     }
 
 own : (c : After-index-own-0) → IsBand (length c.args.dark.now) (c.args.b * c.args.height) (rows_in_band c.args.height c.args.rows c.args.b) (get_or c.split_at_mut-own.result.0.now 0 c.index-own-0.result)
@@ -40,7 +40,7 @@ step_beside-requires c =
         long_above = λ up is. up_long (split k) d c.args.dark.now refl up is.first is.later;
         long_below = λ down is. down_long (split k) d c.args.dark.now refl down is.last is.earlier;
       };
-      dark = c.requires.dark;
+      dark = c.requires.unlit;
     }
 
 pub returns-clause-bands : goal.returns-clause-bands
@@ -56,8 +56,8 @@ returns-clause-bands c =
     let after : IsBand words y (rows_in_band height rows b) next = subst (λ n. IsBand words y n next) (own k).high c.step_beside.ensures.is in
     subst (AreBands words height rows) (sym (put_back (split k) c.index-own-0.result next))
     (record {
-      many = length-set bands b next ∙ c.requires.bands.many;
-      each = put_one (λ k band. IsBand words (k * height) (rows_in_band height rows k) band) bands b next c.requires.band after c.requires.bands.each;
+      many = length-set bands b next ∙ c.requires.are.many;
+      each = put_one (λ k band. IsBand words (k * height) (rows_in_band height rows k) band) bands b next c.requires.inside after c.requires.are.each;
     })
 
 pub returns-clause-generations : goal.returns-clause-generations
@@ -84,11 +84,11 @@ returns-clause-shows c e due width evo shows =
     let next = c.step_beside.new.band in
     let beside : ShowRowsOf c.split_at_mut-before.result.0.now c.split_at_mut-own.result.1.now band.generation c.args.dark.now (e band.generation) (pos y) (rows_in_band height rows b) =
     record {
-      above = λ up is. up_shows (split k) d e due width evo shows c.args.dark.now c.requires.dark c.requires.ready up is.first is.later;
-      below = λ down is. down_shows (split k) d e due width evo shows c.args.dark.now c.requires.dark c.requires.ready down is.last is.earlier;
+      above = λ up is. up_shows (split k) d e due width evo shows c.args.dark.now c.requires.unlit c.requires.ready up is.first is.later;
+      below = λ down is. down_shows (split k) d e due width evo shows c.args.dark.now c.requires.unlit c.requires.ready down is.last is.earlier;
     } in
     let here = shows_band (split k) d e due width evo shows in
     let after = c.step_beside.ensures.shows e due width rows evo (subst (λ n. ShowsBand e due y n band) (sym high) here)
     (subst (ShowRowsOf c.split_at_mut-before.result.0.now c.split_at_mut-own.result.1.now band.generation c.args.dark.now (e band.generation) (pos y)) (sym high) beside) in
     subst (AllShow e due height rows) (sym (put_back (split k) d next))
-    (put_one (λ k band. ShowsBand e due (k * height) (rows_in_band height rows k) band) bands b next c.requires.band (subst (λ n. ShowsBand e due y n next) high after) shows)
+    (put_one (λ k band. ShowsBand e due (k * height) (rows_in_band height rows k) band) bands b next c.requires.inside (subst (λ n. ShowsBand e due y n next) high after) shows)
