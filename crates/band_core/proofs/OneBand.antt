@@ -3,7 +3,7 @@ use Rattle.std.proofs.Common.{pos, ◌+ℤ◌, ◌-ℤ◌, ℕ, ◌+◌, ◌-◌
 use Rattle.std.proofs.lemmas.List.{get_or-map, length-map}
 use Rattle.ww_rule.specs.Wireworld.{Plane, Due}
 use Rattle.band_rows.specs.Rows.{ShowsHeads}
-use Rattle.band_rows.proofs.Parts.{IsParted, at_own, put_together}
+use Rattle.band_rows.proofs.Parts.{IsParted, at_own, at_before, at_after, put_together, many as parts_many}
 use Rattle.band_core.specs.declared.band.Band.{Band}
 use Rattle.band_core.specs.Band.{AllShow, AreBands, IsBand, IsEvolution, ShowsBand, bottom_at, generation_at, generations_of, rows_in_band, top_at}
 use Rattle.band_core.specs.Bands.{unready_neighbour}
@@ -33,6 +33,26 @@ module _ {words height rows : ℕ} {bands before own after : List Band} {b : ℕ
 
   pub put_back : (new : Band) → before ++ (slice_set own 0 new ++ after) ≡ slice_set bands b new
   put_back new = put_together bands before own after b split.parts new
+
+  -- the bands before and after it have rows
+  pub above_some : (d : Band) → 0 < length before → 0 < length (get_or before (length before - 1) d).rows.items
+  above_some d lt =
+      let place = split.parts.place in
+      let last : length before - 1 ≡ b - 1 = omega (arith, place) in
+      let same = ap (λ k. get_or before k d) last ∙ at_before bands before own after b split.parts (b - 1) d (omega (arith, lt, place)) in
+      let inside = split.inside in
+      let is = split.are.each (b - 1) d (omega (arith, inside)) in
+      let high = is.high in
+      let some = is.some in
+      subst (λ (band : Band). 0 < length band.rows.items) (sym same) (omega (arith, high, some))
+
+  pub below_some : (d : Band) → 0 < length after → 0 < length (get_or after 0 d).rows.items
+  below_some d lt =
+      let all = parts_many bands before own after b split.parts in
+      let is = split.are.each (b + 1) d (omega (arith, all, lt)) in
+      let high = is.high in
+      let some = is.some in
+      subst (λ (band : Band). 0 < length band.rows.items) (sym (at_after bands before own after b split.parts d)) (omega (arith, high, some))
 
   -- the rows that face it are as long as a dark row
   module _ (dark : List ℕ) (long : length dark ≡ words) where

@@ -1,6 +1,6 @@
 -- One band: its rows, the rows of heads that it keeps for its neighbours, and its own injections.
 use Rattle.ww_rule.specs.Due.{AreLeftAt, due_count}
-use Rattle.std.specs.Prelude.{pos, ◌+ℤ◌, ◌-ℤ◌, ℕ, ◌+◌, ◌-◌, ◌/◌, ◌≤◌, ◌<◌, ◌≡◌, ◌==◌, true, false, if◌then◌else◌, List, [], ◌∷◌, length, get_or, map, drop, All, min, ◌*◌}
+use Rattle.std.specs.Prelude.{pos, ◌+ℤ◌, ◌-ℤ◌, ℕ, ◌+◌, ◌-◌, ◌/◌, ◌≤◌, ◌<◌, ◌≡◌, ◌==◌, true, false, if◌then◌else◌, List, [], ◌∷◌, length, get_or, map, drop, All, min, ◌*◌, ◌^◌, None}
 use Rattle.ww_rule.specs.declared.pattern.Injection.{Injection}
 use Rattle.ww_rule.specs.Wireworld.{Plane, Due, count_head, next_plane, injected}
 use Rattle.ww_rule.specs.Grid.{IsEmptyOutside}
@@ -12,7 +12,7 @@ use Rattle.lane_kernel.specs.Spans.{AreZero}
 use Rattle.band_rows.specs.declared.row.Row.{Row}
 use Rattle.band_rows.specs.Rows.{AreLong, AreMarked, ShowRows, ShowsHeads, row_heads, row_tails, row_wires}
 use Rattle.band_core.specs.declared.band.Band.{Band}
-use Rattle.band_core.specs.Bands.{bands_in}
+use Rattle.band_core.specs.Bands.{bands_in, unready_neighbour}
 
 -- planes that follow the driven rule, and are empty outside a box
 pub record IsEvolution (e : ℕ → Plane) (due : Due) (width rows : ℕ) : Type 0 where
@@ -143,3 +143,12 @@ pub data IsWaking (e : ℕ → Plane) (due : Due) (g y many x z : ℕ) : Type 0 
 -- none of a band's injections is due at its next generation
 abbrev pub HasNoneDue : Band → Type 0
 HasNoneDue band = due_count (band.generation + 1) (drop band.done band.injections.items) ≡ 0
+
+-- band b of bands of a height over so many rows can move on: its neighbours are ready, and the row
+-- that stands for those outside is dark
+pub record CanMove (height rows : ℕ) (dark : List ℕ) (bands : List Band) (b : ℕ) : Type 0 where
+  pub inside : b < length bands
+  pub room : generation_at bands b + 1 < 2 ^ 64
+  pub ready : unready_neighbour (generations_of bands) b ≡ None
+  pub are : AreBands (length dark) height rows bands
+  pub unlit : AreZero dark

@@ -1,3 +1,4 @@
 pub mod Bands
+pub mod Beside
 pub mod Band
 pub mod Held

@@ -2,12 +2,14 @@
 ghost use Rattle.ww_rule.specs.Due.{due_count};
 ghost use Rattle.std.specs.Prelude.{◌≡◌, ◌+◌, ◌-◌, ◌<◌, ◌≤◌, ◌^◌, ◌⊎◌, ℕ, true, false, length, drop, None, IfSome};
 ghost use Rattle.lane_kernel.specs.Rows.{is_set};
-ghost use Rattle.lane_kernel.specs.Spans.{AreZero, IsDarkBeyond};
+ghost use Rattle.lane_kernel.specs.Spans.{AreZero};
 ghost use Rattle.band_rows.specs.Rows.{AreMarked, row_heads, row_tails};
 ghost use Rattle.band_core.specs.Band.{IsLitIn, IsNextDue};
+ghost use Rattle.band_core.specs.Beside.{AreAlike, words_beside};
 
 use crate::band::Band;
-use band_rows::{Row, Span, first_bit, next_marked};
+use crate::beside::RowsBeside;
+use band_rows::{Row, first_bit, next_marked};
 
 // The column of a head or a tail of a row, if it has one.
 fn lit_column(row: &Row) -> Option<usize>
@@ -56,34 +58,25 @@ pub fn lit_cell(rows: &[Row], lit: &[u64], is_dark: bool, y: usize) -> Option<(u
 
 /// Returns the column and row of a head, if there is one, in the two rows beside a band. The band
 /// has `many` rows, from row y on.
-pub fn faced_cell(
-    y: usize,
-    many: usize,
-    up: &[u64],
-    up_span: Span,
-    down: &[u64],
-    down_span: Span,
-) -> Option<(usize, usize)>
-    requires up_within { up_span.end ≤ length up.now }
-    requires down_within { down_span.end ≤ length down.now }
-    requires dark_up { IsDarkBeyond up_span.first up_span.end up.now }
-    requires dark_down { IsDarkBeyond down_span.first down_span.end down.now }
-    requires few_up { length up.now ≤ 2 ^ 58 }
-    requires few_down { length down.now ≤ 2 ^ 58 }
+pub fn faced_cell(y: usize, many: usize, beside: &RowsBeside<'_>) -> Option<(usize, usize)>
+    requires alike { AreAlike beside.now }
+    requires few { words_beside beside.now ≤ 2 ^ 58 }
     requires room { y + many < 2 ^ 64 }
     ensures some { IfSome result (λ cell.
-        ((cell.1 + 1 ≡ y) × (is_set up.now cell.0 ≡ true))
-        ⊎ ((cell.1 ≡ y + many) × (is_set down.now cell.0 ≡ true))
+        ((cell.1 + 1 ≡ y) × (is_set beside.now.up.heads.now cell.0 ≡ true))
+        ⊎ ((cell.1 ≡ y + many) × (is_set beside.now.down.heads.now cell.0 ≡ true))
         ) }
-    ensures none_up { result ≡ None → 0 < y → (x : ℕ) → is_set up.now x ≡ false }
-    ensures none_down { result ≡ None → (x : ℕ) → is_set down.now x ≡ false }
+    ensures none_up { result ≡ None → 0 < y → (x : ℕ)
+        → is_set beside.now.up.heads.now x ≡ false }
+    ensures none_down { result ≡ None → (x : ℕ) → is_set beside.now.down.heads.now x ≡ false }
 {
+    let RowsBeside { up, down } = *beside;
     if y > 0 {
-        if let Some(x) = first_bit(up, up_span) {
+        if let Some(x) = first_bit(up.heads, up.span) {
             return Some((x, y - 1));
         }
     }
-    match first_bit(down, down_span) {
+    match first_bit(down.heads, down.span) {
         Some(x) => Some((x, y + many)),
         None => None,
     }

@@ -1,14 +1,15 @@
 // One band.
 ghost use Rattle.ww_rule.specs.Due.{due_count};
-ghost use Rattle.std.specs.Prelude.{◌≡◌, ◌+◌, ◌-◌, ◌<◌, ◌≤◌, ◌^◌, ◌+ℤ◌, ◌-ℤ◌, ℕ, pos, length};
+ghost use Rattle.std.specs.Prelude.{◌≡◌, ◌+◌, ◌-◌, ◌<◌, ◌≤◌, ◌^◌, ℤ, ℕ, pos, length};
 ghost use Rattle.ww_rule.specs.Wireworld.{Plane, Due, next_plane, injected};
 ghost use Rattle.ww_rule.specs.Injections.{has_cell};
-ghost use Rattle.lane_kernel.specs.Spans.{AreZero, AreSameWords, IsDarkBeyond};
-ghost use Rattle.band_rows.specs.Rows.{AreLong, AreMarked, IsEmptyWest, ShowRows, ShowsHeads, row_heads, row_tails};
-ghost use Rattle.band_rows.specs.Spans.{AreFacing};
+ghost use Rattle.lane_kernel.specs.Spans.{AreZero, AreSameWords};
+ghost use Rattle.band_rows.specs.Rows.{AreLong, AreMarked, IsEmptyWest, ShowRows, row_heads, row_tails};
 ghost use Rattle.band_core.specs.Band.{AreInRows, IsBand, IsEvolution, ShowsBand, bottom_at, top_at, injected_cells};
+ghost use Rattle.band_core.specs.Beside.{AreAlike, AreKept, AreMarkedRows, ShowBeside, words_beside};
 
-use band_rows::{Kept, Row, Span, is_clear, mark_row, step_band};
+use crate::beside::{RowBeside, RowsBeside};
+use band_rows::{Kept, Row, is_clear, mark_row, step_band};
 use ww_rule::Injection;
 
 /// A band: rows of one generation, marks of the rows that may be lit (if `is_dark`, none is), the
@@ -76,114 +77,104 @@ fn keep_edges(rows: &[Row], top: &mut Kept, bottom: &mut Kept)
     bottom.keep(rows[last].tails.as_slice(), rows[last].span);
 }
 
-// Steps rows from row y on, between rows of heads, and makes the injections that are then due. The
-// kept rows take the heads that the top and the bottom row had. `near` may hold anything.
-fn step_with_due(
+// Steps rows between rows of heads, without injections. The kept rows take the heads that the top
+// and the bottom row had. `near` may hold anything.
+fn step_between(
     rows: &mut [Row],
     lit: &mut [u64],
     near: &mut [u64],
-    y: usize,
-    up: &[u64],
-    up_span: Span,
-    down: &[u64],
-    down_span: Span,
+    beside: &RowsBeside<'_>,
     top: &mut Kept,
     bottom: &mut Kept,
-    due: &[Injection],
 )
     requires some { 0 < length rows.old }
-    requires long { AreLong (length up.now) rows.old }
-    requires lit { AreMarked lit.old rows.old }
-    requires near { length near.old ≡ length lit.old }
-    requires facing { AreFacing (length up.now) up.now up_span down.now down_span }
-    requires top { length top.old.heads.items ≡ length up.now }
-    requires bottom { length bottom.old.heads.items ≡ length up.now }
-    requires inside { AreInRows (length up.now) y (length rows.old) due.now }
+    requires alike { AreAlike beside.now }
+    requires marked { AreMarkedRows (words_beside beside.now) rows.old lit.old near.old }
+    requires kept { AreKept (words_beside beside.now) top.old bottom.old }
     ensures many { length rows.new ≡ length rows.old }
-    ensures long { AreLong (length up.now) rows.new }
+    ensures marked { AreMarkedRows (words_beside beside.now) rows.new lit.new near.new }
     ensures long_lit { length lit.new ≡ length lit.old }
-    ensures lit { AreMarked lit.new rows.new }
     ensures near { length near.new ≡ length near.old }
-    ensures long_top { length top.new.heads.items ≡ length up.now }
-    ensures long_bottom { length bottom.new.heads.items ≡ length up.now }
+    ensures kept { AreKept (words_beside beside.now) top.new bottom.new }
     ensures top { AreSameWords top.new.heads.items (row_heads rows.old 0) }
     ensures bottom { AreSameWords bottom.new.heads.items
         (row_heads rows.old (length rows.old - 1)) }
-    ensures shows { (p : Plane)
+    ensures shows { (p : Plane) (y : ℤ)
         → IsEmptyWest p
-        → ShowRows rows.old p (pos y)
-        → ShowsHeads up.now p (pos y -ℤ pos 1)
-        → ShowsHeads down.now p (pos y +ℤ pos (length rows.old))
-        → ShowRows rows.new (injected (has_cell (injected_cells due.now)) (next_plane p)) (pos y) }
+        → ShowRows rows.old p y
+        → ShowBeside beside.now p y (length rows.old)
+        → ShowRows rows.new (next_plane p) y }
 {
-    step_band(rows, lit, near, up, up_span, down, down_span);
+    let RowsBeside { up, down } = *beside;
+    step_band(rows, lit, near, up.heads, up.span, down.heads, down.span);
     keep_edges(rows, top, bottom);
-    inject(rows, lit, y, up.len(), due);
 }
 
 impl Band {
-    /// Returns the heads of the bottom row at a generation, which is the band's or the one before,
-    /// and a span beyond which there are none.
-    pub fn bottom_heads(&self, generation: u64) -> (&[u64], Span)
+    /// Returns the heads of the bottom row at a generation, which is the band's or the one before.
+    pub fn bottom_heads(&self, generation: u64) -> RowBeside<'_>
         requires some { 0 < length self.now.rows.items }
-        ensures heads { result.0.now ≡ bottom_at generation self.now }
-        ensures within { result.1.end ≤ length result.0.now }
-        ensures dark { IsDarkBeyond result.1.first result.1.end result.0.now }
+        ensures heads { result.heads.now ≡ bottom_at generation self.now }
     {
         if self.generation == generation {
             let row = &self.rows[self.rows.len() - 1];
-            return (row.heads.as_slice(), row.span);
+            return RowBeside {
+                heads: row.heads.as_slice(),
+                span: row.span,
+            };
         }
-        (self.bottom.heads.as_slice(), self.bottom.span)
+        RowBeside {
+            heads: self.bottom.heads.as_slice(),
+            span: self.bottom.span,
+        }
     }
 
-    /// Returns the heads of the top row at a generation, which is the band's or the one before, and
-    /// a span beyond which there are none.
-    pub fn top_heads(&self, generation: u64) -> (&[u64], Span)
+    /// Returns the heads of the top row at a generation, which is the band's or the one before.
+    pub fn top_heads(&self, generation: u64) -> RowBeside<'_>
         requires some { 0 < length self.now.rows.items }
-        ensures heads { result.0.now ≡ top_at generation self.now }
-        ensures within { result.1.end ≤ length result.0.now }
-        ensures dark { IsDarkBeyond result.1.first result.1.end result.0.now }
+        ensures heads { result.heads.now ≡ top_at generation self.now }
     {
         if self.generation == generation {
             let row = &self.rows[0];
-            return (row.heads.as_slice(), row.span);
+            return RowBeside {
+                heads: row.heads.as_slice(),
+                span: row.span,
+            };
         }
-        (self.top.heads.as_slice(), self.top.span)
+        RowBeside {
+            heads: self.top.heads.as_slice(),
+            span: self.top.span,
+        }
     }
 
     /// Goes on by one generation. The heads of the rows beside the band are those at the band's own
     /// generation.
-    pub fn step(&mut self, y: usize, up: &[u64], up_span: Span, down: &[u64], down_span: Span)
-        requires is { IsBand (length up.now) y (length self.old.rows.items) self.old }
+    pub fn step(&mut self, y: usize, beside: &RowsBeside<'_>)
+        requires is { IsBand (words_beside beside.now) y (length self.old.rows.items) self.old }
         requires room { self.old.generation + 1 < 2 ^ 64 }
-        requires facing { AreFacing (length up.now) up.now up_span down.now down_span }
+        requires alike { AreAlike beside.now }
         ensures generation { self.new.generation ≡ self.old.generation + 1 }
-        ensures is { IsBand (length up.now) y (length self.old.rows.items) self.new }
+        ensures is { IsBand (words_beside beside.now) y (length self.old.rows.items) self.new }
         ensures shows { (e : ℕ → Plane) (due : Due) (width height : ℕ)
             → IsEvolution e due width height
             → ShowsBand e due y (length self.old.rows.items) self.old
-            → ShowsHeads up.now (e self.old.generation) (pos y -ℤ pos 1)
-            → ShowsHeads down.now (e self.old.generation) (
-            pos y +ℤ pos (length self.old.rows.items)
-            )
+            → ShowBeside
+            beside.now (e self.old.generation) (pos y) (length self.old.rows.items)
             → ShowsBand e due y (length self.old.rows.items) self.new }
     {
         self.generation += 1;
         let count = due_count(self.generation as u128, &self.injections[self.done..]);
-        step_with_due(
+        step_between(
             &mut self.rows,
             &mut self.lit,
             &mut self.near,
-            y,
-            up,
-            up_span,
-            down,
-            down_span,
+            beside,
             &mut self.top,
             &mut self.bottom,
-            &self.injections[self.done..self.done + count],
         );
+        let due = &self.injections[self.done..self.done + count];
+        let words = beside.up.heads.len();
+        inject(&mut self.rows, &mut self.lit, y, words, due);
         self.is_dark = is_clear(&self.lit);
         self.done += count;
     }

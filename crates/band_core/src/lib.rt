@@ -7,6 +7,7 @@
 mod awake;
 mod band;
 mod bands;
+mod beside;
 mod error;
 mod making;
 mod moving;

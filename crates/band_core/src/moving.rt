@@ -1,13 +1,15 @@
 // Bands that move on beside others.
-ghost use Rattle.std.specs.Prelude.{◌≡◌, ◌+◌, ◌-◌, ◌*◌, ◌<◌, ◌≤◌, ◌^◌, ℕ, length, get_or, slice_set, None, IfSome};
+ghost use Rattle.std.specs.Prelude.{◌≡◌, ◌+◌, ◌-◌, ◌*◌, ◌<◌, ◌≤◌, ◌^◌, ℕ, pos, length, get_or, slice_set, None, IfSome};
 ghost use Rattle.ww_rule.specs.Wireworld.{Plane, Due};
-ghost use Rattle.lane_kernel.specs.Spans.{AreZero, IsDarkBeyond};
+ghost use Rattle.lane_kernel.specs.Spans.{AreZero};
 ghost use Rattle.band_core.specs.declared.band.Band.{Band};
 ghost use Rattle.band_core.specs.Bands.{not_ready, unready_neighbour};
-ghost use Rattle.band_core.specs.Band.{AreBands, AllShow, HasNoneDue, IsEvolution, IsQuiet, IsWaking, bottom_at, generation_at, generations_of, rows_in_band, top_at};
+ghost use Rattle.band_core.specs.Band.{AreBands, AllShow, CanMove, HasNoneDue, IsEvolution, IsBand, IsQuiet, IsWaking, ShowsBand, generation_at, generations_of, rows_in_band};
+ghost use Rattle.band_core.specs.Beside.{HaveRows, IsRowAbove, IsRowBelow, ShowRowsOf};
 
 use crate::awake::{due_cell, faced_cell, lit_cell};
 use crate::band::Band;
+use crate::beside::{RowBeside, RowsBeside};
 use crate::error::NotReady;
 use band_rows::Span;
 
@@ -47,55 +49,74 @@ pub fn unready_neighbour(bands: &[Band], b: usize) -> Option<NotReady>
     None
 }
 
+// A dark row.
+fn dark_row(dark: &[u64]) -> RowBeside<'_>
+    requires { AreZero dark.now }
+    ensures { result.heads.now ≡ dark.now }
+{
+    RowBeside {
+        heads: dark,
+        span: Span { first: 0, end: 0 },
+    }
+}
+
 // The heads of the last row of the bands before, at a generation, or of a dark row if there is no
-// band, and a span beyond which that row has none.
-fn row_above<'a>(before: &'a [Band], generation: u64, dark: &'a [u64]) -> (&'a [u64], Span)
+// band.
+fn row_above<'a>(before: &'a [Band], generation: u64, dark: &'a [u64]) -> RowBeside<'a>
     requires some { (d : Band)
         → 0 < length before.now
         → 0 < length (get_or before.now (length before.now - 1) d).rows.items }
     requires dark { AreZero dark.now }
-    ensures first { length before.now ≡ 0 → result.0.now ≡ dark.now }
-    ensures later { (d : Band)
-        → 0 < length before.now
-        → result.0.now ≡ bottom_at generation (get_or before.now (length before.now - 1) d) }
-    ensures within { result.1.end ≤ length result.0.now }
-    ensures dark { IsDarkBeyond result.1.first result.1.end result.0.now }
+    ensures { IsRowAbove before.now generation dark.now result.heads.now }
 {
     if before.is_empty() {
-        return (dark, Span { first: 0, end: 0 });
+        return dark_row(dark);
     }
     before[before.len() - 1].bottom_heads(generation)
 }
 
 // The heads of the first row of the bands after, at a generation, or of a dark row if there is no
-// band, and a span beyond which that row has none.
-fn row_below<'a>(after: &'a [Band], generation: u64, dark: &'a [u64]) -> (&'a [u64], Span)
+// band.
+fn row_below<'a>(after: &'a [Band], generation: u64, dark: &'a [u64]) -> RowBeside<'a>
     requires some { (d : Band)
         → 0 < length after.now
         → 0 < length (get_or after.now 0 d).rows.items }
     requires dark { AreZero dark.now }
-    ensures last { length after.now ≡ 0 → result.0.now ≡ dark.now }
-    ensures earlier { (d : Band)
-        → 0 < length after.now
-        → result.0.now ≡ top_at generation (get_or after.now 0 d) }
-    ensures within { result.1.end ≤ length result.0.now }
-    ensures dark { IsDarkBeyond result.1.first result.1.end result.0.now }
+    ensures { IsRowBelow after.now generation dark.now result.heads.now }
 {
     if after.is_empty() {
-        return (dark, Span { first: 0, end: 0 });
+        return dark_row(dark);
     }
     after[0].top_heads(generation)
+}
+
+// Moves a band on by one generation, between the bands before and after it. It stands apart, since
+// the proof knows nothing of split bands once a struct has borrowed from them.
+fn step_beside(band: &mut Band, y: usize, before: &[Band], after: &[Band], dark: &[u64])
+    requires is { IsBand (length dark.now) y (length band.old.rows.items) band.old }
+    requires room { band.old.generation + 1 < 2 ^ 64 }
+    requires rows { HaveRows before.now after.now band.old.generation dark.now }
+    requires dark { AreZero dark.now }
+    ensures generation { band.new.generation ≡ band.old.generation + 1 }
+    ensures is { IsBand (length dark.now) y (length band.old.rows.items) band.new }
+    ensures shows { (e : ℕ → Plane) (due : Due) (width height : ℕ)
+        → IsEvolution e due width height
+        → ShowsBand e due y (length band.old.rows.items) band.old
+        → ShowRowsOf
+        before.now after.now band.old.generation dark.now
+        (e band.old.generation) (pos y) (length band.old.rows.items)
+        → ShowsBand e due y (length band.old.rows.items) band.new }
+{
+    let up = row_above(before, band.generation, dark);
+    let down = row_below(after, band.generation, dark);
+    band.step(y, &RowsBeside { up, down });
 }
 
 /// Moves band b on by one generation. It takes no memory.
 // It stands apart, so that a loop over sleeping bands stays small.
 #[inline(never)]
 pub fn move_band(bands: &mut [Band], b: usize, height: usize, rows: usize, dark: &[u64])
-    requires band { b < length bands.old }
-    requires room { generation_at bands.old b + 1 < 2 ^ 64 }
-    requires ready { unready_neighbour (generations_of bands.old) b ≡ None }
-    requires bands { AreBands (length dark.now) height rows bands.old }
-    requires dark { AreZero dark.now }
+    requires { CanMove height rows dark.now bands.old b }
     ensures bands { AreBands (length dark.now) height rows bands.new }
     ensures generations { generations_of bands.new
         ≡ slice_set (generations_of bands.old) b (generation_at bands.old b + 1) }
@@ -106,10 +127,7 @@ pub fn move_band(bands: &mut [Band], b: usize, height: usize, rows: usize, dark:
 {
     let (before, rest) = bands.split_at_mut(b);
     let (own, after) = rest.split_at_mut(1);
-    let band = &mut own[0];
-    let (up, up_span) = row_above(before, band.generation, dark);
-    let (down, down_span) = row_below(after, band.generation, dark);
-    band.step(b * height, up, up_span, down, down_span);
+    step_beside(&mut own[0], b * height, before, after, dark);
 }
 
 /// Moves band b on by one generation, if nothing in it can change: its rows stay.
@@ -140,11 +158,7 @@ pub fn awake_cell(
     rows: usize,
     dark: &[u64],
 ) -> Option<(u64, u64)>
-    requires band { b < length bands.now }
-    requires room { generation_at bands.now b + 1 < 2 ^ 64 }
-    requires ready { unready_neighbour (generations_of bands.now) b ≡ None }
-    requires bands { AreBands (length dark.now) height rows bands.now }
-    requires dark { AreZero dark.now }
+    requires can_move { CanMove height rows dark.now bands.now b }
     requires few { length dark.now ≤ 2 ^ 58 }
     ensures some { IfSome result (λ cell.
         (e : ℕ → Plane) (due : Due) (width : ℕ)
@@ -168,9 +182,9 @@ pub fn awake_cell(
     }
     let (before, rest) = bands.split_at(b);
     let (_, after) = rest.split_at(1);
-    let (up, up_span) = row_above(before, band.generation, dark);
-    let (down, down_span) = row_below(after, band.generation, dark);
-    if let Some((x, z)) = faced_cell(y, own.len(), up, up_span, down, down_span) {
+    let up = row_above(before, band.generation, dark);
+    let down = row_below(after, band.generation, dark);
+    if let Some((x, z)) = faced_cell(y, own.len(), &RowsBeside { up, down }) {
         return Some((x as u64, z as u64));
     }
     due_cell(band)
