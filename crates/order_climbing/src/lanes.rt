@@ -149,8 +149,8 @@ impl Lanes {
         time
     }
 
-    // Moves what stands on the lanes before the last, up to the first, down by one lane. Returns the
-    // column after the last swap.
+    // Moves what stands on the lanes before the last, up to the first, down by one lane. Returns
+    // the column after the last swap.
     fn lower(&mut self, first: usize, last: usize) -> usize {
         let mut time = self.clock(last);
         for lane in (first..last).rev() {

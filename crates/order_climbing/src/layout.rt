@@ -117,8 +117,8 @@ impl Homes {
         Ok(self.lift(above))
     }
 
-    // Puts inputs that stand on loops' lanes on the lowest free ones above. Returns whether there are
-    // enough. No lane from `end` on is free.
+    // Puts inputs that stand on loops' lanes on the lowest free ones above. Returns whether there
+    // are enough. No lane from `end` on is free.
     fn lift(&mut self, above: usize) -> bool {
         let mut end = above;
         for input in 0..self.ins.len() {

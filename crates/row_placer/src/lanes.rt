@@ -380,8 +380,8 @@ impl<'a> Lanes<'a> {
         }
     }
 
-    /// Gives a role to a kept value: on its lane at the last use, and else on a copy: the one on the
-    /// partner's side, and the upper one if it has no partner.
+    /// Gives a role to a kept value: on its lane at the last use, and else on a copy: the one on
+    /// the partner's side, and the upper one if it has no partner.
     fn fetch(
         &mut self,
         value: u32,
