@@ -1,12 +1,11 @@
 // Runs over sources and sinks in memory.
 //
 // A list of cases is one text, since a table costs its proof for each row. A case begins with `>`
-// and a line of commands, each of
-// which reads what the one before wrote, with `|` between any two, and ` -- ` before a word on the case. The lines of a text follow,
-// which the first command reads; a case without one reads the text that the line with `@` before it
-// names. Then come `== ` with the status, and the lines that the last command writes where that is
-// 0, or tells where it is another; it writes and tells no more. Where three full stops stand there,
-// anything may.
+// and a line of commands, each of which reads what the one before wrote, with `|` between them; a
+// word on the case follows ` -- `. Then come the lines of the text that the first command reads; a
+// case without them reads the text that the last line with `@` names. Then come `== ` with the
+// status, and the lines that the last command writes to the output if the status is 0, and else to
+// the errors. It writes nothing more. Three full stops stand for anything.
 ghost use Rattle.std.specs.Prelude.{◌≤◌};
 
 mod circuits;
