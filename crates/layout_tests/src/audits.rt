@@ -1,4 +1,4 @@
-// Patterns with their tables: circuits, and why some are none.
+// Patterns with their port tables: which are circuits, and why the others are not.
 ghost use Rattle.lane_core.specs.Plans.{IsAdmissible};
 
 use crate::fails::expect_holds;
@@ -15,14 +15,14 @@ use tile_match::{AuditError, CircuitFault, audit};
 use ww_base::expect;
 use ww_rule::Pattern;
 
-// A table, the items of its pattern, and what is said.
+// A port table, the header and items of its pattern, and the answer: `circuit`, or a fault.
 struct Case {
     table: &'static [u8],
     items: &'static [u8],
     said: &'static [u8],
 }
 
-// The table of an OR of two inputs, and its header and items.
+// The port table of an OR of two inputs, and below it the header and items of its pattern.
 const TABLE: &[u8] =
     b"#C BLIFWW 1 P 32 L 32\n#C BLIFWW IN 0 8 a\n#C BLIFWW IN 0 24 b\n#C BLIFWW OUT 32 8 y\n";
 
@@ -40,19 +40,19 @@ const CASES: &[Case] = &[
         items: b"x = 0, y = 0, rule = WireWorld\n!\n",
         said: b"circuit",
     },
-    // an input's line taken out
+    // without the line of an input
     Case {
         table: b"#C BLIFWW 1 P 32 L 32\n#C BLIFWW IN 0 8 a\n#C BLIFWW OUT 32 8 y\n",
         items: ITEMS,
         said: b"circuit",
     },
-    // the inputs in another order, and the line of a net at any cell
+    // the inputs in another order, and a net at an arbitrary cell
     Case {
         table: b"#C BLIFWW 1 P 32 L 32\n#C BLIFWW IN 0 24 b\n#C BLIFWW IN 0 8 a\n#C BLIFWW OUT 32 8 y\n#C BLIFWW NET 3 3 7 n -\n",
         items: ITEMS,
         said: b"circuit",
     },
-    // the last cell taken out
+    // without the last cell
     Case {
         table: TABLE,
         items: b"x = 33, y = 32, rule = WireWorld\n8$5C18.10C$5.C16.C$6.C14.C$7.C12.C$8.C10.C$9.C.2C5.C$10.2C.C3.C$11.2C.C.C$15.C$11.2C.C$10.2C.C$9.C.2C$8.C$7.C$6.C$5.C$5C!\n",
@@ -64,14 +64,14 @@ const CASES: &[Case] = &[
         items: b"x = 33, y = 32, rule = WireWorld\n8$A4C18.10C$5.C16.C$6.C14.C$7.C12.C$8.C10.C$9.C.2C5.C$10.2C.C3.C$11.2C.C.C$15.C$11.2C.C$10.2C.C$9.C.2C$8.C$7.C$6.C$5.C$5C26.C!\n",
         said: b"Cells",
     },
-    // an output's line taken out
+    // without the line of the output
     Case {
         table: b"#C BLIFWW 1 P 32 L 32\n#C BLIFWW IN 0 8 a\n#C BLIFWW IN 0 24 b\n",
         items: ITEMS,
         said: b"Cells",
     },
-    // another latency, another period, two contexts, a cell beside an entry, and a box without
-    // cells that is wide
+    // another latency, another period, two contexts, an input beside an entry, and a box that is
+    // wide but has no cells
     Case {
         table: b"#C BLIFWW 1 P 32 L 33\n#C BLIFWW IN 0 8 a\n#C BLIFWW IN 0 24 b\n#C BLIFWW OUT 32 8 y\n",
         items: ITEMS,
@@ -97,8 +97,8 @@ const CASES: &[Case] = &[
         items: b"x = 5, y = 0, rule = WireWorld\n!\n",
         said: b"Ports",
     },
-    // a name at whose end a line would go on, one with a byte 11, and one of an input and of an
-    // output
+    // a name that ends with a backslash, which would continue its line; a name with a byte 11; and
+    // one name for an input and an output
     Case {
         table: b"#C BLIFWW 1 P 32 L 32\n#C BLIFWW IN 0 8 a\\\n#C BLIFWW OUT 32 8 y\n",
         items: ITEMS,
@@ -126,7 +126,7 @@ fn answer_said(answer: &Result<Plan, AuditError>) -> &'static [u8] {
     }
 }
 
-// What is said of a pattern with the table of a text.
+// Fails if the audit of a pattern, with the port table of a text, gives another answer.
 fn expect_audit(alloc: Global, text: &[u8], pattern: &Pattern, want: &[u8]) -> Result<(), Fail> {
     let ports = port_table::read(alloc, text, pattern.width, pattern.height)?;
     expect(answer_said(&audit(alloc, pattern, &ports)), want)
@@ -156,13 +156,13 @@ fn patterns_are_circuits_or_not(rt: HostRuntime) -> Result<(), Fail> {
     Ok(())
 }
 
-// Plans without ports: instructions, and loops of which one starts with 1.
+// Plans without ports: one with instructions, and one with loops, one of which starts with 1.
 const PLANS: &[(&str, Sample)] = &[
     ("four lanes", Sample::FourLanes),
     ("three loops", Sample::ThreeLoops),
 ];
 
-// Whether a plan was answered that has these columns and starts.
+// Whether the answer is a plan with these columns and starts.
 fn is_plan(answer: &Result<Plan, AuditError>, want: &Written<'_>) -> bool {
     match answer {
         Ok(plan) => {
@@ -173,7 +173,7 @@ fn is_plan(answer: &Result<Plan, AuditError>, want: &Written<'_>) -> bool {
     }
 }
 
-// The table of a plan without ports.
+// The port table of a plan without ports.
 fn ports_of(alloc: Global, plan: &Plan) -> Ports
     requires { IsAdmissible plan.now }
 {
@@ -187,7 +187,8 @@ fn ports_of(alloc: Global, plan: &Plan) -> Ports
     }
 }
 
-// Fails where the pattern of a plan without ports is not read as it is written down.
+// Fails if the audit of the pattern of a plan without ports does not give the columns and starts
+// that are written down.
 fn expect_read(alloc: Global, about: &str, plan: &Plan, want: &Written<'_>) -> Result<(), Fail>
     requires { IsAdmissible plan.now }
 {

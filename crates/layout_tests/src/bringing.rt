@@ -1,4 +1,4 @@
-// Worked routes.
+// Worked examples of routes.
 ghost use Rattle.std.specs.Prelude.{◌<◌};
 
 use channel_router::bring;
@@ -6,7 +6,7 @@ use lane_core::Instr;
 use std::alloc::Global;
 use std::test::Fail;
 
-// The lane that is brought, where it is brought, and the instructions.
+// The lane that is brought, the lane that it is brought to, and the instructions of the route.
 const ROUTES: &[(u32, u32, &[Instr])] = &[
     (0, 2, &[Instr::Swap(0), Instr::Swap(1)]),
     (3, 1, &[Instr::Swap(2), Instr::Swap(1)]),

@@ -1,4 +1,4 @@
-// A list that grows.
+// Adding cells to a list.
 ghost use Rattle.std.specs.Prelude.{◌≡◌, length};
 
 use crate::fails::expect_holds;
@@ -12,7 +12,7 @@ const ADDED: &[Cell] = &[
     Cell::AndNot(Src::One, Src::Cell(0)),
 ];
 
-// A list of one input.
+// A list with one input and no cells.
 fn one_input(alloc: Global) -> CellList
     ensures inputs { result.inputs ≡ 1 }
     ensures cells { length result.cells ≡ 0 }
@@ -27,7 +27,7 @@ fn one_input(alloc: Global) -> CellList
     }
 }
 
-// Adds cells at the end, of which the second alone names constant 1.
+// Adds two cells at the end, of which only the second names constant 1.
 fn expect_added(list: &mut CellList, alloc: Global) -> Result<(), Fail>
     requires inputs { list.old.inputs ≡ 1 }
     requires cells { length list.old.cells ≡ 0 }

@@ -1,4 +1,4 @@
-// A circuit and a loop, run by the rule alone.
+// A circuit and a loop run by the rule, compared with lanes and macro steps.
 ghost use Rattle.std.specs.Prelude.{◌≡◌, ◌<◌, IfOk};
 ghost use Rattle.lane_core.specs.Plans.{IsAdmissible};
 ghost use Rattle.plan_layout.specs.Starts.{HasStartEdges};
@@ -14,7 +14,8 @@ use std::alloc::Global;
 use std::test::Fail;
 use ww_rule::{CellRows, Plane, RuleError, State, step_driven};
 
-// 129 columns and 80 rows of cells: the circuit's, and more rows than the loop's.
+// The first 129 columns and 80 rows of a plan's drawing: all of the circuit's, and more rows than
+// the loop's has.
 fn drawn(alloc: Global, plan: &Plan) -> Result<Plane, RuleError>
     requires { IsAdmissible plan.now }
     ensures width { IfOk result (λ plane. plane.width ≡ 129) }
@@ -33,7 +34,7 @@ fn drawn(alloc: Global, plan: &Plan) -> Result<Plane, RuleError>
     })
 }
 
-// The plane with the head of an input whose bit is 1.
+// The plane with a head at x = 0 in row `y`, where an input is, if the input's bit is 1.
 fn with_input(plane: Plane, y: u64, bit: bool) -> Plane
     requires wide { 0 < plane.width }
     requires high { y < plane.height }
@@ -43,7 +44,7 @@ fn with_input(plane: Plane, y: u64, bit: bool) -> Plane
     if bit { plane.inject(&[(0, y)]) } else { plane }
 }
 
-// The plane after some generations by the rule.
+// The plane after this many generations by the rule.
 fn evolved(alloc: Global, start: Plane, generations: u64) -> Result<Plane, RuleError> {
     let mut plane = start;
     for _ in 0..generations {
@@ -57,7 +58,7 @@ fn is_head(plane: &Plane, x: u64, y: u64) -> bool {
     plane.rows.row_or_none(y as usize).get(x as usize) == Some(&State::Head)
 }
 
-// The circuit's plane after 128 generations, of the bits of its inputs.
+// The circuit's plane 128 generations after its inputs have these bits.
 fn answered(alloc: Global, plan: &Plan, ins: [bool; 3]) -> Result<Plane, RuleError>
     requires { IsAdmissible plan.now }
 {
@@ -68,7 +69,7 @@ fn answered(alloc: Global, plan: &Plan, ins: [bool; 3]) -> Result<Plane, RuleErr
     evolved(alloc, start, 128)
 }
 
-// The bits of five lanes after the columns of a plan on them.
+// The bits of five lanes after the columns of a plan have run on them.
 fn after_columns(plan: &Plan, bits: [bool; 5]) -> [bool; 5]
     requires admissible { IsAdmissible plan.now }
     requires lanes { plan.now.lanes ≡ 5 }
@@ -78,7 +79,7 @@ fn after_columns(plan: &Plan, bits: [bool; 5]) -> [bool; 5]
     bits
 }
 
-// Whether the cells of the circuit's outputs are heads.
+// Which of the cells of the circuit's outputs are heads.
 fn out_heads(plane: &Plane) -> [bool; 5] {
     [
         is_head(plane, 128, 8),
@@ -115,7 +116,7 @@ fn a_circuit_answers_by_the_rule(rt: HostRuntime) -> Result<(), Fail> {
     answers(rt.alloc(), &plan)
 }
 
-// How many heads there are.
+// How many heads there are in the first 129 columns and 80 rows.
 fn heads_of(plane: &Plane) -> usize {
     let mut heads = 0usize;
     for place in 0..10_320 {
@@ -126,7 +127,7 @@ fn heads_of(plane: &Plane) -> usize {
     heads
 }
 
-// Whether the heads are at these cells, of which no two are the same.
+// Whether the heads are at these cells and nowhere else. No two of the cells are the same.
 fn has_heads_at(plane: &Plane, cells: &[Start]) -> bool {
     let mut same = heads_of(plane) == cells.len();
     for cell in cells {
@@ -135,8 +136,8 @@ fn has_heads_at(plane: &Plane, cells: &[Start]) -> bool {
     same
 }
 
-// Whether one of the two cells at the west side of a block is a head just where the edge is lit,
-// and one of those at its north side too.
+// Whether one of the two cells at a block's west edge is a head exactly if that edge is lit, and
+// one of the two at its north edge exactly if that edge is lit.
 fn has_heads_round(plane: &Plane, edges: &Edges, column: u64, lane: u64) -> bool
     requires in_columns { column < 5 }
     requires in_lanes { lane < 4 }
@@ -147,7 +148,7 @@ fn has_heads_round(plane: &Plane, edges: &Edges, column: u64, lane: u64) -> bool
     beside == edges.beside(column, lane) && above == edges.above(column, lane)
 }
 
-// Whether that is so at each block.
+// Whether heads and lit edges agree at each block of five columns and four lanes.
 fn has_heads_of(plane: &Plane, edges: &Edges) -> bool {
     let mut same = true;
     for block in 0..20 {
@@ -156,8 +157,8 @@ fn has_heads_of(plane: &Plane, edges: &Edges) -> bool {
     same
 }
 
-// The heads after each 32 generations, through the Or and the Fork, to the output and round: the
-// cells were read off the drawing by hand.
+// The heads after each 32 generations: the electron goes through the Or and the Fork, to the output
+// and round the loop. The cells were read off the drawing by hand.
 const LOOP_HEADS: &[&[Start]] = &[
     &[Start { x: 32, y: 24 }],
     &[Start { x: 64, y: 8 }],
@@ -170,15 +171,15 @@ const LOOP_HEADS: &[&[Start]] = &[
     &[Start { x: 32, y: 24 }],
 ];
 
-// The plane after so many times 32 generations.
+// The plane after `steps` times 32 generations.
 fn plane_after(alloc: Global, plan: &Plan, steps: u64) -> Result<Plane, RuleError>
     requires { IsAdmissible plan.now }
 {
     evolved(alloc, drawn(alloc, plan)?, steps.saturating_mul(32))
 }
 
-// After so many times 32 generations the heads are at these cells, and those of so many macro
-// steps.
+// Fails if, after `steps` times 32 generations, the heads are not at these cells, or do not agree
+// with the edges after `steps` macro steps.
 fn expect_plane(alloc: Global, plan: &Plan, steps: u64, heads: &[Start]) -> Result<(), Fail>
     requires admissible { IsAdmissible plan.now }
     requires starts { HasStartEdges plan.now }
@@ -207,7 +208,7 @@ fn a_loop_goes_round_by_the_rule_and_by_macro_steps(rt: HostRuntime) -> Result<(
     Ok(())
 }
 
-// A plan that starts on these edges has its heads there.
+// A plan whose starts name these cells has its heads there.
 #[test]
 fn a_loop_starts_anywhere_on_its_way(rt: HostRuntime) -> Result<(), Fail> {
     for heads in LOOP_HEADS {

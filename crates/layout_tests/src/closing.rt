@@ -10,8 +10,8 @@ use std::alloc::Global;
 use std::slice::from_ref;
 use std::test::Fail;
 
-/// Three columns; net 1 names an instruction that does not work on its lane, and net 2 a lane
-/// before its first use.
+/// A program that takes three columns. Net 1 names an instruction that does not work on the net's
+/// lane, and net 2 a place on its lane before the lane's first use.
 pub const FIVE_LANES: Listed<'static> = Listed {
     lanes: 5,
     instrs: &[
@@ -42,7 +42,7 @@ pub const FIVE_LANES: Listed<'static> = Listed {
     ],
 };
 
-/// Two loops and no instruction.
+/// A program with two loops and no instructions.
 pub const TWO_LOOPS: Listed<'static> = Listed {
     lanes: 2,
     instrs: &[],
@@ -50,7 +50,7 @@ pub const TWO_LOOPS: Listed<'static> = Listed {
     nets: &[],
 };
 
-/// Two loops and three columns.
+/// A program with two loops that takes three columns.
 pub const THREE_COLUMNS: Listed<'static> = Listed {
     lanes: 4,
     instrs: &[Instr::Swap(0), Instr::Fork(1), Instr::Or(0)],
@@ -66,7 +66,7 @@ fn closed_of(alloc: Global, program: &Program) -> Result<Plan, Fail>
     Ok(close(alloc, columns, program, from_ref(&program.latches))?)
 }
 
-/// The plan of a program that is written down.
+/// Makes the plan of a program that is written down.
 pub fn closed(alloc: Global, listed: &Listed<'_>) -> Result<Plan, Fail>
     ensures { IfOk result IsAdmissible }
 {

@@ -1,4 +1,4 @@
-// What plans have: their sizes, times, ports and cells.
+// Facts about plans: sizes, times, ports and cells.
 ghost use Rattle.lane_core.specs.Plans.{IsAdmissible};
 
 use crate::slots::has_slots;
@@ -7,8 +7,9 @@ use lane_core::{NetPlace, Plan, Start, in_cell, latency, net_cell, out_cell, per
 use std::test::Fail;
 use ww_rule::State;
 
-/// What a plan has: `Size` is of its drawing, `Cells`, `Rows` and `Slots` are drawn, and a port is
-/// found at x and y, with an offset.
+/// A fact about a plan. `Size` is the width and height of its drawing, and `Cells`, `Rows` and
+/// `Slots` are parts of the drawing. `InCells`, `OutCells` and `NetCells` give x, y and the offset
+/// of each input, output or net.
 pub enum Fact {
     Size(u64, u64),
     Period(u64),
@@ -120,7 +121,7 @@ fn has(plan: &Plan, fact: &Fact) -> bool
     }
 }
 
-/// Fails where a plan does not have all this, and tells the number of what it does not have.
+/// Fails if a fact does not hold of the plan, with the number of the first such fact.
 pub fn expect_facts(about: &str, plan: &Plan, facts: &[Fact]) -> Result<(), Fail>
     requires { IsAdmissible plan.now }
 {

@@ -1,12 +1,12 @@
 // How tests fail.
 use std::test::Fail;
 
-/// Fails where something does not hold, and tells of what it is.
+/// Fails with `about` if `holds` is false.
 pub fn expect_holds(about: &str, holds: bool) -> Result<(), Fail> {
     if holds { Ok(()) } else { Err(Fail::new(about)) }
 }
 
-/// The same of the turn of this number.
+/// Fails with `about` and the number of the turn if `holds` is false.
 pub fn expect_turn(about: &str, turn: u64, holds: bool) -> Result<(), Fail> {
     if holds {
         Ok(())

@@ -19,7 +19,8 @@ const FORK_AND_XOR: Written<'static> = Written {
     tape: &[],
 };
 
-// The bits that an instruction finds on its upper and its lower lane, and those that it puts there.
+// An instruction, the bits that it finds on its upper and its lower lane, and the bits that it
+// leaves there.
 const ANSWERS: &[(Instr, (bool, bool), (bool, bool))] = &[
     (Instr::Swap(1), (false, false), (false, false)),
     (Instr::Swap(1), (false, true), (true, false)),
@@ -43,7 +44,7 @@ const ANSWERS: &[(Instr, (bool, bool), (bool, bool))] = &[
     (Instr::AndNot(1), (true, true), (false, false)),
 ];
 
-// The bits of four lanes after an instruction on the two in the middle.
+// The bits of four lanes after an instruction on the middle two, or `None` if it works on others.
 fn after(instr: Instr, bits: [bool; 4]) -> Option<[bool; 4]> {
     if instr.lane() != 1 {
         return None;
@@ -53,7 +54,7 @@ fn after(instr: Instr, bits: [bool; 4]) -> Option<[bool; 4]> {
     Some(bits)
 }
 
-// Fails where an instruction on two lanes puts other bits there.
+// Fails if an instruction leaves other bits on its two lanes, or changes the lanes beside them.
 fn expect_answer(instr: Instr, found: (bool, bool), left: (bool, bool)) -> Result<(), Fail> {
     if after(instr, [true, found.0, found.1, true]) == Some([true, left.0, left.1, true]) {
         Ok(())
@@ -70,7 +71,7 @@ fn each_instruction_changes_its_two_lanes(rt: HostRuntime) -> Result<(), Fail> {
     Ok(())
 }
 
-// The bits of three lanes after the columns of a plan on them.
+// The bits of three lanes after the columns of a plan have run on them.
 fn after_columns(plan: &Plan, bits: [bool; 3]) -> [bool; 3]
     requires admissible { IsAdmissible plan.now }
     requires lanes { plan.now.lanes ≡ 3 }
@@ -80,7 +81,7 @@ fn after_columns(plan: &Plan, bits: [bool; 3]) -> [bool; 3]
     bits
 }
 
-// Fails where instructions, or the columns of a plan, are not done in order.
+// Fails if instructions, or the columns of a plan, are not done in order.
 fn expect_order(plan: &Plan) -> Result<(), Fail>
     requires admissible { IsAdmissible plan.now }
     requires lanes { plan.now.lanes ≡ 3 }
@@ -98,7 +99,7 @@ fn instructions_and_columns_are_done_in_order(rt: HostRuntime) -> Result<(), Fai
     expect_order(&plan)
 }
 
-// The instructions that are found on lanes.
+// Lanes, and the instruction that the column has on each.
 const FOUND: &[(u32, Option<Instr>)] = &[
     (0, None),
     (1, Some(Instr::Or(1))),

@@ -18,7 +18,7 @@ use std::mem;
 use std::test::Fail;
 use tile_library::Shipped;
 
-// A macro step is 32 generations of the plane in the shipped drawings.
+// A macro step: 32 generations of the plane with the shipped drawings.
 fn step_shipped(plan: &Plan, old: &Edges, new: &mut Edges)
     requires admissible { IsAdmissible plan.now }
     requires made { IsEdgesOf plan.now new.old }
@@ -30,7 +30,7 @@ fn step_shipped(plan: &Plan, old: &Edges, new: &mut Edges)
     macro_step(plan, old, new);
 }
 
-/// The edges of a plan after so many macro steps.
+/// Returns the edges of a plan after `steps` macro steps.
 pub fn edges_after(alloc: Global, plan: &Plan, steps: u64) -> Result<Edges, EdgesError>
     requires admissible { IsAdmissible plan.now }
     requires starts { HasStartEdges plan.now }
@@ -44,7 +44,7 @@ pub fn edges_after(alloc: Global, plan: &Plan, steps: u64) -> Result<Edges, Edge
     Ok(edges)
 }
 
-// Whether no edge of the blocks in three columns and three lanes is lit.
+// Whether no edge on the west or north side of a block in the first three columns and lanes is lit.
 fn are_dark(edges: &Edges) -> bool {
     for block in 0..9 {
         if edges.beside(block / 3, block % 3) || edges.above(block / 3, block % 3) {
@@ -76,7 +76,7 @@ fn dark_edges_stay_dark(rt: HostRuntime) -> Result<(), Fail> {
     stay_dark(rt.alloc(), &plan)
 }
 
-// Whether the edges at the west sides of three blocks of a column are lit.
+// Which of the edges on the west sides of a column's first three blocks are lit.
 fn lit(edges: &Edges, column: u64) -> [bool; 3] {
     [
         edges.beside(column, 0),
@@ -104,8 +104,8 @@ fn goes_round(alloc: Global, plan: &Plan) -> Result<(), Fail>
     Ok(())
 }
 
-// Three columns and three loops: a loop has 2 * 3 + 4 * 3 tiles, and the return reverses the lanes,
-// so that lane 0 leads to lane 2 and back.
+// With three columns and three loops, a loop has 2 * 3 + 4 * 3 tiles. The return reverses the
+// lanes: lane 0 leads to lane 2, and lane 2 to lane 0.
 #[test]
 fn an_electron_goes_round_a_loop(rt: HostRuntime) -> Result<(), Fail> {
     let plan = admitted(rt.alloc(), &written(Sample::ThreeLoops))?;
@@ -130,7 +130,7 @@ fn runs_in(alloc: Global, plan: &Plan) -> Result<(), Fail>
     Ok(())
 }
 
-// The bit 1 of the second cycle is at the west side of one tile after the other.
+// With each macro step, the 1 of the second cycle moves to the west side of the next tile.
 #[test]
 fn a_tape_runs_in(rt: HostRuntime) -> Result<(), Fail> {
     let plan = taped(rt.alloc(), &written(Sample::Loop), &[b"01"])?;

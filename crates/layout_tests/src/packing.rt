@@ -19,7 +19,7 @@ const FIVE_LANES: Listed<'static> = Listed {
     nets: &[],
 };
 
-// Lower lanes come first in the program, and last in the column.
+// The lowest lanes come first in the program and last in the column.
 const UPSIDE_DOWN: Listed<'static> = Listed {
     lanes: 6,
     instrs: &[Instr::Swap(4), Instr::Fork(0), Instr::Or(2)],
@@ -35,7 +35,7 @@ const FIVE_LANES_COLUMNS: &[&[Instr]] = &[
 
 const UPSIDE_DOWN_COLUMNS: &[&[Instr]] = &[&[Instr::Fork(0), Instr::Or(2), Instr::Swap(4)]];
 
-/// Whether the columns are these.
+/// Returns whether the columns have these instructions.
 pub fn are_columns(columns: &[Column], want: &[&[Instr]]) -> bool {
     for (i, column) in columns.iter().enumerate() {
         if i >= want.len() || column.instrs.as_slice() != want[i] {
@@ -65,7 +65,7 @@ fn expect_columns(
     expect_packed(alloc, about, &program, want)
 }
 
-// Programs and their columns.
+// What a case shows, a program, and the columns that it is packed into.
 const PACKED: &[(&str, &Listed<'static>, &[&[Instr]])] = &[
     (
         "each instruction comes first after its lanes' uses",

@@ -10,8 +10,8 @@ use macro_grid::admissible;
 use std::alloc::{AllocError, Global};
 use std::test::Fail;
 
-/// A plan as it is written down: the instructions of each column, at most two of them, and the bits
-/// of each input on its tape, a letter for each bit.
+/// A plan as a test writes it down. Each column has at most two instructions, and the tape has the
+/// bits of each input, a letter for each bit.
 #[derive(Clone, Copy)]
 pub struct Written<'a> {
     pub lanes: u32,
@@ -24,22 +24,23 @@ pub struct Written<'a> {
     pub tape: &'a [&'a [u8]],
 }
 
-// Whether the lanes of the second are below those of the first.
+// Whether the lanes of the second instruction are below those of the first.
 fn is_above(first: Instr, second: Instr) -> bool
     ensures { result ≡ is_above first second }
 {
     (first.lane() as u64) + 1 < second.lane() as u64
 }
 
-// Whether there are at most two instructions, and the lanes of the second are below those of the
-// first.
+// Whether there are at most two instructions, and the lanes of the second, if there is one, are
+// below those of the first.
 fn are_apart(instrs: &[Instr]) -> bool
     ensures { IsTrue result → IsTrue (are_sorted_apart instrs.now) }
 {
     instrs.len() < 2 || instrs.len() == 2 && is_above(instrs[0], instrs[1])
 }
 
-/// The column of these instructions, where they are those of one.
+/// Makes the column of these instructions. It fails if there are more than two, or if the lanes of
+/// the second are not below those of the first.
 pub fn column_of(alloc: Global, instrs: &[Instr]) -> Result<Column, Fail>
     ensures { IfOk result (λ column. column.instrs ≡ instrs.now) }
 {
@@ -65,7 +66,7 @@ fn bits_of(alloc: Global, letters: &[u8]) -> Result<List<bool>, AllocError> {
     Ok(List::of(bits))
 }
 
-/// Lists of bits, a letter for each bit.
+/// Makes lists of bits from a letter for each bit: `1` for 1, and any other for 0.
 pub fn lists_of(alloc: Global, written: &[&[u8]]) -> Result<Vec<List<bool>>, AllocError> {
     let mut lists = Vec::new(alloc);
     for letters in written {
@@ -74,7 +75,7 @@ pub fn lists_of(alloc: Global, written: &[&[u8]]) -> Result<Vec<List<bool>>, All
     Ok(lists)
 }
 
-// A plan of these columns alone.
+// A plan of these columns, with the lanes and loops that are written down and all else empty.
 fn with_columns(alloc: Global, written: &Written<'_>, columns: List<Column>) -> Plan
     ensures { result.lanes ≡ written.now.lanes }
 {
@@ -90,7 +91,7 @@ fn with_columns(alloc: Global, written: &Written<'_>, columns: List<Column>) -> 
     }
 }
 
-// Writes the rest of a plan.
+// Fills in the rest of a plan.
 fn fill(plan: &mut Plan, alloc: Global, written: &Written<'_>) -> Result<(), AllocError>
     ensures { IfOk result (λ _. plan.new.lanes ≡ plan.old.lanes) }
 {
@@ -102,7 +103,7 @@ fn fill(plan: &mut Plan, alloc: Global, written: &Written<'_>) -> Result<(), All
     Ok(())
 }
 
-/// The plan that is written down.
+/// Makes the plan that is written down, admissible or not.
 pub fn plan_of(alloc: Global, written: &Written<'_>) -> Result<Plan, Fail>
     ensures { IfOk result (λ plan. plan.lanes ≡ written.now.lanes) }
 {
@@ -112,7 +113,7 @@ pub fn plan_of(alloc: Global, written: &Written<'_>) -> Result<Plan, Fail>
     Ok(plan)
 }
 
-/// The plan, where it is admissible.
+/// Returns the plan if it is admissible, and fails if not.
 pub fn checked(plan: Plan) -> Result<Plan, Fail>
     ensures admissible { IfOk result IsAdmissible }
     ensures starts { IfOk result HasStartEdges }
@@ -125,7 +126,7 @@ pub fn checked(plan: Plan) -> Result<Plan, Fail>
     }
 }
 
-/// The plan that is written down, where it is admissible.
+/// Makes the plan that is written down, and fails if it is not admissible.
 pub fn admitted(alloc: Global, written: &Written<'_>) -> Result<Plan, Fail>
     ensures admissible { IfOk result IsAdmissible }
     ensures starts { IfOk result HasStartEdges }

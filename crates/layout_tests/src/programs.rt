@@ -8,7 +8,8 @@ use lists::List;
 use std::alloc::Global;
 use std::test::Fail;
 
-/// A program without ports as it is written down: `latches` has the starts of its loops.
+/// A program without ports as a test writes it down. `latches` says for each loop whether it starts
+/// with 1.
 #[derive(Drop)]
 pub struct Listed<'a> {
     pub lanes: u32,
@@ -41,7 +42,7 @@ fn are_within(places: &[NetPlace], lanes: u32, steps: u64) -> bool
     places.iter().all(|place| is_within(place, lanes, steps))
 }
 
-// Whether a program with few instructions is written down.
+// Whether what is written down is a program with fewer than 1000 instructions.
 fn is_program(listed: &Listed<'_>) -> bool
     ensures few { IsTrue result → length listed.now.instrs.now < 1000 }
     ensures loops { IsTrue result → length listed.now.latches.now ≤ listed.now.lanes }
@@ -55,7 +56,8 @@ fn is_program(listed: &Listed<'_>) -> bool
         && are_within(listed.nets, listed.lanes, listed.instrs.len() as u64)
 }
 
-/// The program that is written down.
+/// Makes the program that is written down. It fails if the program has 1000 instructions or more,
+/// or more loops than lanes, or names lanes or instructions that it does not have.
 pub fn program_of(alloc: Global, listed: &Listed<'_>) -> Result<Program, Fail>
     ensures { IfOk result (λ program. length program.instrs < 2 ^ 40) }
 {

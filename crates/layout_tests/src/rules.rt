@@ -7,8 +7,8 @@ use macro_grid::admissible;
 use std::alloc::Global;
 use std::test::Fail;
 
-// What is written otherwise of a plan: the lanes and the loops of an Or, its inputs and its
-// outputs, its tape or its start, or the start of the loop.
+// A change to a sample. `Ports` gives `OR` other lanes, loops, inputs and outputs, and takes its
+// nets away; `Tape` and `OrStart` give it a tape or starts; `LoopStart` gives `LOOP` other starts.
 enum Change {
     Ports(u32, u32, &'static [u32], &'static [u32]),
     Tape(&'static [&'static [u8]]),
@@ -16,7 +16,7 @@ enum Change {
     LoopStart(&'static [Start]),
 }
 
-// Changes, and whether a plan is admissible with them.
+// Changes, and whether the changed plan is admissible.
 const RULES: &[(Change, bool)] = &[
     (Change::Ports(2, 0, &[0, 1], &[0]), true),
     (Change::Ports(3, 0, &[0, 2], &[1]), true),
@@ -44,8 +44,7 @@ const RULES: &[(Change, bool)] = &[
         false,
     ),
     (Change::Ports(u32::MAX, 0, &[u32::MAX], &[]), false),
-    // a start names an edge by the cell by which a tile is entered, or left where nothing is
-    // entered
+    // a start names an edge by its entry cell, or by its exit cell if nothing is entered there
     (Change::LoopStart(&[Start { x: 32, y: 24 }]), true),
     (Change::LoopStart(&[Start { x: 31, y: 24 }]), false),
     (Change::LoopStart(&[Start { x: 33, y: 24 }]), false),
@@ -56,7 +55,7 @@ const RULES: &[(Change, bool)] = &[
     (Change::LoopStart(&[Start { x: 128, y: 8 }]), false),
     (Change::OrStart(&[Start { x: 31, y: 24 }]), true),
     (Change::OrStart(&[Start { x: 32, y: 24 }]), false),
-    // a tape has bits for each input
+    // a tape has no lists, or one for each input, all of one length and not empty
     (Change::Tape(&[]), true),
     (Change::Tape(&[b"0", b"1"]), true),
     (Change::Tape(&[b"01", b"1"]), false),

@@ -27,7 +27,7 @@ pub const OR: Written<'static> = Written {
     tape: &[],
 };
 
-/// Three loops alone, of which the first starts with 1.
+/// Three loops without instructions or ports. The first starts with 1.
 pub const BARE: Written<'static> = Written {
     lanes: 3,
     columns: &[&[], &[], &[]],
@@ -39,8 +39,8 @@ pub const BARE: Written<'static> = Written {
     tape: &[],
 };
 
-/// Two lanes and a loop that starts with 1: the Or takes its bit, and the Fork gives it to the
-/// output and back to the loop.
+/// Two lanes and a loop that starts with 1. The Or takes the loop's bit, and the Fork gives it to
+/// the output and back to the loop.
 pub const LOOP: Written<'static> = Written {
     lanes: 2,
     columns: &[&[Instr::Or(0)], &[Instr::Fork(0)]],
@@ -52,8 +52,8 @@ pub const LOOP: Written<'static> = Written {
     tape: &[],
 };
 
-/// A circuit of five lanes, with each instruction in one of its columns, an input on every other
-/// lane, and an output on every lane.
+/// A circuit of five lanes whose columns contain every instruction, with an input on every other
+/// lane and an output on every lane.
 pub const CIRCUIT: Written<'static> = Written {
     lanes: 5,
     columns: &[
@@ -94,7 +94,7 @@ const LOOPS: Written<'static> = Written {
     tape: &[],
 };
 
-// Each instruction beside the one of its other half.
+// Four lanes, each instruction once, and a last column without instructions.
 const FOUR_LANES: Written<'static> = Written {
     lanes: 4,
     columns: &[
@@ -111,7 +111,7 @@ const FOUR_LANES: Written<'static> = Written {
     tape: &[],
 };
 
-/// A plan that is written down above.
+/// A name for each sample that tests reach through `written`.
 #[derive(Clone, Copy)]
 pub enum Sample {
     Or,
@@ -123,8 +123,8 @@ pub enum Sample {
     FourLanes,
 }
 
-/// How a plan is written down. A test that names the constant in the place of this is dearer to
-/// prove.
+/// Returns how the plan of a sample is written down. A test that names the constant instead takes
+/// longer to prove.
 pub fn written(sample: Sample) -> Written<'static> {
     match sample {
         Sample::Or => OR,

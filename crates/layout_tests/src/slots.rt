@@ -5,7 +5,7 @@ use lane_core::Plan;
 use plan_layout::{Piece, Slot, slot_at};
 use tile_core::Kind;
 
-// A letter for each tile, small for the lower half of a pair.
+// The letter of a slot: a lowercase one for the lower half of a pair.
 fn letter(slot: Slot) -> u8 {
     match slot {
         Slot::Nothing => b'.',
@@ -50,7 +50,8 @@ fn has_row(plan: &Plan, lane: u64, letters: &[u8]) -> bool
     true
 }
 
-/// Whether the plan's tiles are those of the rows.
+/// Returns whether the plan's slots have the letters of the rows, one row for each lane from the
+/// top down.
 pub fn has_slots(plan: &Plan, rows: &[&[u8]]) -> bool
     requires { IsAdmissible plan.now }
 {

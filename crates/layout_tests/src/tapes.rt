@@ -11,7 +11,7 @@ use plan_tapes::{LoadError, load};
 use std::alloc::Global;
 use std::test::Fail;
 
-// Whether the lists have one length, from 1 to 4,096.
+// Whether all lists have the same length, from 1 to 4,096.
 fn are_tape_lists(lists: &[List<bool>]) -> bool
     ensures { IsTrue result → AreTapeLists lists.now }
 {
@@ -23,7 +23,8 @@ fn without_memory(_error: LoadError) -> Fail {
     Fail::new("no memory for a tape")
 }
 
-// The plan with these bits, which have to fit.
+// The plan with these bits on its tape. The bits fit if there is a list for each input, and all
+// lists have the same length, from 1 to 4,096.
 fn loaded(alloc: Global, plan: Plan, bits: &[List<bool>]) -> Result<Plan, Fail> {
     if bits.len() != plan.ins.len() || !are_tape_lists(bits) {
         return Err(Fail::new("these bits do not fit"));
@@ -31,7 +32,8 @@ fn loaded(alloc: Global, plan: Plan, bits: &[List<bool>]) -> Result<Plan, Fail> 
     load(alloc, plan, bits).map_err(without_memory)
 }
 
-/// The plan that is written down, with these bits on its tape.
+/// Makes the plan that is written down, with these bits on its tape. It fails if the bits do not
+/// fit or the plan is not admissible.
 pub fn taped(alloc: Global, written: &Written<'_>, bits: &[&[u8]]) -> Result<Plan, Fail>
     ensures admissible { IfOk result IsAdmissible }
     ensures starts { IfOk result HasStartEdges }

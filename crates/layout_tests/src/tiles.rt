@@ -1,4 +1,4 @@
-// The rows of the timing law's test, and the page of all tiles.
+// Tests of the timing law, of the page of all tiles, and of tiles by themselves.
 use crate::fails::expect_holds;
 use page::PAGE;
 use std::alloc::{AllocError, Global};
@@ -27,7 +27,7 @@ const KINDS: [Kind; 14] = [
     Kind::WestSwap,
 ];
 
-// The Or drawing as cells, row after row.
+// The cells of the Or drawing, row after row.
 fn or_cells() -> [State; 1024] {
     let mut cells = [State::Empty; 1024];
     for (i, cell) in cells.iter_mut().enumerate() {
@@ -51,8 +51,8 @@ fn or_without_diodes() -> [State; 1024] {
     cells
 }
 
-// Whether the law holds of the drawing, of one without diodes, as one of another kind, without its
-// last cell, and with a head.
+// Whether the law holds of the Or drawing, of the drawing without diodes, of the drawing taken for
+// an Xor, of the drawing without its last cell, and of the drawing with a head.
 fn laws() -> [bool; 5] {
     let or = or_cells();
     let all_but_one = &or[..1023];
@@ -72,7 +72,7 @@ fn law_holds_of_the_or_drawing_alone(rt: HostRuntime) {
     assert_eq!(rt; laws(), [true, false, false, false, false]);
 }
 
-// The letter of a cell: its port's, or whether it is a conductor.
+// The letter of a cell: `.` if it is empty, its port's letter if it is a port, and else `C`.
 fn letter(kind: Kind, x: u32, y: u32) -> char {
     if !Shipped.cell(kind, x, y) {
         return '.';
@@ -104,7 +104,7 @@ fn push_picture(page: &mut String, kind: Kind) -> Result<(), AllocError> {
     page.push_str("```\n")
 }
 
-// A row of a table.
+// Adds a row of a table.
 fn push_bits(page: &mut String, bits: &[bool]) -> Result<(), AllocError> {
     for bit in bits {
         page.push_str(if *bit { "| 1 " } else { "| 0 " })?;
@@ -129,7 +129,7 @@ fn push_answers(page: &mut String, kind: Kind) -> Result<(), AllocError> {
     Ok(())
 }
 
-// All that the page has after its introduction.
+// All of the page that follows its introduction.
 fn sections(alloc: Global) -> Result<String, AllocError> {
     let mut page = String::new(alloc);
     for kind in KINDS {
@@ -146,7 +146,7 @@ fn page_shows_every_tile(rt: HostRuntime) -> Result<(), Fail> {
     expect_holds("the page", PAGE.ends_with(sections.as_str()))
 }
 
-// What a tile lights, if its first entry is lit alone.
+// Which exits a tile lights if only its first entry is lit.
 fn lit_by_first<T: Tile>(tile: &T) -> [bool; 2] {
     tile.answer([true, false])
 }

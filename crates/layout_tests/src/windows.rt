@@ -1,8 +1,8 @@
-// A window's step, on an electron.
+// A window's step on an electron.
 use tile_timing::window_step;
 use ww_rule::State;
 
-// The cells of a wire after a step in one row, in two rows and in a column.
+// The four cells of a wire after a step, laid out as one row, as two rows and as a column.
 fn stepped() -> [[State; 4]; 3] {
     let wire = [State::Tail, State::Head, State::Conductor, State::Conductor];
     let mut row = [State::Empty; 4];

@@ -1,4 +1,4 @@
-// Worked values of small plans.
+// Small plans and their worked values.
 ghost use Rattle.std.specs.Prelude.{IfOk};
 ghost use Rattle.lane_core.specs.Plans.{IsAdmissible};
 
@@ -12,7 +12,8 @@ use std::alloc::Global;
 use std::test::Fail;
 use ww_rule::State;
 
-// Where a plan is from: it is written down, has these bits on its tape, or is that of a program.
+// Where a plan comes from: a sample, a sample with these bits on its tape, or a program of
+// `closing`.
 enum Origin {
     Written(Sample),
     Taped(Sample, &'static [&'static [u8]]),
@@ -27,7 +28,7 @@ struct Case {
     facts: &'static [Fact],
 }
 
-// The rows of an OR gate and its output cell.
+// The drawing of an OR gate and its output cell, row by row.
 const OR_ROWS: &[&[u8; 33]] = &[
     b".................................",
     b".................................",

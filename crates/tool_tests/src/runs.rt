@@ -1,11 +1,12 @@
 // Runs over sources and sinks in memory.
 //
-// A list of cases is one text, since a table costs its proof for each row. A case begins with `>`
-// and a line of commands, each of which reads what the one before wrote, with `|` between them; a
-// word on the case follows ` -- `. Then come the lines of the text that the first command reads; a
-// case without them reads the text that the last line with `@` names. Then come `== ` with the
-// status, and the lines that the last command writes to the output if the status is 0, and else to
-// the errors. It writes nothing more. Three full stops stand for anything.
+// A list of cases is one text, since each row of a table adds to the cost of its proof. A case
+// begins with `>` and a line of commands with `|` between them; each command reads what the one
+// before wrote. A remark on the case may follow ` -- `. Then come the lines of the text that the
+// first command reads; a case without them reads the text that the last line with `@` names. Then
+// come `== ` with the status, and the lines that the last command writes: to the output if the
+// status is 0, and else to the errors. It writes nothing more. In the output, three full stops
+// stand for anything.
 ghost use Rattle.std.specs.Prelude.{◌≤◌};
 
 mod circuits;
@@ -25,18 +26,18 @@ use std::alloc::{AllocError, Global};
 use std::test::Fail;
 use ww_base::{MemSink, MemSource};
 
-/// An OR gate.
+/// The netlist of an OR gate.
 pub const GATE: &str = ".model or\n.inputs a b\n.outputs y\n.names a b y\n1- 1\n-1 1\n.end\n";
 
-/// What is written for it: 321 bytes.
+/// The pattern that `compile` writes for `GATE`: 321 bytes.
 pub const PATTERN: &str =
     "#C BLIFWW 2 P 32 L 32 C 1\n#C BLIFWW IN 0 8 a\n#C BLIFWW IN 0 24 b\n#C BLIFWW OUT 32 8 y\n#C BLIFWW NET 0 8 0 a -\n#C BLIFWW NET 0 24 0 b -\n#C BLIFWW NET 31 8 31 y -\nx = 33, y = 32, rule = WireWorld\n8$5C18.10C$5.C16.C$6.C14.C$7.C12.C$8.C10.C$9.C.2C5.C$10.2C.C3.C$11.2C.\nC.C$15.C$11.2C.C$10.2C.C$9.C.2C$8.C$7.C$6.C$5.C$5C26.C!\n";
 
-/// What words that are no command are told.
+/// The usage line, which a run prints if its words are no command.
 pub const USAGE: &str =
     "usage: blifww compile|simulate|eval|probe|window|make|self|tape|aiger|vcd|lift\n";
 
-/// The status, and what `out` and `err` hold.
+/// The outcome of a run: its status, and what `out` and `err` hold.
 #[derive(Drop)]
 pub struct Outcome {
     status: u8,
@@ -45,15 +46,15 @@ pub struct Outcome {
 }
 
 impl Outcome {
-    /// Whether the run ended with this status, and wrote and told this, or what begins and ends so
-    /// where three full stops stand.
+    /// Returns whether the run ended with this status, `out` and `err`. In `out`, three full stops
+    /// stand for anything.
     pub fn is(&self, status: u8, out: &str, err: &str) -> bool {
         self.status == status
             && self.err.as_slice() == err.as_bytes()
             && matches(self.out.as_slice(), out)
     }
 
-    /// Whether the run ended as a case says.
+    /// Returns whether the run ended as the case wants.
     pub fn ends(&self, case: &Case) -> bool {
         if case.status == 0 {
             self.is(0, case.said, "")
@@ -63,7 +64,8 @@ impl Outcome {
     }
 }
 
-// Whether a text is this, or begins and ends so where three full stops stand.
+// Whether a text is `said`, or, if three full stops stand in `said`, begins with what precedes them
+// and ends with what follows them.
 fn matches(text: &[u8], said: &str) -> bool {
     match said.split_once("...") {
         Some((begin, end)) => text.starts_with(begin.as_bytes()) && text.ends_with(end.as_bytes()),
@@ -71,7 +73,7 @@ fn matches(text: &[u8], said: &str) -> bool {
     }
 }
 
-// A word, of which `''` is the empty one.
+// A word of a case, where `''` stands for the empty word.
 fn word_of(word: &str) -> &str {
     if word == "''" { "" } else { word }
 }
@@ -84,7 +86,7 @@ fn push_words(words: &mut Vec<String>, alloc: Global, command: &str) -> Result<(
     Ok(())
 }
 
-/// A command's words as a command line has them.
+/// Returns the words of a command line: the program's name and the words of the command.
 pub fn words_of(alloc: Global, command: &str) -> Result<Vec<String>, AllocError> {
     let mut words = Vec::new(alloc);
     push_words(&mut words, alloc, "blifww")?;
@@ -92,7 +94,7 @@ pub fn words_of(alloc: Global, command: &str) -> Result<Vec<String>, AllocError>
     Ok(words)
 }
 
-/// A text of parts, one after the other.
+/// Joins parts into one text.
 pub fn text_of(alloc: Global, parts: &[&str]) -> Result<String, AllocError> {
     let mut text = String::new(alloc);
     for part in parts {
@@ -101,7 +103,8 @@ pub fn text_of(alloc: Global, parts: &[&str]) -> Result<String, AllocError> {
     Ok(text)
 }
 
-/// A run over a source in memory, by its chunk and the calls that fail, and sinks with some room.
+/// Runs a command over a source in memory and two sinks. `source` has the source's chunk and the
+/// calls that fail, and `rooms` the rooms of the output and of the errors.
 pub fn run_over(
     alloc: Global,
     command: &str,
@@ -116,7 +119,7 @@ pub fn run_over(
     run_on(alloc, &words, &mut src, rooms)
 }
 
-// A run over a source, and sinks with some room.
+// Runs a command line over a source and sinks with these rooms.
 fn run_on(
     alloc: Global,
     words: &[String],
@@ -129,19 +132,19 @@ fn run_on(
     ended(alloc, status, out.held(), err.held())
 }
 
-// How a run ended.
+// The outcome of a run, with copies of what the sinks hold.
 fn ended(alloc: Global, status: u8, out: &[u8], err: &[u8]) -> Result<Outcome, Fail> {
     let out = out.to_vec(alloc)?;
     let err = err.to_vec(alloc)?;
     Ok(Outcome { status, out, err })
 }
 
-/// A run with ample room.
+/// Runs a command with ample room for what it writes.
 pub fn run_amply(alloc: Global, command: &str, text: &[u8]) -> Result<Outcome, Fail> {
     run_over(alloc, command, text, (16, &[]), (1 << 20, 99))
 }
 
-/// What a command writes of a text with status 0.
+/// Returns what a command writes for a text, and fails if its status is not 0.
 pub fn written(alloc: Global, command: &str, text: &[u8]) -> Result<Vec<u8>, Fail> {
     let got = run_amply(alloc, command, text)?;
     if got.status == 0 {
@@ -151,7 +154,7 @@ pub fn written(alloc: Global, command: &str, text: &[u8]) -> Result<Vec<u8>, Fai
     }
 }
 
-// What the last of some commands writes, each of which reads what the one before wrote.
+// What the last of the commands writes, if each reads what the one before wrote.
 fn text_after(alloc: Global, commands: &str, text: &[u8]) -> Result<Vec<u8>, Fail> {
     let mut read = text.to_vec(alloc)?;
     for command in commands.split('|') {
@@ -160,7 +163,7 @@ fn text_after(alloc: Global, commands: &str, text: &[u8]) -> Result<Vec<u8>, Fai
     Ok(read)
 }
 
-// A run of the last of some commands, each of which reads what the one before wrote.
+// A run of the last of the commands, if each reads what the one before wrote.
 fn run_after(alloc: Global, commands: &str, text: &[u8]) -> Result<Outcome, Fail> {
     match commands.rsplit_once('|') {
         Some((before, last)) => {
@@ -171,7 +174,7 @@ fn run_after(alloc: Global, commands: &str, text: &[u8]) -> Result<Outcome, Fail
     }
 }
 
-/// A case, without its mark.
+/// A case, without its `>`.
 #[derive(Clone, Copy)]
 pub struct Case<'a> {
     commands: &'a str,
@@ -180,7 +183,7 @@ pub struct Case<'a> {
     said: &'a str,
 }
 
-// The commands of a line without the word on the case.
+// The commands of a case's first line, without the remark.
 fn commands_of(line: &str) -> &str {
     match line.split_once(" -- ") {
         Some((commands, _)) => commands.trim(),
@@ -188,7 +191,7 @@ fn commands_of(line: &str) -> &str {
     }
 }
 
-/// The case that a text says.
+/// Reads a case from its text, without its `>`. There is none if the text is malformed.
 pub fn case_of(case: &str) -> Option<Case<'_>> {
     let (asked, wanted) = case.split_once("== ")?;
     let (line, text) = asked.split_once('\n')?;
@@ -202,7 +205,7 @@ pub fn case_of(case: &str) -> Option<Case<'_>> {
     })
 }
 
-/// Fails, with what it is about, where something is not so.
+/// Fails with `about` if `is_so` is false.
 pub fn expect(is_so: bool, about: &str) -> Result<(), Fail> {
     if is_so {
         Ok(())
@@ -211,7 +214,7 @@ pub fn expect(is_so: bool, about: &str) -> Result<(), Fail> {
     }
 }
 
-// The text that the line with `@` names; before the first such line there is none.
+// The text that a line with `@` names. The cases above the first such line read the empty text.
 fn text_named(name: &str) -> Option<&'static str> {
     match name {
         "" => Some(""),
@@ -225,14 +228,14 @@ fn text_named(name: &str) -> Option<&'static str> {
     }
 }
 
-// The text that the cases of a group read, and the cases.
+// The text that the cases of a group read if they have none of their own, and the cases.
 fn group_of(group: &str) -> Option<(&'static str, &str)> {
     let (name, cases) = group.split_once('\n')?;
     let text = text_named(name)?;
     Some((text, cases))
 }
 
-// Fails where a case ends otherwise. One without a text reads the other text.
+// Fails if a case does not end as it wants. A case without a text reads `other`.
 fn expect_case(alloc: Global, said: &str, other: &str) -> Result<(), Fail> {
     match case_of(said) {
         Some(case) => {
@@ -248,7 +251,7 @@ fn expect_case(alloc: Global, said: &str, other: &str) -> Result<(), Fail> {
     }
 }
 
-// Fails where one of some cases ends otherwise.
+// Fails if one of the cases does not end as it wants.
 fn expect_cases(alloc: Global, cases: &str, other: &str) -> Result<(), Fail> {
     for case in cases.split('>').skip(1) {
         expect_case(alloc, case, other)?;
@@ -256,7 +259,7 @@ fn expect_cases(alloc: Global, cases: &str, other: &str) -> Result<(), Fail> {
     Ok(())
 }
 
-// Fails where a case of a group ends otherwise.
+// Fails if a case of a group does not end as it wants.
 fn expect_group(alloc: Global, group: &str) -> Result<(), Fail> {
     match group_of(group) {
         Some((text, cases)) => expect_cases(alloc, cases, text),
@@ -264,7 +267,7 @@ fn expect_group(alloc: Global, group: &str) -> Result<(), Fail> {
     }
 }
 
-// Fails where a case of a list ends otherwise.
+// Fails if a case of a list does not end as it wants.
 fn expect_list(alloc: Global, list: &str) -> Result<(), Fail> {
     for group in list.split('@') {
         expect_group(alloc, group)?;
@@ -292,7 +295,7 @@ fn commands_write_or_tell_why_not(rt: HostRuntime) -> Result<(), Fail> {
     Ok(())
 }
 
-// A text of these lines with others in the place of one.
+// The text of these lines, with `new` in place of each line that is `old`.
 fn changed(alloc: Global, lines: &str, old: &str, new: &str) -> Result<Vec<u8>, AllocError> {
     let mut text = Vec::new(alloc);
     for line in lines.split_inclusive('\n') {
@@ -302,7 +305,8 @@ fn changed(alloc: Global, lines: &str, old: &str, new: &str) -> Result<Vec<u8>, 
     Ok(text)
 }
 
-// Fails where a command ends otherwise over the lines with a change.
+// Fails if a command over the changed lines does not end as the change wants, or if the change
+// changes nothing.
 fn expect_change(alloc: Global, command: &str, lines: &str, change: &str) -> Result<(), Fail> {
     match case_of(change) {
         Some(case) => {
@@ -317,7 +321,7 @@ fn expect_change(alloc: Global, command: &str, lines: &str, change: &str) -> Res
     }
 }
 
-// Fails where a command ends otherwise over the lines with one of the changes.
+// Fails if a command over the lines with one of the changes does not end as that change wants.
 fn expect_changes(
     alloc: Global,
     (command, lines, changes): (&str, &str, &str),
@@ -328,8 +332,8 @@ fn expect_changes(
     Ok(())
 }
 
-// Commands, lines that each reads, and what it writes or tells of them with other lines in the
-// place of one.
+// Commands, the lines that each reads, and changes. A change is a case whose first line is the line
+// that is replaced, and whose text is put in its place.
 const CHANGES: &[(&str, &str, &str)] = &[
     ("lift", lifts::GATE_LINES, lifts::GATE_CHANGES),
     ("lift", lifts::RING_LINES, lifts::RING_CHANGES),

@@ -5,10 +5,10 @@ use std::io::{PipeReader, PipeWriter, pipe};
 use std::test::Fail;
 use ww_base::{Failed, MemSink, MemSource, ReadAllError, StdSink, StdSource, read_all, write_all};
 
-// An OR gate's text: 61 bytes.
+// The netlist of an OR gate: 61 bytes.
 const TEXT: &[u8] = b".model or\n.inputs a b\n.outputs y\n.names a b y\n1- 1\n-1 1\n.end\n";
 
-// Whether a read of the text ended so: with all of it, or with an error.
+// Whether a read gave the whole text, or, if an error is wanted, ended with that error.
 fn is_read(got: &Result<Bytes, ReadAllError>, want: Option<ReadAllError>) -> bool {
     match got {
         Ok(text) => want.is_none() && text.as_slice() == TEXT,
@@ -16,11 +16,11 @@ fn is_read(got: &Result<Bytes, ReadAllError>, want: Option<ReadAllError>) -> boo
     }
 }
 
-// A read: the bytes that a call takes, the calls that fail, the limit, and the error that it ends
-// with.
+// A read: the most bytes that a call takes, the calls that fail, the limit, and the error that the
+// read ends with.
 type Read<'a> = (usize, &'a [u64], usize, Option<ReadAllError>);
 
-// Fails where a read of the text ends otherwise.
+// Fails if a read of the text ends in another way.
 fn expect_read(alloc: Global, (chunk, fails, limit, want): Read) -> Result<(), Fail> {
     if chunk == 0 {
         return Err(Fail::new("a chunk of 0"));
@@ -63,8 +63,8 @@ fn all_is_read_within_the_limit(rt: HostRuntime) -> Result<(), Fail> {
     Ok(())
 }
 
-// A sink: its room, the bytes that a call takes, the call that fails, and how many bytes of the
-// text it holds at the end.
+// A sink: its room, the most bytes that a call takes, the call that fails, and how many bytes of
+// the text the sink holds at the end.
 const SINKS: &[(usize, usize, u64, usize)] = &[
     (61, 7, 9, 61),
     (61, 7, 8, 56),
@@ -75,13 +75,13 @@ const SINKS: &[(usize, usize, u64, usize)] = &[
     (100, 1, 60, 60),
 ];
 
-// Whether a sink holds just so many bytes of the text.
+// Whether a sink holds exactly the first `held` bytes of the text.
 fn has_front(sink: &MemSink, held: usize) -> bool {
     sink.held().len() == held && TEXT.starts_with(sink.held())
 }
 
-// Fails where a sink holds something else at the end, or all is written though it does not hold
-// all, or the other way round.
+// Fails if a sink ends with anything but the first `held` bytes of the text, or if `write_all`
+// succeeds without the sink holding the whole text, or fails though it does.
 fn expect_held(
     alloc: Global,
     (room, chunk, call, held): (usize, usize, u64, usize),
@@ -106,13 +106,13 @@ fn a_sink_keeps_a_front_where_it_fails(rt: HostRuntime) -> Result<(), Fail> {
     Ok(())
 }
 
-// Writes the text into a stream, and ends it.
+// Writes the text into a stream and ends the stream.
 fn send(writer: PipeWriter) -> Result<(), Failed> {
     let mut sink = StdSink::new(writer);
     write_all(&mut sink, TEXT)
 }
 
-// Whether the text comes out of a stream.
+// Whether a read of a stream gives the whole text.
 fn receives(alloc: Global, reader: PipeReader) -> bool {
     let mut src = StdSource::new(reader);
     is_read(&read_all(alloc, &mut src, 61), None)

@@ -1,4 +1,4 @@
-// What lists of words ask for.
+// The commands that lists of words ask for.
 use crate::runs::words_of;
 use command_words::{Command, View, WordsError, command_of};
 use lists::List;
@@ -6,7 +6,7 @@ use std::alloc::{AllocError, Global};
 use std::fmt::Display;
 use std::test::Fail;
 
-// The words after the program's name, of which `''` is an empty one, and what they ask for: a
+// The words after the program's name, where `''` is an empty word, and what they ask for: a
 // command's name, its numbers and its words, or `usage`.
 const CASES: &str = "\
 compile -> compile 1
@@ -72,7 +72,8 @@ help -> usage
 simulate --help -> usage
 ";
 
-// A command as a case has it: its name and numbers, and the words that stand last.
+// A command as a case writes it: `head`, which is its name and numbers, and the words that stand
+// last.
 fn line<D: Display + Drop>(alloc: Global, head: D, words: &[String]) -> Result<String, AllocError> {
     let mut line = head.to_string(alloc)?;
     push_words(&mut line, words)?;
@@ -87,7 +88,7 @@ fn push_words(line: &mut String, words: &[String]) -> Result<(), AllocError> {
     Ok(())
 }
 
-// A command that is driven for some cycles.
+// A command with a number of cycles and streams, as a case writes it.
 fn driven(
     alloc: Global,
     name: &str,
@@ -97,7 +98,7 @@ fn driven(
     line(alloc, format_args!("{name} {cycles}"), streams.as_slice())
 }
 
-// A command as a case has it.
+// A command as a case writes it.
 fn said(alloc: Global, command: &Command) -> Result<String, AllocError> {
     match command {
         Command::Compile { contexts, starts } => line(
@@ -146,7 +147,7 @@ fn window(alloc: Global, view: &View, words: &[String]) -> Result<String, AllocE
     )
 }
 
-// What words ask for.
+// What words ask for, as a case writes it.
 fn answer(alloc: Global, words: &[String]) -> Result<String, AllocError> {
     match command_of(alloc, words) {
         Ok(command) => said(alloc, &command),
@@ -155,7 +156,7 @@ fn answer(alloc: Global, words: &[String]) -> Result<String, AllocError> {
     }
 }
 
-// Fails where words ask for something else.
+// Fails if words ask for something else.
 fn expect_answer(alloc: Global, words: &[String], want: &str, about: &str) -> Result<(), Fail> {
     let got = answer(alloc, words)?;
     if got.as_str() == want {
@@ -165,7 +166,7 @@ fn expect_answer(alloc: Global, words: &[String], want: &str, about: &str) -> Re
     }
 }
 
-// Fails where the words of a case ask for something else.
+// Fails if the words of a case ask for something else.
 fn expect_case(alloc: Global, case: &str) -> Result<(), Fail> {
     match case.split_once(" -> ") {
         Some((asked, want)) => {

@@ -1,9 +1,9 @@
 // Runs of `aiger`.
 
-/// A gate whose output is 0 where both inputs are 1.
+/// The circuit of a gate whose output is 0 exactly if both inputs are 1.
 pub const NAND: &str = "aag 3 2 0 1 1\n2\n4\n7\n6 2 4\ni0 a\ni1 b\no0 y\n";
 
-/// Circuits, texts that are none, and what is simulated of the circuits.
+/// Circuits, texts that are none, and what the patterns of circuits show.
 pub const CASES: &str = "
 > aiger -- circuits have patterns
 aag 3 2 0 1 1

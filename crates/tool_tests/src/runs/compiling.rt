@@ -1,15 +1,15 @@
-// What `compile` writes, driven by streams.
+// What `compile` writes, and what it shows when streams drive it.
 use crate::runs::{Case, case_of, expect, run_after, text_of, written};
 use std::alloc::Global;
 use std::test::Fail;
 
-/// A latch that turns in each cycle.
+/// The netlist of a latch that flips in each cycle.
 pub const TOGGLE: &str = ".model t\n.outputs q\n.latch n q 0\n.names q n\n0 1\n.end\n";
 
-/// A netlist that turns its input.
+/// The netlist of an inverter.
 pub const INVERTER: &str = ".model n\n.inputs a\n.outputs y\n.names a y\n0 1\n";
 
-/// Patterns, by how they begin: with the times and names, of which some have escapes.
+/// Netlists and how their patterns begin: with the times and the names, some of which have escapes.
 pub const CASES: &str = "
 > compile -- a gate is compiled by its names
 .model X
@@ -65,7 +65,8 @@ x = 0, y = 0, rule = WireWorld
 ...
 ";
 
-// A number of cycles and streams, a netlist, and what is printed of it and of its pattern.
+// Cases that have, in place of commands, a number of cycles and streams, then a netlist, and what
+// both the netlist and its pattern print.
 const SHOWN: &str = "
 > 4 a=0011 b=0101
 .model or
@@ -225,14 +226,14 @@ clk # two
 q=01
 ";
 
-// Fails where commands with the words of a case after them print something else of its netlist.
+// Fails if the commands, followed by the words of a case, print something else for its netlist.
 fn expect_printed(alloc: Global, commands: &str, case: &Case, shown: &str) -> Result<(), Fail> {
     let asked = text_of(alloc, &[commands, case.commands])?;
     let got = run_after(alloc, &asked, case.text.as_bytes())?;
     expect(got.ends(case), shown)
 }
 
-// Fails where a netlist or its pattern prints something else.
+// Fails if a netlist or its pattern prints something else.
 fn expect_shown(alloc: Global, shown: &str) -> Result<(), Fail> {
     match case_of(shown) {
         Some(case) => {
@@ -251,14 +252,14 @@ fn what_compile_writes_shows_the_netlist(rt: HostRuntime) -> Result<(), Fail> {
     Ok(())
 }
 
-// Fails where a command writes something else of the toggle than `compile` does.
+// Fails if a command writes something else for the toggle than `compile` does.
 fn expect_same(alloc: Global, command: &str) -> Result<(), Fail> {
     let pattern = written(alloc, "compile", TOGGLE.as_bytes())?;
     let other = written(alloc, command, TOGGLE.as_bytes())?;
     expect(pattern == other, command)
 }
 
-// One context without words, and a tape without inputs.
+// One context without words for its starts, and a tape without inputs.
 #[test]
 fn these_write_what_compile_writes(rt: HostRuntime) -> Result<(), Fail> {
     expect_same(rt.alloc(), "compile --contexts 1")?;

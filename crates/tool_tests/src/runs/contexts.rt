@@ -5,8 +5,8 @@ use itoa::Buffer;
 use std::alloc::{AllocError, Global};
 use std::test::Fail;
 
-/// Netlists in contexts: those that cannot be, and where each starts as its words say. At the end
-/// stands a wire.
+/// Netlists in several contexts: contexts that cannot be, and contexts that each start as their
+/// words say. The last cases drive a wire.
 pub const CASES: &str = "
 > compile --contexts 2 -- contexts that cannot be
 .model or
@@ -110,7 +110,7 @@ stream: TwiceInput 0:a=10
 stream: MissingInput 1:a
 ";
 
-/// A wire of three cells in two contexts.
+/// The pattern of a wire of three cells in two contexts.
 pub const WIRE: &str =
     "#C BLIFWW 1 P 64 L 2 C 2\n#C BLIFWW IN 0 0 a\n#C BLIFWW OUT 2 0 y\n#C BLIFWW NET 1 0 1 m -\nx = 3, y = 1, rule = WireWorld\n3C!\n";
 
@@ -126,7 +126,7 @@ fn number_at(text: &[u8]) -> u64 {
     number
 }
 
-// As many contexts as the period of a netlist's pattern has room for.
+// The number of contexts for which the period of a netlist's pattern has room.
 fn room_of(alloc: Global, netlist: &str) -> Result<u64, Fail> {
     let text = written(alloc, "compile", netlist.as_bytes())?;
     match text.strip_prefix(b"#C BLIFWW 2 P ") {
@@ -135,7 +135,7 @@ fn room_of(alloc: Global, netlist: &str) -> Result<u64, Fail> {
     }
 }
 
-// Fails where some number of contexts of the toggle ends otherwise.
+// Fails if `compile` of the toggle in this number of contexts ends otherwise.
 fn expect_contexts(
     alloc: Global,
     contexts: u64,
@@ -149,7 +149,7 @@ fn expect_contexts(
     expect(got.is(status, out, err), &command)
 }
 
-// The line for one context more than there is room for.
+// The line that refuses `more` contexts if there is room for `room`.
 fn no_room(alloc: Global, more: u64, room: u64) -> Result<String, AllocError> {
     let mut asked = Buffer::new();
     let mut limit = Buffer::new();
@@ -163,7 +163,7 @@ fn no_room(alloc: Global, more: u64, room: u64) -> Result<String, AllocError> {
     text_of(alloc, &parts)
 }
 
-// Fails where one context more is not refused.
+// Fails if one context more than there is room for is not refused.
 fn expect_no_room(alloc: Global, room: u64) -> Result<(), Fail> {
     let more = room % 1_000_000 + 1;
     let line = no_room(alloc, more, room)?;

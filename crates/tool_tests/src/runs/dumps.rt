@@ -1,7 +1,7 @@
 // Runs of `vcd`.
 
-/// Patterns with other tables than the gate's, and what gives no dump; then the gate's pattern,
-/// where the first line of the block of cycle 1 is that of the input that changes.
+/// Patterns with other port tables than the gate's, and texts and words that give no dump; then the
+/// gate's pattern, where the block of cycle 1 begins with the line of the input that changes.
 pub const CASES: &str = "
 > vcd --cycles 1 a=1 -- all nets are dumped
 #C BLIFWW 1 P 4 L 2

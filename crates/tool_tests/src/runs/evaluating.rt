@@ -1,6 +1,6 @@
 // Runs of `eval`.
 
-/// Netlists, and what gives no run of one.
+/// Netlists that run, and texts and words that give no run.
 pub const CASES: &str = "
 > eval --cycles 4 -- netlists show their runs
 .model t

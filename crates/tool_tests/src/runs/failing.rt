@@ -16,12 +16,12 @@ const FRONT: &str =
 const MADE: &str =
     ".model made\n.inputs i0 i1 i2 i3\n.outputs g1 q0 q1\n.latch i2 q0 0\n.latch i3 q1 1\n.names q0 i3 g0\n10 1\n01 1\n.names g0 g0 g1\n11 0\n.end\n";
 
-// What is told of it, but for its lanes.
+// What `self` writes for the same netlist, with three full stops for what follows `lanes`.
 const TOLD: &str =
     "weight 22\nlanes ...\nsim g1=1011\neval g1=1011\nsim q0=0111\neval q0=0111\nsim q1=1001\neval q1=1001\n";
 
 // A command, a text, the calls of the source that fail, the rooms of the sinks, the status, and
-// what is written and told.
+// what the run writes to the output and to the errors.
 type Run = (
     &'static str,
     &'static str,
@@ -33,7 +33,8 @@ type Run = (
 );
 
 const RUNS: &[Run] = &[
-    // Each failure is told.
+    // A failure is reported as far as the errors have room. Nothing is read if the words are no
+    // command.
     ("compile", GATE, &[9], (179, 99), 6, FRONT, "write fault\n"),
     ("compile", GATE, &[9], (179, 5), 6, FRONT, "write"),
     ("compile", GATE, &[1], (321, 99), 5, "", "read fault\n"),
@@ -60,7 +61,7 @@ const RUNS: &[Run] = &[
         "",
         "write fault\n",
     ),
-    // A line is cut off where the output has no room.
+    // `lift` refuses texts and words, and output is cut off if there is no room for it.
     ("lift", GATE, &[], (99, 99), 8, "", "G1 NoHeader line 1\n"),
     ("lift", "", &[], (99, 99), 8, "", "G1 NoHeader line 1\n"),
     ("lift x", PATTERN, &[], (99, 99), 2, "", USAGE),
@@ -83,7 +84,7 @@ const RUNS: &[Run] = &[
         "y=01",
         "write fault\n",
     ),
-    // No more room is needed.
+    // Just enough room for the output, and none for errors.
     (
         "simulate --cycles 4 a=0011 b=0101",
         PATTERN,
@@ -94,7 +95,7 @@ const RUNS: &[Run] = &[
         "",
     ),
     ("compile", GATE, &[], (321, 0), 0, PATTERN, ""),
-    // Nothing is read for what is made: the first call of the source would fail.
+    // `make` and `self` read nothing: the first call of the source would fail.
     ("make --seed 1 --size 2", "", &[0], (999, 0), 0, MADE, ""),
     (
         "self --seed 1 --size 2 --cycles 4",
@@ -105,11 +106,11 @@ const RUNS: &[Run] = &[
         TOLD,
         "",
     ),
-    // Nothing is on either where the line of a refusal fails at once.
+    // Neither sink holds anything if the line of a refusal fails at once.
     ("", "", &[], (99, 0), 6, "", ""),
 ];
 
-// Fails where a run ends otherwise.
+// Fails if a run ends otherwise.
 fn expect_run(
     alloc: Global,
     (command, text, fails, rooms, status, out, err): Run,
@@ -130,7 +131,7 @@ fn each_failure_is_told(rt: HostRuntime) -> Result<(), Fail> {
     Ok(())
 }
 
-// Commands, and a text that each reads.
+// Commands, and the text that each reads.
 const COMMANDS: &[(&str, &str)] = &[
     ("eval --cycles 4 a=0110", INVERTER),
     ("simulate --cycles 1 a=0 b=1", PATTERN),
@@ -145,7 +146,7 @@ const COMMANDS: &[(&str, &str)] = &[
     ("lift", PATTERN),
 ];
 
-// Fails where a command does not tell that the source fails, or the sink.
+// Fails if a command does not report that the source fails, or that the output does.
 fn expect_told(alloc: Global, command: &'static str, text: &'static str) -> Result<(), Fail> {
     expect_run(
         alloc,
@@ -162,11 +163,11 @@ fn each_command_tells_what_failed(rt: HostRuntime) -> Result<(), Fail> {
     Ok(())
 }
 
-// Fails where `compile` over the gate, read byte by byte with a call that fails, is not refused, or
-// where it is though no call does.
+// Fails if `compile`, which reads the gate byte by byte, does not report a read that fails, or does
+// not write the pattern though no read fails.
 fn expect_read(alloc: Global, call: u64) -> Result<(), Fail> {
     let got = run_over(alloc, "compile", GATE.as_bytes(), (1, &[call]), (321, 99))?;
-    // The text has 61 bytes, and one read more finds its end.
+    // The text has 61 bytes, and one more read finds its end.
     let is_so = if call < 62 {
         got.is(5, "", "read fault\n")
     } else {
@@ -187,7 +188,8 @@ fn each_read_that_fails_is_told(rt: HostRuntime) -> Result<(), Fail> {
     Ok(())
 }
 
-// Fails where the pattern is not cut off where there is no room for it.
+// Fails if `compile` does not fill the room with the beginning of the pattern and report a write
+// fault, or does not write all of the pattern though it has room.
 fn expect_cut(alloc: Global, room: usize) -> Result<(), Fail> {
     let got = run_over(alloc, "compile", GATE.as_bytes(), (4096, &[]), (room, 99))?;
     let is_so = if room < 321 {
@@ -212,14 +214,14 @@ fn output_is_cut_where_there_is_no_room(rt: HostRuntime) -> Result<(), Fail> {
     Ok(())
 }
 
-// The numbers of calls of a sink that takes 7 bytes at a time: the usage line takes fewer of them.
+// The numbers of calls of a sink that takes 7 bytes a call. The usage line takes fewer calls.
 const CALLS: &[u64] = &[0, 1, 2, 3, 4, 5, 6, 7, 8, 9, 10, 11, 12];
 
 // The status, how often `out` and `err` failed, and the lengths of what they hold.
 type Counts = (u8, u64, u64, usize, usize);
 
-// What a run comes to over a source. Each call of `out` from a number on fails, and so does each
-// one of `err` from another.
+// The counts of a run over a source. The calls of `out` that fail are those of `CALLS` from
+// `calls.0` on, and those of `err` from `calls.1` on.
 fn counts_of(
     alloc: Global,
     words: &[String],
@@ -236,7 +238,7 @@ fn counts_of(
     Ok((status, out.faults(), err.faults(), held.0, held.1))
 }
 
-// Fails where a run comes to something else, as where it calls a sink again that has failed.
+// Fails if a run has other counts, as it has if it calls a sink again that has failed.
 fn expect_counts(
     alloc: Global,
     command: &str,
@@ -263,7 +265,7 @@ fn a_sink_that_failed_is_not_called_again(rt: HostRuntime) -> Result<(), Fail> {
         expect_counts(alloc, "", (0, call), (6, 0, 1, 0, 7 * call))?;
         expect_counts(alloc, "compile", (call, 12), (6, 1, 0, 7 * call, 12))?;
     }
-    // All calls fail: the first one on each sink is its last.
+    // All calls fail: the first call of each sink is its last.
     expect_counts(alloc, "compile", (0, 0), (6, 1, 1, 0, 0))?;
     expect_counts(alloc, "", (0, 12), (2, 0, 0, 0, USAGE.len()))
 }

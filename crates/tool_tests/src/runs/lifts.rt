@@ -1,5 +1,5 @@
 // Runs of `lift`.
-/// Circuits, and what is lifted of what `aiger` and `compile` write.
+/// Circuits that are lifted, and what is lifted from what `aiger`, `compile` and `tape` write.
 pub const CASES: &str = "
 > lift
 #C BLIFWW 2 P 32 L 0 C 1
@@ -139,7 +139,7 @@ q=0101
 q=1010
 ";
 
-// The gate's text, with a row of the drawing on each line.
+// The gate's pattern without its nets, with each row of the drawing on a line of its own.
 pub const GATE_LINES: &str = "\
 #C BLIFWW 2 P 32 L 32 C 1
 #C BLIFWW IN 0 8 a
@@ -166,8 +166,8 @@ x = 33, y = 32, rule = WireWorld
 5C26.C!
 ";
 
-// Lines of it, what stands in the place of each, and what is lifted: of no drawing nothing, and
-// ports keep their names.
+// Changes to the gate's pattern, and what is lifted. Nothing is lifted if the pattern is no longer
+// a circuit; else the ports keep their names.
 pub const GATE_CHANGES: &str = "
 > #C BLIFWW 2 P 32 L 32 C 1
 #C BLIFWW 2 P 32 L 33 C 1
@@ -408,7 +408,7 @@ G6 NoEnd line 23
 .end
 ";
 
-// Two loops that feed each other, the first of which starts with 1.
+// The pattern of two loops that feed each other. The first starts with 1.
 pub const RING_LINES: &str = "\
 #C BLIFWW 2 P 384 L 64 C 1
 #C BLIFWW OUT 128 8 q
@@ -442,7 +442,7 @@ $10.93C23.57C
 $102.2C.2C18.C$104.C.19C$105.2C!
 ";
 
-// Lines of it in the same way: loops are lifted cell by cell.
+// Changes to that pattern, and what is lifted: loops are lifted cell by cell.
 pub const RING_CHANGES: &str = "
 > #C BLIFWW 2 P 384 L 64 C 1
 #C BLIFWW 2 P 32 L 64 C 1

@@ -1,15 +1,15 @@
-// Runs of `probe` of each net of a netlist, and of `eval` with each net of its main model as one
-// output more: both tell the same bits.
+// Runs of `probe` for each net of a netlist, and of `eval` with each net of its main model as a
+// further output: a net that both print has the same bits in both.
 
-/// A counter of two latches.
+/// The netlist of a counter with two latches.
 pub const COUNTER: &str =
     ".model k\n.outputs q0 q1\n.latch n0 q0 0\n.latch n1 q1 0\n.names q0 n0\n0 1\n.names q0 q1 n1\n10 1\n01 1\n.end\n";
 
-/// An adder of two bits, of two full adders.
+/// The netlist of an adder of two bits, made of two full adders.
 pub const ADDER: &str =
     ".model add\n.inputs a0 a1 b0 b1 ci\n.outputs s0 s1 c\n.subckt fa a=a0 b=b0 c=ci s=s0 co=k\n.subckt fa a=a1 b=b1 c=k s=s1 co=c\n.end\n.model fa\n.inputs a b c\n.outputs s co\n.names a b c s\n100 1\n010 1\n001 1\n111 1\n.names a b c co\n11- 1\n1-1 1\n-11 1\n.end\n";
 
-/// What patterns show at each net.
+/// What the netlists' patterns show at each net.
 pub const CASES: &str = "
 @ toggle
 > compile | probe --net q --path - --cycles 4
@@ -91,7 +91,7 @@ s=0
 co=1
 ";
 
-/// Lines of the toggle with a net as its first output. A port can't be an output once more.
+/// Changes that make a net the first output of the toggle. A port cannot become an output again.
 pub const OUTPUTS_OF_THE_TOGGLE: &str = "
 > .model t
 .model t
@@ -106,7 +106,7 @@ n=1010
 q=0101
 ";
 
-/// Lines of the counter with a net as its first output. A port can't be an output once more.
+/// Changes that make a net the first output of the counter. A port cannot become an output again.
 pub const OUTPUTS_OF_THE_COUNTER: &str = "
 > .model k
 .model k
@@ -134,7 +134,7 @@ q0=01010
 q1=00110
 ";
 
-/// Lines of the adder with a net as its first output. A port can't be an output once more.
+/// Changes that make a net the first output of the adder. A port cannot become an output again.
 pub const OUTPUTS_OF_THE_ADDER: &str = "
 > .model add
 .model add

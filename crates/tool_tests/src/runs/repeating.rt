@@ -1,12 +1,12 @@
-// Texts that say the same again and again: models inside models, and weights near the limit and far
-// beyond it.
+// Texts that repeat a part: models inside models, weights near the limit and far beyond it, and
+// texts at the limit of length and beyond it.
 use crate::runs::run_over;
 use itoa::Buffer;
 use std::alloc::{AllocError, Global};
 use std::test::Fail;
 
-// What a text says: how it begins, what it repeats, parts each with its number, counted from 0, and
-// the rest, and how it ends.
+// A text with repetitions: how it begins, what each repetition has (parts, each followed by the
+// number of the repetition, counted from 0, and the rest), and how it ends.
 struct Repeating {
     begin: &'static [u8],
     numbered: &'static [&'static [u8]],
@@ -14,7 +14,7 @@ struct Repeating {
     end: &'static [u8],
 }
 
-// Models each of which places the next, the last of which turns its input.
+// Models that each place the next. The last one inverts its input.
 const CHAIN: &Repeating = &Repeating {
     begin: b".model c",
     numbered: &[
@@ -25,7 +25,7 @@ const CHAIN: &Repeating = &Repeating {
     end: b"\n.inputs a\n.outputs y\n.names a y\n0 1\n.end\n",
 };
 
-// A model that places another so many times.
+// A model that places another once in each repetition.
 const BROAD: &Repeating = &Repeating {
     begin: b".model m\n.outputs y\n.names y\n1\n",
     numbered: &[],
@@ -33,7 +33,7 @@ const BROAD: &Repeating = &Repeating {
     end: b".end\n.model leaf\n.end\n",
 };
 
-// A model with so many inputs and one output.
+// A model with an input for each repetition, and one output.
 const WIDE: &Repeating = &Repeating {
     begin: b".model m\n.inputs",
     numbered: &[b" i"],
@@ -41,7 +41,7 @@ const WIDE: &Repeating = &Repeating {
     end: b"\n.outputs y\n.names y\n.end\n",
 };
 
-// Models each of which places the next one twice.
+// Models that each place the next one twice.
 const DEEP: &Repeating = &Repeating {
     begin: b".model h",
     numbered: &[b"\n.subckt h", b"\n.subckt h", b"\n.end\n.model h"],
@@ -49,7 +49,7 @@ const DEEP: &Repeating = &Repeating {
     end: b"\n.names y\n.end\n",
 };
 
-// A circuit with 2048 outputs. An output weighs 4, and every circuit 2 more.
+// A circuit with 2048 outputs. Each output weighs 4, and every circuit 2 more.
 const OUTPUTS: &Repeating = &Repeating {
     begin: b"aag 0 0 0 2048 0\n",
     numbered: &[],
@@ -71,7 +71,7 @@ const LONGER: &Repeating = &Repeating {
     end: b"#",
 };
 
-// Adds parts, each with the number after it.
+// Adds parts, each followed by the number.
 fn push_numbered(text: &mut Vec<u8>, parts: &[&[u8]], number: &[u8]) -> Result<(), AllocError> {
     for part in parts {
         text.extend_from_slice(part)?;
@@ -80,7 +80,7 @@ fn push_numbered(text: &mut Vec<u8>, parts: &[&[u8]], number: &[u8]) -> Result<(
     Ok(())
 }
 
-// Adds what is repeated, so many times.
+// Adds `times` repetitions.
 fn push_repeated(text: &mut Vec<u8>, of: &Repeating, times: usize) -> Result<(), AllocError> {
     let mut digits = Buffer::new();
     for number in 0..times {
@@ -90,7 +90,7 @@ fn push_repeated(text: &mut Vec<u8>, of: &Repeating, times: usize) -> Result<(),
     Ok(())
 }
 
-// A text that repeats it so many times.
+// The text with `times` repetitions.
 fn repeated(alloc: Global, of: &Repeating, times: usize) -> Result<Vec<u8>, AllocError> {
     let mut text = of.begin.to_vec(alloc)?;
     push_repeated(&mut text, of, times)?;
@@ -98,7 +98,8 @@ fn repeated(alloc: Global, of: &Repeating, times: usize) -> Result<Vec<u8>, Allo
     Ok(text)
 }
 
-// A command, what the text says, how often, the status, and what is written and told.
+// A command, its text and the number of repetitions, the status, and what the run writes to the
+// output and to the errors.
 type Run = (
     &'static str,
     &'static Repeating,
@@ -109,10 +110,10 @@ type Run = (
 );
 
 const RUNS: &[Run] = &[
-    // Models inside models show their run.
+    // Models inside models are run.
     ("eval --cycles 3 a=011", CHAIN, 300, 0, "y=100\n", ""),
     ("eval --cycles 1", BROAD, 500, 0, "y=1\n", ""),
-    // The greatest weight, which is compiled, and more.
+    // The greatest weight, which is compiled, and weights beyond it.
     ("compile", WIDE, 8190, 0, "#C BLIFWW 2 P 32 L ...\n", ""),
     (
         "eval --cycles 1",
@@ -162,7 +163,7 @@ const RUNS: &[Run] = &[
         "",
         "too large: weight 18446744073709551615 limit 8192\n",
     ),
-    // 16,777,216 bytes, and one more.
+    // A text of 16,777,216 bytes, and one that is a byte longer.
     (
         "compile",
         COMMENT,
@@ -181,7 +182,7 @@ const RUNS: &[Run] = &[
     ),
 ];
 
-// Fails where a run over the text ends otherwise.
+// Fails if a run over the text ends otherwise.
 fn expect_run(alloc: Global, (command, of, times, status, out, err): Run) -> Result<(), Fail> {
     let text = repeated(alloc, of, times)?;
     let got = run_over(alloc, command, &text, (1 << 20, &[]), (1 << 20, 99))?;

@@ -1,6 +1,6 @@
 // Runs of `simulate`, `probe` and `window`.
 
-/// Patterns, and what gives no run of one.
+/// Patterns that run, and texts and words that give no run.
 pub const CASES: &str = "
 > simulate --cycles 2 a=11 -- a wire shows what its period lets through
 #C BLIFWW 1 P 4 L 2

@@ -1,7 +1,7 @@
 // Runs of `tape`. After a tape's cycles come zeros.
 
-/// Tapes, and what gives none. A tape's table has no inputs, and of the gate's what it names stands
-/// 32 cells further east.
+/// Tapes, and texts and words that give none. The port table of a tape has no inputs. In the tape
+/// of the gate for two cycles, the cells that the table names stand 32 cells further east.
 pub const CASES: &str = "
 > tape --cycles 4 -- texts that give no tape
 .model m
