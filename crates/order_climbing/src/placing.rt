@@ -98,7 +98,7 @@ impl<'a> Placer<'a> {
                 return None;
             }
         }
-        self.place_ports()?;
+        self.place_ports(layout.homes.lanes)?;
         self.settle_loops(layout.homes.lanes);
         Some(self.lanes.columns())
     }
@@ -106,9 +106,9 @@ impl<'a> Placer<'a> {
     // Places a gate; the column after it.
     fn place_gate(&mut self, gate: Gate, made: usize) -> Option<usize> {
         let partner = self.lanes.place(gate.second);
-        self.fetch(gate.first, self.first, partner)?;
+        self.fetch(gate.first, self.first, Some(partner))?;
         let partner = self.lanes.place(self.first);
-        self.fetch(gate.second, self.second, partner)?;
+        self.fetch(gate.second, self.second, Some(partner))?;
         let (x, y) = (self.lanes.place(self.first), self.lanes.place(self.second));
         let at = self.lanes.join(x.min(y), x.max(y));
         if gate.is_and_not && y < x {
@@ -124,9 +124,9 @@ impl<'a> Placer<'a> {
         Some(time)
     }
 
-    // Uses a value once: `number` takes its place on its lane at the last use, and else on a copy,
-    // the one on the partner's side.
-    fn fetch(&mut self, value: usize, number: usize, partner: usize) -> Option<()> {
+    // Uses a value once: `number` takes its place on its lane at the last use, and else on a copy:
+    // the one on the side of the partner's lane, and the upper one if there is no partner.
+    fn fetch(&mut self, value: usize, number: usize, partner: Option<usize>) -> Option<()> {
         let left = self.left.get_mut(value)?;
         *left = left.saturating_sub(1);
         let is_last = *left == 0;
@@ -137,7 +137,10 @@ impl<'a> Placer<'a> {
         }
         let at = self.lanes.copy(lane)?;
         let next = at.saturating_add(1);
-        let (own, kept) = if partner > at { (next, at) } else { (at, next) };
+        let (own, kept) = match partner {
+            Some(lane) if lane > at => (next, at),
+            _ => (at, next),
+        };
         self.lanes.put(own, number);
         self.lanes.put(kept, value);
         Some(())
@@ -148,13 +151,14 @@ impl<'a> Placer<'a> {
         self.gates.uses.len().saturating_add(port)
     }
 
-    fn place_ports(&mut self) -> Option<()> {
+    // Uses the values of the ports on so many lanes: loops take the copy nearer to the lowest lane.
+    fn place_ports(&mut self, lanes: usize) -> Option<()> {
         for port in 0..self.gates.ports.len() {
             let value = *self.gates.ports.get(port)?;
             let partner = if port < self.gates.loops {
-                usize::MAX
+                Some(lanes.saturating_sub(1))
             } else {
-                0
+                None
             };
             self.fetch(value, self.port_number(port), partner)?;
         }
