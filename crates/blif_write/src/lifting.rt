@@ -4,28 +4,15 @@ ghost use Rattle.lane_core.specs.Plans.{IsAdmissible};
 ghost use Rattle.cell_core.specs.Loops.{names_one};
 ghost use Rattle.cell_meaning.specs.Computes.{ComputesByPlan};
 ghost use Rattle.circuit_plans.specs.Circuits.{without_nets};
-ghost use Rattle.pattern_reading.specs.Ports.{names_of};
 ghost use Rattle.lifted_designs.specs.Names.{leading, most_leading};
 ghost use Rattle.blif_write.specs.Lift.{IsLiftOf};
 
 use crate::Lift;
 use circuit_plans::{LiftError, cells_of};
 use lane_core::Plan;
-use lists::{Bytes, List, copied};
-use pattern_reading::{PortLine, Ports};
-use std::alloc::{AllocError, Global};
-
-// Copies of the names of ports.
-fn names_of(alloc: Global, ports: &[PortLine]) -> Result<List<Bytes>, AllocError>
-    ensures { IfOk result (λ names. names ≡ names_of ports.now) }
-{
-    let mut names = Vec::new(alloc);
-    for port in ports {
-        let name = copied(alloc, port.name.as_slice())?;
-        names.push(name)?;
-    }
-    Ok(List::of(names))
-}
+use lists::{Bytes, List};
+use pattern_reading::{Ports, names_of};
+use std::alloc::Global;
 
 // The number of `_` with which a name begins.
 fn leading(name: &[u8]) -> usize
@@ -63,8 +50,8 @@ pub fn of(alloc: Global, plan: &Plan, ports: &Ports) -> Result<Lift, LiftError>
 {
     let list = cells_of(alloc, plan)?;
     let _cells = list.cells.len();
-    let ins = names_of(alloc, ports.ins.as_slice())?;
-    let outs = names_of(alloc, ports.outs.as_slice())?;
+    let ins = List::of(names_of(alloc, ports.ins.as_slice())?);
+    let outs = List::of(names_of(alloc, ports.outs.as_slice())?);
     let of_ins = most_leading(ins.as_slice(), 0);
     let leading = most_leading(outs.as_slice(), of_ins);
     Ok(Lift {

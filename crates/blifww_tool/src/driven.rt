@@ -3,7 +3,7 @@ ghost use Rattle.std.specs.Prelude.{◌≡◌, ◌++◌, map, flat_map, string_b
 ghost use Rattle.std.specs.List.{range_with_len};
 ghost use Rattle.ww_rule.specs.Grid.{AreInBox};
 ghost use Rattle.pattern_reading.specs.Laws.{HasCellsInside};
-ghost use Rattle.pattern_reading.specs.Ports.{cells_of, names_of};
+ghost use Rattle.pattern_reading.specs.Ports.{cells_of};
 ghost use Rattle.pattern_reading.specs.SoundTable.{IsSoundTable};
 ghost use Rattle.drive.specs.Driving.{AreFor};
 ghost use Rattle.blifww_tool.specs.Simulation.{IsSimulation, HasStreamsCause};
@@ -11,7 +11,7 @@ ghost use Rattle.blifww_tool.specs.Driven.{names_in_context, simulation_of};
 
 use drive::Streams;
 use lists::Bytes;
-use pattern_reading::{PortLine, Ports};
+use pattern_reading::{PortLine, Ports, names_of};
 use refusals::TextError;
 use std::alloc::{AllocError, Global};
 use word_cuts::with_context;
@@ -23,17 +23,6 @@ pub struct Driven {
     pub pattern: Pattern,
     pub ports: Ports,
     pub streams: Streams,
-}
-
-/// Returns the names of ports.
-pub fn names_of(alloc: Global, ports: &[PortLine]) -> Result<Vec<Bytes>, AllocError>
-    ensures { IfOk result (λ names. names.items ≡ names_of ports.now) }
-{
-    let mut names = Vec::new(alloc);
-    for port in ports {
-        names.push(Bytes::of(port.name.as_slice().to_vec(alloc)?))?;
-    }
-    Ok(names)
 }
 
 // Adds the names of ports as they stand before their bits in a context.

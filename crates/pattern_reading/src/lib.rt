@@ -7,4 +7,4 @@ mod faults;
 mod ports;
 
 pub use faults::{PortFaultKind, RleFaultKind};
-pub use ports::{NetLine, PortLine, Ports, TableVersion};
+pub use ports::{NetLine, PortLine, Ports, TableVersion, names_of};

@@ -1,5 +1,9 @@
 // Port tables as values.
-use lists::{Bytes, List};
+ghost use Rattle.std.specs.Prelude.{◌≡◌, IfOk};
+ghost use Rattle.pattern_reading.specs.Ports.{names_of};
+
+use lists::{Bytes, List, copied};
+use std::alloc::{AllocError, Global};
 
 /// The versions of port tables, which differ in how they write names. Version 1 writes them as they
 /// are. Version 2, in which tables are written, has an escape for each byte outside 33 to 126 and
@@ -42,4 +46,15 @@ pub struct Ports {
     pub ins: List<PortLine>,
     pub outs: List<PortLine>,
     pub nets: List<NetLine>,
+}
+
+/// Copies the names of ports, in order.
+pub fn names_of(alloc: Global, ports: &[PortLine]) -> Result<Vec<Bytes>, AllocError>
+    ensures { IfOk result (λ names. names.items ≡ names_of ports.now) }
+{
+    let mut names = Vec::new(alloc);
+    for port in ports {
+        names.push(copied(alloc, port.name.as_slice())?)?;
+    }
+    Ok(names)
 }

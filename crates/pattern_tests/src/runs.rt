@@ -9,8 +9,8 @@ ghost use Rattle.drive.specs.Driving.{AreFor};
 use crate::texts::joined;
 use crate::waves::dump_said;
 use drive::{SimulateError, StreamError, Streams, simulate};
-use lists::{Bytes, List, copied};
-use pattern_reading::{PortLine, Ports};
+use lists::List;
+use pattern_reading::{PortLine, Ports, names_of};
 use std::alloc::{AllocError, Global};
 use std::test::Fail;
 use ww_base::expect;
@@ -63,16 +63,6 @@ fn strings_of(alloc: Global, words: &[&str]) -> Result<Vec<String>, AllocError> 
         strings.push(String::from_str(alloc, word)?)?;
     }
     Ok(strings)
-}
-
-fn names_of(alloc: Global, ports: &[PortLine]) -> Result<Vec<Bytes>, AllocError>
-    ensures { IfOk result (λ names. length names.items ≡ length ports.now) }
-{
-    let mut names = Vec::new(alloc);
-    for port in ports {
-        names.push(copied(alloc, port.name.as_slice())?)?;
-    }
-    Ok(names)
 }
 
 fn push_bits(text: &mut Vec<u8>, bits: &[bool]) -> Result<(), AllocError> {

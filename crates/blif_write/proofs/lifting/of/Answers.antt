@@ -12,7 +12,7 @@ invariant_of-result c =
     let of_ins = c.most_leading-of_ins.ensures ∙ ap (λ names. max 0 (most_leading names)) c.as_slice-3.ensures in
     let most = c.most_leading-leading.ensures ∙ ap (λ names. max c.most_leading-of_ins.result (most_leading names)) c.as_slice-4.ensures in
     record {
-      marked = most_of_both c.in_ok-ins.ins c.in_ok-outs.outs of_ins most;
-      outs_named = ap length (c.in_ok-outs.ensures ∙ ap names_of c.as_slice-2.ensures) ∙ length-map c.args.ports.now.outs (λ line. line.name) ∙ c.requires.outs
+      marked = most_of_both c.of-ins.result c.of-outs.result of_ins most;
+      outs_named = ap length (c.of-outs.ensures ∙ c.in_ok-names_of-2.ensures ∙ ap names_of c.as_slice-2.ensures) ∙ length-map c.args.ports.now.outs (λ line. line.name) ∙ c.requires.outs
           ∙ sym (ap length c.in_ok-list.ensures.list.outs ∙ length-map plan.outs (source_on (lift_columns (entry_lanes plan) plan.columns).sources));
     }
