@@ -7,9 +7,9 @@ use Rattle.aiger_meaning.specs.declared.error.LowerError.TheVariants.{TooLarge, 
 use Rattle.aiger_meaning.specs.Circuit.{aig_weight}
 use Rattle.aiger_meaning.specs.Loop.{IsAigLoop}
 
--- The weight is over the limit and is answered, or the greatest u64 if the weight is above it. Or
--- the weight is within the limit and gates read each other in a circle; the answer is their left
--- sides, each once.
+-- The weight is over the limit; the answer is the weight, or the greatest u64 if the weight is
+-- above that. Or the weight is within the limit and gates read each other in a circle; the answer
+-- is their left sides, each once.
 abbrev pub HasLowerCause : Aig → LowerError → Type 0
 HasLowerCause aig (TooLarge w) =
     (weight_limit < aig_weight aig) × (w ≡ min (aig_weight aig) (2 ^ 64 - 1))

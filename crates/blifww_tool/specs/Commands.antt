@@ -30,7 +30,7 @@ use Rattle.netlist_text.specs.Laws.{AreAlikeFaults}
 use Rattle.refusals.specs.declared.causes.TextError.{TextError}
 use Rattle.refusals.specs.declared.causes.TextError.TheVariants.{Refused, NoMemory}
 
--- the command reads a text; a command that does not has the empty one
+-- the command reads a text; a command that reads none has the empty text
 abbrev pub reads_text : CommandValues → Bool
 reads_text (compile contexts starts) = true
 reads_text (simulate cycles words) = true
@@ -116,8 +116,8 @@ MustRefuse (self_ seed size cycles) text cause = ⊥
 MustRefuse (compile contexts starts) text (TooManyContexts told limit) = ⊥
 MustRefuse command text cause = Refuses command text cause
 
--- Two causes are of one kind and the same, except that there may be several loops, and several
--- words at fault on one line.
+-- Two causes are of one kind and the same, except that there may be several loops, and for faults
+-- of the kinds `Recursive` and `ClockRead` several words on one line.
 abbrev pub AreLikeCauses : Cause → Cause → Type 0
 AreLikeCauses (NetlistFault a) (NetlistFault b) = AreAlikeFaults a b
 AreLikeCauses (Loop a) (Loop b) = ⊤

@@ -1,5 +1,5 @@
--- `lift` accepts what `compile` writes for one context, and `eval` prints of what `lift` writes
--- what `simulate` prints of the pattern.
+-- For one context, `lift` accepts what `compile` writes, if its box is within the limit and no name
+-- is bad. What `eval` prints of what `lift` writes, `simulate` prints of the pattern.
 use Rattle.std.specs.Prelude.{ℕ, ◌≡◌, false, List}
 use Rattle.ww_rule.specs.Grid.{Grid}
 use Rattle.pattern_reading.specs.declared.ports.Ports.{Ports}

@@ -249,8 +249,8 @@ pub record Ends (c : Call) (status : ℕ) : Type 0 where
       → length text ≤ text_limit
       → (cause : Cause) → MustRefuse command text cause
       → TellsLike c status command text cause ⊎ (status ≡ 7)
-  -- The run tells `TooLong` for a text that is too long; for words that ask for nothing it tells
-  -- `Usage`, unless err fails.
+  -- Unless memory runs out, a calm run tells `TooLong` for a text that is too long. For words that
+  -- ask for nothing a run tells `Usage`, unless err fails or memory runs out.
   pub too_long : (command : CommandValues) (text : List ℕ) → IsCalm c command text
       → text_limit < length text
       → TellsOr7 c status TooLong

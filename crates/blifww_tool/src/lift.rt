@@ -17,7 +17,7 @@ use std::alloc::Global;
 use tile_match::audit;
 use ww_rule::Pattern;
 
-// The netlist that a pattern with its port table carries, where they are the drawing of a circuit.
+// The netlist that a pattern with its port table carries, if they are the drawing of a circuit.
 fn drawn(alloc: Global, pattern: &Pattern, ports: &Ports) -> Result<Output, TextError>
     ensures printed { IfOk result (λ output. (text : List ℕ)
         → ReadsWithinLimit text (grid_of pattern.now)

@@ -64,7 +64,7 @@ fn net_lines(
     output_lines(alloc, &names, bits)
 }
 
-// Such lines, with the bits that a net of a pattern shows on streams.
+// A line for each context, with the bits that a net of a pattern shows on streams.
 fn shown(
     alloc: Global,
     pattern: Pattern,

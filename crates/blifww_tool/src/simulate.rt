@@ -31,7 +31,7 @@ fn shown_lines(alloc: Global, ports: &Ports, bits: &[List<bool>]) -> Result<Byte
     output_lines(alloc, &outs, bits)
 }
 
-// Such lines, with the bits that a pattern's outputs show on streams.
+// A line for each output in each context, with the bits that it shows on streams.
 fn shown(
     alloc: Global,
     pattern: Pattern,

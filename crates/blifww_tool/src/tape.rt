@@ -41,7 +41,7 @@ fn taped(alloc: Global, netlist: &Netlist, streams: &Streams) -> Result<Output, 
     Ok(Output::Drawing(loaded))
 }
 
-// The pattern of a netlist with the streams on its tape that the words say.
+// The pattern of a netlist whose tape has the streams that the words give.
 fn fed(
     alloc: Global,
     cycles: usize,

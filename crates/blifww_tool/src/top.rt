@@ -169,7 +169,7 @@ fn work<S: Source, O: Sink>(
 /// (lines and models), 4 (the weight), 1 (clocks), 3; for an AIGER circuit 1, 4 (the weight), 3;
 /// and for a pattern 8 (the header), 4 (the box), 8 (the items), 8 (the table); then 9 (words), 9
 /// (the net), 4 (generations), 10, 4 (contexts), 12, 6. With each status except 0 and 6, one line
-/// on `err` tells it, and nothing is on `out`.
+/// on `err` tells it, and `out` has gained nothing.
 pub fn run<S: Source, O: Sink, E: Sink>(
     alloc: Global,
     words: &[String],

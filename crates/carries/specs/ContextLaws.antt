@@ -1,5 +1,5 @@
--- What a text that carries a design in several contexts shows of each context, and that to carry it
--- in one context is to carry it.
+-- What a text that carries a design in several contexts shows of each context, and that a text
+-- carries a design exactly when it carries it in one context that begins with the start state.
 use Rattle.std.specs.Prelude.{pos, ℕ, ◌+◌, ◌*◌, ◌<◌, ◌≡◌, ◌≢◌, ◌↔◌, List, [], ◌∷◌, length, get_or, Bool, true, Some, slice_get}
 use Rattle.ww_rule.specs.declared.pattern.State.TheVariants.{Head}
 use Rattle.ww_rule.specs.Wireworld.{driven}

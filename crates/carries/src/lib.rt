@@ -18,8 +18,9 @@ pub fn outputs_have_lines()
 
 /// A pattern that carries a design shows each cycle of each run when rows of input bits drive it.
 /// An output's cell is a head at generation L + t P, for each cycle t, exactly when the output's
-/// bit is 1 in that cycle of the run, and it is never a head below L. A net's cell is a head at
-/// generation offset + t P exactly when the net's bit is 1 in cycle t.
+/// bit is 1 in that cycle of the run, and it is never a head below L. If the pattern also carries
+/// the design's nets, a net's cell is a head at generation offset + t P exactly when the net's bit
+/// is 1 in cycle t.
 pub fn carries_cycles()
     ensures outputs { CarriesCycles }
     ensures nets { CarriesNetCycles }
@@ -36,16 +37,17 @@ pub fn carries_onward()
 /// A pattern that carries a design in several contexts shows each cycle of a run for each context
 /// when rows of input bits drive it. An output's cell is a head at generation L + 32 c + t P, for
 /// each cycle t of context c, exactly when the output's bit is 1 in that cycle of a run on the rows
-/// of c, and it is never a head below L. A net's cell is a head at generation offset + 32 c + t P
-/// exactly when the net's bit is 1 in that cycle.
+/// of c, and it is never a head below L. If the pattern also carries the nets, a net's cell is a
+/// head at generation offset + 32 c + t P exactly when the net's bit is 1 in that cycle.
 pub fn carries_each_context()
     ensures outputs { CarriesEachContext }
     ensures nets { CarriesNetsOfEachContext }
 {}
 
-/// Under two drives that have the same rows for context c, an output's cell is a head at the same
-/// generations L + 32 c + t P, and a net's cell at the same generations offset + 32 c + t P,
-/// whatever rows the other contexts have.
+/// In a pattern that carries a design in several contexts, an output's cell is a head at the same
+/// generations L + 32 c + t P under two drives that have the same rows for context c, whatever rows
+/// the other contexts have. If the pattern also carries the nets, so is a net's cell at the same
+/// generations offset + 32 c + t P.
 pub fn contexts_are_isolated()
     ensures outputs { OutputsAreIsolated }
     ensures nets { NetsAreIsolated }

@@ -280,7 +280,7 @@ impl Run {
     }
 
     /// Goes on to this generation, which is not before the run's own, or stops earlier if no
-    /// injection is left: then no more can miss, whatever the pattern shows.
+    /// injection is left: then no further injection can miss, whatever the pattern shows.
     pub fn pass_injections(&mut self, generation: u64)
         requires run { IsBandRun self.old }
         requires order { self.old.generation ≤ generation }

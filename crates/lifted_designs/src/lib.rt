@@ -51,7 +51,8 @@ pub fn lines_break_none()
     ensures { LinesBreakNone }
 {}
 
-/// A text with these lines is the lifted netlist, and has no fault by a rule on lines or models.
+/// A text with these lines is the lifted netlist, and has no fault by a rule on lines or models, if
+/// no two of its ports share a name.
 pub fn texts_read()
     ensures { ReadAsLifted }
 {}

@@ -1,4 +1,4 @@
--- A text is never both a netlist and refused, and never refused for two causes.
+-- A text is never both a netlist and refused, and never refused for causes of two kinds.
 use Rattle.std.specs.Prelude.{ℕ, ◌≡◌, ◌≢◌, List}
 use Rattle.netlist_core.specs.declared.model.Design.{Design}
 use Rattle.netlist_core.specs.Names.{Name}
@@ -14,7 +14,8 @@ pub record AreAlikeFaults (a b : Fault) : Type 0 where
   pub whole : a.kind ≢ Recursive → a.kind ≢ ClockRead → a ≡ b
 
 -- A text is not both a netlist and refused, it has no two of the causes, and of each it has at most
--- one, except that there may be several loops.
+-- one, except that there may be several loops, and several words of one line at fault
+-- (`AreAlikeFaults`).
 pub record IsDecided (text : List ℕ) : Type 0 where
   pub one_design : (a b : Design) → IsNetlist text a → IsNetlist text b → a ≡ b
   pub not_at_fault : (design : Design) (fault : Fault) → IsNetlist text design

@@ -1,6 +1,6 @@
 //! Laws of what a pattern's text and its port table say, and more than a hundred texts with their readings.
 //!
-//! Nothing stands on this crate, so a further law or text proves nothing else again.
+//! No crate stands on this one, so after a law or a text is added here, nothing else is proved again.
 //!
 //! Theorem: `pattern_laws`, `port_laws`, `whole_laws`.
 #![tactic(auto)]

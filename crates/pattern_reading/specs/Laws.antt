@@ -55,7 +55,7 @@ pub record HasOneReaderAnswer (text : List ℕ) : Type 0 where
   pub one_box : (width height width' height' : ℕ) → HasBox text width height
       → HasBox text width' height' → (width ≡ width') × (height ≡ height')
 
--- The same four laws for the port table of a text, in a box of this width and height.
+-- The first four of these laws, for the port table of a text in a box of this width and height.
 abbrev pub HasOneTable : List ℕ → ℕ → ℕ → Type 0
 HasOneTable text width height =
     (a b : Ports) → ReadsAsPorts text width height a → ReadsAsPorts text width height b → a ≡ b

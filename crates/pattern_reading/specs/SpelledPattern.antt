@@ -74,7 +74,8 @@ spelled_header width height =
     codes "x = " ++ (decimal width ++ (codes ", y = "
     ++ (decimal height ++ codes ", rule = WireWorld")))
 
--- The spelled header is a header of the box, and it lies in one line.
+-- If the box's width and height fit 64 bits, the spelled header is a header of the box, and it lies
+-- in one line.
 abbrev pub HasSpelledHeader : Grid → Type 0
 HasSpelledHeader grid =
     grid.width < 2 ^ 64 → grid.height < 2 ^ 64

@@ -29,7 +29,7 @@ ItemsAreLongestRuns = (tags : List ℕ) → HasLongestRuns (runs_of tags)
 abbrev pub without_line_ends : List ℕ → List ℕ
 without_line_ends bytes = filter (λ b. not (b == 10)) bytes
 
--- wrapping puts line ends between items, and nothing else
+-- wrapping puts in line ends, and nothing else
 abbrev pub WrappingKeepsItems : Type 0
 WrappingKeepsItems = (used : ℕ) (items : List (List ℕ)) →
     without_line_ends (wrapped used items) ≡ without_line_ends (flat_map (λ item. item) items)
@@ -45,7 +45,7 @@ BreaksAfter used [] = Unit {0}
 BreaksAfter used ([] ∷ lines) = ⊥
 BreaksAfter used ((item ∷ items) ∷ lines) = 70 < used + length item
 
--- each line is followed by an item that does not fit on it
+-- each line but the last is followed by an item that does not fit on it
 abbrev pub HasNeededBreaks : List (List (List ℕ)) → Type 0
 HasNeededBreaks [] = Unit {0}
 HasNeededBreaks (line ∷ lines) = BreaksAfter (length (joined line)) lines × HasNeededBreaks lines

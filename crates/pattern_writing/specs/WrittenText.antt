@@ -25,21 +25,21 @@ written grid forms = writer_text grid (map spelled_line forms)
 abbrev pub pattern_text : Grid → Ports → List ℕ
 pattern_text grid ports = writer_text grid (port_lines ports)
 
--- The written text reads as the pattern.
+-- The written text of a writable pattern and of lines that can be spelled reads as the pattern.
 abbrev pub HasWrittenPattern : Grid → List PortForm → Type 0
 HasWrittenPattern grid forms =
     IsWritable grid → AllByRecursion IsSpellable forms → ReadsAsPattern (written grid forms) grid
 
--- The written text reads as the table of the lines, if none of them is at fault in the pattern's
--- box.
+-- The written text of a writable pattern and of lines that can be spelled reads as the table of the
+-- lines, if none of them is at fault in the pattern's box.
 abbrev pub HasWrittenPorts : Grid → List PortForm → Type 0
 HasWrittenPorts grid forms =
     IsWritable grid → AllByRecursion IsSpellable forms
     → IsSoundAfter grid.width grid.height [] forms
     → ReadsAsPorts (written grid forms) grid.width grid.height (ports_of forms)
 
--- The writer's text of a pattern and its ports reads as both, if the ports' cells lie in the
--- pattern's box and the table is sound.
+-- The writer's text of a writable pattern and its ports reads as both, if the ports' cells lie in
+-- the pattern's box and the table is sound.
 abbrev pub HasWrittenText : Grid → Ports → Type 0
 HasWrittenText grid ports =
     IsWritable grid → IsSoundTable ports → HasCellsInside grid.width grid.height ports

@@ -52,7 +52,7 @@ pub fn items_are_runs()
     ensures longest { ItemsAreLongestRuns }
 {}
 
-/// Wrapping puts only line ends between items. If each item fits on a line, no item is cut, no line
+/// Wrapping adds only line ends. If each item fits on a line, no item is cut, no line
 /// is too long, and no line ends before an item that it has room for.
 pub fn wrapping_keeps_items()
     ensures kept { WrappingKeepsItems }

@@ -18,7 +18,7 @@ use Rattle.plan_layout.specs.Tape.{taped_tiling, drawn_edges, drawn_plane}
 use Rattle.plan_waves.specs.Waves.{DrivesInputs}
 use Rattle.plan_tapes.specs.Tape.{drive_of_rows, is_due_on, taped_edges}
 
--- The tape has room, and no head is due on a lane of no input, or later than the tape is long.
+-- The tape has room, and no head is due on a lane without an input, nor after the end of the tape.
 pub record FitsTape (plan : Plan) (shift tiles : ℕ) (due : Due) : Type 0 where
   pub room : tiles ≤ shift + plan.latches
   pub on_inputs : (g lane : ℕ) → list_any (λ input. input == lane) plan.ins ≡ false

@@ -106,8 +106,8 @@ fn push_table_lines(
     Ok(())
 }
 
-/// Returns the lines of a text's table, in order. They are those before its header, or among all
-/// lines if it has none.
+/// Returns the lines of a text's table, in order. They stand before its header, or, if it has none,
+/// anywhere in the text.
 pub fn table_lines(alloc: Global, text: &[u8]) -> Result<Vec<TableLine>, AllocError>
     ensures { IfOk result (λ lines. map table_line_of lines.items ≡ table_of text.now) }
 {

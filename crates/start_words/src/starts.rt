@@ -63,7 +63,8 @@ impl Starts {
         Ok(Starts { bits })
     }
 
-    // The bit with which a latch starts in a context: the bit that is set, or else its init.
+    // The bit with which a latch starts in a context: the bit that is set, or else 1 if its init is
+    // 1, and 0 otherwise.
     fn bit(&self, flat: &Flat, latch: &FlatLatch, context: u64) -> bool
         ensures { (words : List (List ℕ))
             → AreBitsSet (flat_latches flat.now) self.now.bits words

@@ -1,4 +1,4 @@
-// The audit: the plan that is read of a pattern is drawn again, and the drawing compared with the
+// The audit: the plan that is read from a pattern is drawn again, and the drawing compared with the
 // pattern.
 ghost use Rattle.std.specs.Prelude.{◌≡◌, [], false, IfOk, OnOk};
 ghost use Rattle.std.specs.Result.{IsErrOf};
@@ -21,7 +21,7 @@ use tile_library::Shipped;
 use ww_rule::Pattern;
 
 /// Returns the plan of which a pattern with a port table is the drawing, without the places of
-/// nets, or the first reason why there is none.
+/// nets, or the first reason why it is refused.
 pub fn audit(alloc: Global, pattern: &Pattern, ports: &Ports) -> Result<Plan, AuditError>
     ensures drawn { IfOk result (λ plan. IsPlanDrawing (grid_of pattern.now) ports.now plan) }
     ensures named { OnOk result (has_bad_name ports.now ≡ false) }

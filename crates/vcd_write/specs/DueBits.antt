@@ -10,7 +10,7 @@ abbrev pub AreDueFrom : ℕ → List DueBit → Type 0
 AreDueFrom g [] = ⊤
 AreDueFrom g (bit ∷ bits) = (g ≤ bit.generation) × AreDueFrom bit.generation bits
 
--- There is a first bit that comes no later than the first of the others; without others it does.
+-- There is a first bit, and it comes no later than the first of the others, if there are others.
 abbrev pub comes_first : List DueBit → List DueBit → Bool
 comes_first [] others = false
 comes_first (bit ∷ bits) [] = true
@@ -64,8 +64,8 @@ pub record IsStillDue (raster : Raster) (due : List DueBit) (place : ℕ) : Type
   pub cycles : ℕ
   pub is_later : place ≡ bit.place + cycles * raster.variables
 
--- These bits are due first, and planes show the others after them: each bit is shown, and each
--- place of the raster is still due.
+-- These bits are due at first: planes show each of them and the later bits of its variable, and
+-- each place of the raster is that of one of these bits or of a later one of its variable.
 pub record AreFirstBits (shown : ℕ → Bool) (planes : ℕ → Plane) (raster : Raster)
     (due : List DueBit) : Type 0 where
   pub each : All (ShowsDueBits shown planes raster) due

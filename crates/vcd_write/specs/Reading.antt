@@ -45,7 +45,7 @@ block_lines block = time_line block.time ∷ map value_line block.values
 abbrev pub form_lines : VcdForm → List (List ℕ)
 form_lines form = map var_line form.vars ++ (last_definition ∷ flat_map block_lines form.blocks)
 
--- bytes of a word: no blank, no line end, and nothing past ASCII
+-- a word: one or more bytes, each from 33 to 126
 abbrev pub IsWord : List ℕ → Type 0
 IsWord bytes = (bytes ≢ []) × AllByRecursion (λ b. (33 ≤ b) × (b ≤ 126)) bytes
 

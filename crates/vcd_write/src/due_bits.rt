@@ -34,8 +34,8 @@ pub struct DueBits {
     begun: VecDeque<DueBit>,
 }
 
-// Whether there is a first bit that comes no later than the first of the others; without others it
-// does.
+// Whether there is a first bit, and it comes no later than the first of the others, if there are
+// others.
 fn comes_first(bits: &VecDeque<DueBit>, others: &VecDeque<DueBit>) -> bool
     ensures { result ≡ comes_first bits.now.items others.now.items }
 {

@@ -67,7 +67,8 @@ fn is_written(vcd: &Vcd, n: usize, cycle: usize) -> bool
     cycle == 0 || bit(vcd, n, cycle) != bit(vcd, n, cycle - 1)
 }
 
-// Writes the value of a variable in a cycle, if the cycle has it.
+// Writes the value of a variable in a cycle, if the cycle is the first or the bit differs from that
+// of the cycle before.
 fn write_if_changed<O: Sink>(
     sink: &mut O,
     page: &mut Page,
@@ -91,7 +92,7 @@ fn write_if_changed<O: Sink>(
     write_value(sink, page, n, bit(vcd, n, cycle))
 }
 
-// Writes the values of a cycle.
+// Writes the values that are written in a cycle.
 fn write_values<O: Sink>(
     sink: &mut O,
     page: &mut Page,
@@ -132,9 +133,10 @@ fn write_blocks<O: Sink>(sink: &mut O, page: &mut Page, vcd: &Vcd) -> Result<(),
 }
 
 /// Writes the VCD text of the variables: first a line for each variable, with its id and its
-/// reference; then at the time of each cycle the values of the variables whose bit differs from
-/// that of the cycle before; and last the time after the last cycle. If a write fails, a prefix of
-/// the text has been written. It takes no memory.
+/// reference; then the values of all variables at the time of the first cycle, and at that of each
+/// later cycle the values of the variables whose bit differs from that of the cycle before; and
+/// last the time after the last cycle. If a write fails, a prefix of the text has been written. It
+/// takes no memory.
 pub fn write<O: Sink>(vcd: &Vcd, sink: &mut O) -> Result<(), Failed>
     ensures ok { OnOk result (
         Appends (O.written sink.old) (O.written sink.new) (vcd_text (waves_in vcd.now))
