@@ -8,20 +8,21 @@ use Rattle.band_core.specs.declared.band.Band.{Band}
 use Rattle.band_core.specs.declared.beside.RowsBeside.{RowsBeside}
 use Rattle.band_core.specs.Band.{bottom_at, top_at}
 
--- how many words each of the rows beside a band has, which are of one length
+-- how many words the upper of the two rows beside a band has
 abbrev pub words_beside : RowsBeside → ℕ
 words_beside beside = length beside.up.heads.now
 
-abbrev pub AreAlike : RowsBeside → Type 0
-AreAlike beside = length beside.down.heads.now ≡ length beside.up.heads.now
+-- the lower one has as many
+abbrev pub HaveOneLength : RowsBeside → Type 0
+HaveOneLength beside = length beside.down.heads.now ≡ length beside.up.heads.now
 
--- two rows that are kept have so many words
+-- the two rows of heads that a band keeps have so many words each
 pub record AreKept (words : ℕ) (top bottom : Kept) : Type 0 where
   pub long_top : length top.heads.items ≡ words
   pub long_bottom : length bottom.heads.items ≡ words
 
--- rows of so many words, of which those that may be lit are marked, and as many words for the marks
--- near them
+-- rows of so many words each, marks of those that may be lit, and as many words of marks around
+-- them
 pub record AreMarkedRows (words : ℕ) (rows : List Row) (marks around : List ℕ) : Type 0 where
   pub long : AreLong words rows
   pub lit : AreMarked marks rows
@@ -32,13 +33,13 @@ pub record ShowBeside (beside : RowsBeside) (p : Plane) (y : ℤ) (many : ℕ) :
   pub above : ShowsHeads beside.up.heads.now p (y -ℤ pos 1)
   pub below : ShowsHeads beside.down.heads.now p (y +ℤ pos many)
 
--- the heads of the last row of bands at a generation, or of a dark row where there is no band
+-- the heads of the last row of bands at a generation, or of a dark row if there is no band
 pub record IsRowAbove (before : List Band) (g : ℕ) (dark up : List ℕ) : Type 0 where
   pub first : length before ≡ 0 → up ≡ dark
   pub later : (d : Band) → 0 < length before
       → up ≡ bottom_at g (get_or before (length before - 1) d)
 
--- and those of the first row
+-- the heads of the first row of bands at a generation, or of a dark row if there is no band
 pub record IsRowBelow (after : List Band) (g : ℕ) (dark down : List ℕ) : Type 0 where
   pub last : length after ≡ 0 → down ≡ dark
   pub earlier : (d : Band) → 0 < length after → down ≡ top_at g (get_or after 0 d)
@@ -51,7 +52,7 @@ pub record HaveRows (before after : List Band) (g : ℕ) (dark : List ℕ) : Typ
   pub long_above : (up : List ℕ) → IsRowAbove before g dark up → length up ≡ length dark
   pub long_below : (down : List ℕ) → IsRowBelow after g dark down → length down ≡ length dark
 
--- the rows of theirs that lie beside `many` rows from row y on show the heads of a plane
+-- the rows of those bands that lie beside `many` rows from row y on show the heads of a plane
 pub record ShowRowsOf (before after : List Band) (g : ℕ) (dark : List ℕ) (p : Plane) (y : ℤ)
     (many : ℕ) : Type 0 where
   pub above : (up : List ℕ) → IsRowAbove before g dark up → ShowsHeads up p (y -ℤ pos 1)

@@ -5,7 +5,7 @@ ghost use Rattle.lane_kernel.specs.Rows.{is_set};
 ghost use Rattle.lane_kernel.specs.Spans.{AreZero};
 ghost use Rattle.band_rows.specs.Rows.{AreMarked, row_heads, row_tails};
 ghost use Rattle.band_core.specs.Band.{IsLitIn, IsNextDue};
-ghost use Rattle.band_core.specs.Beside.{AreAlike, words_beside};
+ghost use Rattle.band_core.specs.Beside.{HaveOneLength, words_beside};
 
 use crate::band::Band;
 use crate::beside::RowsBeside;
@@ -59,7 +59,7 @@ pub fn lit_cell(rows: &[Row], lit: &[u64], is_dark: bool, y: usize) -> Option<(u
 /// Returns the column and row of a head, if there is one, in the two rows beside a band. The band
 /// has `many` rows, from row y on.
 pub fn faced_cell(y: usize, many: usize, beside: &RowsBeside<'_>) -> Option<(usize, usize)>
-    requires alike { AreAlike beside.now }
+    requires alike { HaveOneLength beside.now }
     requires few { words_beside beside.now ≤ 2 ^ 58 }
     requires room { y + many < 2 ^ 64 }
     ensures some { IfSome result (λ cell.

@@ -6,7 +6,7 @@ ghost use Rattle.ww_rule.specs.Injections.{has_cell};
 ghost use Rattle.lane_kernel.specs.Spans.{AreZero, AreSameWords};
 ghost use Rattle.band_rows.specs.Rows.{AreLong, AreMarked, IsEmptyWest, ShowRows, row_heads, row_tails};
 ghost use Rattle.band_core.specs.Band.{AreInRows, IsBand, IsEvolution, ShowsBand, bottom_at, top_at, injected_cells};
-ghost use Rattle.band_core.specs.Beside.{AreAlike, AreKept, AreMarkedRows, ShowBeside, words_beside};
+ghost use Rattle.band_core.specs.Beside.{HaveOneLength, AreKept, AreMarkedRows, ShowBeside, words_beside};
 
 use crate::beside::{RowBeside, RowsBeside};
 use band_rows::{Kept, Row, is_clear, mark_row, step_band};
@@ -88,7 +88,7 @@ fn step_between(
     bottom: &mut Kept,
 )
     requires some { 0 < length rows.old }
-    requires alike { AreAlike beside.now }
+    requires alike { HaveOneLength beside.now }
     requires marked { AreMarkedRows (words_beside beside.now) rows.old lit.old near.old }
     requires kept { AreKept (words_beside beside.now) top.old bottom.old }
     ensures many { length rows.new ≡ length rows.old }
@@ -152,7 +152,7 @@ impl Band {
     pub fn step(&mut self, y: usize, beside: &RowsBeside<'_>)
         requires is { IsBand (words_beside beside.now) y (length self.old.rows.items) self.old }
         requires room { self.old.generation + 1 < 2 ^ 64 }
-        requires alike { AreAlike beside.now }
+        requires alike { HaveOneLength beside.now }
         ensures generation { self.new.generation ≡ self.old.generation + 1 }
         ensures is { IsBand (words_beside beside.now) y (length self.old.rows.items) self.new }
         ensures shows { (e : ℕ → Plane) (due : Due) (width height : ℕ)

@@ -1,4 +1,5 @@
 // Random numbers by which searches choose: each seed gives one sequence, on every machine.
+ghost use Rattle.std.specs.Prelude.{◌<◌, ◌≡◌};
 
 /// The generator splitmix64 (Steele, Lea, Flood 2014).
 #[derive(Clone, Copy)]
@@ -20,7 +21,10 @@ impl Draws {
     }
 
     /// Draws a number below `limit`, or 0 if `limit` is 0.
-    pub fn below(&mut self, limit: usize) -> usize {
+    pub fn below(&mut self, limit: usize) -> usize
+        ensures below { 0 < limit → result < limit }
+        ensures zero { limit ≡ 0 → result ≡ 0 }
+    {
         (self.next() % (limit.max(1) as u64)) as usize
     }
 
