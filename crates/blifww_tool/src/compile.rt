@@ -11,15 +11,12 @@ ghost use Rattle.blifww_tool.specs.Commands.{Prints, HasTextCause};
 ghost use Rattle.blifww_tool.specs.Compilation.{Compiles, HasStarts, IsCarriedBy};
 
 use crate::output::Output;
-use carries::one_context_carries;
-use flat_designs::{flat_is_one, flat_is_sound, flat_is_weighed};
-use lift_carries::{compiled_are_drawings, one_context_is_circuit};
+use lift_carries::compiled_are_drawings;
 use netlist_plans::{NetlistPlanError, Planned, plan_contexts, plan_netlist};
 use netlist_text::{Netlist, netlist_of};
 use plan_carries::{designs_are_carried, designs_are_carried_in_contexts};
 use refusals::{Cause, TextError};
 use start_words::Starts;
-use start_words::laws::{latches_are_flat, no_words_mean_start, starts_are_flat};
 use std::alloc::Global;
 
 /// Makes the plan of a netlist, for one context and without a tape.
@@ -30,11 +27,7 @@ pub fn plan_of(alloc: Global, netlist: &Netlist) -> Result<Planned, NetlistPlanE
     ensures planned { IfOk result (λ p. IsPlanned netlist.now.flat p.plan) }
     ensures bare { IfOk result (λ p. p.plan.tape ≡ []) }
 {
-    flat_is_sound();
-    flat_is_weighed();
-    flat_is_one();
     designs_are_carried();
-    one_context_is_circuit();
     compiled_are_drawings();
     let planned = plan_netlist(alloc, &netlist.flat, &netlist.order)?;
     Ok(planned)
@@ -71,14 +64,7 @@ fn started(
         → HasStarts contexts (map string_bytes words.now) text netlist.now.design
         → HasTextCause (compile contexts (map string_bytes words.now)) text e) }
 {
-    flat_is_sound();
-    flat_is_weighed();
-    flat_is_one();
-    one_context_carries();
-    no_words_mean_start();
-    starts_are_flat();
     designs_are_carried_in_contexts();
-    one_context_is_circuit();
     compiled_are_drawings();
     let limit = planned.ports.p / 32;
     if contexts > limit {
@@ -108,7 +94,6 @@ fn compiled(
     ensures refused { IfErr result (λ e. (text : List ℕ) → IsNetlist text netlist.now.design
         → HasTextCause (compile contexts (map string_bytes words.now)) text e) }
 {
-    latches_are_flat();
     let starts = Starts::read(alloc, &netlist.flat, words, contexts)?;
     let planned = plan_of(alloc, netlist)?;
     started(alloc, netlist, planned, contexts, words, &starts)

@@ -13,7 +13,6 @@ use crate::compile::plan_of;
 use crate::eval::streams_for;
 use crate::output::Output;
 use drive::Streams;
-use flat_designs::{flat_is_one, flat_is_sound};
 use netlist_plans::load_netlist;
 use netlist_text::{Netlist, netlist_of};
 use plan_carries::designs_run_by_themselves;
@@ -33,8 +32,6 @@ fn taped(alloc: Global, netlist: &Netlist, streams: &Streams) -> Result<Output, 
     ensures writable { IfOk result IsWritableOutput }
     ensures refused { IfErr result (λ e. e ≡ NoMemory) }
 {
-    flat_is_sound();
-    flat_is_one();
     designs_run_by_themselves();
     let planned = plan_of(alloc, netlist)?;
     let loaded = load_netlist(alloc, &netlist.flat, planned.plan, streams)?;

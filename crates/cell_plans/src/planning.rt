@@ -11,7 +11,6 @@ use cell_order::{ending_order, in_order};
 use column_packer::pack;
 use lane_core::{Plan, Program};
 use latch_loops::close;
-use latch_loops::laws::closing_keeps_cells;
 use order_climbing::Climbed;
 use row_placer::{place, place_at};
 use std::alloc::Global;
@@ -30,7 +29,6 @@ fn closed(alloc: Global, list: &CellList, program: &Program) -> Result<Plan, Pla
 {
     let _list = list;
     let columns = pack(alloc, program)?;
-    closing_keeps_cells();
     let plan = close(alloc, columns, program, from_ref(&program.latches))?;
     Ok(plan)
 }

@@ -3,4 +3,4 @@ mod Worded
 mod Substituting
 mod Keeping
 mod Driven
-mod Mapping
+pub mod Mapping

@@ -17,7 +17,6 @@ ghost use Rattle.netlist_plans.specs.Planned.{ComputesCells, HasLanes, IsSmall};
 use crate::NetlistPlanError;
 use cell_core::CellList;
 use cell_plans::best_plan;
-use cell_rewriting::laws::{bits_stay, mapped_stays};
 use cell_rewriting::rewritten;
 use cover_mapper::map;
 use lane_core::Plan;
@@ -43,8 +42,6 @@ fn cell_lists(alloc: Global, flat: &Flat, order: &Order) -> Result<Vec<CellList>
     ensures computes { IfOk result (λ lists. All (ComputesFlat flat.now) lists.items) }
 {
     let mapped = map(alloc, flat, order)?;
-    mapped_stays();
-    bits_stay();
     let lists = rewritten(alloc, &mapped.list, &mapped.singles)?;
     Ok(lists)
 }

@@ -1,15 +1,18 @@
 use Rattle.std.proofs.Common.{arith}
-use Rattle.flat_designs.proofs.Whole.{flat_is_named}
+use Rattle.flat_designs.proofs.Whole.{flat_is_named, flat_is_one}
 use Rattle.netlist_text.proofs.SoundParts.{sound, weighed, small}
 use Rattle.plan_carries.proofs.SeenNets.{places_fit}
 use Rattle.blifww_tool.proofs.Compiled.{carried_by, drawn}
+use Rattle.flat_designs.proofs.Sound.{flat_is_sound}
+use Rattle.flat_designs.proofs.Weights.{flat_is_weighed}
+use Rattle.lift_carries.proofs.Starts.{one_context_is_circuit}
 use Rattle.blifww_tool.proofs.compile.plan_of.Goals as goal
 
 pub plan_netlist-requires-clause-sound : goal.plan_netlist-requires-clause-sound
-plan_netlist-requires-clause-sound c = sound c.args.netlist.now.design c.args.netlist.now.flat _ c.requires.parts c.flat_is_sound.ensures
+plan_netlist-requires-clause-sound c = sound c.args.netlist.now.design c.args.netlist.now.flat _ c.requires.parts flat_is_sound
 
 pub plan_netlist-requires-clause-weighed : goal.plan_netlist-requires-clause-weighed
-plan_netlist-requires-clause-weighed c = weighed c.args.netlist.now.design c.args.netlist.now.flat _ c.requires.parts c.flat_is_weighed.ensures
+plan_netlist-requires-clause-weighed c = weighed c.args.netlist.now.design c.args.netlist.now.flat _ c.requires.parts flat_is_weighed
 
 pub plan_netlist-requires-clause-small : goal.plan_netlist-requires-clause-small
 plan_netlist-requires-clause-small c = small c.args.netlist.now.design c.args.netlist.now.flat _ c.requires.parts
@@ -31,10 +34,10 @@ plan_netlist-requires-clause-places c =
 pub returns-clause-carried : goal.returns-clause-carried
 returns-clause-carried c =
     let p = c.in_ok-planned.ensures in
-    carried_by c.flat_is_one.ensures c.designs_are_carried.ensures c.args.netlist.now.design c.args.netlist.now.flat _ c.in_ok-planned.planned.plan c.in_ok-planned.planned.ports c.requires.parts
+    carried_by flat_is_one c.designs_are_carried.ensures c.args.netlist.now.design c.args.netlist.now.flat _ c.in_ok-planned.planned.plan c.in_ok-planned.planned.ports c.requires.parts
     p.admissible p.edges p.table p.cells p.lanes p.places p.carries p.small p.period
-    (drawn c.one_context_is_circuit.ensures c.compiled_are_drawings.ensures c.args.netlist.now.flat c.in_ok-planned.planned.plan c.in_ok-planned.planned.ports
-    (sound c.args.netlist.now.design c.args.netlist.now.flat _ c.requires.parts c.flat_is_sound.ensures)
+    (drawn one_context_is_circuit c.compiled_are_drawings.ensures c.args.netlist.now.flat c.in_ok-planned.planned.plan c.in_ok-planned.planned.ports
+    (sound c.args.netlist.now.design c.args.netlist.now.flat _ c.requires.parts flat_is_sound)
     (flat_is_named c.args.netlist.now.design c.args.netlist.now.flat c.requires.parts.faultless c.requires.parts.is_flat) c.requires.names
     (places_fit c.args.netlist.now.design c.args.netlist.now.flat c.requires.parts.faultless
     (omega (arith, small c.args.netlist.now.design c.args.netlist.now.flat _ c.requires.parts, c.requires.parts.is_flat.weight)) c.requires.parts.is_flat)

@@ -2,7 +2,7 @@ use Rattle.std.proofs.Common.{◌≡◌, ◌∙◌, ◌≤◌, ◌/◌, refl, su
 use Rattle.std.proofs.lemmas.List.{length-map}
 use Rattle.std.proofs.lemmas.Result.{err_from_is_err_and}
 use Rattle.netlist_plans.specs.Contexts.{loop_starting_bits}
-use Rattle.flat_designs.proofs.Whole.{flat_is_named}
+use Rattle.flat_designs.proofs.Whole.{flat_is_named, flat_is_one}
 use Rattle.grid_assembly.specs.PlanDrawing.{start_grid}
 use Rattle.pattern_writing.specs.WrittenText.{pattern_text}
 use Rattle.carries.specs.FlatContexts.{CarriesFlatContexts}
@@ -12,6 +12,11 @@ use Rattle.plan_ports.specs.Tables.{IsTableOf}
 use Rattle.netlist_text.proofs.SoundParts.{sound, weighed, small}
 use Rattle.plan_carries.proofs.SeenNets.{places_fit}
 use Rattle.blifww_tool.proofs.Compiled.{alone, compiles, compiles_plain, drawn_in_one, long_starts, many_starts, not_alone, room_refused}
+use Rattle.flat_designs.proofs.Sound.{flat_is_sound}
+use Rattle.flat_designs.proofs.Weights.{flat_is_weighed}
+use Rattle.carries.proofs.OneContext.{one_context_carries, one_context_carries_nets}
+use Rattle.start_words.proofs.Started.{no_words_mean_start, starts_are_flat}
+use Rattle.lift_carries.proofs.Starts.{one_context_is_circuit}
 use Rattle.blifww_tool.proofs.compile.started.Goals as goal
 
 pub returns-then-contexts-limit-clause-refused : goal.returns-then-contexts-limit-clause-refused
@@ -24,7 +29,7 @@ returns-then-contexts-limit-clause-refused c = λ text has. (
 pub returns-then-is_alone-clause-printed : goal.returns-then-is_alone-clause-printed
 returns-then-is_alone-clause-printed c = λ text has.
     let room : c.args.contexts ≤ c.args.planned.ports.p / 32 = omega (arith, c.if-contexts-limit.false) in
-    compiles_plain c.one_context_carries.ensures.design c.one_context_carries.ensures.nets c.no_words_mean_start.ensures c.args.contexts (map string_bytes c.args.words.now)
+    compiles_plain one_context_carries one_context_carries_nets no_words_mean_start c.args.contexts (map string_bytes c.args.words.now)
     (alone string_bytes c.args.contexts c.args.words.now (sym c.is_alone.ensures ∙ c.if-is_alone.true)) text c.args.netlist.now.design c.args.planned.plan c.args.planned.ports has c.requires.carried room
 
 pub returns-in_err-bits-clause-refused : goal.returns-in_err-bits-clause-refused
@@ -38,10 +43,10 @@ returns-in_err-started-clause-refused c =
     rw (p.1, p.2) (λ text has. tt)
 
 pub plan_contexts-requires-clause-sound : goal.plan_contexts-requires-clause-sound
-plan_contexts-requires-clause-sound c = sound c.args.netlist.now.design c.args.netlist.now.flat _ c.requires.parts c.flat_is_sound.ensures
+plan_contexts-requires-clause-sound c = sound c.args.netlist.now.design c.args.netlist.now.flat _ c.requires.parts flat_is_sound
 
 pub plan_contexts-requires-clause-weighed : goal.plan_contexts-requires-clause-weighed
-plan_contexts-requires-clause-weighed c = weighed c.args.netlist.now.design c.args.netlist.now.flat _ c.requires.parts c.flat_is_weighed.ensures
+plan_contexts-requires-clause-weighed c = weighed c.args.netlist.now.design c.args.netlist.now.flat _ c.requires.parts flat_is_weighed
 
 pub plan_contexts-requires-clause-small : goal.plan_contexts-requires-clause-small
 plan_contexts-requires-clause-small c = small c.args.netlist.now.design c.args.netlist.now.flat _ c.requires.parts
@@ -93,13 +98,13 @@ returns-clause-printed c = λ text has.
     let room : contexts ≤ c.args.planned.ports.p / 32 = omega (arith, c.if-contexts-limit.false) in
     let bits = c.as_slice.ensures ∙ c.in_ok-bits.ensures words c.requires.set in
     let many : length c.as_slice.result.now ≡ contexts = many_starts flat words contexts c.as_slice.result.now bits in
-    compiles c.flat_is_one.ensures c.designs_are_carried_in_contexts.ensures c.starts_are_flat.ensures contexts words text c.args.netlist.now.design flat _ base c.args.planned.ports plan ports has
+    compiles flat_is_one c.designs_are_carried_in_contexts.ensures starts_are_flat contexts words text c.args.netlist.now.design flat _ base c.args.planned.ports plan ports has
     c.requires.parts c.requires.carried room (not_alone string_bytes contexts c.args.words.now (sym c.is_alone.ensures ∙ c.if-is_alone.false)) p.admissible p.edges
     (subst (λ (n : ℕ). IsPaddedPlan (contexts_size base.latches n) base plan) many p.padded)
     (subst (λ (n : ℕ). IsTableOf flat plan n ports) many p.table) p.places
     (subst (CarriesFlatContexts (pattern_text (start_grid plan) ports) flat) bits p.carries)
-    (λ one. drawn_in_one c.one_context_is_circuit.ensures c.compiled_are_drawings.ensures flat plan ports
-    (sound c.args.netlist.now.design c.args.netlist.now.flat _ c.requires.parts c.flat_is_sound.ensures)
+    (λ one. drawn_in_one one_context_is_circuit c.compiled_are_drawings.ensures flat plan ports
+    (sound c.args.netlist.now.design c.args.netlist.now.flat _ c.requires.parts flat_is_sound)
     (flat_is_named c.args.netlist.now.design c.args.netlist.now.flat c.requires.parts.faultless c.requires.parts.is_flat) c.requires.names
     (places_fit c.args.netlist.now.design c.args.netlist.now.flat c.requires.parts.faultless
     (omega (arith, small c.args.netlist.now.design c.args.netlist.now.flat _ c.requires.parts, c.requires.parts.is_flat.weight)) c.requires.parts.is_flat)

@@ -1,5 +1,5 @@
 use Rattle.std.proofs.Common.{arith, refl, subst}
-use Rattle.flat_designs.proofs.Whole.{flat_is_named}
+use Rattle.flat_designs.proofs.Whole.{flat_is_named, flat_is_one}
 use Rattle.grid_assembly.specs.PlanDrawing.{start_grid}
 use Rattle.netlist_core.specs.declared.flat.Flat.{Flat}
 use Rattle.pattern_writing.specs.WrittenText.{pattern_text}
@@ -7,6 +7,7 @@ use Rattle.netlist_text.proofs.SoundParts.{sound, small}
 use Rattle.plan_carries.proofs.SeenNets.{places_fit}
 use Rattle.plan_ports.specs.Tables.{IsTableOf}
 use Rattle.streams.specs.Rows.{rows_of}
+use Rattle.flat_designs.proofs.Sound.{flat_is_sound}
 use Rattle.blifww_tool.proofs.tape.taped.Goals as goal
 
 pub plan_of-requires-clause-parts : goal.plan_of-requires-clause-parts
@@ -16,7 +17,7 @@ pub plan_of-requires-clause-names : goal.plan_of-requires-clause-names
 plan_of-requires-clause-names c = c.requires.names
 
 pub load_netlist-requires-clause-sound : goal.load_netlist-requires-clause-sound
-load_netlist-requires-clause-sound c = sound c.args.netlist.now.design c.args.netlist.now.flat _ c.requires.parts c.flat_is_sound.ensures
+load_netlist-requires-clause-sound c = sound c.args.netlist.now.design c.args.netlist.now.flat _ c.requires.parts flat_is_sound
 
 pub load_netlist-requires-clause-ordered : goal.load_netlist-requires-clause-ordered
 load_netlist-requires-clause-ordered c = (c.args.netlist.now.order.nodes, c.requires.parts.is_order)
@@ -64,7 +65,7 @@ returns-clause-taped c =
       loaded = c.in_ok-loaded.ensures.loaded;
       admissible = c.in_ok-loaded.ensures.admissible;
       edges = c.in_ok-loaded.ensures.edges;
-      table = λ other h. subst (λ (f : Flat). IsTableOf f loaded.plan 1 loaded.ports) (c.flat_is_one.ensures design flat other parts.is_flat h) c.in_ok-loaded.ensures.table;
+      table = λ other h. subst (λ (f : Flat). IsTableOf f loaded.plan 1 loaded.ports) (flat_is_one design flat other parts.is_flat h) c.in_ok-loaded.ensures.table;
       written = refl;
       runs = c.designs_run_by_themselves.ensures (pattern_text (start_grid loaded.plan) loaded.ports) design flat (rows_of c.args.streams.now) parts.faultless parts.clocks parts.is_flat c.in_ok-loaded.ensures.runs;
     }

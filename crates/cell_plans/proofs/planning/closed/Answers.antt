@@ -4,6 +4,7 @@ use Rattle.plan_layout.specs.Starts.{start_edges}
 use Rattle.plan_waves.specs.Contexts.{StartsContexts}
 use Rattle.latch_loops.specs.Closed.{least_size}
 use Rattle.latch_loops.proofs.Limits.{one_fits, count_is}
+use Rattle.latch_loops.proofs.Cells.{closing_keeps_cells}
 use Rattle.cell_plans.specs.Counts.{instr_count}
 use Rattle.row_placer.specs.Entries.{AreAtEntries}
 use Rattle.cell_plans.proofs.Counted.{few_instrs}
@@ -35,7 +36,7 @@ returns c =
       bare = closed.tape;
       edges = c.in_ok-plan.ensures.edges;
       starts = subst (λ (s : List (List Bool)). StartsContexts plan s (start_edges plan)) (c.from_ref.ensures.value ∙ ap (λ (bits : List Bool). bits ∷ []) c.requires.placed.computes.starts) c.in_ok-plan.ensures.contexts;
-      computes = c.closing_keeps_cells.ensures list program columns (length starts) plan closed c.in_ok-plan.ensures.same c.requires.placed.computes;
+      computes = closing_keeps_cells list program columns (length starts) plan closed c.in_ok-plan.ensures.same c.requires.placed.computes;
       lanes = search rules;
       empty = λ (none : list.inputs + loop_count list + length list.cells + length list.outs + length list.nets ≡ 0).
           (let least = c.requires.placed.empty none in omega (arith, none, least, closed.lanes));
