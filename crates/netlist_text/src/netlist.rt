@@ -6,12 +6,8 @@ ghost use Rattle.netlist_text.specs.Parts.{AreParts};
 
 use crate::error::NetlistError;
 use crate::names::net_names;
-use blif_check::{check, check_clock};
-use blif_lex::lines;
-use blif_reader::read;
-use loop_check::{OrderError, order};
+use loop_check::OrderError;
 use netlist_core::{Design, Flat, Order};
-use netlist_flatten::flatten;
 use std::alloc::Global;
 
 /// The netlist of a text: its design, its flat netlist, and an order of the covers.
@@ -30,12 +26,12 @@ pub fn netlist_of(alloc: Global, text: &[u8]) -> Result<Netlist, NetlistError>
     ensures parts { IfOk result (λ n. AreParts n.design n.flat n.order.nodes) }
     ensures refused { IfErr result (HasNetlistCause text.now) }
 {
-    let lines = lines(alloc, text)?;
-    let models = read(alloc, lines.as_slice())?;
-    let design = check(alloc, models)?;
-    let flat = flatten(alloc, &design)?;
-    check_clock(alloc, &flat)?;
-    match order(alloc, &flat) {
+    let lines = blif_lex::lines(alloc, text)?;
+    let models = blif_reader::read(alloc, lines.as_slice())?;
+    let design = blif_check::check(alloc, models)?;
+    let flat = netlist_flatten::flatten(alloc, &design)?;
+    blif_check::check_clock(alloc, &flat)?;
+    match loop_check::order(alloc, &flat) {
         Ok(order) => Ok(Netlist {
             design,
             flat,
