@@ -11,6 +11,7 @@ use Rattle.pattern_reading.specs.declared.ports.NetLine.{NetLine}
 use Rattle.pattern_reading.specs.declared.ports.Ports.{Ports}
 use Rattle.netlist_meaning.specs.Nets.{Net}
 use Rattle.netlist_meaning.specs.Valuation.{Valuation}
+use Rattle.place_paths.specs.Paths.{names_and_paths}
 use Rattle.drive.specs.Driving.{AreFor}
 use Rattle.probe_view.specs.Probes.{probed_at}
 use Rattle.shown_runs.specs.ShownRuns.{CarriersShowContexts, CarriersShowNetsInContexts, StreamsAreFor, net_bits_in_run}
@@ -61,6 +62,9 @@ carriers_dump_nets their_bits law shows streams_for text design starts c cycles 
       form = vcd_form (waves_of s);
       reads = subst (λ (t : List ℕ). ReadsAsVcd t (vcd_form (waves_of s))) (sym printed.written) printed.says.reads;
       lines = s.ports.nets;
+      seen = c.nets;
+      are_seen = c.are_nets;
+      named = ap (λ (p : Ports). names_and_paths p.nets) (sym same.1) ∙ c.names;
       nets = λ number line at.
           let here : slice_get k.ports.nets number ≡ Some line = ap (λ (p : Ports). slice_get p.nets number) same.1 ∙ at in
           let (net, of_net, shown) = law text design starts c number line here in (

@@ -31,3 +31,5 @@ pub mod PrintsRuns
 pub mod PrintsNet
 pub mod PrintsNetInContexts
 pub mod RunsQuietly
+pub mod EvaluatesAlike
+pub mod AigPrints

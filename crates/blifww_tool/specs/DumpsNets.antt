@@ -1,10 +1,12 @@
 -- What `vcd` writes of a text that carries the nets of a design in contexts.
-use Rattle.std.specs.Prelude.{ℕ, ◌≡◌, ◌<◌, ◌+◌, ◌*◌, List, length, Some, slice_get}
+use Rattle.std.specs.Prelude.{ℕ, ◌≡◌, ◌<◌, ◌+◌, ◌*◌, List, length, map, Some, slice_get}
 use Rattle.pattern_reading.specs.declared.ports.NetLine.{NetLine}
 use Rattle.netlist_core.specs.declared.model.Design.{Design}
 use Rattle.netlist_meaning.specs.Nets.{Net}
 use Rattle.netlist_meaning.specs.Valuation.{Valuation, LatchState}
 use Rattle.carries.specs.DesignContexts.{CarriesNetsInContexts}
+use Rattle.carries.specs.Nets.{AreSeenNets}
+use Rattle.place_paths.specs.Paths.{name_and_path, names_and_paths}
 use Rattle.streams.specs.declared.streams.Streams.{Streams}
 use Rattle.shown_runs.specs.ShownRuns.{IsLineOf}
 use Rattle.vcd_write.specs.Reading.{VcdForm, ReadsAsVcd, value_at}
@@ -27,6 +29,9 @@ pub record DumpsNets (cycles : ℕ) (words : List (List ℕ)) (design : Design)
   pub form : VcdForm
   pub reads : ReadsAsVcd output form
   pub lines : List NetLine
+  pub seen : List Net
+  pub are_seen : AreSeenNets design seen
+  pub named : names_and_paths lines ≡ map (λ net. name_and_path net.place net.name) seen
   pub nets : (number : ℕ) (line : NetLine) → slice_get lines number ≡ Some line
       → (net : Net) × IsLineOf design line net
       × ((context : ℕ) → context < length starts → (others : ℕ → ℕ → Valuation)

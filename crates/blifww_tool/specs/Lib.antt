@@ -19,3 +19,5 @@ pub mod PrintsAlike
 pub mod DumpsNets
 pub mod TapePrints
 pub mod LiftsBack
+pub mod EvaluatesAlike
+pub mod AigPrints

@@ -1,10 +1,14 @@
 //! What is proved of statuses, and of what commands print.
+ghost use Rattle.blifww_tool.specs.AigPrints.{AigsPrintRuns, CarriersPrintAigRuns};
 ghost use Rattle.blifww_tool.specs.DumpsNets.{CarriersDumpNets};
+ghost use Rattle.blifww_tool.specs.EvaluatesAlike.{CarriedEvaluateAlike, CompiledEvaluateInOneWay, LiftedEvaluateAlike};
 ghost use Rattle.blifww_tool.specs.LiftsBack.{CompiledAreLifted, LiftedInOneWay, LiftedPrintAlike};
 ghost use Rattle.blifww_tool.specs.PrintsAlike.{CarriersPrintAlike, CarriersPrintNets, CarriersPrintNetsInContexts, CarriersPrintRuns, CarriersRunQuietly, CompiledPrintAlike, CompiledPrintNets, CompiledPrintRuns};
 ghost use Rattle.blifww_tool.specs.Statuses.{StatusesHaveCauses};
 ghost use Rattle.blifww_tool.specs.TapePrints.{TapesPrintAlike, TapesPrintRuns};
 
+use aiger_plans::carriers_show_aig_runs;
+use aiger_text::laws::read_aigs_are_sound;
 use netlist_text::laws::texts_are_decided;
 use shown_runs::{
     carriers_are_quiet, carriers_show_contexts, carriers_show_nets, carriers_show_runs,
@@ -103,4 +107,26 @@ pub fn lifted_print_alike()
     carriers_show_runs();
     streams_match();
     draws_one_plan();
+}
+
+/// Netlists that one text carries evaluate alike.
+pub fn carried_evaluate_alike()
+    ensures carried { CarriedEvaluateAlike }
+    ensures one_way { CompiledEvaluateInOneWay }
+    ensures lifted { LiftedEvaluateAlike }
+{
+    carriers_show_runs();
+    streams_match();
+    texts_are_decided();
+}
+
+/// What `simulate` prints of a text that carries a circuit, as the text that `aiger` writes does, is
+/// the lines of each of the circuit's runs on the streams of the words.
+pub fn aigs_print_runs()
+    ensures carriers { CarriersPrintAigRuns }
+    ensures written { AigsPrintRuns }
+{
+    carriers_show_aig_runs();
+    streams_match();
+    read_aigs_are_sound();
 }
