@@ -1,6 +1,7 @@
 """Reads patterns in extended RLE with their port tables, for the scripts in this folder. Texts are read as Latin-1: a character a byte."""
 import re
 from dataclasses import dataclass, field
+from pathlib import Path
 from urllib.parse import unquote
 
 TILE = 32  # a tile's columns; the generations that an electron needs for it
@@ -33,6 +34,11 @@ def escaped(name):
     return "".join(it if "!" <= it <= "~" and it != "%" else f"%{ord(it):02X}" for it in name)
 
 
+def shown(text):
+    """Returns the beginning of a text, fit for a line that people read."""
+    return re.sub("[^ -~]", "?", text[:60])
+
+
 def read_table_line(pattern, words):
     """Adds a line of the port table, which begins `#C BLIFWW`, to a pattern."""
     if words[0] == "IN":
@@ -47,7 +53,10 @@ def read_table_line(pattern, words):
 
 
 def read_cells(pattern, items):
-    """Adds the runs that the items of RLE spell to a pattern."""
+    """Adds the runs that the items of RLE spell to a pattern. Raises ValueError at a character that no item has."""
+    odd = re.search(r"[^0-9.ABC$\s]", items.partition("!")[0])
+    if odd:
+        raise ValueError(f"among the cells is a character that is no cell of Wireworld: {shown(odd[0])}")
     x = y = 0
     for count, tag in re.findall(r"(\d*)([.ABC$!])", items):
         n = int(count or 1)
@@ -68,7 +77,10 @@ def read_pattern(text):
     body = []
     for line in lines:
         if line.startswith("#C BLIFWW "):
-            read_table_line(pattern, line.rstrip("\r").split(" ")[2:])
+            try:
+                read_table_line(pattern, line.rstrip("\r").split(" ")[2:])
+            except (IndexError, ValueError):
+                raise ValueError(f"this is no line of a port table: {shown(line)}") from None
         elif not line.startswith("#"):
             body.append(line)
     if not body or not body[0].strip():
@@ -79,10 +91,19 @@ def read_pattern(text):
         return pattern
     header = re.match(r"x = (\d+), y = (\d+)", body[0])
     if not header:
-        raise ValueError(f"this is no pattern's header: {body[0][:60]}")
+        raise ValueError(f"this is no pattern's header: {shown(body[0])}")
     pattern.width, pattern.height = int(header[1]), int(header[2])
     read_cells(pattern, "".join(body[1:]))
     return pattern
+
+
+def pattern_of(file):
+    """Returns the pattern that a file has. Raises ValueError, with the file's name, where it has none."""
+    text = Path(file).read_bytes().decode("latin-1")
+    try:
+        return read_pattern(text)
+    except ValueError as fault:
+        raise ValueError(f"{file}: {fault}") from None
 
 
 def taken_near(pattern):

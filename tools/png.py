@@ -13,43 +13,61 @@ def packed(rows):
     return zlib.compress(b"".join(b"\0" + row for row in rows), 9)
 
 
-def front(rows, palette):
-    """Returns what stands before the points: the size, a byte a point, and the palette's colours."""
+def front(rows, palette, clear=False):
+    """Returns what stands before the points: the size, a byte a point, and the palette's colours, after which there may be a clear one."""
     head = struct.pack(">IIBBBBB", len(rows[0]), len(rows), 8, 3, 0, 0, 0)
-    return START + chunk(b"IHDR", head) + chunk(b"PLTE", b"".join(bytes(it) for it in palette))
+    colours = b"".join(bytes(it) for it in palette) + bytes(3) * clear
+    alpha = chunk(b"tRNS", b"\xff" * len(palette) + b"\0") if clear else b""
+    return START + chunk(b"IHDR", head) + chunk(b"PLTE", colours) + alpha
 
 
 def still(rows, palette):
     return front(rows, palette) + chunk(b"IDAT", packed(rows)) + chunk(b"IEND", b"")
 
 
+def changed(before, rows, clear):
+    """Returns what is new in a picture, with clear points where nothing is, and its left and top: a part of at least one point."""
+    new = [y for y, (old, row) in enumerate(zip(before, rows)) if old != row] or [0]
+    top, bottom = new[0], new[-1] + 1
+    part = [bytes(clear if a == b else b for a, b in zip(*pair)) for pair in zip(before[top:bottom], rows[top:bottom])]
+    left = min(len(row) - len(row.lstrip(bytes([clear]))) for row in part)
+    right = max(len(row.rstrip(bytes([clear]))) for row in part)
+    if left >= right:
+        left, right = 0, 1
+    return [row[left:right] for row in part], left, top
+
+
 def moving(frames, palette, milliseconds):
-    """Returns pictures of one size as an animation that goes round; each stands for some milliseconds."""
-    size = struct.pack(">II", len(frames[0][0]), len(frames[0]))
-    out = front(frames[0], palette) + chunk(b"acTL", struct.pack(">II", len(frames), 0))
+    """Returns pictures of one size as an animation that goes round; each stands for some milliseconds, and holds what is new in it."""
+    out = front(frames[0], palette, True) + chunk(b"acTL", struct.pack(">II", len(frames), 0))
     number = 0
     for place, rows in enumerate(frames):
-        out += chunk(b"fcTL", struct.pack(">I", number) + size + struct.pack(">IIHHBB", 0, 0, milliseconds, 1000, 0, 0))
+        part, left, top = changed(frames[place - 1], rows, len(palette)) if place else (rows, 0, 0)
+        size = struct.pack(">IIII", len(part[0]), len(part), left, top)
+        out += chunk(b"fcTL", struct.pack(">I", number) + size + struct.pack(">HHBB", milliseconds, 1000, 0, place > 0))
         number += 1
         if place == 0:
-            out += chunk(b"IDAT", packed(rows))
+            out += chunk(b"IDAT", packed(part))
         else:
-            out += chunk(b"fdAT", struct.pack(">I", number) + packed(rows))
+            out += chunk(b"fdAT", struct.pack(">I", number) + packed(part))
             number += 1
     return out + chunk(b"IEND", b"")
 
 
 def content_of(picture):
-    """Returns a picture's chunks with their points unpacked, since other releases of zlib pack them otherwise."""
+    """Returns a picture's chunks with their points unpacked, since other releases of zlib pack them otherwise; none where it is no PNG."""
     chunks = []
-    at = len(START)
-    while at < len(picture):
-        (size,) = struct.unpack(">I", picture[at : at + 4])
-        name, body = picture[at + 4 : at + 8], picture[at + 8 : at + 8 + size]
-        if name == b"IDAT":
-            body = zlib.decompress(body)
-        elif name == b"fdAT":
-            body = body[:4] + zlib.decompress(body[4:])
-        chunks.append((name, body))
-        at += size + 12
+    at = len(START) if picture.startswith(START) else len(picture)
+    try:
+        while at < len(picture):
+            (size,) = struct.unpack(">I", picture[at : at + 4])
+            name, body = picture[at + 4 : at + 8], picture[at + 8 : at + 8 + size]
+            if name == b"IDAT":
+                body = zlib.decompress(body)
+            elif name == b"fdAT":
+                body = body[:4] + zlib.decompress(body[4:])
+            chunks.append((name, body))
+            at += size + 12
+    except (struct.error, zlib.error):
+        return []
     return chunks
