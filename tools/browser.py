@@ -1,5 +1,6 @@
 """Drives Chromium without a window, over its debugging pipe, for tools/player-test. Nothing but Chromium is needed."""
 import base64
+import fcntl
 import json
 import os
 import select
@@ -10,13 +11,22 @@ import time
 FLAGS = ["--headless=new", "--no-sandbox", "--remote-debugging-pipe", "--hide-scrollbars", "--allow-file-access-from-files", "--mute-audio"]
 
 
+def pipe():
+    """Returns the ends of a pipe, with numbers past those that Chromium takes."""
+    low = os.pipe()
+    high = [fcntl.fcntl(it, fcntl.F_DUPFD_CLOEXEC, 10) for it in low]
+    for it in low:
+        os.close(it)
+    return high
+
+
 class Browser:
     """One page of one Chromium."""
 
     def __init__(self, program="chromium"):
         self.folder = tempfile.TemporaryDirectory()
-        to_browser, self.outgoing = os.pipe()
-        self.incoming, from_browser = os.pipe()
+        to_browser, self.outgoing = pipe()
+        self.incoming, from_browser = pipe()
         fill = 'exec 3<&%d 4>&%d; exec "$@"' % (to_browser, from_browser)  # Chromium reads at 3 and writes at 4
         order = ["bash", "-c", fill, "bash", program, *FLAGS, f"--user-data-dir={self.folder.name}", "about:blank"]
         self.process = subprocess.Popen(order, pass_fds=(to_browser, from_browser), stdout=subprocess.DEVNULL, stderr=subprocess.DEVNULL)
@@ -70,13 +80,20 @@ class Browser:
             raise RuntimeError(f"{expression[:100]}: {said['exceptionDetails']}")
         return said["result"].get("value")
 
-    def open(self, address):
-        """Opens an address, and waits until the page is loaded."""
-        self.send("Page.navigate", url="about:blank")
+    def visit(self, address):
+        """Goes to another document, and waits until it is loaded."""
         self.events.clear()
         self.send("Page.navigate", url=address)
-        while not self.value("document.readyState === 'complete' && location.href !== 'about:blank'"):
-            time.sleep(0.02)
+        while not any(it.get("method") == "Page.loadEventFired" for it in self.events):
+            event = self.read(120)
+            if event is None:
+                raise TimeoutError(f"Chromium does not load {address[:80]}")
+            self.events.append(event)
+
+    def open(self, address):
+        """Opens an address anew, also if the page is open with another fragment."""
+        self.visit("about:blank")
+        self.visit(address)
 
     def troubles(self):
         """Returns the lines on the console, and the errors, since the page was opened."""
