@@ -52,6 +52,26 @@ def read_table_line(pattern, words):
         pattern.has_escapes = words[0] == "2"
 
 
+def add_table_line(pattern, line):
+    """Adds a line that begins `#C BLIFWW ` to a pattern. Raises ValueError where it is no line of a port table."""
+    try:
+        read_table_line(pattern, line.rstrip("\r").split(" ")[2:])
+    except (IndexError, ValueError):
+        raise ValueError(f"this is no line of a port table: {shown(line)}") from None
+
+
+def table_of(text):
+    """Returns a pattern that has the port table of a text, and no cells; None where no line of the text is one of a table."""
+    pattern = None
+    for line in text.split("\n"):
+        if line.startswith("#C BLIFWW "):
+            pattern = pattern or Pattern()
+            add_table_line(pattern, line)
+        elif not line.startswith("#"):
+            break
+    return pattern
+
+
 def read_cells(pattern, items):
     """Adds the runs that the items of RLE spell to a pattern. Raises ValueError at a character that no item has."""
     odd = re.search(r"[^0-9.ABC$\s]", items.partition("!")[0])
@@ -77,10 +97,7 @@ def read_pattern(text):
     body = []
     for line in lines:
         if line.startswith("#C BLIFWW "):
-            try:
-                read_table_line(pattern, line.rstrip("\r").split(" ")[2:])
-            except (IndexError, ValueError):
-                raise ValueError(f"this is no line of a port table: {shown(line)}") from None
+            add_table_line(pattern, line)
         elif not line.startswith("#"):
             body.append(line)
     if not body or not body[0].strip():
