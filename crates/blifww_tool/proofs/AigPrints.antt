@@ -56,9 +56,8 @@ carriers_print_aig_runs law streams_for text aig sound c cycles words output pri
     }
 
 pub aigs_print_runs : CarriersShowAigRuns → StreamsAreFor → ReadAigsAreSound → AigsPrintRuns
-aigs_print_runs law streams_for sound source text h =
-    (
-      h.aig,
-      h.is.reads,
-      λ cycles words output printed. carriers_print_aig_runs law streams_for text h.aig (sound source h.aig h.is.reads) (subst (λ (t : List ℕ). CarriesAig t h.aig) (sym h.written) h.is_plan.carries) cycles words output printed,
-    )
+aigs_print_runs law streams_for sound source text h = (
+  h.aig,
+  h.is.reads,
+  λ cycles words output printed. carriers_print_aig_runs law streams_for text h.aig (sound source h.aig h.is.reads) (subst (λ (t : List ℕ). CarriesAig t h.aig) (sym h.written) h.is_plan.carries) cycles words output printed,
+)
