@@ -1,6 +1,6 @@
 // One band.
-ghost use Rattle.ww_rule.specs.Due.{due_count};
-ghost use Rattle.std.specs.Prelude.{◌≡◌, ◌+◌, ◌-◌, ◌<◌, ◌≤◌, ◌^◌, ℤ, ℕ, pos, length};
+ghost use Rattle.ww_rule.specs.Due.{AreInOrderFrom, due_count};
+ghost use Rattle.std.specs.Prelude.{◌≡◌, ◌+◌, ◌-◌, ◌<◌, ◌≤◌, ◌^◌, ℤ, ℕ, pos, length, drop};
 ghost use Rattle.ww_rule.specs.Wireworld.{Plane, Due, next_plane, injected};
 ghost use Rattle.ww_rule.specs.Injections.{has_cell};
 ghost use Rattle.lane_kernel.specs.Spans.{AreZero, AreSameWords};
@@ -179,11 +179,27 @@ impl Band {
         self.done += count;
     }
 
-    /// Goes on by one generation, if the band is dark, no head lies beside it and no injection is
-    /// due: its rows stay.
-    pub fn rest(&mut self)
-        requires room { self.old.generation + 1 < 2 ^ 64 }
-        ensures generation { self.new.generation ≡ self.old.generation + 1 }
+    /// Returns in how many of the next generations, of `most`, no injection of the band is due.
+    pub fn calm_generations(&self, most: u64) -> u64
+        ensures few { result ≤ most }
+        ensures later { AreInOrderFrom (self.now.generation + 1)
+            (drop self.now.done self.now.injections.items)
+            → AreInOrderFrom (self.now.generation + result + 1)
+            (drop self.now.done self.now.injections.items) }
+    {
+        if self.done >= self.injections.len() {
+            return most;
+        }
+        let next = self.injections[self.done].generation;
+        let calm = next.saturating_sub(self.generation as u128 + 1);
+        calm.min(most as u128) as u64
+    }
+
+    /// Goes on by `n` generations, if the band is dark and in them no head lies beside it and no
+    /// injection is due: its rows stay.
+    pub fn rest(&mut self, n: u64)
+        requires room { self.old.generation + n < 2 ^ 64 }
+        ensures generation { self.new.generation ≡ self.old.generation + n }
         ensures rows { self.new.rows ≡ self.old.rows }
         ensures lit { self.new.lit ≡ self.old.lit }
         ensures near { self.new.near ≡ self.old.near }
@@ -196,7 +212,7 @@ impl Band {
         ensures top { AreZero self.new.top.heads.items }
         ensures bottom { AreZero self.new.bottom.heads.items }
     {
-        self.generation += 1;
+        self.generation += n;
         self.top.clear();
         self.bottom.clear();
     }
