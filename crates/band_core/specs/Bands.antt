@@ -1,5 +1,5 @@
 -- A driven pattern in bands of rows, each at a generation of its own.
-use Rattle.std.specs.Prelude.{pos, ℕ, zero, suc, ◌+◌, ◌-◌, ◌*◌, ◌/◌, ◌≤◌, ◌<◌, ◌≡◌, ◌⊎◌, true, ◌||◌, ◌==◌, nat_lt, if◌then◌else◌, List, length, get_or, map, slice_set, replicate, All, ¬◌, Some, None}
+use Rattle.std.specs.Prelude.{pos, ℕ, zero, suc, ◌+◌, ◌-◌, ◌*◌, ◌/◌, ◌≤◌, ◌<◌, ◌≡◌, ◌⊎◌, true, ◌||◌, ◌==◌, nat_lt, if◌then◌else◌, List, length, get_or, map, slice_set, replicate, All, Some, None}
 use Rattle.std.specs.declared.option.Option.{Option}
 use Rattle.std.specs.Option.{option_or}
 use Rattle.ww_rule.specs.Due.{AreInOrderFrom}

@@ -39,6 +39,21 @@ pub fn due_count(generation: u128, injections: &[Injection]) -> usize
         .count()
 }
 
+/// Returns in how many of the generations after this one, of `most`, no injection of a list is due,
+/// if the first `done` are done and the others are of later generations, in order.
+pub fn calm_count(generation: u64, injections: &[Injection], done: usize, most: u64) -> u64
+    ensures few { result ≤ most }
+    ensures later { AreInOrderFrom (generation + 1) (drop done injections.now)
+        → AreInOrderFrom (generation + result + 1) (drop done injections.now) }
+{
+    if done >= injections.len() {
+        return most;
+    }
+    let next = injections[done].generation;
+    let calm = next.saturating_sub(generation as u128 + 1);
+    calm.min(most as u128) as u64
+}
+
 /// Makes the cells of injections heads, in rows from row y on, and marks their rows. It takes no
 /// memory.
 pub fn inject(rows: &mut [Row], lit: &mut [u64], y: usize, words: usize, due: &[Injection])
@@ -187,12 +202,7 @@ impl Band {
             → AreInOrderFrom (self.now.generation + result + 1)
             (drop self.now.done self.now.injections.items) }
     {
-        if self.done >= self.injections.len() {
-            return most;
-        }
-        let next = self.injections[self.done].generation;
-        let calm = next.saturating_sub(self.generation as u128 + 1);
-        calm.min(most as u128) as u64
+        calm_count(self.generation, &self.injections, self.done, most)
     }
 
     /// Goes on by `n` generations, if the band is dark and in them no head lies beside it and no

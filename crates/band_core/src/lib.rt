@@ -13,7 +13,7 @@ mod making;
 mod moving;
 mod together;
 
-pub use band::due_count;
+pub use band::{calm_count, due_count};
 pub use bands::Bands;
 pub use error::{NotReady, NotSkipped};
 // The answer of `Bands::new` when memory runs out.
