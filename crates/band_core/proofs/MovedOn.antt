@@ -1,26 +1,23 @@
 -- Bands that move on together.
-use Rattle.std.proofs.Common.{ℤ, pos, negsuc, ◌+ℤ◌, ℕ, zero, suc, ◌+◌, ◌-◌, ◌*◌, ◌/◌, ◌%◌, ◌^◌, ◌<◌, ◌≤◌, ◌≡◌, refl, sym, ap, ap₂, subst, ◌∙◌, inl, inr, Bool, true, false, ◌||◌, ◌==◌, nat_lt, Some, None, List, [], ◌∷◌, length, get_or, slice_set, map, drop, arith}
+use Rattle.std.proofs.Common.{ℤ, pos, negsuc, ◌+ℤ◌, ℕ, zero, suc, ◌+◌, ◌-◌, ◌*◌, ◌/◌, ◌%◌, ◌^◌, ◌<◌, ◌≤◌, ◌≡◌, refl, sym, ap, ap₂, subst, ◌∙◌, inl, inr, Bool, true, false, ◌||◌, ◌==◌, nat_lt, Some, None, List, [], ◌∷◌, length, get_or, slice_set, drop, arith}
 use Rattle.std.specs.Prelude.{◌≢◌, ◌⊎◌, if◌then◌else◌, All}
 use Rattle.std.specs.Option.{option_or}
 use Rattle.std.proofs.Math.Nat.{mul_comm}
 use Rattle.std.proofs.lemmas.Bool.{cases_lt, eq-eqb, or_right}
 use Rattle.std.proofs.lemmas.Int.{ints}
-use Rattle.std.proofs.lemmas.List.{get_or-map, get_or-set_same, get_or-set_other, length-map, length-set}
+use Rattle.std.proofs.lemmas.List.{get_or-map, get_or-set_same, get_or-set_other, length-map}
 use Rattle.ww_rule.specs.Due.{AreInOrderFrom, AreLeftAt}
-use Rattle.ww_rule.specs.declared.pattern.State.{State}
 use Rattle.ww_rule.specs.declared.pattern.State.TheVariants.{Empty, Head, Tail}
-use Rattle.ww_rule.specs.Wireworld.{Plane, Due, count_head}
-use Rattle.ww_rule.specs.Grid.{in_box}
-use Rattle.ww_rule.specs.Injections.{due_of_list}
+use Rattle.ww_rule.specs.Wireworld.{Plane, Due}
 use Rattle.ww_rule.proofs.Cells.{not_counted}
 use Rattle.ww_rule.proofs.Due.{from_earlier}
 use Rattle.lane_kernel.specs.Rows.{is_set, state_of}
-use Rattle.band_rows.specs.Rows.{ShowRows, ShowsHeads, row_heads, row_tails, row_wires}
+use Rattle.band_rows.specs.Rows.{ShowRows, ShowsHeads, row_wires}
 use Rattle.band_rows.proofs.Marks.{none_set}
 use Rattle.band_core.specs.declared.band.Band.{Band}
 use Rattle.band_core.specs.Bands.{not_ready, unready_neighbour, upper_not_ready}
 use Rattle.band_core.specs.Band.{AllShow, AreBands, AreDueIn, CanMove, IsBand, IsEvolution, ShowsBand, generation_at, generations_of, rows_in_band}
-use Rattle.band_core.specs.Together.{AreBandsAt, CanMoveOn, HasNoneLit, HasRested, HaveFirstMovedOn, HaveMovedOn, HaveRested, IsCalm, IsMarkedBand}
+use Rattle.band_core.specs.Together.{AreBandsAt, CanMoveOn, HasNoneLit, HasRested, HaveMovedOn, HaveRested, IsCalm}
 use Rattle.band_core.proofs.Dark.{IsDark, below, none_due, stays_dark}
 use Rattle.band_core.proofs.Evolution.{in_bands}
 use Rattle.band_core.proofs.Lit.{no_head, no_tail}
@@ -30,6 +27,15 @@ pub own_generation : (bands : List Band) (b : ℕ) (d : Band) → b < length ban
 own_generation bands b d lt = sym (get_or-map (λ (band : Band). band.generation) bands b d 0 lt)
 
 -- ---- one after the other
+
+-- the first b of them have moved on by one generation
+pub record HaveFirstMovedOn (b words height rows : ℕ) (old new : List Band) : Type 0 where
+  pub are : AreBands words height rows new
+  pub moved : (g : ℕ) → AreBandsAt g old → (k : ℕ) → k < b → generation_at new k ≡ g + 1
+  pub left : (g : ℕ) → AreBandsAt g old → (k : ℕ) → b ≤ k → k < length old
+      → generation_at new k ≡ g
+  pub shows : (e : ℕ → Plane) (due : Due) (width : ℕ) → IsEvolution e due width rows
+      → AllShow e due height rows old → AllShow e due height rows new
 
 module _ (words height rows : ℕ) where
   pub none_moved_on : (bands : List Band) → AreBands words height rows bands → HaveMovedOn 0 words height rows bands bands

@@ -1,10 +1,10 @@
 -- Cells of bands that are heads or tails, as callers see them.
-use Rattle.std.proofs.Common.{ℤ, pos, ◌+ℤ◌, ℕ, ◌+◌, ◌-◌, ◌*◌, ◌<◌, ◌≤◌, ◌≡◌, ◌^◌, refl, sym, ap, ap₂, subst, ◌∙◌, inl, inr, Bool, true, false, List, length, get_or, map, arith}
+use Rattle.std.proofs.Common.{pos, ◌+ℤ◌, ℕ, ◌+◌, ◌-◌, ◌*◌, ◌<◌, ◌≤◌, ◌≡◌, ◌^◌, refl, sym, ap, ap₂, subst, ◌∙◌, inl, inr, Bool, true, false, List, length, get_or, map, arith}
 use Rattle.std.specs.Prelude.{◌≢◌, ◌↔◌, All}
 use Rattle.std.specs.Vec.{with_items}
 use Rattle.std.proofs.lemmas.Bool.{cases_Bool}
 use Rattle.std.proofs.lemmas.Int.{ints}
-use Rattle.std.proofs.lemmas.List.{ext_get_or, get_or-map, length-map, with_items_is}
+use Rattle.std.proofs.lemmas.List.{ext_get_or, get_or-map, length-map}
 use Rattle.ww_rule.specs.declared.pattern.State.{State}
 use Rattle.ww_rule.specs.declared.pattern.State.TheVariants.{Empty, Head, Tail}
 use Rattle.ww_rule.specs.Wireworld.{Plane, driven}
@@ -18,7 +18,7 @@ use Rattle.band_core.specs.Bands.{AreLevel, IsCellOf, IsLit, IsUnlit, band_at, g
 use Rattle.band_core.specs.Bands.IsLit.{head, tail}
 use Rattle.band_core.specs.Band.{AllShow, AreBands, IsBand, ShowsBand, generations_of, rows_in_band}
 use Rattle.band_core.specs.Held.{IsHeld, held_pattern}
-use Rattle.band_core.specs.Together.{AreBandsAt, CanMoveOn, HasNoneLit, HaveMovedOn, IsMarkedBand}
+use Rattle.band_core.specs.Together.{AreBandsAt, CanMoveOn, HasNoneLit, IsMarkedBand}
 use Rattle.band_core.proofs.Asleep.{lit_column}
 use Rattle.band_core.proofs.Evolution.{in_bands}
 use Rattle.band_core.proofs.MovedOn.{first_band, no_head_in, no_tail_in, own_generation}

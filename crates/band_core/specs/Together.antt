@@ -1,5 +1,5 @@
 -- Bands that all move on together.
-use Rattle.std.specs.Prelude.{ℕ, ◌+◌, ◌*◌, ◌≤◌, ◌<◌, ◌≡◌, ◌^◌, true, false, List, length, get_or, drop}
+use Rattle.std.specs.Prelude.{ℕ, ◌+◌, ◌≤◌, ◌<◌, ◌≡◌, ◌^◌, true, false, List, length, get_or, drop}
 use Rattle.ww_rule.specs.Due.{AreInOrderFrom}
 use Rattle.ww_rule.specs.Wireworld.{Plane, Due}
 use Rattle.lane_kernel.specs.Rows.{is_set}
@@ -26,15 +26,6 @@ pub record CanMoveOn (n height rows : ℕ) (dark : List ℕ) (bands : List Band)
 pub record HaveMovedOn (n words height rows : ℕ) (old new : List Band) : Type 0 where
   pub are : AreBands words height rows new
   pub at : (g : ℕ) → AreBandsAt g old → AreBandsAt (g + n) new
-  pub shows : (e : ℕ → Plane) (due : Due) (width : ℕ) → IsEvolution e due width rows
-      → AllShow e due height rows old → AllShow e due height rows new
-
--- the first b of them have moved on by one generation
-pub record HaveFirstMovedOn (b words height rows : ℕ) (old new : List Band) : Type 0 where
-  pub are : AreBands words height rows new
-  pub moved : (g : ℕ) → AreBandsAt g old → (k : ℕ) → k < b → generation_at new k ≡ g + 1
-  pub left : (g : ℕ) → AreBandsAt g old → (k : ℕ) → b ≤ k → k < length old
-      → generation_at new k ≡ g
   pub shows : (e : ℕ → Plane) (due : Due) (width : ℕ) → IsEvolution e due width rows
       → AllShow e due height rows old → AllShow e due height rows new
 

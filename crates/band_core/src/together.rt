@@ -2,7 +2,7 @@
 ghost use Rattle.std.specs.Prelude.{◌≡◌, ◌+◌, ◌<◌, ◌≤◌, ◌^◌, ◌↔◌, ℕ, All, true, length, slice_set};
 ghost use Rattle.ww_rule.specs.Wireworld.{Plane, Due};
 ghost use Rattle.band_core.specs.Band.{AllShow, AreBands, CanMove, IsEvolution, generation_at, generations_of};
-ghost use Rattle.band_core.specs.Together.{CanMoveOn, HasNoneLit, HaveFirstMovedOn, HaveMovedOn, HaveRested, IsCalm, IsMarkedBand};
+ghost use Rattle.band_core.specs.Together.{CanMoveOn, HasNoneLit, HaveMovedOn, HaveRested, IsCalm, IsMarkedBand};
 
 use crate::awake::lit_cell;
 use crate::band::Band;

@@ -1,5 +1,5 @@
 -- Bands that have all moved on by some generations.
-use Rattle.std.proofs.Common.{ℕ, ◌+◌, ◌<◌, ◌≡◌, ◌^◌, sym, ap, ap₂, subst, ◌∙◌, inl, inr, List, length, get_or, arith}
+use Rattle.std.proofs.Common.{ℕ, ◌+◌, ◌<◌, ◌≡◌, ◌^◌, sym, ap, ap₂, subst, ◌∙◌, inl, inr, length, arith}
 use Rattle.std.proofs.lemmas.Bool.{cases_lt}
 use Rattle.std.proofs.lemmas.List.{get_or-map, get_or_default, get_or_past, length-map}
 use Rattle.ww_rule.specs.Due.{AreInOrderFrom}

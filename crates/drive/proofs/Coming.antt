@@ -1,13 +1,12 @@
 -- A run whose bands have all moved on.
-use Rattle.std.proofs.Common.{ℕ, ◌+◌, ◌≤◌, ◌<◌, ◌≡◌, sym, ap, ap₂, subst, ◌∙◌, Bool, true, List, length, drop, arith}
+use Rattle.std.proofs.Common.{ℕ, ◌+◌, ◌≤◌, ◌<◌, ◌≡◌, sym, ap, ap₂, subst, ◌∙◌, true, List, length, drop}
 use Rattle.std.specs.Option.{option_map}
 use Rattle.std.proofs.Math.Path.{fun_ext}
-use Rattle.std.specs.declared.option.Option.{Option}
 use Rattle.ww_rule.specs.declared.pattern.Injection.{Injection}
-use Rattle.ww_rule.specs.Due.{AreInOrderFrom, AreLeftAt}
+use Rattle.ww_rule.specs.Due.{AreLeftAt}
 use Rattle.ww_rule.specs.Grid.{Grid, plane_of}
 use Rattle.ww_rule.specs.Injections.{due_of_list}
-use Rattle.ww_rule.specs.Wireworld.{Plane, driven}
+use Rattle.ww_rule.specs.Wireworld.{driven}
 use Rattle.band_core.specs.Bands.{BandedPattern, IsSamePattern, IsUnlit, all_moved_on, generation_of}
 use Rattle.drive.specs.declared.run.Orientation.{Orientation}
 use Rattle.drive.specs.declared.run.Run.{Run}

@@ -1,14 +1,13 @@
 -- A pattern that is dark, with no injection to come, stays as it is.
-use Rattle.std.proofs.Common.{ℤ, pos, negsuc, ◌+ℤ◌, ◌-ℤ◌, ℕ, zero, suc, ◌+◌, ◌-◌, ◌/◌, ◌<◌, ◌≤◌, ◌≡◌, refl, sym, ap, ◌∙◌, inl, inr, Bool, false, ◌&&◌, cond, nat_lt, List, length, All, arith}
+use Rattle.std.proofs.Common.{ℤ, pos, negsuc, ◌-ℤ◌, ℕ, ◌+◌, ◌-◌, ◌/◌, ◌<◌, ◌≤◌, ◌≡◌, refl, sym, ap, ◌∙◌, inl, inr, Bool, false, ◌&&◌, nat_lt, List, length, All, arith}
 use Rattle.std.specs.Prelude.{◌≢◌, ◌⊎◌}
-use Rattle.std.proofs.Math.Path.{fun_ext}
 use Rattle.std.proofs.lemmas.Bool.{cases_Bool, and_parts, ltb-true, le-ltb}
 use Rattle.std.proofs.lemmas.List.Elements.{All-contains}
 use Rattle.std.proofs.Math.Bool.{and-false}
 use Rattle.ww_rule.specs.declared.pattern.State.{State}
-use Rattle.ww_rule.specs.declared.pattern.State.TheVariants.{Empty, Head, Tail, Conductor}
+use Rattle.ww_rule.specs.declared.pattern.State.TheVariants.{Empty, Head, Tail}
 use Rattle.ww_rule.specs.declared.pattern.Injection.{Injection}
-use Rattle.ww_rule.specs.Wireworld.{Plane, count_head, heads_around, next_state, next_plane, injected, driven}
+use Rattle.ww_rule.specs.Wireworld.{count_head, driven}
 use Rattle.ww_rule.specs.Grid.{in_box, plane_of}
 use Rattle.ww_rule.specs.Injections.{due_of_list}
 use Rattle.ww_rule.proofs.Lists.{lists_are_injected}

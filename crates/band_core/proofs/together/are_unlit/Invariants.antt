@@ -1,4 +1,4 @@
-use Rattle.std.proofs.Common.{ℕ, ◌≤◌, ◌<◌, length, get_or}
+use Rattle.std.proofs.Common.{ℕ, ◌<◌, length, get_or}
 use Rattle.band_core.specs.declared.band.Band.{Band}
 use Rattle.band_core.specs.Together.{HasNoneLit}
 use Rattle.band_core.proofs.together.are_unlit.Given as goal

@@ -1,7 +1,6 @@
-use Rattle.std.proofs.Common.{ℕ, ◌<◌, ◌≤◌, ◌≡◌, ◌∙◌, subst, inl, inr, length, get_or, arith}
+use Rattle.std.proofs.Common.{◌≡◌, ◌∙◌, subst, inl, inr, get_or, arith}
 use Rattle.std.proofs.lemmas.Bool.{cases_lt}
 use Rattle.std.proofs.lemmas.List.{get_or_default}
-use Rattle.band_core.specs.declared.band.Band.{Band}
 use Rattle.band_core.specs.Together.{IsCalm}
 use Rattle.band_core.proofs.MovedOn.{calm_for}
 use Rattle.band_core.proofs.together.calm_generations.Goals as goal

@@ -1,5 +1,5 @@
 use Rattle.std.proofs.Common.{length}
-use Rattle.band_core.specs.Together.{HaveFirstMovedOn}
+use Rattle.band_core.proofs.MovedOn.{HaveFirstMovedOn}
 use Rattle.band_core.proofs.together.step_all.Given as goal
 
 abbrev pub invariant-loop-b : goal.invariant-loop-b

@@ -1,13 +1,12 @@
-use Rattle.std.proofs.Common.{◌+◌, ◌<◌, ◌≡◌, ◌^◌, sym, ap, subst, ◌∙◌, ℕ, List, length, map, arith}
+use Rattle.std.proofs.Common.{◌+◌, ◌<◌, ◌≡◌, sym, ap, subst, ◌∙◌, ℕ, List, length, arith}
 use Rattle.std.specs.Prelude.{All}
 use Rattle.std.specs.Vec.{with_items}
 use Rattle.std.proofs.lemmas.List.{with_items_is}
 use Rattle.ww_rule.specs.Wireworld.{driven}
 use Rattle.ww_rule.specs.Grid.{plane_of}
 use Rattle.ww_rule.specs.Injections.{due_of_list}
-use Rattle.band_core.specs.declared.band.Band.{Band}
 use Rattle.band_core.specs.Bands.{AreLevel, all_moved_on, generation_of}
-use Rattle.band_core.specs.Band.{AllShow, AreBands, IsEvolution, generations_of}
+use Rattle.band_core.specs.Band.{generations_of}
 use Rattle.band_core.specs.Held.{IsHeld, held_pattern}
 use Rattle.band_core.specs.Together.{CanMoveOn, HasNoneLit, HaveMovedOn, IsMarkedBand}
 use Rattle.band_core.proofs.Evolution.{evolution}

@@ -1,4 +1,4 @@
-use Rattle.std.proofs.Common.{◌+◌, ◌-◌, subst, drop, List, arith}
+use Rattle.std.proofs.Common.{◌+◌, subst, drop, List, arith}
 use Rattle.ww_rule.specs.declared.pattern.Injection.{Injection}
 use Rattle.ww_rule.specs.Due.{AreInOrderFrom}
 use Rattle.drive.proofs.run.Run.go_further.Goals as goal

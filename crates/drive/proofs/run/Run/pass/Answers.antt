@@ -1,7 +1,6 @@
-use Rattle.std.proofs.Common.{◌≡◌, ◌+◌, ◌≤◌, ◌<◌, ◌&&◌, refl, sym, ◌∙◌, subst, true, leb, drop, List, length, arith}
+use Rattle.std.proofs.Common.{◌≡◌, ◌+◌, ◌≤◌, ◌&&◌, refl, sym, ◌∙◌, subst, true, leb, drop, List, length, arith}
 use Rattle.std.proofs.lemmas.Bool.{and_parts, leb-true}
 use Rattle.ww_rule.specs.declared.pattern.Injection.{Injection}
-use Rattle.ww_rule.specs.Due.{AreLeftAt}
 use Rattle.ww_rule.specs.Grid.{plane_of}
 use Rattle.ww_rule.specs.Injections.{due_of_list}
 use Rattle.drive.specs.declared.run.Run.{Run}
