@@ -5,21 +5,15 @@ use Rattle.pattern_reading.specs.declared.ports.Ports.{Ports}
 use Rattle.pattern_reading.specs.declared.ports.PortLine.{PortLine}
 use Rattle.pattern_reading.specs.Ports.{names_of}
 use Rattle.carries.proofs.OneWay.{one_spelling}
-use Rattle.streams.specs.declared.streams.Streams.{Streams}
 use Rattle.streams.specs.Streams.{HasStreams}
-use Rattle.streams.specs.Rows.{rows_of}
 use Rattle.drive.specs.Driving.{AreFor, shown_at}
 use Rattle.shown_runs.specs.ShownRuns.{StreamsAreFor}
 use Rattle.shown_runs.proofs.Shown.{shown_alone}
-use Rattle.aiger_text.specs.declared.aig.Aig.{Aig}
 use Rattle.aiger_text.specs.Laws.{ReadAigsAreSound}
-use Rattle.aiger_text.specs.SoundAig.{output_names}
-use Rattle.aiger_meaning.specs.Circuit.{IsAigRun}
 use Rattle.aiger_plans.specs.CarriesAig.{CarriesAig}
-use Rattle.aiger_plans.specs.ShownAigs.{CarriersShowAigRuns, aig_bits_in_run}
+use Rattle.aiger_plans.specs.ShownAigs.{CarriersShowAigRuns}
 use Rattle.blifww_tool.specs.Lines.{bits_line}
-use Rattle.blifww_tool.specs.Simulation.{Simulation, IsSimulation, simulation_text}
-use Rattle.program_laws.specs.AigPrints.{CarriersPrintAigRuns, AigsPrintRuns, aig_lines}
+use Rattle.program_laws.specs.AigPrints.{CarriersPrintAigRuns, AigsPrintRuns}
 use Rattle.program_laws.proofs.Fed.{are_for}
 use Rattle.blifww_tool.proofs.OutputLines.{line}
 use Rattle.program_laws.proofs.PrintsAlike.{lines_shown, one_context}

@@ -20,7 +20,8 @@ use Rattle.vcd_write.specs.Writing.{vcd_form}
 use Rattle.vcd_write.specs.NetWaves.{NetInContext, NetsHaveTheirBits, nets_in, nets_in_contexts, reference_of}
 use Rattle.blifww_tool.specs.Dumping.{waves_of}
 use Rattle.blifww_tool.specs.Simulation.{Simulation}
-use Rattle.program_laws.specs.DumpsNets.{CarriersDumpNets}
+use Rattle.start_words.specs.Starts.{starts_of_words}
+use Rattle.program_laws.specs.DumpsNets.{CarriersDumpNets, CompiledDumpNets}
 use Rattle.program_laws.proofs.Fed.{as_many, feeds, for_table, is_start, own_run, read, start_of}
 
 -- each context has a variable for each net
@@ -32,7 +33,7 @@ variables_many nets first (suc many) =
     omega (arith, length-append (nets_in first nets) rest, here, variables_many nets (first + 1) many, suc-mul many (length nets))
 
 -- a net's variable is one of the dump's
-is_variable : (s : Simulation) (context number : ℕ) → context < s.ports.c → number < length s.ports.nets
+pub is_variable : (s : Simulation) (context number : ℕ) → context < s.ports.c → number < length s.ports.nets
     → context * length s.ports.nets + number < length (waves_of s).references
 is_variable s context number low within =
     let all : length (waves_of s).references ≡ length (nets_in_contexts s.ports) = length-map (nets_in_contexts s.ports) (reference_of s.ports.c) in
@@ -86,3 +87,10 @@ carriers_dump_nets their_bits law shows streams_for text design starts c cycles 
                 ∙ bit_in_run (others context) s.streams.cycles cycle net early),
           );
     }
+
+pub compiled_dump_nets : NetsHaveTheirBits → CarriersShowNetsInContexts → CarriersShowContexts → StreamsAreFor → CompiledDumpNets
+compiled_dump_nets their_bits law shows streams_for contexts starts netlist text compiled = (
+  compiled.design,
+  compiled.has.netlist,
+  carriers_dump_nets their_bits law shows streams_for text compiled.design (starts_of_words compiled.design starts contexts) compiled.nets,
+)

@@ -1,8 +1,10 @@
 -- Netlists that one text carries evaluate alike.
-use Rattle.std.proofs.Common.{ℕ, ◌≡◌, refl, sym, ap, ap₂, ◌∙◌, subst, List, [], flat_map}
+use Rattle.std.proofs.Common.{ℕ, ◌≡◌, refl, sym, ap, ap₂, ◌∙◌, subst, List, flat_map}
 use Rattle.ww_rule.specs.Grid.{Grid, plane_of}
 use Rattle.pattern_reading.specs.declared.ports.Ports.{Ports}
+use Rattle.grid_assembly.specs.PlanDrawing.{start_grid}
 use Rattle.pattern_reading.specs.Ports.{names_of}
+use Rattle.pattern_writing.specs.WrittenText.{pattern_text}
 use Rattle.netlist_core.specs.declared.model.Design.{Design}
 use Rattle.netlist_core.specs.Names.{Name}
 use Rattle.netlist_meaning.specs.Valuation.{Valuation, IsRun}
@@ -11,7 +13,7 @@ use Rattle.netlist_text.specs.Laws.{TextsAreDecided}
 use Rattle.carries.specs.Carries.{Carries}
 use Rattle.carries.proofs.OneWay.{one_spelling}
 use Rattle.streams.specs.declared.streams.Streams.{Streams}
-use Rattle.streams.specs.Streams.{HasStreams, inputs_of_contexts, streams_of}
+use Rattle.streams.specs.Streams.{HasStreams}
 use Rattle.streams.specs.Rows.{rows_of}
 use Rattle.drive.specs.Driving.{shown_at}
 use Rattle.shown_runs.specs.ShownRuns.{CarriersShowRuns, StreamsMatch}
@@ -71,9 +73,10 @@ carried_evaluate_alike law match decided text a b design other is is_other c k c
     ∙ sym l.lines
 
 pub compiled_evaluate_in_one_way : CarriersShowRuns → StreamsMatch → TextsAreDecided → CompiledEvaluateInOneWay
-compiled_evaluate_in_one_way law match decided netlist text compiled cycles words first second h l =
-    let c : Carries text compiled.design = (carries_alone netlist text compiled).0 in
-    carried_evaluate_alike law match decided text netlist netlist compiled.design compiled.design compiled.has.netlist compiled.has.netlist c c cycles words first second h l
+compiled_evaluate_in_one_way law match decided contexts starts netlist text compiled cycles words first second h l =
+    let alone : List ℕ = pattern_text (start_grid compiled.base) compiled.base_ports in
+    let c : Carries alone compiled.design = compiled.is_carried.carries in
+    carried_evaluate_alike law match decided alone netlist netlist compiled.design compiled.design compiled.has.netlist compiled.has.netlist c c cycles words first second h l
 
 pub lifted_evaluate_alike : CarriersShowRuns → StreamsMatch → TextsAreDecided → LiftedEvaluateAlike
 lifted_evaluate_alike law match decided netlist text lifted compiled lifts cycles words first second h l =

@@ -9,3 +9,8 @@ pub mod PrintsNetInContexts
 pub mod RunsQuietly
 pub mod EvaluatesAlike
 pub mod AigPrints
+pub mod OneAnswer
+pub mod Onward
+pub mod Isolated
+pub mod AigDrawings
+pub mod AigQuiet

@@ -1,11 +1,19 @@
--- What `compile` writes for one context is a circuit's text; a text is lifted in one way; and the netlist that is lifted prints what the
+-- What `compile` writes for one context, and what `aiger` writes, is a circuit's text; a text is lifted in one way; and the netlist that is lifted prints what the
 -- pattern does.
-use Rattle.std.proofs.Common.{◌≡◌, ◌∙◌, ◌+◌, refl, sym, ap, ap₂, subst, ℕ, Bool, List, [], ◌∷◌, ◌++◌, length, codes}
+use Rattle.std.proofs.Common.{◌≡◌, ◌∙◌, ◌+◌, refl, sym, ap, ap₂, subst, ℕ, Bool, false, List, [], ◌∷◌, ◌++◌, length, codes, arith}
 use Rattle.ww_rule.specs.Grid.{Grid}
 use Rattle.lane_core.specs.declared.plan.Plan.{Plan}
 use Rattle.grid_assembly.specs.PlanDrawing.{start_grid}
 use Rattle.pattern_reading.specs.declared.ports.Ports.{Ports}
 use Rattle.pattern_reading.specs.Ports.{names_of}
+use Rattle.pattern_reading.specs.Pattern.{ReadsWithinLimit}
+use Rattle.pattern_reading.specs.PortTable.{ReadsAsPorts}
+use Rattle.pattern_writing.specs.WrittenText.{pattern_text}
+use Rattle.plan_carries.specs.Laws.{PlansHavePorts}
+use Rattle.lift_carries.specs.Compiled.{CompiledAreDrawings, IsWrittenDrawing}
+use Rattle.aiger_text.specs.Laws.{ReadAigsAreSound}
+use Rattle.aiger_meaning.specs.Laws.{FlatsOfAigsAreLowered}
+use Rattle.tile_match.specs.Names.{has_bad_name}
 use Rattle.cell_core.specs.declared.cells.Src.{Src}
 use Rattle.cell_core.specs.declared.cells.Cell.{Cell}
 use Rattle.cell_core.specs.declared.list.CellList.{CellList}
@@ -24,18 +32,30 @@ use Rattle.carries.specs.Carries.{Carries}
 use Rattle.carries.specs.Cells.{Spells}
 use Rattle.carries.proofs.OneWay.{one_spelling}
 use Rattle.shown_runs.specs.ShownRuns.{CarriersShowRuns, StreamsMatch}
+use Rattle.blifww_tool.specs.Commands.{Accepts}
+use Rattle.command_words.specs.Shapes.{lift}
+use Rattle.program_laws.specs.AigPrints.{AigsAreLifted}
 use Rattle.program_laws.specs.LiftsBack.{CompiledAreLifted, LiftedInOneWay, LiftedPrintAlike}
+use Rattle.program_laws.proofs.AigDrawings.{drawing_of_aig}
 use Rattle.program_laws.proofs.PrintsAlike.{same_lines}
 
-pub compiled_are_lifted : CompiledAreLifted
-compiled_are_lifted starts netlist text written grid ports reads table named =
-    let drawn = written.drawing refl in
-    let plan : Plan = written.plan in
-    let spells : Spells text (start_grid plan) written.ports = subst (λ (t : List ℕ). Spells t (start_grid plan) written.ports) (sym written.written) drawn.spells in
-    let same = one_spelling text (start_grid plan) grid written.ports ports spells (record { reads = reads.0; table = table }) in
+-- `lift` accepts the written text of a drawing
+accepted : (text : List ℕ) (plan : Plan) (own : Ports) → text ≡ pattern_text (start_grid plan) own → IsWrittenDrawing plan own
+    → (grid : Grid) (ports : Ports) → ReadsWithinLimit text grid → ReadsAsPorts text grid.width grid.height ports → has_bad_name ports ≡ false → Accepts lift text
+accepted text plan own written drawn grid ports reads table named =
+    let spells : Spells text (start_grid plan) own = subst (λ (t : List ℕ). Spells t (start_grid plan) own) (sym written) drawn.spells in
+    let same = one_spelling text (start_grid plan) grid own ports spells (record { reads = reads.0; table = table }) in
     let drawing : IsPlanDrawing grid ports plan =
-    subst (λ (p : Ports). IsPlanDrawing grid p plan) same.1 (subst (λ (g : Grid). IsPlanDrawing g written.ports plan) same.0 drawn.drawing) in
+    subst (λ (p : Ports). IsPlanDrawing grid p plan) same.1 (subst (λ (g : Grid). IsPlanDrawing g own plan) same.0 drawn.drawing) in
     (grid, ports, plan, record { pattern = reads; table = table; drawing = drawing; named = named })
+
+pub compiled_are_lifted : CompiledAreLifted
+compiled_are_lifted starts netlist text h grid ports = accepted text h.plan h.ports h.written (h.drawing refl) grid ports
+
+pub aigs_are_lifted : CompiledAreDrawings → PlansHavePorts → FlatsOfAigsAreLowered → ReadAigsAreSound → AigsAreLifted
+aigs_are_lifted drawings ports_law lower sound source text h grid ports =
+    accepted text h.plan h.ports h.written
+    (drawing_of_aig drawings ports_law lower h.aig h.plan h.ports (sound source h.aig h.is.reads) (omega (arith, h.is.light)) h.is_plan) grid ports
 
 -- ---- one way
 

@@ -11,15 +11,18 @@ use Rattle.streams.specs.declared.streams.Streams.{Streams}
 use Rattle.shown_runs.specs.ShownRuns.{IsLineOf}
 use Rattle.vcd_write.specs.Reading.{VcdForm, ReadsAsVcd, value_at}
 use Rattle.vcd_write.specs.Writing.{vcd_id}
-use Rattle.command_words.specs.Shapes.{vcd}
+use Rattle.netlist_text.specs.NetlistText.{IsNetlist}
+use Rattle.start_words.specs.Starts.{starts_of_words}
+use Rattle.command_words.specs.Shapes.{compile, vcd}
 use Rattle.blifww_tool.specs.Evaluation.{FeedsInputs}
 use Rattle.blifww_tool.specs.Commands.{Prints}
 use Rattle.program_laws.specs.PrintsAlike.{AreRunsOn}
 
 -- The words give streams for the IN names of the design in each context, and the design has runs on
--- them, one from each start on. The output reads as a form. Line i of n NET lines is that of a net
--- of the design. In context c the form gives the variable with the id of number c n + i, at each
--- cycle, the net's bit in all such runs.
+-- them, one from each start on. The output reads as a form. There is a NET line for each net of the
+-- design except the clock nets, in order. Line i of n NET lines is that of a net of the design. In
+-- context c the form gives the variable with the id of number c n + i, at each cycle, the net's bit
+-- in all such runs.
 pub record DumpsNets (cycles : ℕ) (words : List (List ℕ)) (design : Design)
     (starts : List LatchState) (output : List ℕ) : Type 0 where
   pub fed : Streams
@@ -46,3 +49,14 @@ CarriersDumpNets =
     → CarriesNetsInContexts text design starts
     → (cycles : ℕ) (words : List (List ℕ)) (output : List ℕ) → Prints (vcd cycles words) text output
     → DumpsNets cycles words design starts output
+
+-- what `vcd` writes of the text that `compile` writes of a netlist, each context from the start that
+-- the words give it
+abbrev pub CompiledDumpNets : Type 0
+CompiledDumpNets =
+    (contexts : ℕ) (starts : List (List ℕ)) (netlist text : List ℕ)
+    → Prints (compile contexts starts) netlist text
+    → (design : Design) × IsNetlist netlist design
+    × ((cycles : ℕ) (words : List (List ℕ)) (output : List ℕ)
+    → Prints (vcd cycles words) text output
+    → DumpsNets cycles words design (starts_of_words design starts contexts) output)

@@ -26,7 +26,8 @@ LiftedEvaluateAlike =
 -- `eval` prints one text of a netlist that can be compiled
 abbrev pub CompiledEvaluateInOneWay : Type 0
 CompiledEvaluateInOneWay =
-    (netlist text : List ℕ) → Prints (compile 1 []) netlist text
+    (contexts : ℕ) (starts : List (List ℕ)) (netlist text : List ℕ)
+    → Prints (compile contexts starts) netlist text
     → (cycles : ℕ) (words : List (List ℕ)) (first second : List ℕ)
     → Prints (eval cycles words) netlist first → Prints (eval cycles words) netlist second
     → first ≡ second

@@ -4,3 +4,6 @@ pub mod LiftsBack
 pub mod TapePrints
 pub mod EvaluatesAlike
 pub mod AigPrints
+pub mod Isolated
+pub mod Onward
+pub mod OneAnswer

@@ -5,16 +5,22 @@
 //! Theorem: `carriers_print_alike`, `carriers_print_runs`, `compiled_are_lifted`, `carried_evaluate_alike`.
 #![tactic(auto)]
 
-ghost use Rattle.program_laws.specs.AigPrints.{AigsPrintRuns, CarriersPrintAigRuns};
-ghost use Rattle.program_laws.specs.DumpsNets.{CarriersDumpNets};
+ghost use Rattle.program_laws.specs.AigPrints.{AigCarriersRunQuietly, AigsAreLifted, AigsPrintRuns, AigsRunQuietly, CarriersPrintAigRuns};
+ghost use Rattle.program_laws.specs.DumpsNets.{CarriersDumpNets, CompiledDumpNets};
 ghost use Rattle.program_laws.specs.EvaluatesAlike.{CarriedEvaluateAlike, CompiledEvaluateInOneWay, LiftedEvaluateAlike};
+ghost use Rattle.program_laws.specs.Isolated.{CompiledPrintApart, ContextsPrintApart, NetsPrintApart};
 ghost use Rattle.program_laws.specs.LiftsBack.{CompiledAreLifted, LiftedInOneWay, LiftedPrintAlike};
+ghost use Rattle.program_laws.specs.OneAnswer.{DumpsAreProbed, ProbePrintsOne, SimulatePrintsOne, VcdPrintsOne, WindowPrintsOne};
+ghost use Rattle.program_laws.specs.Onward.{ContextsGoOn, ContextsShowEachFront};
 ghost use Rattle.program_laws.specs.PrintsAlike.{CarriersPrintAlike, CarriersPrintNets, CarriersPrintNetsInContexts, CarriersPrintRuns, CarriersRunQuietly, CompiledPrintAlike, CompiledPrintNets, CompiledPrintRuns};
 ghost use Rattle.program_laws.specs.TapePrints.{TapesPrintAlike, TapesPrintRuns};
 
+use aiger_meaning::laws::flats_of_aigs_are_lowered;
 use aiger_plans::carriers_show_aig_runs;
 use aiger_text::laws::read_aigs_are_sound;
+use lift_carries::compiled_are_drawings;
 use netlist_text::laws::texts_are_decided;
+use plan_carries::plans_have_ports;
 use shown_runs::{
     carriers_are_quiet, carriers_show_contexts, carriers_show_nets, carriers_show_runs,
     runners_show_runs, streams_match,
@@ -62,7 +68,8 @@ pub fn carriers_print_nets()
 /// what `vcd` writes of it reads as the nets' bits in runs, one in each context, from the context's
 /// start on.
 pub fn carriers_dump_nets()
-    ensures { CarriersDumpNets }
+    ensures carriers { CarriersDumpNets }
+    ensures compiled { CompiledDumpNets }
 {
     nets_have_their_bits();
     carriers_show_nets();
@@ -109,7 +116,8 @@ pub fn lifted_print_alike()
     draws_one_plan();
 }
 
-/// Netlists that one text carries evaluate alike.
+/// Netlists that one text carries evaluate alike. So `eval` prints one text of a netlist that can be
+/// compiled, and of what `lift` writes of its pattern it prints the same.
 pub fn carried_evaluate_alike()
     ensures carried { CarriedEvaluateAlike }
     ensures one_way { CompiledEvaluateInOneWay }
@@ -129,4 +137,63 @@ pub fn aigs_print_runs()
     carriers_show_aig_runs();
     streams_match();
     read_aigs_are_sound();
+}
+
+/// If a text carries a circuit, as the text that `aiger` writes does, then no run on it ends with
+/// status 10.
+pub fn aigs_run_quietly()
+    ensures carriers { AigCarriersRunQuietly }
+    ensures written { AigsRunQuietly }
+{
+    streams_match();
+    read_aigs_are_sound();
+}
+
+/// `lift` accepts each text that `aiger` writes, if its box is within the limit of what is read and
+/// no name of a port is bad.
+pub fn aigs_are_lifted()
+    ensures { AigsAreLifted }
+{
+    compiled_are_drawings();
+    plans_have_ports();
+    flats_of_aigs_are_lowered();
+    read_aigs_are_sound();
+}
+
+/// Contexts are isolated. Of a text that carries a design in contexts, as the text that
+/// `compile --contexts` writes does, `simulate` prints the same lines of a context under any words
+/// that give this context the same bits; words of other names are refused anyway. If the text also
+/// carries the nets, `probe` prints the same line of the context.
+pub fn contexts_print_apart()
+    ensures outputs { ContextsPrintApart }
+    ensures nets { NetsPrintApart }
+    ensures compiled { CompiledPrintApart }
+{
+    carriers_show_nets();
+    carriers_show_contexts();
+    streams_match();
+}
+
+/// In a text that carries a design in contexts, the pattern goes on without a last generation when
+/// no further bits come, and what it shows of the first cycles does not depend on later bits.
+pub fn contexts_go_on()
+    ensures onward { ContextsGoOn }
+    ensures each_front { ContextsShowEachFront }
+{}
+
+/// A command that drives a pattern prints one output: two runs of it on one text, with the same
+/// words, print the same.
+pub fn driven_print_one_answer()
+    ensures simulate { SimulatePrintsOne }
+    ensures probe { ProbePrintsOne }
+    ensures window { WindowPrintsOne }
+    ensures vcd { VcdPrintsOne }
+{}
+
+/// The bits that `vcd` writes of a net are those that `probe` prints of it on the same text, with
+/// the same words.
+pub fn dumps_are_probed()
+    ensures { DumpsAreProbed }
+{
+    nets_have_their_bits();
 }
