@@ -10,6 +10,7 @@ pub mod RunsQuietly
 pub mod EvaluatesAlike
 pub mod AigPrints
 pub mod OneAnswer
+pub mod GoodNames
 pub mod Onward
 pub mod Isolated
 pub mod AigDrawings

@@ -13,6 +13,7 @@ use Rattle.plan_carries.specs.Laws.{PlansHavePorts}
 use Rattle.lift_carries.specs.Compiled.{CompiledAreDrawings, IsWrittenDrawing}
 use Rattle.aiger_text.specs.Laws.{ReadAigsAreSound}
 use Rattle.aiger_meaning.specs.Laws.{FlatsOfAigsAreLowered}
+use Rattle.netlist_plans.specs.TextNames.{NetsAreWords}
 use Rattle.tile_match.specs.Names.{has_bad_name}
 use Rattle.cell_core.specs.declared.cells.Src.{Src}
 use Rattle.cell_core.specs.declared.cells.Cell.{Cell}
@@ -37,6 +38,7 @@ use Rattle.command_words.specs.Shapes.{lift}
 use Rattle.program_laws.specs.AigPrints.{AigsAreLifted}
 use Rattle.program_laws.specs.LiftsBack.{CompiledAreLifted, LiftedInOneWay, LiftedPrintAlike}
 use Rattle.program_laws.proofs.AigDrawings.{drawing_of_aig}
+use Rattle.program_laws.proofs.GoodNames.{compiled_names_are_good}
 use Rattle.program_laws.proofs.PrintsAlike.{same_lines}
 
 -- `lift` accepts the written text of a drawing
@@ -49,8 +51,10 @@ accepted text plan own written drawn grid ports reads table named =
     subst (λ (p : Ports). IsPlanDrawing grid p plan) same.1 (subst (λ (g : Grid). IsPlanDrawing g own plan) same.0 drawn.drawing) in
     (grid, ports, plan, record { pattern = reads; table = table; drawing = drawing; named = named })
 
-pub compiled_are_lifted : CompiledAreLifted
-compiled_are_lifted starts netlist text h grid ports = accepted text h.plan h.ports h.written (h.drawing refl) grid ports
+pub compiled_are_lifted : NetsAreWords → CompiledAreLifted
+compiled_are_lifted words starts netlist text h grid ports reads table named =
+    accepted text h.plan h.ports h.written (h.drawing refl) grid ports reads table
+    (compiled_names_are_good words 1 starts netlist text h grid.width grid.height ports table ∙ named)
 
 pub aigs_are_lifted : CompiledAreDrawings → PlansHavePorts → FlatsOfAigsAreLowered → ReadAigsAreSound → AigsAreLifted
 aigs_are_lifted drawings ports_law lower sound source text h grid ports =

@@ -9,7 +9,7 @@ ghost use Rattle.program_laws.specs.AigPrints.{AigCarriersRunQuietly, AigsAreLif
 ghost use Rattle.program_laws.specs.DumpsNets.{CarriersDumpNets, CompiledDumpNets};
 ghost use Rattle.program_laws.specs.EvaluatesAlike.{CarriedEvaluateAlike, CompiledEvaluateInOneWay, LiftedEvaluateAlike};
 ghost use Rattle.program_laws.specs.Isolated.{CompiledPrintApart, ContextsPrintApart, NetsPrintApart};
-ghost use Rattle.program_laws.specs.LiftsBack.{CompiledAreLifted, LiftedInOneWay, LiftedPrintAlike};
+ghost use Rattle.program_laws.specs.LiftsBack.{CompiledAreLifted, CompiledNamesAreGood, LiftedInOneWay, LiftedPrintAlike};
 ghost use Rattle.program_laws.specs.OneAnswer.{DumpsAreProbed, ProbePrintsOne, SimulatePrintsOne, VcdPrintsOne, WindowPrintsOne};
 ghost use Rattle.program_laws.specs.Onward.{ContextsGoOn, ContextsShowEachFront};
 ghost use Rattle.program_laws.specs.PrintsAlike.{CarriersPrintAlike, CarriersPrintNets, CarriersPrintNetsInContexts, CarriersPrintRuns, CarriersRunQuietly, CompiledPrintAlike, CompiledPrintNets, CompiledPrintRuns};
@@ -19,6 +19,7 @@ use aiger_meaning::laws::flats_of_aigs_are_lowered;
 use aiger_plans::carriers_show_aig_runs;
 use aiger_text::laws::read_aigs_are_sound;
 use lift_carries::compiled_are_drawings;
+use netlist_plans::names_are_words;
 use netlist_text::laws::texts_are_decided;
 use plan_carries::plans_have_ports;
 use shown_runs::{
@@ -98,12 +99,16 @@ pub fn tapes_print_alike()
     texts_are_decided();
 }
 
-/// `lift` accepts each text that `compile` writes for one context, if its box is within the limit
-/// of what is read and no name of a port is bad: so a run on it ends with status 0, or with 7 for
-/// lack of memory, or a read or a write fails.
+/// The table that `compile` writes has a bad name exactly if one of its names ends with `\`. So
+/// `lift` accepts each text that `compile` writes for one context, if its box is within the limit of
+/// what is read and no name ends so: a run on it ends with status 0, or with 7 for lack of memory,
+/// or a read or a write fails.
 pub fn compiled_are_lifted()
-    ensures { CompiledAreLifted }
-{}
+    ensures names { CompiledNamesAreGood }
+    ensures lifted { CompiledAreLifted }
+{
+    names_are_words();
+}
 
 /// What `lift` writes of a text is one netlist, and `simulate` prints of the text what `eval`
 /// prints of that netlist under the same words.
