@@ -4,6 +4,7 @@ mod Lanes
 mod NetPlaces
 mod OfOne
 mod Several
+mod FreeWords
 mod Newlines
 mod Lines
 mod Words
