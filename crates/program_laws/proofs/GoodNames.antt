@@ -1,5 +1,5 @@
 -- The names of the ports of what `compile` writes are good, but for a `\` at the end.
-use Rattle.std.proofs.Common.{ℕ, ◌≡◌, ◌≢◌, ◌<◌, ◌≤◌, ◌==◌, ◌-◌, refl, sym, ap, ap₂, ◌∙◌, subst, inl, inr, Bool, true, false, true≢false, ◌||◌, List, [], ◌∷◌, ◌++◌, map, length, get_or, arith}
+use Rattle.std.proofs.Common.{ℕ, ◌≡◌, ◌≢◌, ◌<◌, ◌≤◌, ◌==◌, refl, sym, ap, ap₂, ◌∙◌, subst, inl, inr, Bool, true, false, ◌||◌, List, [], ◌∷◌, ◌++◌, length, arith}
 use Rattle.std.specs.Prelude.{Option, Some, None, option_map, option_to_list, unwrap_or}
 use Rattle.std.specs.Bool.{then_some}
 use Rattle.std.specs.List.{list_any}
@@ -14,14 +14,14 @@ use Rattle.lists.proofs.Members.{In, in_got, in_left, in_map, in_mapped}
 use Rattle.pattern_reading.specs.declared.ports.PortLine.{PortLine}
 use Rattle.pattern_reading.specs.declared.ports.Ports.{Ports}
 use Rattle.pattern_reading.specs.Ports.{names_of}
-use Rattle.tile_match.specs.Names.{has_bad_name, is_bad_name, is_bad_port, is_break, is_port_name, shares_name}
+use Rattle.tile_match.specs.Names.{has_bad_name, is_bad_name, is_bad_port, is_break, shares_name}
 use Rattle.netlist_core.specs.declared.model.Design.{Design}
 use Rattle.netlist_core.specs.declared.model.Model.{Model}
 use Rattle.netlist_core.specs.declared.model.Port.{Port}
 use Rattle.netlist_core.specs.Names.{Name}
 use Rattle.netlist_meaning.specs.Nets.{WithoutControl, net_at}
 use Rattle.netlist_meaning.specs.Nets.WithoutControl.{none, kept, left_out}
-use Rattle.netlist_meaning.specs.Places.{main_inputs, main_model, main_outputs, main_ports}
+use Rattle.netlist_meaning.specs.Places.{main_inputs, main_model, main_ports}
 use Rattle.netlist_rules.specs.declared.fault.FaultKind.TheVariants.{DuplicatePort}
 use Rattle.netlist_rules.specs.ModelFaults.{AreFaultless, doubles_after, duplicate_ports, is_input_by_then, is_output_before}
 use Rattle.netlist_rules.specs.Drivers.{same_name_before, same_name_up_to, stands_earlier}
