@@ -1,18 +1,15 @@
-use Rattle.std.proofs.Common.{List, subst, get_or}
-use Rattle.std.specs.Prelude.{All}
-use Rattle.cell_core.specs.declared.cells.Src.{Src}
-use Rattle.cell_rewriting.specs.Same.{Rewrites}
+use Rattle.std.proofs.Common.{get_or}
 use Rattle.cell_rewriting.proofs.Mapping.{mapped_stays, bits_stay}
-use Rattle.netlist_plans.proofs.planning.cell_lists.Goals as goal
+use Rattle.netlist_plans.proofs.planning.rewritten_lists.Goals as goal
 
 pub returns-clause-computes : goal.returns-clause-computes
 returns-clause-computes c =
     let flat = c.args.flat.now in
-    let mapped = c.in_ok-mapped.mapped in
+    let list = c.args.list.now in
+    let kept = c.args.kept.now in
     let lists = c.in_ok-lists.lists.items in
-    let rewrite : All (Rewrites mapped.list mapped.singles.items) lists = subst (λ (kept : List Src). All (Rewrites mapped.list kept) lists) c.deref.ensures.value c.in_ok-lists.ensures.same in
     λ i d lt.
     record {
-      mapped = mapped_stays flat mapped.list (get_or lists i d) mapped.singles.items c.requires.sound c.in_ok-mapped.ensures.mapped (rewrite i d lt);
-      bits = λ inputs state bits solves. bits_stay flat mapped.list (get_or lists i d) mapped.singles.items inputs state bits (rewrite i d lt) (c.in_ok-mapped.ensures.bits inputs state bits solves);
+      mapped = mapped_stays flat list (get_or lists i d) kept c.requires.sound c.requires.maps.mapped (c.in_ok-lists.ensures.same i d lt);
+      bits = λ inputs state bits solves. bits_stay flat list (get_or lists i d) kept inputs state bits (c.in_ok-lists.ensures.same i d lt) (c.requires.maps.bits inputs state bits solves);
     }
