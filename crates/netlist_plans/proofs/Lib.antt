@@ -1,4 +1,5 @@
 pub mod Names
+mod LowLists
 mod Bounds
 mod Lanes
 mod NetPlaces
