@@ -21,7 +21,6 @@ class Pattern:
     inputs: dict = field(default_factory=dict)  # name: (x, y)
     outputs: dict = field(default_factory=dict)  # name: (x, y)
     nets: list = field(default_factory=list)  # (x, y, offset, name, path)
-    coloured: dict = field(default_factory=dict)  # (x, y): (letter, context), of heads and tails whose context is to be seen
     has_escapes: bool = False  # whether its table is of version 2
 
     def name_in(self, word):

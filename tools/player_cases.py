@@ -133,4 +133,4 @@ def hands(program):
         ("do globalThis.least = 99", "(least = Math.min(least, page.machine.generation)) < 30"),
     ]
     yield "contexts", {"example": "toggle.contexts", "context": 1}, [("do 0", "page.context === 1 && $('context').value === '1'")]
-    yield "a view", {"example": "toggle", "view": "160,0,65,64"}, [("do 0", "!plane.isFitted && plane.shown()[2] < 200")]
+    yield "a view", {"example": "toggle", "view": "160,0,65,64"}, [("do 0", "!plane.isFitted && plane.shown()[2] < 240")]

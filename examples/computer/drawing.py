@@ -6,7 +6,7 @@ from pathlib import Path
 from lamps import BAR, lamps
 from wires import FORK, LANE, TILE, Plane, by_row, cells_of, fan, lanes, sort, steps_of
 
-sys.path.insert(0, str(Path(__file__).resolve().parents[2] / "tools"))
+sys.path.append(str(Path(__file__).resolve().parents[2] / "tools"))
 from patterns import read_pattern  # noqa: E402
 
 

@@ -168,10 +168,21 @@ function measure() {
   page.isDirty = true;
 }
 
+/** Opens what is chosen; after a click the keys are free again. */
+function watchExamples(list) {
+  let isClicked = false;
+  list.append(...EXAMPLES.map((it) => element("option", { value: it.name, textContent: it.title })));
+  list.addEventListener("pointerdown", () => { isClicked = true; });
+  list.addEventListener("keydown", () => { isClicked = false; });
+  list.addEventListener("change", () => {
+    attempt(() => showExample(list.value));
+    if (isClicked) list.blur();
+  });
+}
+
 function watchControls() {
   for (const name in COMMANDS) $(name)?.addEventListener("click", (event) => { command(name); if (event.detail) $(name).blur(); });
-  $("examples").append(...EXAMPLES.map((it) => element("option", { value: it.name, textContent: it.title })));
-  $("examples").onchange = () => attempt(() => showExample($("examples").value));
+  watchExamples($("examples"));
   $("speed").oninput = () => setSpeed($("speed").value);
   $("context").onchange = () => setContext(Number($("context").value));
   $("format").onchange = () => { chart.format = $("format").value; page.isDirty = true; };

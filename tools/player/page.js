@@ -2,13 +2,14 @@
 
 const $ = (id) => document.getElementById(id);
 const EXAMPLES = JSON.parse($("patterns").textContent);
-const FULL_SPEED = 61, FRAME_WORK = 11; // the last step of the slider, and the milliseconds of a frame that are for the simulation
+const FULL_SPEED = 61, FRAME_WORK = 11; // the slider's last step, and the milliseconds of a frame that are for the simulation
+const REST = 600; // milliseconds between the end of the streams and their next beginning
 const isCalm = matchMedia("(prefers-reduced-motion: reduce)").matches;
 const plane = new Plane($("plane"), $("marks")), chart = new Chart($("chart"), $("names"));
 const page = {
   machine: null, name: "", context: 0, trouble: "", isDirty: true, // what is open, and whether it must be painted
   nets: [], chosen: [], unfolded: new Set(), // rows of nets, those that are in the chart, and the buses whose bits are shown
-  isRunning: false, isRepeating: false, goal: Infinity, // the generation at which it stops
+  isRunning: false, isRepeating: false, goal: Infinity, again: 0, // the generation at which it stops; when it begins again
   rate: 0, debt: 0, then: 0, // generations a second, parts of one that are due, and the time of the last frame
 };
 const counted = (number) => number.toLocaleString("en");
@@ -46,7 +47,7 @@ function openPattern(text, { name, title = name, about = "", words = "", unfold 
   $("context").replaceChildren(...contexts);
   $("adding").hidden = !table.nets.length;
   $("netlist").replaceChildren(...page.nets.map((it) => element("option", { value: it.label })));
-  $("speed").value = stepOf(Math.max(32, Math.min(1e6, table.period / 4)));
+  $("speed").value = stepOf(Math.max(32, table.period / 4, table.latency / 6)); // seconds for a cycle, and for the first result
   pause();
   leaveRoom();
   plane.open(machine.pattern, machine.wires);
@@ -151,14 +152,14 @@ function showRunning(isRunning) {
 }
 
 function pause() {
-  page.goal = Infinity;
+  Object.assign(page, { goal: Infinity, again: 0 });
   setSpeed($("speed").value);
   showRunning(false);
 }
 
 function start(goal, rate) {
   const now = performance.now();
-  Object.assign(page, { goal, rate, debt: 0, then: now, since: now, from: page.machine.generation });
+  Object.assign(page, { goal, rate, again: 0, debt: 0, then: now, since: now, from: page.machine.generation });
   chart.isFollowing = true;
   showRunning(true);
 }
@@ -207,6 +208,10 @@ function moved() {
 
 function advance(now) {
   const { machine } = page;
+  if (page.again) {
+    if (now > page.again) run();
+    return;
+  }
   page.debt += page.rate === Infinity ? 1e6 : (page.rate * Math.min(100, now - page.then)) / 1000;
   const steps = Math.floor(page.debt), target = Math.min(machine.generation + steps, page.goal);
   machine.run(target, performance.now() + FRAME_WORK);
@@ -217,7 +222,7 @@ function advance(now) {
     Object.assign(page, { since: now, from: machine.generation });
   }
   if (machine.generation < Math.min(page.goal, LAST_GENERATION, machine.endOf(MOST_CYCLES))) return;
-  if (page.isRepeating && page.goal === endOfStreams()) run();
+  if (page.isRepeating && page.goal === endOfStreams()) page.again = now + REST;
   else pause();
 }
 

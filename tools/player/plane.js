@@ -27,17 +27,22 @@ function mixed(from, to = from, part = 0) {
   return ((255 << 24) | (blue << 16) | (green << 8) | red) >>> 0;
 }
 
-/** Gives names, in the order of their cells, levels at which they do not overlap, if all of them have room. */
-function spread(names, high, room) {
+/** Gives names, in the order of their cells, levels from `top` to `bottom` at which they do not overlap, if all have room there. */
+function spread(names, high, top, bottom) {
   const groups = [], middle = (group) => group.reduce((sum, name) => sum + name.at[1], 0) / group.length;
   const areNear = (a, b) => b && middle(b) - middle(a) < ((a.length + b.length) * high) / 2;
-  if (names.length * high > room) return;
+  if (names.length * high > bottom - top) return;
   for (const it of names.sort((a, b) => a.at[1] - b.at[1])) {
     groups.push([it]);
     for (let [a, b] = groups.slice(-2); areNear(a, b); [a, b] = groups.slice(-2)) groups.splice(-2, 2, [...a, ...b]);
-    const group = groups.at(-1), isAway = group.length > 1;
-    group.forEach((name, i) => Object.assign(name, { isAway, level: middle(group) + (i - (group.length - 1) / 2) * high }));
   }
+  const starts = groups.map((group) => middle(group) - (group.length * high) / 2);
+  groups.forEach((group, i) => { starts[i] = Math.max(starts[i], i ? starts[i - 1] + groups[i - 1].length * high : top); });
+  for (let i = groups.length - 1, end = bottom; i >= 0; end = starts[i--]) starts[i] = Math.min(starts[i], end - groups[i].length * high);
+  groups.forEach((group, i) => group.forEach((name, k) => {
+    const level = starts[i] + (k + 0.5) * high;
+    Object.assign(name, { level, isAway: Math.abs(level - name.at[1]) > 1 || group.length > 1 });
+  }));
 }
 
 /** The plane on a canvas; `left` and `top` are its first points on show. */
@@ -232,17 +237,19 @@ class Plane {
   /** Draws names { port, bit }: of inputs west of their cells, of outputs east, and of nets above, where there is room. */
   drawNames(names) {
     const context = this.marks.getContext("2d"), [wide, high] = [this.wide / this.ratio, this.high / this.ratio];
-    const height = Math.max(15, Math.min(19, (16 * this.size) / this.ratio));
+    const [top, bottom] = this.isFitted ? [this.above - 8, high - this.below + 8] : [-high, 2 * high];
+    const roomy = Math.max(15, Math.min(19, (16 * this.size) / this.ratio));
     const isNear = ({ at: [x, y] }) => x > -300 && y > -20 && x < wide + 300 && y < high + 20;
     const placed = names.map((it) => ({ ...it, at: this.middle(it.port) })).filter(isNear);
     this.spots = [];
     context.setTransform(this.ratio, 0, 0, this.ratio, 0, 0);
     context.clearRect(0, 0, wide, high);
     context.textBaseline = "middle";
-    context.font = `600 ${height >= 17 ? 12 : 11}px ${FONT}`;
+    context.font = `600 ${roomy >= 17 ? 12 : 11}px ${FONT}`;
     for (const kind of ["IN", "OUT", "NET"]) {
       const own = placed.filter((it) => it.port.kind === kind);
-      if (kind !== "NET") spread(own, height, high);
+      const height = this.isFitted && own.length * roomy > bottom - top ? 14 : roomy;
+      if (kind !== "NET") spread(own, height, top, bottom);
       for (const it of own) this.drawName(context, it, height);
     }
   }

@@ -65,7 +65,7 @@ function change(ports, work) {
 /** Gives the inputs of a row a value from the next cycle on; who does so by hand wants no end of the streams. */
 function hold(ports, bitOf) {
   setRepeating(false);
-  if (page.isRunning && page.goal === endOfStreams()) page.goal = Infinity;
+  if (page.isRunning && page.goal === endOfStreams()) Object.assign(page, { goal: Infinity, again: 0 });
   change(ports, (stream, k, t) => stream.hold(t, bitOf(k, stream.at(t))));
 }
 

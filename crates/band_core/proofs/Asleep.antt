@@ -38,7 +38,7 @@ module _ (p : BandedPattern) (grid : IsGrid p.grid.width p.grid.height p.grid.ro
   below_and : (x z : ℕ) → length p.grid.rows ≤ z → in_box p.grid.width (length p.grid.rows) (pos x) (pos z) ≡ false
   below_and x z le = ap (λ t. nat_lt x p.grid.width && t) (le-ltb z (length p.grid.rows) le) ∙ and-false (nat_lt x p.grid.width)
 
-  lit_column : (x z : ℕ) (s : State) → s ≢ Empty → plane g (pos x) (pos z) ≡ s → x < p.grid.width
+  pub lit_column : (x z : ℕ) (s : State) → s ≢ Empty → plane g (pos x) (pos z) ≡ s → x < p.grid.width
   lit_column x z s ne e =
       elim (cases_lt x p.grid.width) [
         | inl lt ↦ lt

@@ -11,3 +11,6 @@ pub mod Resting
 pub mod Waking
 pub mod Lit
 pub mod OneBand
+pub mod Dark
+pub mod MovedOn
+pub mod Unlit

@@ -33,7 +33,7 @@ rests words y many band next er el en edark ei ed lt lb is =
       done = omega (arith, done, li, ed);
     }
 
-nothing_kept : (kept : List ℕ) (p : Plane) (z : ℤ) → ((j : ℕ) → get_or kept j 0 ≡ 0) → ((x : ℕ) → count_head (p (pos x) z) ≡ 0) → ShowsHeads kept p z
+pub nothing_kept : (kept : List ℕ) (p : Plane) (z : ℤ) → ((j : ℕ) → get_or kept j 0 ≡ 0) → ((x : ℕ) → count_head (p (pos x) z) ≡ 0) → ShowsHeads kept p z
 nothing_kept kept p z none dark x = ap (λ h. count_head (state_of h false false)) (none_set 0 kept none x) ∙ sym (dark x)
 
 pub rest_shows : (e : ℕ → Plane) (due : Due) (width height words y many : ℕ) (band next : Band) → IsEvolution e due width height → IsBand words y many band → ShowsBand e due y many band → IsQuiet e due band.generation y many → HasNoneDue band → next.generation ≡ band.generation + 1 → next.rows ≡ band.rows → next.injections ≡ band.injections → next.done ≡ band.done → ((j : ℕ) → get_or next.top.heads.items j 0 ≡ 0) → ((j : ℕ) → get_or next.bottom.heads.items j 0 ≡ 0) → ShowsBand e due y many next

@@ -1,5 +1,5 @@
 -- A driven pattern in bands of rows, each at a generation of its own.
-use Rattle.std.specs.Prelude.{pos, ℕ, zero, suc, ◌+◌, ◌-◌, ◌*◌, ◌/◌, ◌≤◌, ◌<◌, ◌≡◌, ◌⊎◌, true, ◌||◌, ◌==◌, nat_lt, if◌then◌else◌, List, length, get_or, slice_set, replicate, Some, None}
+use Rattle.std.specs.Prelude.{pos, ℕ, zero, suc, ◌+◌, ◌-◌, ◌*◌, ◌/◌, ◌≤◌, ◌<◌, ◌≡◌, ◌⊎◌, true, ◌||◌, ◌==◌, nat_lt, if◌then◌else◌, List, length, get_or, map, slice_set, replicate, All, Some, None}
 use Rattle.std.specs.declared.option.Option.{Option}
 use Rattle.std.specs.Option.{option_or}
 use Rattle.ww_rule.specs.Due.{AreInOrderFrom}
@@ -59,6 +59,14 @@ abbrev pub moved_on : ℕ → BandedPattern → BandedPattern
 moved_on b pattern =
     record pattern { generations = slice_set pattern.generations b (generation_of pattern b + 1) }
 
+-- all bands are at one generation
+abbrev pub AreLevel : BandedPattern → Type 0
+AreLevel pattern = All (λ g. g ≡ generation_of pattern 0) pattern.generations
+
+-- each band has moved on by so many generations
+abbrev pub all_moved_on : ℕ → BandedPattern → BandedPattern
+all_moved_on n pattern = record pattern { generations = map (λ g. g + n) pattern.generations }
+
 -- the same pattern under the same injections, in the same bands
 pub record IsSamePattern (old new : BandedPattern) : Type 0 where
   pub grid : new.grid ≡ old.grid
@@ -72,6 +80,15 @@ pub record IsCellOf (pattern : BandedPattern) (b x y : ℕ) : Type 0 where
   pub from : b * pattern.height ≤ y
   pub below : y < b * pattern.height + pattern.height
   pub within : y < length pattern.grid.rows
+
+-- the cell of band b is a head or a tail, at the band's generation
+pub data IsLit (pattern : BandedPattern) (b x y : ℕ) : Type 0 where
+  head : IsCellOf pattern b x y → band_at pattern b x y ≡ Head → IsLit pattern b x y
+  tail : IsCellOf pattern b x y → band_at pattern b x y ≡ Tail → IsLit pattern b x y
+
+-- no cell of any band is lit
+abbrev pub IsUnlit : BandedPattern → Type 0
+IsUnlit pattern = (b x y : ℕ) → ¬ IsLit pattern b x y
 
 -- the cell lies in the last row above band b, or in the first one below it
 pub record IsFacing (pattern : BandedPattern) (b x y : ℕ) : Type 0 where

@@ -2,3 +2,4 @@ pub mod Bands
 pub mod Beside
 pub mod Band
 pub mod Held
+pub mod Together

@@ -1,6 +1,6 @@
 // One band.
-ghost use Rattle.ww_rule.specs.Due.{due_count};
-ghost use Rattle.std.specs.Prelude.{◌≡◌, ◌+◌, ◌-◌, ◌<◌, ◌≤◌, ◌^◌, ℤ, ℕ, pos, length};
+ghost use Rattle.ww_rule.specs.Due.{AreInOrderFrom, due_count};
+ghost use Rattle.std.specs.Prelude.{◌≡◌, ◌+◌, ◌-◌, ◌<◌, ◌≤◌, ◌^◌, ℤ, ℕ, pos, length, drop};
 ghost use Rattle.ww_rule.specs.Wireworld.{Plane, Due, next_plane, injected};
 ghost use Rattle.ww_rule.specs.Injections.{has_cell};
 ghost use Rattle.lane_kernel.specs.Spans.{AreZero, AreSameWords};
@@ -37,6 +37,21 @@ pub fn due_count(generation: u128, injections: &[Injection]) -> usize
         .iter()
         .take_while(|injection| injection.generation == generation)
         .count()
+}
+
+/// Returns in how many of the generations after this one, of `most`, no injection of a list is due,
+/// if the first `done` are done and the others are of later generations, in order.
+pub fn calm_count(generation: u64, injections: &[Injection], done: usize, most: u64) -> u64
+    ensures few { result ≤ most }
+    ensures later { AreInOrderFrom (generation + 1) (drop done injections.now)
+        → AreInOrderFrom (generation + result + 1) (drop done injections.now) }
+{
+    if done >= injections.len() {
+        return most;
+    }
+    let next = injections[done].generation;
+    let calm = next.saturating_sub(generation as u128 + 1);
+    calm.min(most as u128) as u64
 }
 
 /// Makes the cells of injections heads, in rows from row y on, and marks their rows. It takes no
@@ -179,11 +194,22 @@ impl Band {
         self.done += count;
     }
 
-    /// Goes on by one generation, if the band is dark, no head lies beside it and no injection is
-    /// due: its rows stay.
-    pub fn rest(&mut self)
-        requires room { self.old.generation + 1 < 2 ^ 64 }
-        ensures generation { self.new.generation ≡ self.old.generation + 1 }
+    /// Returns in how many of the next generations, of `most`, no injection of the band is due.
+    pub fn calm_generations(&self, most: u64) -> u64
+        ensures few { result ≤ most }
+        ensures later { AreInOrderFrom (self.now.generation + 1)
+            (drop self.now.done self.now.injections.items)
+            → AreInOrderFrom (self.now.generation + result + 1)
+            (drop self.now.done self.now.injections.items) }
+    {
+        calm_count(self.generation, &self.injections, self.done, most)
+    }
+
+    /// Goes on by `n` generations, if the band is dark and in them no head lies beside it and no
+    /// injection is due: its rows stay.
+    pub fn rest(&mut self, n: u64)
+        requires room { self.old.generation + n < 2 ^ 64 }
+        ensures generation { self.new.generation ≡ self.old.generation + n }
         ensures rows { self.new.rows ≡ self.old.rows }
         ensures lit { self.new.lit ≡ self.old.lit }
         ensures near { self.new.near ≡ self.old.near }
@@ -196,7 +222,7 @@ impl Band {
         ensures top { AreZero self.new.top.heads.items }
         ensures bottom { AreZero self.new.bottom.heads.items }
     {
-        self.generation += 1;
+        self.generation += n;
         self.top.clear();
         self.bottom.clear();
     }

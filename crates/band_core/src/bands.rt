@@ -1,13 +1,14 @@
 // Bands of rows.
 ghost use Rattle.ww_rule.specs.Injections.{AreInside};
 ghost use Rattle.ww_rule.specs.Due.{AreInOrderFrom};
-ghost use Rattle.std.specs.Prelude.{◌≡◌, ◌+◌, ◌*◌, ◌<◌, ◌≤◌, ◌^◌, ℕ, All, length, IfOk, IfErr, OnOk, OnErr, Some, None};
+ghost use Rattle.std.specs.Prelude.{◌≡◌, ◌+◌, ◌*◌, ◌<◌, ◌≤◌, ◌^◌, ◌↔◌, ℕ, All, true, length, IfOk, IfErr, OnOk, OnErr, Some, None};
 ghost use Rattle.ww_rule.specs.Patterns.{grid_of};
-ghost use Rattle.band_core.specs.Bands.{IsBandedPattern, IsCellOf, IsAwake, HasReasonToStay, begun, band_at, generation_of, moved_on, unready_neighbour};
+ghost use Rattle.band_core.specs.Bands.{AreLevel, IsBandedPattern, IsCellOf, IsAwake, IsUnlit, HasReasonToStay, all_moved_on, begun, band_at, generation_of, moved_on, unready_neighbour};
 
 use crate::band::Band;
 use crate::making::begin_bands;
 use crate::moving::{awake_cell, move_band, rest_band, unready_neighbour};
+use crate::together::{are_unlit, move_all};
 use crate::{BandsError, NotReady, NotSkipped};
 use std::alloc::Global;
 use std::marker::Model;
@@ -140,6 +141,20 @@ impl Bands {
             &self.dark,
         );
         Ok(())
+    }
+
+    /// Moves all bands, which are at one generation, on by `n` generations, and returns whether no
+    /// cell is a head or a tail then. Where none is, the bands come to the generation before the next
+    /// injection at once.
+    pub fn advance_all(&mut self, n: u64) -> bool
+        requires level { AreLevel self.old }
+        requires room { generation_of self.old 0 + n < 2 ^ 64 }
+        ensures moved { self.new ≡ all_moved_on n self.old }
+        ensures unlit { (result ≡ true) ↔ IsUnlit self.new }
+    {
+        let rows = self.pattern.rows.len();
+        move_all(&mut self.bands, n, self.height, rows, &self.dark);
+        are_unlit(&self.bands)
     }
 
     /// Moves a band on by one generation if no cell can change in it. It is refused for the same

@@ -1,7 +1,7 @@
 //! A driven pattern in bands of rows, each at a generation of its own. Bands move on one at a time, in any order that
-//! their neighbours allow.
+//! their neighbours allow, or all together.
 //!
-//! Theorem: `cell`, `advance`, `skip`.
+//! Theorem: `cell`, `advance`, `advance_all`, `skip`.
 #![tactic(auto)]
 
 mod awake;
@@ -11,8 +11,9 @@ mod beside;
 mod error;
 mod making;
 mod moving;
+mod together;
 
-pub use band::due_count;
+pub use band::{calm_count, due_count};
 pub use bands::Bands;
 pub use error::{NotReady, NotSkipped};
 // The answer of `Bands::new` when memory runs out.

@@ -147,7 +147,7 @@ pub fn rest_band(bands: &mut [Band], b: usize)
         → IsQuiet e due (generation_at bands.old b) (b * height) (rows_in_band height rows b)
         → AllShow e due height rows bands.new }
 {
-    bands[b].rest();
+    bands[b].rest(1);
 }
 
 /// Returns a cell that keeps band b awake, if there is one.

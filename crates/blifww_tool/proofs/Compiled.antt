@@ -1,12 +1,13 @@
 -- What the parts of a compilation give together.
 use Rattle.std.proofs.Common.{ℕ, ◌≡◌, ◌≢◌, ◌≤◌, ◌<◌, ◌+◌, ◌-◌, ◌*◌, ◌/◌, ◌^◌, ◌==◌, ◌&&◌, true≢false, max, cond, refl, sym, ap, ap₂, ◌∙◌, subst, Bool, true, false, List, [], ◌∷◌, length, map, flat_map, arith, length-append}
-use Rattle.std.specs.Prelude.{None, All, get_or}
+use Rattle.std.specs.Prelude.{None, All, get_or, nat_lt, ◌++◌}
 use Rattle.std.specs.List.{range_with_len}
 use Rattle.std.proofs.lemmas.List.Elements.{All-map}
 use Rattle.std.proofs.lemmas.List.FromFn.{length-map-range_with_len}
 use Rattle.std.proofs.Math.Nat.{max-le}
 use Rattle.std.proofs.Math.Path.{fun_ext}
-use Rattle.std.proofs.lemmas.Bool.{and_parts, eqb-false, eqb-true}
+use Rattle.std.proofs.lemmas.Bool.{and_parts, eqb-false, eqb-true, lt-ltb, ltb-true}
+use Rattle.std.proofs.lemmas.Simd.{map-map}
 use Rattle.std.proofs.lemmas.List.{append-nil, length-map}
 use Rattle.lane_core.specs.declared.plan.Plan.{Plan}
 use Rattle.lane_core.specs.Plans.{IsAdmissible, period_of}
@@ -15,6 +16,8 @@ use Rattle.plan_waves.specs.Contexts.{StartsContexts}
 use Rattle.grid_assembly.specs.PlanDrawing.{start_grid}
 use Rattle.pattern_reading.specs.declared.ports.Ports.{Ports}
 use Rattle.pattern_writing.specs.WrittenText.{pattern_text}
+use Rattle.cell_core.specs.declared.list.CellList.{CellList}
+use Rattle.cell_core.specs.Loops.{loop_state, names_one}
 use Rattle.cell_meaning.specs.Needs.{any_needs_one}
 use Rattle.cell_plans.specs.Counts.{instr_count}
 use Rattle.latch_loops.specs.Closed.{contexts_size}
@@ -28,7 +31,9 @@ use Rattle.netlist_meaning.specs.Flat.{IsNamed, IsSound}
 use Rattle.netlist_meaning.specs.Weight.{weight}
 use Rattle.netlist_meaning.specs.FlatOf.{IsFlatOf, at_places, flat_latch}
 use Rattle.netlist_meaning.specs.Valuation.{LatchState, start_state}
+use Rattle.netlist_meaning.specs.FlatValuation.{start_bits}
 use Rattle.flat_designs.specs.Laws.{FlatIsOne, state_in_order}
+use Rattle.flat_designs.proofs.Valuations.{state_length, valuations_are_flat}
 use Rattle.flat_designs.proofs.Weights.{parts_are_few}
 use Rattle.netlist_text.specs.NetlistText.{IsNetlist}
 use Rattle.netlist_text.specs.Parts.{AreParts}
@@ -38,6 +43,7 @@ use Rattle.netlist_text.specs.declared.error.NetlistError.{NetlistError}
 use Rattle.netlist_text.specs.declared.error.NetlistError.TheVariants as netlist_of
 use Rattle.netlist_plans.specs.Planned.{ComputesCells, HasLanes, IsSmall}
 use Rattle.netlist_plans.specs.NetPlaces.{HasNetPlaces}
+use Rattle.netlist_plans.specs.Contexts.{loop_starting_bits}
 use Rattle.carries.specs.Carries.{Carries}
 use Rattle.carries.specs.Nets.{CarriesNets}
 use Rattle.carries.specs.FlatNets.{CarriesFlat}
@@ -56,7 +62,7 @@ use Rattle.start_words.specs.Starts.{latches_of, starts_of_words}
 use Rattle.start_words.specs.Laws.{LatchesAreFlat, NoWordsMeanStart, StartsAreFlat}
 use Rattle.command_words.specs.Shapes.{compile}
 use Rattle.blifww_tool.specs.Commands.{HasTextCause}
-use Rattle.blifww_tool.specs.Compilation.{Compiles, HasNoRoom, HasStarts, IsCarriedBy, latch_count, least_room}
+use Rattle.blifww_tool.specs.Compilation.{Compiles, HasNoRoom, HasStarts, IsCarriedBy, latch_count, least_room, loop_starts}
 use Rattle.refusals.specs.Refusals.{netlist_error, starts_error}
 
 -- a text that gives no netlist,
@@ -239,10 +245,45 @@ unpadded plan = record {
 no_words : NoWordsMeanStart → (design : Design) → start_state design ∷ [] ≡ starts_of_words design [] 1
 no_words law design = ap (λ (s : LatchState). s ∷ []) (sym (law design 0))
 
+-- the bits of the loops, by the list that the plan computes, and by its number of loops
+loops_alike : (plan : Plan) (list : CellList) (bits : List Bool) → plan.latches ≡ length bits + cond (names_one list) 1 0 → loop_state list bits ≡ loop_starting_bits plan bits
+loops_alike plan list bits e = ap (λ (b : Bool). bits ++ cond b (true ∷ []) []) (more (names_one list) (length bits) plan.latches e)
+  where
+    by_less : (b : Bool) (n m : ℕ) → nat_lt n m ≡ b → m ≡ n → false ≡ nat_lt n m
+    by_less false n m less same = sym less
+    by_less true n m less same = absurd (let below : n < m = ltb-true n m less in omega (arith, below, same))
+
+    more : (b : Bool) (n m : ℕ) → m ≡ n + cond b 1 0 → b ≡ nat_lt n m
+    more true n m e = sym (lt-ltb n m (omega (arith, e)))
+    more false n m e = by_less (nat_lt n m) n m refl (omega (arith, e))
+
+-- the electrons of the plan of one context
+electrons_alone : NoWordsMeanStart → (design : Design) (flat : Flat) (order : List ℕ) (plan : Plan) (ports : Ports) → AreParts design flat order → IsCarriedBy design plan ports
+    → StartsContexts plan (loop_starts design plan (starts_of_words design [] 1)) (start_edges plan)
+electrons_alone none design flat order plan ports p h =
+    let cells = h.cells flat p.is_flat in
+    let start : start_bits flat ≡ state_in_order design (start_state design) = (valuations_are_flat design flat p.faultless p.clocks p.is_flat).starts in
+    let long : length (start_bits flat) ≡ length flat.latches = ap (λ (b : List Bool). length b) start ∙ state_length design flat p.is_flat (start_state design) in
+    let alike : loop_state cells.list (start_bits flat) ≡ loop_starting_bits plan (start_bits flat) = loops_alike plan cells.list (start_bits flat) (cells.loops ∙ ap (λ (n : ℕ). n + cond (names_one cells.list) 1 0) (sym long)) in
+    subst (λ (states : List LatchState). StartsContexts plan (loop_starts design plan states) (start_edges plan)) (no_words none design)
+    (subst (λ (bits : List Bool). StartsContexts plan (bits ∷ []) (start_edges plan)) (alike ∙ ap (loop_starting_bits plan) start) cells.starts)
+
+-- and of a plan of several contexts, or with words
+electrons_of : StartsAreFlat → (contexts : ℕ) (starts : List (List ℕ)) (design : Design) (flat : Flat) (order : List ℕ) (base plan : Plan) (bits : List (List Bool)) → AreParts design flat order
+    → bits ≡ flat_starts flat starts contexts → plan.latches ≡ base.latches → StartsContexts plan (map (loop_starting_bits base) bits) (start_edges plan)
+    → StartsContexts plan (loop_starts design plan (starts_of_words design starts contexts)) (start_edges plan)
+electrons_of law contexts starts design flat order base plan bits p are same h =
+    let states : List LatchState = starts_of_words design starts contexts in
+    let of_states : bits ≡ map (state_in_order design) states = are ∙ law design flat p.faultless p.is_flat starts contexts in
+    subst (λ (loops : List (List Bool)). StartsContexts plan loops (start_edges plan))
+    (ap (map (loop_starting_bits base)) of_states
+    ∙ map-map (loop_starting_bits base) (state_in_order design) states
+    ∙ ap (λ (n : ℕ). map (λ (state : LatchState). state_in_order design state ++ cond (nat_lt (length (state_in_order design state)) n) (true ∷ []) []) states) (sym same)) h
+
 -- the plan itself, in one context and without words
-pub compiles_alone : OneContextCarries → OneContextCarriesNets → NoWordsMeanStart → (text : List ℕ) (design : Design) (plan : Plan) (ports : Ports) → HasStarts 1 [] text design → IsCarriedBy design plan ports
-    → 1 ≤ ports.p / 32 → Compiles 1 [] text (pattern_text (start_grid plan) ports)
-compiles_alone carry carry_nets none text design plan ports has h room =
+pub compiles_alone : OneContextCarries → OneContextCarriesNets → NoWordsMeanStart → (text : List ℕ) (design : Design) (flat : Flat) (order : List ℕ) (plan : Plan) (ports : Ports) → HasStarts 1 [] text design
+    → AreParts design flat order → IsCarriedBy design plan ports → 1 ≤ ports.p / 32 → Compiles 1 [] text (pattern_text (start_grid plan) ports)
+compiles_alone carry carry_nets none text design flat order plan ports has p h room =
     let output = pattern_text (start_grid plan) ports in
     record {
       design = design;
@@ -256,6 +297,7 @@ compiles_alone carry carry_nets none text design plan ports has h room =
       admissible = h.admissible;
       edges = h.edges;
       padded = unpadded plan;
+      electrons = electrons_alone none design flat order plan ports p h;
       alone = λ one empty. (refl, refl);
       table = h.table;
       places = h.places;
@@ -274,26 +316,27 @@ pub not_alone : {X : Type 0} (f : X → List ℕ) (contexts : ℕ) (words : List
 not_alone f contexts [] e one empty = true≢false (sym (ap (λ (n : ℕ). n == 1 && true) one) ∙ e)
 not_alone f contexts (w ∷ ws) e one empty = cc
 
-pub compiles_plain : OneContextCarries → OneContextCarriesNets → NoWordsMeanStart → (contexts : ℕ) (starts : List (List ℕ)) → (contexts ≡ 1) × (starts ≡ []) → (text : List ℕ) (design : Design) (plan : Plan) (ports : Ports)
-    → HasStarts contexts starts text design → IsCarriedBy design plan ports → contexts ≤ ports.p / 32 → Compiles contexts starts text (pattern_text (start_grid plan) ports)
-compiles_plain carry carry_nets none contexts starts (one, empty) text design plan ports has h room =
+pub compiles_plain : OneContextCarries → OneContextCarriesNets → NoWordsMeanStart → (contexts : ℕ) (starts : List (List ℕ)) → (contexts ≡ 1) × (starts ≡ []) → (text : List ℕ) (design : Design) (flat : Flat) (order : List ℕ)
+    (plan : Plan) (ports : Ports) → HasStarts contexts starts text design → AreParts design flat order → IsCarriedBy design plan ports → contexts ≤ ports.p / 32 → Compiles contexts starts text (pattern_text (start_grid plan) ports)
+compiles_plain carry carry_nets none contexts starts (one, empty) text design flat order plan ports has p h room =
     let output = pattern_text (start_grid plan) ports in
     subst (λ (n : ℕ). Compiles n starts text output) (sym one)
     (subst (λ (ws : List (List ℕ)). Compiles 1 ws text output) (sym empty)
-    (compiles_alone carry carry_nets none text design plan ports
-    (subst (λ (n : ℕ). HasStarts n [] text design) one (subst (λ (ws : List (List ℕ)). HasStarts contexts ws text design) empty has)) h (subst (λ (n : ℕ). n ≤ ports.p / 32) one room)))
+    (compiles_alone carry carry_nets none text design flat order plan ports
+    (subst (λ (n : ℕ). HasStarts n [] text design) one (subst (λ (ws : List (List ℕ)). HasStarts contexts ws text design) empty has)) p h (subst (λ (n : ℕ). n ≤ ports.p / 32) one room)))
 
 -- and in contexts, from the starts that the words say
 pub compiles : FlatIsOne → DesignsAreCarriedInContexts → StartsAreFlat → (contexts : ℕ) (starts : List (List ℕ)) (text : List ℕ) (design : Design) (flat : Flat) (order : List ℕ) (base : Plan) (base_ports : Ports) (plan : Plan) (ports : Ports)
-    → HasStarts contexts starts text design → AreParts design flat order → IsCarriedBy design base base_ports → contexts ≤ base_ports.p / 32
+    (bits : List (List Bool)) → HasStarts contexts starts text design → AreParts design flat order → IsCarriedBy design base base_ports → contexts ≤ base_ports.p / 32
     → (contexts ≡ 1 → starts ≡ [] → ⊥) → IsAdmissible plan → HasStartEdges plan → IsPaddedPlan (contexts_size base.latches contexts) base plan
-    → IsTableOf flat plan contexts ports → HasNetPlaces flat plan → CarriesFlatContexts (pattern_text (start_grid plan) ports) flat (flat_starts flat starts contexts)
+    → bits ≡ flat_starts flat starts contexts → StartsContexts plan (map (loop_starting_bits base) bits) (start_edges plan)
+    → IsTableOf flat plan contexts ports → HasNetPlaces flat plan → CarriesFlatContexts (pattern_text (start_grid plan) ports) flat bits
     → (contexts ≡ 1 → IsWrittenDrawing plan ports) → Compiles contexts starts text (pattern_text (start_grid plan) ports)
-compiles one law flat_law contexts starts text design flat order base base_ports plan ports has p h room several admissible edges padded table places carries drawing =
+compiles one law flat_law contexts starts text design flat order base base_ports plan ports bits has p h room several admissible edges padded are_bits started table places carries drawing =
     let output = pattern_text (start_grid plan) ports in
     let states = starts_of_words design starts contexts in
     let by_states : CarriesFlatContexts output flat (map (state_in_order design) states) =
-    subst (CarriesFlatContexts output flat) (flat_law design flat p.faultless p.is_flat starts contexts) carries in
+    subst (CarriesFlatContexts output flat) (are_bits ∙ flat_law design flat p.faultless p.is_flat starts contexts) carries in
     let nets : CarriesNetsInContexts output design states = law output design flat p.faultless p.clocks p.is_flat states by_states in
     record {
       design = design;
@@ -307,6 +350,7 @@ compiles one law flat_law contexts starts text design flat order base base_ports
       admissible = admissible;
       edges = edges;
       padded = padded;
+      electrons = electrons_of flat_law contexts starts design flat order base plan bits p are_bits padded.latches started;
       alone = λ is_one empty. absurd (several is_one empty);
       table = λ other is. subst (λ (f : Flat). IsTableOf f plan contexts ports) (one design flat other p.is_flat is) table;
       places = λ other is. subst (λ (f : Flat). HasNetPlaces f plan) (one design flat other p.is_flat is) places;

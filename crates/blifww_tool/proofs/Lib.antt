@@ -22,14 +22,3 @@ pub mod Decided
 pub mod Ended
 pub mod Stopped
 pub mod Statuses
-pub mod PrintsAlike
-pub mod DumpsNets
-pub mod TapePrints
-pub mod LiftsBack
-pub mod Fed
-pub mod PrintsRuns
-pub mod PrintsNet
-pub mod PrintsNetInContexts
-pub mod RunsQuietly
-pub mod EvaluatesAlike
-pub mod AigPrints

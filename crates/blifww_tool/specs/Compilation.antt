@@ -1,8 +1,9 @@
 -- The pattern that is written of a netlist.
-use Rattle.std.specs.Prelude.{ℕ, ◌≡◌, ◌≤◌, ◌<◌, ◌+◌, ◌*◌, ◌/◌, max, List, [], length, false, Some, None}
+use Rattle.std.specs.Prelude.{ℕ, ◌≡◌, ◌≤◌, ◌<◌, ◌+◌, ◌*◌, ◌/◌, max, Bool, List, [], length, map, false, Some, None}
 use Rattle.lane_core.specs.declared.plan.Plan.{Plan}
 use Rattle.lane_core.specs.Plans.{IsAdmissible}
-use Rattle.plan_layout.specs.Starts.{HasStartEdges}
+use Rattle.plan_layout.specs.Starts.{HasStartEdges, start_edges}
+use Rattle.plan_waves.specs.Contexts.{StartsContexts}
 use Rattle.grid_assembly.specs.PlanDrawing.{start_grid}
 use Rattle.pattern_reading.specs.declared.ports.Ports.{Ports}
 use Rattle.pattern_writing.specs.WrittenText.{pattern_text}
@@ -15,10 +16,13 @@ use Rattle.latch_loops.specs.Closed.{contexts_size}
 use Rattle.latch_loops.specs.Padded.{IsPaddedPlan}
 use Rattle.netlist_core.specs.declared.model.Design.{Design}
 use Rattle.netlist_core.specs.declared.flat.Flat.{Flat}
+use Rattle.netlist_meaning.specs.Valuation.{LatchState}
 use Rattle.netlist_meaning.specs.Weight.{weight}
 use Rattle.netlist_meaning.specs.FlatOf.{IsFlatOf, at_places}
 use Rattle.netlist_plans.specs.Planned.{ComputesCells, HasLanes}
 use Rattle.netlist_plans.specs.NetPlaces.{HasNetPlaces}
+use Rattle.netlist_plans.specs.Contexts.{loop_starting_bits}
+use Rattle.flat_designs.specs.Laws.{state_in_order}
 use Rattle.plan_ports.specs.Tables.{IsTableOf}
 use Rattle.lift_carries.specs.Compiled.{IsWrittenDrawing}
 use Rattle.netlist_text.specs.NetlistText.{IsNetlist, IsAtFault, IsTooHeavy, HasLoop}
@@ -56,12 +60,19 @@ pub record HasStarts (contexts : ℕ) (starts : List (List ℕ)) (text : List �
   pub netlist : IsNetlist text design
   pub no_fault : first_fault (latches_of design) contexts starts ≡ None
 
+-- The bits with which the loops of a plan start, a list for each of these states of the latches: the
+-- bits of the latches, in order, and 1 for the loop of constant 1 if the plan has one.
+abbrev pub loop_starts : Design → Plan → List LatchState → List (List Bool)
+loop_starts design plan states =
+    map (λ state. loop_starting_bits plan (state_in_order design state)) states
+
 -- The text is a netlist, in which the words give starts. A plan of one context carries the design,
 -- and its period has 32 generations for each of the contexts. The output is the text that is
 -- written of a plan and its table; it carries the design and its nets in these contexts, each from
 -- its start. The written plan is the plan of one context, except for its starts and for the further
--- columns that the contexts need; in one context, and without words, it is that plan. In one
--- context the written text spells the drawing of a circuit.
+-- columns that the contexts need; in one context, and without words, it is that plan. Its electrons
+-- lie on the ways back of its loops, those of context c as many tiles before the loops' entries. In
+-- one context the written text spells the drawing of a circuit.
 pub record Compiles (contexts : ℕ) (starts : List (List ℕ)) (text output : List ℕ) : Type 0 where
   pub design : Design
   pub has : HasStarts contexts starts text design
@@ -74,6 +85,8 @@ pub record Compiles (contexts : ℕ) (starts : List (List ℕ)) (text output : L
   pub admissible : IsAdmissible plan
   pub edges : HasStartEdges plan
   pub padded : IsPaddedPlan (contexts_size base.latches contexts) base plan
+  pub electrons : StartsContexts plan
+      (loop_starts design plan (starts_of_words design starts contexts)) (start_edges plan)
   pub alone : contexts ≡ 1 → starts ≡ [] → (plan ≡ base) × (ports ≡ base_ports)
   pub table : (flat : Flat) → IsFlatOf design flat → IsTableOf flat plan contexts ports
   pub places : (flat : Flat) → IsFlatOf design flat → HasNetPlaces flat plan

@@ -15,9 +15,3 @@ pub mod Run
 pub mod Statuses
 pub mod Headline
 pub mod Answer
-pub mod PrintsAlike
-pub mod DumpsNets
-pub mod TapePrints
-pub mod LiftsBack
-pub mod EvaluatesAlike
-pub mod AigPrints

@@ -1,8 +1,7 @@
 //! The top call of the program: `compile`, `eval` and `tape` for the text of a netlist, `aiger` for that of a circuit,
 //! `simulate`, `probe`, `window`, `vcd` and `lift` for that of a pattern, and `make` and `self` for made netlists.
 //!
-//! Theorem: `run` (`headline`, `contexts`, `tapes`, `aigs`, `dumps`, `lifts`, `ends`), `carriers_print_alike`, `carriers_print_runs`,
-//! `compiled_are_lifted`.
+//! Theorem: `run` (`headline`, `contexts`, `tapes`, `aigs`, `dumps`, `lifts`, `ends`), `statuses_have_causes`.
 #![tactic(auto)]
 
 mod aiger;

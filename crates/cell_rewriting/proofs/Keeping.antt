@@ -39,7 +39,7 @@ cell_same (Or a b) = refl
 cell_same (Xor a b) = refl
 cell_same (AndNot a b) = refl
 
-contains_mapped : (f : Src → Src) (sources : List Src) (src : Src) → Contains sources src → Contains (map f sources) (f src)
+pub contains_mapped : (f : Src → Src) (sources : List Src) (src : Src) → Contains sources src → Contains (map f sources) (f src)
 contains_mapped f sources src c = contains_from (map f sources) (f src) (in_map f sources src (in_from sources src c))
 
 pub then_keeps : (a b c : CellList) (k l m : List Src) → Keeps a k b l → Keeps b l c m → Keeps a k c m

@@ -1,4 +1,4 @@
-mod Moves
+pub mod Moves
 mod Worded
 mod Substituting
 mod Keeping

@@ -14,6 +14,8 @@ mod singles;
 mod words;
 
 pub use covers::map_cover;
-pub use shared::{Places, is_same_cell, is_same_src};
+pub use gates::{and, and_not, or};
+pub use reduced::settle;
+pub use shared::{Places, is_same_cell, is_same_src, share};
 pub use singles::single_cell;
 pub use words::{and_not_words, net_word, or_words, xor_words};

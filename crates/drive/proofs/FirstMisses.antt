@@ -86,6 +86,17 @@ module _ (due : Due) (plane : Plane) where
       ∙ find-append (misses due plane) a.used front
       ∙ ap (λ (is : List Injection). option_or (find (misses due plane) is) (find (misses due plane) front)) (sym now)
 
+  -- up to a generation before those that are left there is no other
+  pub first_calm : (g h : ℕ) (is left : List Injection) → g ≤ h → AreLeftAt (g + 1) is left → AreInOrderFrom (h + 1) left → first_of_misses is due plane h ≡ first_of_misses is due plane g
+  first_calm g h is left le a order = ap (find (misses due plane)) (up_to_used h le (omega arith) order ∙ sym (up_to_used g (omega arith) (omega arith) a.in_order))
+    where
+      up_to_used : (h : ℕ) → g ≤ h → h < h + 1 → AreInOrderFrom (h + 1) left → filter (up_to h) is ≡ a.used
+      up_to_used h le later order =
+          ap (filter (up_to h)) a.parts
+          ∙ filter-append (up_to h) a.used left
+          ∙ ap₂ (λ (used left : List Injection). used ++ left) (all_up_to h (g + 1) a.used (omega (arith, le)) a.earlier) (none_up_to h (h + 1) left later order)
+          ∙ append-nil a.used
+
   -- after the last injection there is no other
   pub first_stays : (g h : ℕ) (is : List Injection) → g ≤ h → All (λ i. i.generation < g + 1) is → first_of_misses is due plane h ≡ first_of_misses is due plane g
   first_stays g h is le past =

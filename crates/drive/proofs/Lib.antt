@@ -5,9 +5,10 @@ pub mod ContextBits
 pub mod Streamed
 pub mod Inside
 pub mod Columns
-pub mod Sweeps
+pub mod AllMoved
 pub mod Still
 pub mod Turned
 pub mod FirstMisses
 pub mod LaterMisses
 pub mod TurnedMisses
+pub mod Coming

@@ -1,49 +1,22 @@
 -- A pattern that is dark, with no injection to come, stays as it is.
-use Rattle.std.proofs.Common.{ℤ, pos, negsuc, ◌+ℤ◌, ◌-ℤ◌, ℕ, zero, suc, ◌+◌, ◌-◌, ◌/◌, ◌<◌, ◌≤◌, ◌≡◌, refl, sym, ap, ◌∙◌, inl, inr, Bool, false, ◌&&◌, cond, nat_lt, List, length, All, arith}
+use Rattle.std.proofs.Common.{ℤ, pos, negsuc, ◌-ℤ◌, ℕ, ◌+◌, ◌-◌, ◌/◌, ◌<◌, ◌≤◌, ◌≡◌, refl, sym, ap, ◌∙◌, inl, inr, Bool, false, ◌&&◌, nat_lt, List, length, All, arith}
 use Rattle.std.specs.Prelude.{◌≢◌, ◌⊎◌}
-use Rattle.std.proofs.Math.Path.{fun_ext}
 use Rattle.std.proofs.lemmas.Bool.{cases_Bool, and_parts, ltb-true, le-ltb}
 use Rattle.std.proofs.lemmas.List.Elements.{All-contains}
 use Rattle.std.proofs.Math.Bool.{and-false}
 use Rattle.ww_rule.specs.declared.pattern.State.{State}
-use Rattle.ww_rule.specs.declared.pattern.State.TheVariants.{Empty, Head, Tail, Conductor}
+use Rattle.ww_rule.specs.declared.pattern.State.TheVariants.{Empty, Head, Tail}
 use Rattle.ww_rule.specs.declared.pattern.Injection.{Injection}
-use Rattle.ww_rule.specs.Wireworld.{Plane, count_head, heads_around, next_state, next_plane, injected, driven}
+use Rattle.ww_rule.specs.Wireworld.{count_head, driven}
 use Rattle.ww_rule.specs.Grid.{in_box, plane_of}
 use Rattle.ww_rule.specs.Injections.{due_of_list}
 use Rattle.ww_rule.proofs.Lists.{lists_are_injected}
-use Rattle.band_core.specs.Bands.{BandedPattern, IsBandedPattern, IsAwake, IsCellOf, generation_of}
-use Rattle.band_core.specs.Bands.IsAwake.{head, tail}
+use Rattle.band_core.specs.Bands.{BandedPattern, IsBandedPattern, IsCellOf, IsLit, IsUnlit, generation_of}
+use Rattle.band_core.specs.Bands.IsLit.{head, tail}
 use Rattle.band_core.proofs.Cells.{is_cell, is_band}
+use Rattle.band_core.proofs.Dark.{IsDark, stays_dark}
 use Rattle.band_core.proofs.Evolution as bands
 use Rattle.drive.specs.Runs.{AreAt, evolution}
-use Rattle.ww_rule.proofs.Cells.{not_counted}
-
--- no head and no tail
-abbrev IsDark : Plane → Type 0
-IsDark p = (x y : ℤ) → (p x y ≢ Head) × (p x y ≢ Tail)
-
-stays : (s : State) (n : ℕ) → s ≢ Head → s ≢ Tail → n ≡ 0 → next_state s n ≡ s
-stays Empty n no_head no_tail e = refl
-stays Head n no_head no_tail e = absurd (no_head refl)
-stays Tail n no_head no_tail e = absurd (no_tail refl)
-stays Conductor n no_head no_tail e = ap (next_state Conductor) e
-
-dark_around : (p : Plane) (x y : ℤ) → IsDark p → heads_around p x y ≡ 0
-dark_around p x y dark =
-    let none = λ (u v : ℤ). not_counted (p u v) (dark u v).0 in
-    let a = none (x -ℤ pos 1) (y -ℤ pos 1) in
-    let b = none x (y -ℤ pos 1) in
-    let c = none (x +ℤ pos 1) (y -ℤ pos 1) in
-    let d = none (x -ℤ pos 1) y in
-    let e = none (x +ℤ pos 1) y in
-    let f = none (x -ℤ pos 1) (y +ℤ pos 1) in
-    let g = none x (y +ℤ pos 1) in
-    let h = none (x +ℤ pos 1) (y +ℤ pos 1) in
-    omega (arith, a, b, c, d, e, f, g, h)
-
-dark_stays : (p : Plane) → IsDark p → next_plane p ≡ p
-dark_stays p dark = fun_ext (λ x. fun_ext (λ y. stays (p x y) (heads_around p x y) (dark x y).0 (dark x y).1 (dark_around p x y dark)))
 
 -- where all injections are of earlier generations, none is due
 none_due : (injections : List Injection) (last g : ℕ) (x y : ℤ) → All (λ i. i.generation < last) injections → last ≤ g → due_of_list injections g x y ≡ false
@@ -61,33 +34,33 @@ none_due injections last g x y all later =
 pub nothing_outside : (p : BandedPattern) (g : ℕ) (x y : ℤ) → IsBandedPattern p → in_box p.grid.width (length p.grid.rows) x y ≡ false → evolution p g x y ≡ Empty
 nothing_outside p g x y whole out = (bands.evolution p.grid.width p.grid.height p.grid.rows p.injections whole.grid whole.inside).empty g x y out
 
--- cells of bands that are asleep are neither heads nor tails
-asleep_is_dark : (p : BandedPattern) (g : ℕ) → IsBandedPattern p → AreAt g p → ((b x y : ℕ) → b < length p.generations → IsAwake p b x y → ⊥) → IsDark (evolution p g)
-asleep_is_dark p g whole at asleep x y = (unlit Head (λ e. cc) (λ b x y cell is. head cell is) x y, unlit Tail (λ e. cc) (λ b x y cell is. tail cell is) x y)
+-- where no cell of the bands is lit, the plane is dark
+unlit_is_dark : (p : BandedPattern) (g : ℕ) → IsBandedPattern p → AreAt g p → IsUnlit p → IsDark (evolution p g)
+unlit_is_dark p g whole at none x y = (unlit Head (λ e. cc) (λ b x y cell is. head cell is) x y, unlit Tail (λ e. cc) (λ b x y cell is. tail cell is) x y)
   where
     rows : ℕ
     rows = length p.grid.rows
 
-    wakes : State → Type 0
-    wakes s = (b x y : ℕ) → IsCellOf p b x y → driven (due_of_list p.injections) (plane_of p.grid.rows) (generation_of p b) (pos x) (pos y) ≡ s → IsAwake p b x y
+    lights : State → Type 0
+    lights s = (b x y : ℕ) → IsCellOf p b x y → driven (due_of_list p.injections) (plane_of p.grid.rows) (generation_of p b) (pos x) (pos y) ≡ s → IsLit p b x y
 
     outside : (s : State) → s ≢ Empty → (x y : ℤ) → in_box p.grid.width rows x y ≡ false → evolution p g x y ≢ s
     outside s lit x y out e = lit (sym e ∙ nothing_outside p g x y whole out)
 
-    inside : (s : State) → wakes s → (x y : ℕ) → x < p.grid.width → y < rows → evolution p g (pos x) (pos y) ≢ s
-    inside s wakes x y column row e =
+    inside : (s : State) → lights s → (x y : ℕ) → x < p.grid.width → y < rows → evolution p g (pos x) (pos y) ≢ s
+    inside s lights x y column row e =
         let b = y / p.height in
         let band = is_band p whole y row in
-        asleep b x y band (wakes b x y (is_cell p whole y x column row) (ap (λ n. evolution p n (pos x) (pos y)) (at b band) ∙ e))
+        none b x y (lights b x y (is_cell p whole y x column row) (ap (λ n. evolution p n (pos x) (pos y)) (at b band) ∙ e))
 
-    unlit : (s : State) → s ≢ Empty → wakes s → (x y : ℤ) → evolution p g x y ≢ s
-    unlit s lit wakes (pos x) (pos y) =
+    unlit : (s : State) → s ≢ Empty → lights s → (x y : ℤ) → evolution p g x y ≢ s
+    unlit s lit lights (pos x) (pos y) =
         elim (cases_Bool (in_box p.grid.width rows (pos x) (pos y))) [
-          | inl e ↦ let parts = and_parts (nat_lt x p.grid.width) (nat_lt y rows) e in inside s wakes x y (ltb-true x p.grid.width parts.0) (ltb-true y rows parts.1)
+          | inl e ↦ let parts = and_parts (nat_lt x p.grid.width) (nat_lt y rows) e in inside s lights x y (ltb-true x p.grid.width parts.0) (ltb-true y rows parts.1)
           | inr e ↦ outside s lit (pos x) (pos y) e
         ]
-    unlit s lit wakes (pos x) (negsuc y) = outside s lit (pos x) (negsuc y) refl
-    unlit s lit wakes (negsuc x) y = outside s lit (negsuc x) y refl
+    unlit s lit lights (pos x) (negsuc y) = outside s lit (pos x) (negsuc y) refl
+    unlit s lit lights (negsuc x) y = outside s lit (negsuc x) y refl
 
 -- so not beyond the last column or row
 pub empty_outside : (p : BandedPattern) (g x y : ℕ) → IsBandedPattern p → (p.grid.width ≤ x) ⊎ (length p.grid.rows ≤ y) → evolution p g (pos x) (pos y) ≡ Empty
@@ -97,19 +70,14 @@ empty_outside p g x y whole out = nothing_outside p g (pos x) (pos y) whole (out
     outside (inl le) = ap (λ (t : Bool). t && nat_lt y (length p.grid.rows)) (le-ltb x p.grid.width le)
     outside (inr le) = ap (λ (t : Bool). nat_lt x p.grid.width && t) (le-ltb y (length p.grid.rows) le) ∙ and-false (nat_lt x p.grid.width)
 
--- where all bands are asleep and no injection is to come, each later generation is this one
-pub stays_still : (p : BandedPattern) (g : ℕ) → IsBandedPattern p → AreAt g p → ((b x y : ℕ) → b < length p.generations → IsAwake p b x y → ⊥) → All (λ i. i.generation < g + 1) p.injections → (h : ℕ) → g ≤ h → evolution p h ≡ evolution p g
-stays_still p g whole at asleep all h le = let k : h ≡ g + (h - g) = omega (arith, le) in ap (evolution p) k ∙ go (h - g)
-  where
-    go : (k : ℕ) → evolution p (g + k) ≡ evolution p g
-    go zero = ap (evolution p) (let e : g + 0 ≡ g = omega arith in e)
-    go (suc k) =
-        let due = due_of_list p.injections in
-        let e : g + suc k ≡ suc (g + k) = omega arith in
-        ap (evolution p) e
-        ∙ ap (λ (q : Plane). injected (due (suc (g + k))) (next_plane q)) (go k)
-        ∙ ap (injected (due (suc (g + k)))) (dark_stays (evolution p g) (asleep_is_dark p g whole at asleep))
-        ∙ fun_ext (λ x. fun_ext (λ y. ap (λ (t : Bool). cond t Head (evolution p g x y)) (none_due p.injections (g + 1) (suc (g + k)) x y all (omega arith))))
+-- where no cell is lit and no injection is to come, each later generation is this one
+pub stays_still : (p : BandedPattern) (g : ℕ) → IsBandedPattern p → AreAt g p → IsUnlit p → All (λ i. i.generation < g + 1) p.injections → (h : ℕ) → g ≤ h → evolution p h ≡ evolution p g
+stays_still p g whole at none all h le =
+    let k : h ≡ g + (h - g) = omega (arith, le) in
+    let evo = bands.evolution p.grid.width p.grid.height p.grid.rows p.injections whole.grid whole.inside in
+    ap (evolution p) k
+    ∙ stays_dark (evolution p) (due_of_list p.injections) p.grid.width (length p.grid.rows) g evo (unlit_is_dark p g whole at none) (h - g)
+    (λ h x y later early lt. none_due p.injections (g + 1) h (pos x) (pos y) all (omega (arith, later))) (h - g) (omega arith)
 
 -- before the first column and the first row there is no head
 pub no_head_before : (p : BandedPattern) (g x y : ℕ) → IsBandedPattern p → (x ≡ 0) ⊎ (y ≡ 0) → count_head (evolution p g (pos x -ℤ pos 1) (pos y -ℤ pos 1)) ≡ 0

@@ -7,7 +7,6 @@ mod bits;
 mod driving;
 mod error;
 mod misses;
-mod moving;
 mod run;
 mod simulation;
 

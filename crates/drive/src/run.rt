@@ -13,9 +13,8 @@ ghost use Rattle.drive.specs.Runs.{IsBandRun, evolution, first_miss_in, injectio
 
 use crate::driving::injections;
 use crate::misses::first_on_pattern;
-use crate::moving::move_all;
 use crate::{DriveError, SimulateError};
-use band_core::{Bands, due_count};
+use band_core::{Bands, calm_count, due_count};
 use pattern_reading::Ports;
 use std::alloc::Global;
 use streams::Streams;
@@ -243,13 +242,51 @@ impl Run {
         ensures misses { first_miss_of self.new ≡ first_miss_of self.old }
         ensures comes { self.new.generation ≡ self.old.generation + 1 }
     {
-        let is_past = self.next_injection >= self.bands.injections().len();
         let (next_injection, missed) = self.look_ahead();
-        let is_asleep = move_all(&mut self.bands, self.generation);
-        self.is_still = is_past & is_asleep;
+        let is_past = next_injection >= self.bands.injections().len();
+        let is_unlit = self.bands.advance_all(1);
+        self.is_still = is_past & is_unlit;
         self.next_injection = next_injection;
         self.missed = missed;
         self.generation += 1;
+    }
+
+    // Goes on by `n` generations in which no injection is due.
+    fn pass(&mut self, n: u64)
+        requires run { IsBandRun self.old }
+        requires room { self.old.generation + n < 2 ^ 64 }
+        requires calm { AreInOrderFrom (self.old.generation + n + 1)
+            (drop self.old.next_injection self.old.bands.injections) }
+        ensures run { IsBandRun self.new }
+        ensures planes { planes_of self.new ≡ planes_of self.old }
+        ensures misses { first_miss_of self.new ≡ first_miss_of self.old }
+        ensures comes { self.new.generation ≡ self.old.generation + n }
+    {
+        let is_past = self.next_injection >= self.bands.injections().len();
+        let is_unlit = self.bands.advance_all(n);
+        self.is_still = is_past & is_unlit;
+        self.generation += n;
+    }
+
+    // Goes on to the generation before the next injection, or by one generation to an injection,
+    // but no further than to this generation.
+    fn go_further(&mut self, generation: u64)
+        requires run { IsBandRun self.old }
+        requires order { self.old.generation < generation }
+        ensures run { IsBandRun self.new }
+        ensures planes { planes_of self.new ≡ planes_of self.old }
+        ensures misses { first_miss_of self.new ≡ first_miss_of self.old }
+        ensures comes { self.old.generation < self.new.generation }
+        ensures order { self.new.generation ≤ generation }
+    {
+        let most = generation - self.generation;
+        let injections = self.bands.injections();
+        let calm = calm_count(self.generation, injections, self.next_injection, most);
+        if calm > 0 {
+            self.pass(calm);
+        } else {
+            self.next();
+        }
     }
 
     /// Goes on to this generation, which is not before the run's own, or stops earlier if no cell
@@ -266,7 +303,7 @@ impl Run {
             first_miss_of self.new generation }
     {
         while self.generation < generation && !self.is_still {
-            self.next();
+            self.go_further(generation);
         }
     }
 
@@ -292,7 +329,7 @@ impl Run {
             first_miss_of self.new generation }
     {
         while self.generation < generation && !self.is_past() {
-            self.next();
+            self.go_further(generation);
         }
     }
 

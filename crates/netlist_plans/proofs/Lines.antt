@@ -14,6 +14,8 @@ use Rattle.blif_text.specs.Laws.{BreaksNone, HasWords}
 use Rattle.blif_text.proofs.FirstFaults.{breaks_none}
 use Rattle.blif_text.proofs.Designs.{none_given, none_left, none_right}
 use Rattle.netlist_plans.specs.TextNames.{IsNameWord}
+use Rattle.blif_text.specs.LogicalLines.{is_hash}
+use Rattle.netlist_plans.proofs.FreeWords.{IsFree, HasFreeWords}
 use Rattle.netlist_plans.proofs.Newlines.{IsOneLine, HasOneLineWords}
 
 -- parts of lists
@@ -71,10 +73,10 @@ none_bad (first ∷ words) word e i = by (is_bad_pin first) refl e i (λ d j. no
     by false h d (inl same) again = ap is_bad_pin same ∙ h
     by false h d (inr j) again = again d j
 
-clean_line : (before : List Logical) (l : Logical) → BreaksNone before l → HasWords l → HasOneLineWords l → Clean l
-clean_line before l none has one =
+clean_line : (before : List Logical) (l : Logical) → BreaksNone before l → HasWords l → HasOneLineWords l → HasFreeWords is_hash l → Clean l
+clean_line before l none has one free =
     record {
-      words = λ word i. let w = all_in (λ (v : List ℕ). (v ≢ []) × (list_any Rattle.blif_text.specs.LogicalLines.is_space v ≡ false)) l.words word has.1 i in record { some = w.0; plain = w.1; one_line = all_in IsOneLine l.words word one i };
+      words = λ word i. let w = all_in (λ (v : List ℕ). (v ≢ []) × (list_any Rattle.blif_text.specs.LogicalLines.is_space v ≡ false)) l.words word has.1 i in record { some = w.0; plain = w.1; one_line = all_in IsOneLine l.words word one i; no_comment = all_in (IsFree is_hash) l.words word free i };
       counted = λ names empty.
           let bad : has_bad_count l ≡ false = none_given (has_bad_count l) (first_word l) (inside (none BadCount)) in
           let zero_operands : (length (operands l) == 0) ≡ false = other_fails (has_directive (codes ".names") l || has_directive (codes ".subckt") l) (length (operands l) == 0) (or_left _ _ names) (or_parts _ _ bad).1 in
@@ -85,7 +87,7 @@ clean_line before l none has one =
     inside : {word : Option (List ℕ)} → cond (is_before_models before l || follows_end before l) None word ≡ None → word ≡ None
     inside {word = word} e = none_inside (is_before_models before l) (follows_end before l) word (none_given (is_before_models before l) (first_word l) (none NoModelYet)) (none_given (follows_end before l) (first_word l) (none AfterEnd)) e
 
-pub clean_after : (before lines : List Logical) → fault_after before lines ≡ None → AllByRecursion HasWords lines → AllByRecursion HasOneLineWords lines → AllByRecursion Clean lines
-clean_after before [] e has one = tt
-clean_after before (l ∷ ls) e has one =
-    (clean_line before l (breaks_none before l (none_left (first_broken line_rules before l) (fault_after (l ∷ before) ls) e)) has.0 one.0, clean_after (l ∷ before) ls (none_right (first_broken line_rules before l) (fault_after (l ∷ before) ls) e) has.1 one.1)
+pub clean_after : (before lines : List Logical) → fault_after before lines ≡ None → AllByRecursion HasWords lines → AllByRecursion HasOneLineWords lines → AllByRecursion (HasFreeWords is_hash) lines → AllByRecursion Clean lines
+clean_after before [] e has one free = tt
+clean_after before (l ∷ ls) e has one free =
+    (clean_line before l (breaks_none before l (none_left (first_broken line_rules before l) (fault_after (l ∷ before) ls) e)) has.0 one.0 free.0, clean_after (l ∷ before) ls (none_right (first_broken line_rules before l) (fault_after (l ∷ before) ls) e) has.1 one.1 free.1)

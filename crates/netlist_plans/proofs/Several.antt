@@ -1,26 +1,22 @@
 -- The plan of a flat netlist in several contexts.
-use Rattle.std.proofs.Common.{◌≡◌, refl, sym, ◌∙◌, ap, ap₂, subst, ℕ, suc, ◌+◌, ◌*◌, ◌<◌, ◌≤◌, ◌^◌, Bool, true, false, cond, List, [], ◌∷◌, ◌++◌, length, get_or, map, arith}
-use Rattle.std.specs.Prelude.{◌==◌, nat_lt, All}
+use Rattle.std.proofs.Common.{◌≡◌, refl, sym, ◌∙◌, ap, ap₂, subst, ℕ, suc, ◌+◌, ◌*◌, ◌<◌, ◌≤◌, ◌^◌, Bool, true, false, cond, List, [], ◌∷◌, ◌++◌, length, map, arith}
+use Rattle.std.specs.Prelude.{nat_lt, All}
 use Rattle.std.proofs.lemmas.Bool.Decides.{nat_tests}
-use Rattle.std.proofs.lemmas.List.{length-map, length-append}
+use Rattle.std.proofs.lemmas.List.{length-append}
 use Rattle.std.proofs.lemmas.List.Elements.{All-cons}
 use Rattle.std.proofs.Math.Nat.{mul-le-mul, mul-mul-mul_comm}
 use Rattle.lists.proofs.Numbers.{at_most_one, length_if}
-use Rattle.lane_core.specs.declared.plan.NetPlace.{NetPlace}
 use Rattle.lane_core.specs.declared.plan.Plan.{Plan}
-use Rattle.lane_core.specs.Plans.{IsAdmissible, period_of}
+use Rattle.lane_core.specs.Plans.{period_of}
 use Rattle.lane_core.specs.Tape.{cycle_tiles}
 use Rattle.plan_waves.proofs.CycleTiles.{period_is}
-use Rattle.plan_waves.specs.Contexts.{StartsContexts}
 use Rattle.netlist_core.specs.declared.flat.Flat.{Flat}
 use Rattle.netlist_meaning.specs.Flat.{IsWeighed}
-use Rattle.cell_core.specs.declared.cells.Src.{Src}
 use Rattle.cell_core.specs.declared.list.CellList.{CellList}
 use Rattle.cell_core.specs.Loops.{names_one, loop_count, loop_state}
 use Rattle.cell_meaning.specs.Mapped.{IsMapped}
-use Rattle.cell_plans.specs.Exits.{IsExitOf, AreAtExits}
+use Rattle.cell_plans.specs.Exits.{AreAtExits}
 use Rattle.cell_plans.proofs.Exits.{in_padded}
-use Rattle.latch_loops.specs.Closed.{IsPadded}
 use Rattle.latch_loops.specs.Padded.{IsPaddedPlan}
 use Rattle.row_placer.specs.Entries.{AreAtEntries}
 use Rattle.netlist_plans.specs.Contexts.{loop_starting_bits}

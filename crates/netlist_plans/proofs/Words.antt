@@ -16,13 +16,13 @@ use Rattle.netlist_core.specs.Names.{Name, at_line, port_names}
 use Rattle.netlist_meaning.specs.Nets.{model_names}
 use Rattle.flat_designs.proofs.Faultless.{in_models}
 use Rattle.blif_text.specs.declared.logical.Logical.{Logical}
-use Rattle.blif_text.specs.LogicalLines.{logical_lines, is_space}
+use Rattle.blif_text.specs.LogicalLines.{logical_lines, is_space, is_hash}
 use Rattle.blif_text.specs.Models.{operands, has_directive, begins_model, stays_in_model, is_row, lines_with, ports_on, ports_listed, last_word, cover_of, cover_at, covers_of, is_control, latch_with, latch_on, is_equals, pin_of, pin_words, subckt_of, model_of, model_if, models_of}
 use Rattle.blif_text.specs.LineFaults.{is_empty}
 use Rattle.blif_text.proofs.LineNumbers.{lines_have_words}
 use Rattle.netlist_plans.specs.TextNames.{IsNameWord, NamesAreWords, NetsAreWords}
 use Rattle.netlist_plans.proofs.Lines.{Clean, all_taken, in_drop, in_take, in_last, none_dropped, clean_after}
-use Rattle.netlist_plans.proofs.Newlines.{lines_have_one_line_words}
+use Rattle.netlist_plans.proofs.Newlines.{lines_have_no_comments, lines_have_one_line_words}
 
 some_given : {X : Type 0} (b : Bool) (x y : X) → then_some b x ≡ Some y → (b ≡ true) × (x ≡ y)
 some_given true x y e = (refl, same_Some x y e)
@@ -110,7 +110,7 @@ actual_word l clean subckt name i =
     let (word, k, is) = in_mapped pin_of (pin_words l) pin j in
     let w : IsNameWord word = clean.words word (in_drop 2 l.words word k) in
     let some : is_empty (after_first is_equals word) ≡ false = (or_parts (is_empty (before_first is_equals word)) (is_empty (after_first is_equals word)) (clean.pins subckt word k)).1 in
-    subst IsNameWord (sym (e ∙ ap (λ (p : Pin). p.actual) is)) (record { some = not_empty (after_first is_equals word) some; plain = none_dropped is_space _ word w.plain; one_line = none_dropped Rattle.blif_text.specs.LogicalLines.is_newline _ word w.one_line })
+    subst IsNameWord (sym (e ∙ ap (λ (p : Pin). p.actual) is)) (record { some = not_empty (after_first is_equals word) some; plain = none_dropped is_space _ word w.plain; one_line = none_dropped Rattle.blif_text.specs.LogicalLines.is_newline _ word w.one_line; no_comment = none_dropped is_hash _ word w.no_comment })
 
 abbrev inputs_in : List Logical → List Name
 inputs_in lines = port_names (ports_listed (codes ".inputs") lines)
@@ -180,7 +180,7 @@ models_words (l ∷ ls) clean m i name j =
 
 pub names_are_words : NamesAreWords
 names_are_words text design is model has name named =
-    models_words (logical_lines text) (clean_after [] (logical_lines text) is.models.no_fault (lines_have_words text).0 (lines_have_one_line_words text)) model
+    models_words (logical_lines text) (clean_after [] (logical_lines text) is.models.no_fault (lines_have_words text).0 (lines_have_one_line_words text) (lines_have_no_comments text)) model
     (subst (λ ms. In model ms) is.models.are_models (in_from design.models model has)) name (in_from (model_names model) name named)
 
 pub nets_are_words : NetsAreWords

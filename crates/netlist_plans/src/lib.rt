@@ -17,7 +17,8 @@ pub use lists::OutOfMemory as NetlistPlanError;
 pub use planning::{Planned, plan_netlist};
 pub use taping::load_netlist;
 
-/// The names of a text's models, and of its design's nets, have at least one byte and no blank.
+/// The names of a text's models, and of its design's nets, have at least one byte, no blank, no line
+/// end and no `#`.
 pub fn names_are_words()
     ensures names { NamesAreWords }
     ensures nets { NetsAreWords }

@@ -1,26 +1,27 @@
 // The plan of a flat netlist, by its list of cells.
-ghost use Rattle.std.specs.Prelude.{◌≡◌, ◌<◌, ◌^◌, [], false, length, All, IfOk};
+ghost use Rattle.std.specs.Prelude.{◌≡◌, ◌≤◌, ◌<◌, ◌*◌, ◌^◌, min, [], true, false, length, All, IfOk, IfSome};
 ghost use Rattle.grid_assembly.specs.PlanDrawing.{start_grid};
 ghost use Rattle.lane_core.specs.Plans.{IsAdmissible};
 ghost use Rattle.plan_layout.specs.Starts.{HasStartEdges};
 ghost use Rattle.netlist_meaning.specs.Flat.{IsNamed, IsSound, IsWeighed};
 ghost use Rattle.netlist_meaning.specs.FlatOrder.{IsOrder};
-ghost use Rattle.cell_meaning.specs.Needs.{any_needs_one};
+ghost use Rattle.cell_meaning.specs.Needs.{any_needs_one, covers_weight};
 ghost use Rattle.plan_carries.specs.Compiled.{ComputesFlat};
 ghost use Rattle.plan_ports.specs.Tables.{HasPortNames, HasTablePlaces, IsTableOf};
 ghost use Rattle.pattern_writing.specs.WrittenText.{pattern_text};
 ghost use Rattle.carries.specs.FlatNets.{CarriesFlat};
-ghost use Rattle.netlist_plans.specs.Lists.{IsPlanned};
+ghost use Rattle.netlist_plans.specs.Lists.{IsPlanned, MapsFlat};
 ghost use Rattle.netlist_plans.specs.NetPlaces.{HasNetPlaces};
 ghost use Rattle.netlist_plans.specs.Planned.{ComputesCells, HasLanes, IsSmall};
 
 use crate::NetlistPlanError;
-use cell_core::CellList;
+use cell_core::{CellList, Src};
 use cell_plans::best_plan;
+use cell_polarity::{KeptList, complemented};
 use cell_rewriting::rewritten;
-use cover_mapper::map;
+use cover_mapper::{Mapped, map};
 use lane_core::Plan;
-use netlist_core::{Flat, Order};
+use netlist_core::{Flat, Order, rows_weight};
 use pattern_reading::Ports;
 use plan_carries::{plans_have_ports, texts_carry_flats};
 use plan_ports::of_plan;
@@ -33,6 +34,118 @@ pub struct Planned {
     pub ports: Ports,
 }
 
+// The weight of all covers, or the greatest u64 if it is more.
+fn covers_weight(flat: &Flat) -> u64
+    ensures { result ≡ min (covers_weight flat.now) u64.MAX }
+{
+    let mut weight: u64 = 0;
+    for node in flat.nodes.as_slice() {
+        weight = weight.saturating_add(rows_weight(node.rows.as_slice()));
+    }
+    weight
+}
+
+// Whether a list has no more cells than the weight of the covers allows.
+fn is_allowed(flat: &Flat, list: &CellList) -> bool
+    ensures { result ≡ true → length list.now.cells ≤ 2 * covers_weight flat.now }
+{
+    list.cells.len() as u64 <= covers_weight(flat).saturating_mul(2)
+}
+
+// The list in which what is 1 at zero is kept as its complement, if the list names constant 1 and
+// does not become too long.
+fn complements(
+    alloc: Global,
+    flat: &Flat,
+    mapped: &Mapped,
+) -> Result<Option<KeptList>, NetlistPlanError>
+    requires sound { IsSound flat.now }
+    requires maps { MapsFlat flat.now mapped.now.list mapped.now.singles.items }
+    ensures { IfOk result (λ o. IfSome o (λ low. MapsFlat flat.now low.list low.kept.items)) }
+{
+    if !mapped.list.names_one() {
+        return Ok(None);
+    }
+    let low = complemented(alloc, &mapped.list, &mapped.singles)?;
+    if !is_allowed(flat, &low.list) {
+        return Ok(None);
+    }
+    Ok(Some(low))
+}
+
+// Lists that rewrite a list of a sound flat netlist.
+fn rewritten_lists(
+    alloc: Global,
+    flat: &Flat,
+    list: &CellList,
+    kept: &[Src],
+) -> Result<Vec<CellList>, NetlistPlanError>
+    requires sound { IsSound flat.now }
+    requires maps { MapsFlat flat.now list.now kept.now }
+    ensures some { IfOk result (λ lists. 0 < length lists.items) }
+    ensures computes { IfOk result (λ lists. All (ComputesFlat flat.now) lists.items) }
+{
+    let _flat = flat;
+    let lists = rewritten(alloc, list, kept)?;
+    Ok(lists)
+}
+
+// How many cells the shortest list has.
+fn fewest_cells(lists: &[CellList]) -> usize {
+    let mut fewest = usize::MAX;
+    for list in lists {
+        fewest = fewest.min(list.cells.len());
+    }
+    fewest
+}
+
+// The first lists, and the others too if they are wanted anyway or one of them is shorter than each
+// of the first.
+fn joined(
+    flat: &Flat,
+    first: Vec<CellList>,
+    others: Vec<CellList>,
+    are_wanted: bool,
+) -> Result<Vec<CellList>, NetlistPlanError>
+    requires some { 0 < length first.items }
+    requires first { All (ComputesFlat flat.now) first.items }
+    requires others { All (ComputesFlat flat.now) others.items }
+    ensures some { IfOk result (λ lists. 0 < length lists.items) }
+    ensures computes { IfOk result (λ lists. All (ComputesFlat flat.now) lists.items) }
+{
+    let _flat = flat;
+    if !are_wanted && fewest_cells(&others) >= fewest_cells(&first) {
+        return Ok(first);
+    }
+    let mut lists = first;
+    let mut more = others;
+    lists.append(&mut more)?;
+    Ok(lists)
+}
+
+// Lists of both kinds. If the second list names no constant 1 and there are no latches, only lists
+// of that kind: so their plans have no loop.
+fn lists_of_both(
+    alloc: Global,
+    flat: &Flat,
+    mapped: &Mapped,
+    low: &KeptList,
+) -> Result<Vec<CellList>, NetlistPlanError>
+    requires sound { IsSound flat.now }
+    requires maps { MapsFlat flat.now mapped.now.list mapped.now.singles.items }
+    requires low { MapsFlat flat.now low.now.list low.now.kept.items }
+    ensures some { IfOk result (λ lists. 0 < length lists.items) }
+    ensures computes { IfOk result (λ lists. All (ComputesFlat flat.now) lists.items) }
+{
+    let spares_one = !low.list.names_one();
+    let low_lists = rewritten_lists(alloc, flat, &low.list, &low.kept)?;
+    if spares_one && flat.latches.len() == 0 {
+        return Ok(low_lists);
+    }
+    let lists = rewritten_lists(alloc, flat, &mapped.list, &mapped.singles)?;
+    joined(flat, lists, low_lists, spares_one)
+}
+
 // Lists of cells of a sound flat netlist; each list computes the netlist.
 fn cell_lists(alloc: Global, flat: &Flat, order: &Order) -> Result<Vec<CellList>, NetlistPlanError>
     requires sound { IsSound flat.now }
@@ -42,8 +155,10 @@ fn cell_lists(alloc: Global, flat: &Flat, order: &Order) -> Result<Vec<CellList>
     ensures computes { IfOk result (λ lists. All (ComputesFlat flat.now) lists.items) }
 {
     let mapped = map(alloc, flat, order)?;
-    let lists = rewritten(alloc, &mapped.list, &mapped.singles)?;
-    Ok(lists)
+    match complements(alloc, flat, &mapped)? {
+        None => rewritten_lists(alloc, flat, &mapped.list, &mapped.singles),
+        Some(low) => lists_of_both(alloc, flat, &mapped, &low),
+    }
 }
 
 // The plan of one of the lists of cells.

@@ -6,6 +6,8 @@ mod checks;
 #[cfg(test)]
 mod circles;
 #[cfg(test)]
+mod complements;
+#[cfg(test)]
 mod cover_values;
 #[cfg(test)]
 mod covers;

@@ -33,7 +33,7 @@ fn with_nets(list: CellList, nets: Vec<Src>) -> CellList {
 }
 
 // A list with three inputs and these cells and nets.
-fn list_of(alloc: Global, cells: &[Cell], nets: &[Src]) -> Result<CellList, CellError> {
+pub fn list_of(alloc: Global, cells: &[Cell], nets: &[Src]) -> Result<CellList, CellError> {
     let nets = nets.to_vec(alloc)?;
     let mut list = empty(alloc, 3);
     add_cells(&mut list, alloc, cells)?;
@@ -51,7 +51,7 @@ fn push_list(page: &mut String, list: &CellList) -> Result<(), AllocError> {
     Ok(())
 }
 
-fn is_shown(alloc: Global, list: &CellList, want: &str) -> Result<bool, AllocError> {
+pub fn is_shown(alloc: Global, list: &CellList, want: &str) -> Result<bool, AllocError> {
     let mut page = String::new(alloc);
     push_list(&mut page, list)?;
     Ok(page.as_str() == want)

@@ -16,10 +16,12 @@ mod dumps;
 mod evaluating;
 mod failing;
 mod lifts;
+mod long;
 mod nets;
 mod repeating;
 mod simulating;
 mod tapes;
+mod twice;
 
 use blifww_tool::run;
 use std::alloc::{AllocError, Global};
@@ -282,6 +284,7 @@ const LISTS: &[&str] = &[
     dumps::CASES,
     evaluating::CASES,
     lifts::CASES,
+    long::CASES,
     nets::CASES,
     simulating::CASES,
     tapes::CASES,

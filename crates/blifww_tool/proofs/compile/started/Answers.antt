@@ -3,9 +3,6 @@ use Rattle.std.proofs.lemmas.List.{length-map}
 use Rattle.std.proofs.lemmas.Result.{err_from_is_err_and}
 use Rattle.netlist_plans.specs.Contexts.{loop_starting_bits}
 use Rattle.flat_designs.proofs.Whole.{flat_is_named, flat_is_one}
-use Rattle.grid_assembly.specs.PlanDrawing.{start_grid}
-use Rattle.pattern_writing.specs.WrittenText.{pattern_text}
-use Rattle.carries.specs.FlatContexts.{CarriesFlatContexts}
 use Rattle.latch_loops.specs.Closed.{contexts_size}
 use Rattle.latch_loops.specs.Padded.{IsPaddedPlan}
 use Rattle.plan_ports.specs.Tables.{IsTableOf}
@@ -30,7 +27,7 @@ pub returns-then-is_alone-clause-printed : goal.returns-then-is_alone-clause-pri
 returns-then-is_alone-clause-printed c = λ text has.
     let room : c.args.contexts ≤ c.args.planned.ports.p / 32 = omega (arith, c.if-contexts-limit.false) in
     compiles_plain one_context_carries one_context_carries_nets no_words_mean_start c.args.contexts (map string_bytes c.args.words.now)
-    (alone string_bytes c.args.contexts c.args.words.now (sym c.is_alone.ensures ∙ c.if-is_alone.true)) text c.args.netlist.now.design c.args.planned.plan c.args.planned.ports has c.requires.carried room
+    (alone string_bytes c.args.contexts c.args.words.now (sym c.is_alone.ensures ∙ c.if-is_alone.true)) text c.args.netlist.now.design c.args.netlist.now.flat _ c.args.planned.plan c.args.planned.ports has c.requires.parts c.requires.carried room
 
 pub returns-in_err-bits-clause-refused : goal.returns-in_err-bits-clause-refused
 returns-in_err-bits-clause-refused c =
@@ -98,11 +95,11 @@ returns-clause-printed c = λ text has.
     let room : contexts ≤ c.args.planned.ports.p / 32 = omega (arith, c.if-contexts-limit.false) in
     let bits = c.as_slice.ensures ∙ c.in_ok-bits.ensures words c.requires.set in
     let many : length c.as_slice.result.now ≡ contexts = many_starts flat words contexts c.as_slice.result.now bits in
-    compiles flat_is_one c.designs_are_carried_in_contexts.ensures starts_are_flat contexts words text c.args.netlist.now.design flat _ base c.args.planned.ports plan ports has
+    compiles flat_is_one c.designs_are_carried_in_contexts.ensures starts_are_flat contexts words text c.args.netlist.now.design flat _ base c.args.planned.ports plan ports c.as_slice.result.now has
     c.requires.parts c.requires.carried room (not_alone string_bytes contexts c.args.words.now (sym c.is_alone.ensures ∙ c.if-is_alone.false)) p.admissible p.edges
-    (subst (λ (n : ℕ). IsPaddedPlan (contexts_size base.latches n) base plan) many p.padded)
+    (subst (λ (n : ℕ). IsPaddedPlan (contexts_size base.latches n) base plan) many p.padded) bits p.starts
     (subst (λ (n : ℕ). IsTableOf flat plan n ports) many p.table) p.places
-    (subst (CarriesFlatContexts (pattern_text (start_grid plan) ports) flat) bits p.carries)
+    p.carries
     (λ one. drawn_in_one one_context_is_circuit c.compiled_are_drawings.ensures flat plan ports
     (sound c.args.netlist.now.design c.args.netlist.now.flat _ c.requires.parts flat_is_sound)
     (flat_is_named c.args.netlist.now.design c.args.netlist.now.flat c.requires.parts.faultless c.requires.parts.is_flat) c.requires.names

@@ -1,4 +1,4 @@
-use Rattle.std.proofs.Common.{◌≤◌, length, leb, subst, List}
+use Rattle.std.proofs.Common.{◌≤◌, length, subst, List}
 use Rattle.std.proofs.lemmas.Bool.{leb-true}
 use Rattle.ww_rule.specs.declared.pattern.Injection.{Injection}
 use Rattle.drive.proofs.FirstMisses.{all_past}

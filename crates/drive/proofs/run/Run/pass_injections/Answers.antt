@@ -1,4 +1,4 @@
-use Rattle.std.proofs.Common.{refl, sym, ap, ◌∙◌, arith}
+use Rattle.std.proofs.Common.{refl, sym, ap, ◌∙◌}
 use Rattle.std.specs.Option.{option_map}
 use Rattle.ww_rule.specs.Grid.{plane_of}
 use Rattle.ww_rule.specs.Injections.{due_of_list}
@@ -11,14 +11,14 @@ loop-self-init c = record { run = c.requires.run; planes = refl; misses = refl; 
 
 pub loop-self-preserved : goal.loop-self-preserved
 loop-self-preserved c =
-    let next = c.next.ensures in
-    let comes = next.comes in
+    let next = c.go_further.ensures in
+    let order = next.order in
     let further = c.loop-self-test.true in
     record {
       run = next.run;
       planes = next.planes ∙ c.loop-self.invariant.planes;
       misses = next.misses ∙ c.loop-self.invariant.misses;
-      order = omega (arith, comes, further);
+      order = order;
     }
 
 pub returns-else-not-is_past-clause-missed : goal.returns-else-not-is_past-clause-missed

@@ -1,0 +1,18 @@
+use Rattle.std.proofs.Common.{◌-◌, length, arith}
+use Rattle.band_core.proofs.MovedOn.{can_still_move, moved_on_further}
+use Rattle.band_core.proofs.together.move_all.Goals as goal
+
+pub loop-left-preserved : goal.loop-left-preserved
+loop-left-preserved c =
+    let left = c.loop-left.left in
+    let by = c.move_further-left.result in
+    let further = c.move_further-left.ensures in
+    let less = further.few in
+    let few = c.loop-left.invariant.few in
+    let bands = c.loop-left.bands in
+    let new = c.move_further-left.new.bands in
+    record {
+      few = omega (arith, few);
+      can_move = can_still_move left by c.args.height c.args.rows c.args.dark.now bands new less c.loop-left.invariant.can_move further.moved;
+      moved = moved_on_further (length c.args.dark.now) c.args.height c.args.rows (c.args.n - left) by (c.args.n - (left - by)) c.args.bands.now bands new (omega (arith, few, less)) c.loop-left.invariant.moved further.moved;
+    }

@@ -1,8 +1,0 @@
-use Rattle.blifww_tool.proofs.PrintsRuns.{carriers_print_runs, compiled_print_runs}
-use Rattle.blifww_tool.proofs.laws.carriers_print_runs.Goals as goal
-
-pub returns-clause-carriers : goal.returns-clause-carriers
-returns-clause-carriers c = carriers_print_runs c.carriers_show_contexts.ensures c.streams_match.ensures.table
-
-pub returns-clause-compiled : goal.returns-clause-compiled
-returns-clause-compiled c = compiled_print_runs c.carriers_show_contexts.ensures c.streams_match.ensures.table

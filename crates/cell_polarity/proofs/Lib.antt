@@ -1,0 +1,7 @@
+pub mod Zeros
+mod Lowering
+mod Marking
+mod Raising
+mod Ports
+mod Whole
+pub mod Mapped

@@ -1,0 +1,30 @@
+-- The bits of sources at zero: while all inputs and latches are 0.
+use Rattle.std.specs.Prelude.{ℕ, ◌≡◌, Bool, false, ◌&&◌, not, cond, []}
+use Rattle.cell_core.specs.declared.cells.Src.{Src}
+use Rattle.cell_core.specs.declared.cells.Cell.{Cell}
+use Rattle.cell_core.specs.declared.cells.Cell.TheVariants.{Or, Xor, AndNot}
+use Rattle.cell_core.specs.declared.list.CellList.{CellList}
+use Rattle.cell_core.specs.Sources.{is_one}
+use Rattle.cell_core.specs.Loops.{names_one}
+use Rattle.cell_core.specs.Meaning.{bit_of}
+
+-- the bit of a source at zero; a bit that is not given counts as 0
+abbrev pub zero_bit : CellList → Src → Bool
+zero_bit list src = bit_of list [] [] src
+
+-- the exclusive-or of two bits, the first of which says whether the second is turned
+abbrev pub turned : Bool → Bool → Bool
+turned by bit = cond by (not bit) bit
+
+-- How many cells a cell becomes at most, if each operand that is 1 at zero is read as its
+-- complement: two where what is left is the AND of the operands that are read, else one.
+abbrev pub cells_for : CellList → Cell → ℕ
+cells_for list (Or a b) = cond (zero_bit list a && zero_bit list b) 2 1
+cells_for list (Xor a b) = 1
+cells_for list (AndNot a b) = cond (not (zero_bit list a) && zero_bit list b) 2 1
+
+-- in a list that does not name constant 1, each source but constant 1 itself is 0 at zero
+abbrev pub NothingIsOneAtZero : Type 0
+NothingIsOneAtZero =
+    (list : CellList) (src : Src) → names_one list ≡ false → is_one src ≡ false
+    → zero_bit list src ≡ false

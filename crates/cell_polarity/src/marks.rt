@@ -1,0 +1,111 @@
+// Marks at the cells that are among some sources.
+ghost use Rattle.std.specs.Prelude.{◌≡◌, ◌∷◌, ◌++◌, false, cond, replicate, length, slice_get, flat_map, IfOk, OnOk};
+ghost use Rattle.cell_polarity.specs.Low.{zero_in};
+ghost use Rattle.cell_polarity.specs.Marks.{marked, AreMarked};
+ghost use Rattle.cell_polarity.specs.Needed.{operands, with_operands, needed};
+
+use crate::PolarityError;
+use crate::low::zero_in;
+use cell_core::{Cell, CellList, Src};
+use std::alloc::Global;
+
+// Sets the flag of a source, if it is a cell.
+fn mark(marks: &mut [bool], src: Src)
+    ensures { marks.new ≡ marked marks.old src }
+{
+    if let Src::Cell(i) = src {
+        if (i as usize) < marks.len() {
+            marks[i as usize] = true;
+        }
+    }
+}
+
+// Sets the flag of a source, if it is a cell with a flag.
+fn mark_flagged(marks: &mut [bool], flags: &[bool], src: Src)
+    ensures { marks.new ≡ cond (zero_in flags.now src) (marked marks.old src) marks.old }
+{
+    if zero_in(flags, src) {
+        mark(marks, src);
+    }
+}
+
+// Marks the cells that are among the sources and have a flag.
+#[tactic(auto, using(crate::proofs::Marking::marks_more, crate::proofs::Marking::no_marks, crate::proofs::Marking::all_marked))]
+fn mark_all(marks: &mut [bool], flags: &[bool], sources: &[Src])
+    requires { marks.old ≡ replicate (length flags.now) false }
+    ensures { AreMarked flags.now sources.now marks.new }
+{
+    for src in sources {
+        mark_flagged(marks, flags, *src);
+    }
+}
+
+/// Marks the cells that are among the sources and have a flag.
+pub fn marks_of(alloc: Global, flags: &[bool], sources: &[Src]) -> Result<Vec<bool>, PolarityError>
+    ensures { IfOk result (λ marks. AreMarked flags.now sources.now marks.items) }
+{
+    let mut marks = vec![in alloc; false; flags.len()]?;
+    mark_all(&mut marks, flags, sources);
+    Ok(marks)
+}
+
+// Adds a source and what its cell reads.
+fn push_cell(found: &mut Vec<Src>, src: Src, cell: Cell) -> Result<(), PolarityError>
+    ensures { OnOk result (found.new.items ≡ found.old.items ++ src ∷ operands cell) }
+{
+    match cell {
+        Cell::Or(a, b) | Cell::Xor(a, b) | Cell::AndNot(a, b) => {
+            found.push(src)?;
+            found.push(a)?;
+            found.push(b)?;
+        }
+    }
+    Ok(())
+}
+
+// The cell with a number, if there is one.
+fn cell_at(cells: &[Cell], number: u32) -> Option<Cell>
+    ensures { result ≡ slice_get cells.now number }
+{
+    cells.get(number as usize).copied()
+}
+
+// Adds the source and what its cell reads, if it is one of these cells.
+fn push_with_operands(found: &mut Vec<Src>, cells: &[Cell], src: Src) -> Result<(), PolarityError>
+    ensures { OnOk result (found.new.items ≡ found.old.items ++ with_operands cells.now src) }
+{
+    let Src::Cell(i) = src else {
+        return Ok(());
+    };
+    match cell_at(cells, i) {
+        Some(cell) => push_cell(found, src, cell),
+        None => Ok(()),
+    }
+}
+
+// Those of the sources that are cells, with what these cells read.
+fn all_with_operands(
+    alloc: Global,
+    cells: &[Cell],
+    sources: &[Src],
+) -> Result<Vec<Src>, PolarityError>
+    ensures { IfOk result (λ found. found.items ≡ flat_map (with_operands cells.now) sources.now) }
+{
+    let mut found = Vec::new(alloc);
+    for src in sources {
+        push_with_operands(&mut found, cells, *src)?;
+    }
+    Ok(found)
+}
+
+/// Returns the sources that must have their own bits.
+pub fn needed(alloc: Global, list: &CellList, kept: &[Src]) -> Result<Vec<Src>, PolarityError>
+    ensures { IfOk result (λ found. found.items ≡ needed list.now kept.now) }
+{
+    let mut found = list.outs.as_slice().to_vec(alloc)?;
+    found.extend_from_slice(list.latches.as_slice())?;
+    found.extend_from_slice(list.nets.as_slice())?;
+    let cells = all_with_operands(alloc, list.cells.as_slice(), kept)?;
+    found.extend_from_slice(&cells)?;
+    Ok(found)
+}

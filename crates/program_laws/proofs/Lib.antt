@@ -1,0 +1,17 @@
+pub mod PrintsAlike
+pub mod DumpsNets
+pub mod TapePrints
+pub mod LiftsBack
+pub mod Fed
+pub mod PrintsRuns
+pub mod PrintsNet
+pub mod PrintsNetInContexts
+pub mod RunsQuietly
+pub mod EvaluatesAlike
+pub mod AigPrints
+pub mod OneAnswer
+pub mod GoodNames
+pub mod Onward
+pub mod Isolated
+pub mod AigDrawings
+pub mod AigQuiet

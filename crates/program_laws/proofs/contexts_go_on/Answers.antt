@@ -1,0 +1,8 @@
+use Rattle.program_laws.proofs.Onward.{contexts_go_on, contexts_show_each_front}
+use Rattle.program_laws.proofs.contexts_go_on.Goals as goal
+
+pub returns-clause-onward : goal.returns-clause-onward
+returns-clause-onward c = contexts_go_on
+
+pub returns-clause-each_front : goal.returns-clause-each_front
+returns-clause-each_front c = contexts_show_each_front

@@ -1,0 +1,9 @@
+pub mod PrintsAlike
+pub mod DumpsNets
+pub mod LiftsBack
+pub mod TapePrints
+pub mod EvaluatesAlike
+pub mod AigPrints
+pub mod Isolated
+pub mod Onward
+pub mod OneAnswer
