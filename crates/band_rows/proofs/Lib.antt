@@ -6,3 +6,6 @@ pub mod NextMark
 pub mod Parts
 pub mod Same
 pub mod Zeros
+pub mod HeadPut
+pub mod PlaceCells
+pub mod FieldSteps
