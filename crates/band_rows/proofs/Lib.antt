@@ -9,3 +9,4 @@ pub mod Zeros
 pub mod HeadPut
 pub mod PlaceCells
 pub mod FieldSteps
+pub mod HeadPlaced

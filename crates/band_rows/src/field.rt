@@ -6,6 +6,8 @@ ghost use Rattle.std.specs.Int.RustNames.{bit_or};
 ghost use Rattle.ww_rule.specs.declared.pattern.State.TheVariants.{Head};
 ghost use Rattle.lane_kernel.specs.Around.{next_word, IsFramed, IsInner};
 ghost use Rattle.lane_kernel.specs.Marked.{AreCleared, AreListed, AreMore, AreOn, AreTold, IsMarked};
+ghost use Rattle.lists.specs.Bits.{has_bit};
+ghost use Rattle.lane_kernel.specs.Rows.{state_of};
 ghost use Rattle.lane_kernel.specs.PlaneRows.{HasDarkSides};
 ghost use Rattle.band_rows.specs.Rows.{IsEmptyWest, ShowsHeads};
 
@@ -153,6 +155,31 @@ fn mark_head(
     now.many = tell_around(&mut now.bytes, &mut now.list, many, i, heads[i], &free);
 }
 
+// Whether a bit of a word is set.
+fn has_bit(words: &[u64], i: usize, b: usize) -> bool
+    requires within { i < length words.now }
+    requires bit { b < 64 }
+    ensures { result ≡ has_bit (number_at words.now i) b }
+{
+    (words[i] >> b) & 1 == 1
+}
+
+// The state of a cell with these three bits.
+fn state_of(head: bool, tail: bool, cell: bool) -> State
+    ensures { result ≡ state_of head tail cell }
+{
+    if head {
+        return State::Head;
+    }
+    if tail {
+        return State::Tail;
+    }
+    if cell {
+        return State::Conductor;
+    }
+    State::Empty
+}
+
 impl Field {
     ghost use Rattle.band_rows.specs.Fields.{heads_of, state_in, AreOfOneSize, IsClosed, IsField, IsFieldStepped, ShowsField};
 
@@ -223,6 +250,9 @@ impl Field {
     {
         let i = (x / 64 + 1) * self.stride + 1 + (k + 1);
         set_bits(&mut self.heads, &mut self.cells, i, x % 64);
+        if self.marks.many == self.marks.list.len() {
+            return;
+        }
         mark_head(
             &self.heads,
             &self.tails,
@@ -241,14 +271,10 @@ impl Field {
         ensures { result ≡ state_in self.now x k }
     {
         let i = (x / 64 + 1) * self.stride + 1 + (k + 1);
-        if (self.heads[i] >> (x % 64)) & 1 == 1 {
-            State::Head
-        } else if (self.tails[i] >> (x % 64)) & 1 == 1 {
-            State::Tail
-        } else if (self.cells[i] >> (x % 64)) & 1 == 1 {
-            State::Conductor
-        } else {
-            State::Empty
-        }
+        let b = x % 64;
+        let head = has_bit(&self.heads, i, b);
+        let tail = has_bit(&self.tails, i, b);
+        let cell = has_bit(&self.cells, i, b);
+        state_of(head, tail, cell)
     }
 }
