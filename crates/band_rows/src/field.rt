@@ -11,11 +11,14 @@ ghost use Rattle.lane_kernel.specs.Rows.{state_of};
 ghost use Rattle.lane_kernel.specs.PlaneRows.{HasDarkSides};
 ghost use Rattle.band_rows.specs.Rows.{IsEmptyWest, ShowsHeads};
 
-use lane_kernel::{BESIDE, Free, mark, step_all, step_listed, tell_around};
+use lane_kernel::{BESIDE, Free, mark, mark_all, step_all, step_listed, tell_around};
 use std::mem;
 use ww_rule::State;
 
-/// WordMarks of the words of a plane: a byte for each word, and the first `many` numbers of `list` are
+/// After so many generations with a full list the marks are made again.
+const WAIT: u32 = 64;
+
+/// Marks of the words of a plane: a byte for each word, and the first `many` numbers of `list` are
 /// places of words with a mark. If the list is full, neither says anything.
 #[derive(Drop)]
 pub struct WordMarks {
@@ -27,7 +30,8 @@ pub struct WordMarks {
 /// Rows of cells in columns of words, 64 cells to a word: planes of heads, of tails, and of all
 /// cells that are not empty. Each column has a word above its rows and one below them, which makes
 /// `stride` words, and the planes have a column more on each side. `marks` are those of the words
-/// that may change, and the spare ones are cleared.
+/// that may change, and the spare ones are cleared. While the list is full, `wait` counts the
+/// generations until the marks are made again.
 #[derive(Drop)]
 pub struct Field {
     pub columns: usize,
@@ -38,6 +42,7 @@ pub struct Field {
     pub cells: Vec<u64>,
     pub marks: WordMarks,
     pub spare: WordMarks,
+    pub wait: u32,
 }
 
 // Words of a slice are below 2 ^ 64.
@@ -153,6 +158,41 @@ fn mark_head(
     };
     let many = mark(&mut now.bytes, &mut now.list, now.many, i, BESIDE, stride);
     now.many = tell_around(&mut now.bytes, &mut now.list, many, i, heads[i], &free);
+}
+
+// How many words are lit.
+fn lit_words(heads: &[u64], tails: &[u64]) -> usize
+    requires { length tails.now ≡ length heads.now }
+    ensures { result ≤ length heads.now }
+{
+    let mut many = 0;
+    for i in 0..heads.len() {
+        if heads[i] | tails[i] != 0 {
+            many += 1;
+        }
+    }
+    many
+}
+
+// Makes the marks of a plane from nothing.
+fn mark_again(heads: &[u64], tails: &[u64], cells: &[u64], stride: usize, marks: &mut WordMarks)
+    requires heads { length heads.now ≡ length cells.now }
+    requires tails { length tails.now ≡ length cells.now }
+    requires marks { length marks.old.bytes.items ≡ length cells.now }
+    requires framed { IsFramed stride cells.now }
+    requires size { stride + stride + 2 ≤ length cells.now }
+    requires heads_on_cells { AreOn cells.now heads.now }
+    requires tails_on_cells { AreOn cells.now tails.now }
+    ensures long { length marks.new.bytes.items ≡ length marks.old.bytes.items }
+    ensures listed { AreListed stride marks.new.bytes.items marks.new.list.items marks.new.many }
+    ensures marked { IsMarked stride heads.now tails.now cells.now marks.new.bytes.items }
+{
+    let free = Free {
+        tails,
+        cells,
+        stride,
+    };
+    marks.many = mark_all(&free, heads, &mut marks.bytes, &mut marks.list);
 }
 
 // Whether a bit of a word is set.
@@ -276,5 +316,34 @@ impl Field {
         let tail = has_bit(&self.tails, i, b);
         let cell = has_bit(&self.cells, i, b);
         state_of(head, tail, cell)
+    }
+
+    /// Makes the marks again, if the list has been full for some generations and few words are lit.
+    pub fn settle(&mut self)
+        requires closed { IsClosed self.old }
+        ensures closed { IsClosed self.new }
+        ensures size { AreOfOneSize self.old self.new }
+        ensures heads { self.new.heads ≡ self.old.heads }
+        ensures tails { self.new.tails ≡ self.old.tails }
+        ensures cells { self.new.cells ≡ self.old.cells }
+    {
+        if self.marks.many < self.marks.list.len() {
+            return;
+        }
+        if self.wait > 0 {
+            self.wait -= 1;
+            return;
+        }
+        self.wait = WAIT;
+        if lit_words(&self.heads, &self.tails) > self.marks.list.len() / 2 {
+            return;
+        }
+        mark_again(
+            &self.heads,
+            &self.tails,
+            &self.cells,
+            self.stride,
+            &mut self.marks,
+        );
     }
 }

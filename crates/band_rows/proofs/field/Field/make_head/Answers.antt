@@ -130,4 +130,3 @@ returns-clause-cells c =
     let cells = with_items_is self.cells c.set_bits.new.cells (omega (arith, long_cells)) ∙ set_cells in
     let new : Field = record self { heads = with_items self.heads c.set_bits.new.heads; cells = with_items self.cells c.set_bits.new.cells; marks = c.mark_head.new.now } in
     head_cells self x k closed c.requires.column c.requires.row new (record { columns = refl; rows = refl; stride = refl; heads = heads; cells = cells; tails = refl })
-
