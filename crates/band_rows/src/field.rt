@@ -1,5 +1,5 @@
 // Rows of cells in three planes of words, with marks of the words that may change.
-ghost use Rattle.std.specs.Prelude.{◌≡◌, ◌≢◌, ◌+◌, ◌-◌, ◌*◌, ◌/◌, ◌<◌, ◌≤◌, ◌%◌, ◌^◌, slice_set, ◌+ℤ◌, ◌-ℤ◌, ◌==◌, ◌&&◌, if◌then◌else◌, ℤ, ℕ, pos, length};
+ghost use Rattle.std.specs.Prelude.{◌≡◌, ◌≢◌, ◌+◌, ◌-◌, ◌*◌, ◌/◌, ◌<◌, ◌≤◌, ◌%◌, ◌^◌, slice_set, ◌+ℤ◌, ◌-ℤ◌, ◌==◌, ◌&&◌, if◌then◌else◌, ℤ, ℕ, pos, length, None, IfSome};
 ghost use Rattle.lists.specs.Items.{number_at};
 ghost use Rattle.ww_rule.specs.Wireworld.{Plane, next_plane};
 ghost use Rattle.std.specs.Int.RustNames.{bit_or};
@@ -174,6 +174,51 @@ fn lit_words(heads: &[u64], tails: &[u64]) -> usize
     many
 }
 
+// A lit word at one of these places, if there is one.
+fn lit_listed(heads: &[u64], tails: &[u64], places: &[usize]) -> Option<usize>
+    requires tails { length tails.now ≡ length heads.now }
+    requires inside { (k : ℕ)
+        → k < length places.now
+        → number_at places.now k < length heads.now }
+    ensures some { IfSome result (λ i.
+        bit_or (number_at heads.now i) (number_at tails.now i) ≢ 0
+        ) }
+    ensures none { result ≡ None
+        → (k : ℕ)
+        → k < length places.now
+        → bit_or
+        (number_at heads.now (number_at places.now k))
+        (number_at tails.now (number_at places.now k))
+        ≡ 0 }
+{
+    for k in 0..places.len() {
+        let i = places[k];
+        if heads[i] | tails[i] != 0 {
+            return Some(i);
+        }
+    }
+    None
+}
+
+// A lit word, if there is one.
+fn lit_anywhere(heads: &[u64], tails: &[u64]) -> Option<usize>
+    requires tails { length tails.now ≡ length heads.now }
+    ensures some { IfSome result (λ i.
+        bit_or (number_at heads.now i) (number_at tails.now i) ≢ 0
+        ) }
+    ensures none { result ≡ None
+        → (i : ℕ)
+        → i < length heads.now
+        → bit_or (number_at heads.now i) (number_at tails.now i) ≡ 0 }
+{
+    for i in 0..heads.len() {
+        if heads[i] | tails[i] != 0 {
+            return Some(i);
+        }
+    }
+    None
+}
+
 // Makes the marks of a plane from nothing.
 fn mark_again(heads: &[u64], tails: &[u64], cells: &[u64], stride: usize, marks: &mut WordMarks)
     requires heads { length heads.now ≡ length cells.now }
@@ -345,5 +390,25 @@ impl Field {
             self.stride,
             &mut self.marks,
         );
+    }
+
+    /// Returns the place of a word that has a head or a tail, if there is one.
+    pub fn lit_word(&self) -> Option<usize>
+        requires closed { IsClosed self.now }
+        ensures some { IfSome result (λ i.
+            bit_or (number_at self.now.heads.items i) (number_at self.now.tails.items i) ≢ 0
+            ) }
+        ensures none { result ≡ None
+            → (i : ℕ)
+            → bit_or (number_at self.now.heads.items i) (number_at self.now.tails.items i) ≡ 0 }
+    {
+        if self.marks.many < self.marks.list.len() {
+            return lit_listed(
+                &self.heads,
+                &self.tails,
+                &self.marks.list[..self.marks.many],
+            );
+        }
+        lit_anywhere(&self.heads, &self.tails)
     }
 }
