@@ -18,6 +18,7 @@ class Mistake(Exception):
 class Program:
     """A program as its text has it: its words with their first numbers, and its steps, each with its word or None."""
 
+    file: str = ""
     words: dict = field(default_factory=dict)
     steps: list = field(default_factory=list)
 
@@ -34,7 +35,7 @@ class Reader:
     """Reads the lines of a program; a mistake names the file and the line."""
 
     def __init__(self, file, width):
-        self.file, self.width, self.line, self.opened, self.program = file, width, 0, None, Program()
+        self.file, self.width, self.line, self.opened, self.program = file, width, 0, None, Program(file)
 
     def mistake(self, text, line=None):
         return Mistake(f"{self.file}, line {line or self.line}: {text}")
@@ -43,7 +44,11 @@ class Reader:
         """Reads `a = 12`."""
         if name in self.program.words:
             raise self.mistake(f"there is a word {name} already")
-        if not re.fullmatch("[0-9]+", value) or int(value) >= 1 << self.width:
+        if not re.fullmatch(r"[A-Za-z_]\w*", name, re.A) or name in STEPS:
+            raise self.mistake(f"{name} is no name of a word: letters, digits and _, not a digit first, and no step")
+        if not value:
+            raise self.mistake(f"{name} needs a number from 0 to {(1 << self.width) - 1}")
+        if not re.fullmatch("[0-9]+", value, re.A) or int(value) >= 1 << self.width:
             raise self.mistake(f"{value} is not a number from 0 to {(1 << self.width) - 1}")
         if len(self.program.words) == MOST_WORDS:
             raise self.mistake(f"there are more than {MOST_WORDS} words")
@@ -82,9 +87,9 @@ class Reader:
 
 def text_of(file):
     try:
-        return Path(file).read_text()
+        return Path(file).read_text(encoding="utf-8-sig")
     except OSError as fault:
-        raise Mistake(f"{file}: {fault.strerror}") from None
+        raise Mistake(f"{file or 'a file without a name'}: {fault.strerror}") from None
     except UnicodeDecodeError:
         raise Mistake(f"{file} is no text") from None
 
@@ -118,7 +123,7 @@ def memory_of(program, least, count):
     turns = ((placed(program.steps, order, least), order) for order in itertools.permutations(names))
     best, order = min(turns, key=lambda it: cost(it[0]))
     if len(best) > MOST_STEPS:
-        raise Mistake(f"a turn of the program takes {len(best)} steps, and {MOST_STEPS} are the most")
+        raise Mistake(f"{program.file}: a turn takes {len(best)} steps, with those that wait for a word, and {MOST_STEPS} are the most")
     return Memory(best, [(it, program.words.get(it, 0)) for it in order])
 
 
