@@ -20,6 +20,7 @@ class Example:
     nets: str = ""  # nets that the chart shows, with commas between them
     unfold: str = ""  # a bus whose bits the chart shows, as "OUT light"
     view: str = ""  # the part of the plane that is shown at first, as x,y,width,height; otherwise all of it
+    speed: int = 0  # generations a second, if the page is not to choose by period and latency
 
 
 EXAMPLES = [
@@ -36,7 +37,7 @@ EXAMPLES = [
     Example("uart", "compile examples/uart.blif", "Serial transmitter", "Where start is 1 it takes a byte d, and sends it on tx bit by bit."),
     Example("cpu", "compile examples/cpu.blif", "Processor with an input", "Its program loads, adds and jumps; a is the accumulator, p the place in the program."),
     Example("fibonacci", "examples/fibonacci.rle", "Processor: Fibonacci", "A program of eight instructions: the accumulator a shows 1, 1, 2, 3, 5, 8, 13.", nets="p"),
-    Example("gcd", "examples/computer/gcd.rle", "A computer: greatest common divisor", "Its memory is wire: 48 and 36 go round, and its lamps show 36, 24, 12.", words="--cycles 31", nets="step[2],step[1],step[0]"),
+    Example("gcd", "examples/computer/gcd.rle", "Computer: gcd of 48 and 36", "Its memory is wire. The lamps show 36, then 24, then 12.", words="--cycles 31", nets="step,word", view="3560,700,1402,433", speed=6400),
     Example("toggle.tape", "examples/toggle.tape.rle", "Toggle with a tape", "The bits of en lie on the wire in the west, and run in by themselves.", words="--cycles 8", view="2600,0,729,64"),
     Example("toggle.contexts", "compile --contexts 2 1:q=1 examples/toggle.blif", "Two toggles on the same wires", "The second machine runs 32 generations behind the first, with its own bits.", words="0:en=11110111 1:en=00111101"),
 ]
@@ -54,7 +55,8 @@ def facts_of(example, printed):
     nets, unfold = ([it for it in [*names.split(",")] if it] for names in (example.nets, example.unfold))
     facts = {"name": example.name, "title": example.title, "about": example.about, "words": words_of(example)}
     view = {"view": [int(it) for it in example.view.split(",")]} if example.view else {}
-    return {**facts, "nets": nets, "unfold": unfold, **view, "rle": pattern.decode("latin-1")}
+    speed = {"speed": example.speed} if example.speed else {}
+    return {**facts, "nets": nets, "unfold": unfold, **view, **speed, "rle": pattern.decode("latin-1")}
 
 
 def page_of(printed, examples=None):

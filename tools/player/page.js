@@ -37,7 +37,7 @@ function attempt(work) {
 
 /* What is open */
 
-function openPattern(text, { name, title = name, about = "", words = "", unfold = [], nets = [], view }) {
+function openPattern(text, { name, title = name, about = "", words = "", unfold = [], nets = [], view, speed }) {
   const machine = new Machine(readPattern(text)), { table } = machine;
   Object.assign(page, { machine, name, context: 0, nets: rowsOf(table.nets), chosen: [], unfolded: new Set(unfold) });
   describe(machine.pattern, title, about);
@@ -47,7 +47,7 @@ function openPattern(text, { name, title = name, about = "", words = "", unfold 
   $("context").replaceChildren(...contexts);
   $("adding").hidden = !table.nets.length;
   $("netlist").replaceChildren(...page.nets.map((it) => element("option", { value: it.label })));
-  $("speed").value = stepOf(Math.max(32, table.period / 4, table.latency / 6)); // seconds for a cycle, and for the first result
+  $("speed").value = stepOf(speed ?? Math.max(32, table.period / 4, table.latency / 6)); // seconds for a cycle, and for the first result
   pause();
   leaveRoom();
   plane.open(machine.pattern, machine.wires);

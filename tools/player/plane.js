@@ -72,7 +72,7 @@ class Plane {
 
   paintWith(theme) {
     this.theme = theme;
-    this.trails = Uint32Array.from({ length: SHADES }, (_, i) => mixed(theme.trail, theme.wire, (0.15 + i) / SHADES));
+    this.trails = Uint32Array.from({ length: SHADES }, (_, i) => mixed(theme.trail, theme.wire, ((0.5 + i) / SHADES) ** 2));
     [this.wire, this.head, this.tail] = [theme.wire, theme.head, theme.tail].map((it) => mixed(it));
     this.densities = Uint32Array.from({ length: SHADES + 1 }, (_, i) => mixed(theme.empty, theme.wire, 0.3 + (0.6 * i) / SHADES));
     this.isStale = true;
