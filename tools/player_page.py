@@ -37,7 +37,7 @@ EXAMPLES = [
     Example("uart", "compile examples/uart.blif", "Serial transmitter", "Where start is 1 it takes a byte d, and sends it on tx bit by bit."),
     Example("cpu", "compile examples/cpu.blif", "Processor with an input", "Its program loads, adds and jumps; a is the accumulator, p the place in the program."),
     Example("fibonacci", "examples/fibonacci.rle", "Processor: Fibonacci", "A program of eight instructions: the accumulator a shows 1, 1, 2, 3, 5, 8, 13.", nets="p"),
-    Example("gcd", "examples/computer/gcd.rle", "Computer: gcd of 48 and 36", "The lamps show 36, then 24, then 12. Its memory is wire.", words="--cycles 31", nets="step,word", view="3560,700,1402,433", speed=6400),
+    Example("gcd", "examples/computer/gcd.rle", "Computer: gcd of 48 and 36", "Its lamps show 36, 24, 12.", words="--cycles 31", nets="step,word", view="3560,700,1402,433", speed=6400),
     Example("toggle.tape", "examples/toggle.tape.rle", "Toggle with a tape", "The bits of en lie on the wire in the west, and run in by themselves.", words="--cycles 8", view="2600,0,729,64"),
     Example("toggle.contexts", "compile --contexts 2 1:q=1 examples/toggle.blif", "Two toggles on the same wires", "The second machine runs 32 generations behind the first, with its own bits.", words="0:en=11110111 1:en=00111101"),
 ]
