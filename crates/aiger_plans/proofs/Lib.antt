@@ -2,6 +2,8 @@ pub mod SameRuns
 pub mod Carried
 pub mod Cycles
 pub mod Needs
+pub mod Zeros
+pub mod Sparing
 pub mod Named
 pub mod OfFlat
 pub mod Shown

@@ -14,7 +14,9 @@ use Rattle.aiger_text.specs.declared.aig.AigAnd.{AigAnd}
 use Rattle.aiger_text.specs.declared.aig.Aig.{Aig}
 use Rattle.aiger_text.specs.SoundAig.{sides_of}
 use Rattle.aiger_meaning.specs.FlatOf.{net_id, net_of_literal, node_of, nodes_from, node_reads, first_gate, buffer, row_character, latches_from}
-use Rattle.aiger_plans.specs.Needs.{is_odd, aig_needs_one, FlatsOfAigsAskAlike}
+use Rattle.netlist_plans.proofs.Sparing.{any_of}
+use Rattle.aiger_plans.specs.Zero.{is_odd}
+use Rattle.aiger_plans.specs.Needs.{aig_needs_one, FlatsOfAigsAskAlike}
 
 -- no literal of a node is even
 abbrev all_odd : List ℕ → Bool
@@ -36,10 +38,6 @@ node_needs aig lits n =
 nodes_need : (aig : Aig) (n : ℕ) (reads : List (List ℕ)) → list_any needs_one (nodes_from aig n reads) ≡ list_any all_odd reads
 nodes_need aig n [] = refl
 nodes_need aig n (lits ∷ reads) = ap₂ (λ a b. a || b) (node_needs aig lits n) (nodes_need aig (suc n) reads)
-
-any_of : {X Y : Type 0} → (p : Y → Bool) (q : X → Bool) (f : X → Y) → ((x : X) → p (f x) ≡ q x) → (xs : List X) → list_any p (map f xs) ≡ list_any q xs
-any_of p q f same [] = refl
-any_of p q f same (x ∷ xs) = ap₂ (λ a b. a || b) (same x) (any_of p q f same xs)
 
 gate_needs : (gate : AigAnd) → all_odd (sides_of gate) ≡ (is_odd gate.rhs0 && is_odd gate.rhs1)
 gate_needs gate = ap₂ (λ a b. not (a || (b || false))) (even_sign gate.rhs0) (even_sign gate.rhs1) ∙ by (is_odd gate.rhs0) (is_odd gate.rhs1)

@@ -1,5 +1,5 @@
 -- The plan of the flat netlist of a circuit is one of the circuit.
-use Rattle.std.proofs.Common.{◌≡◌, refl, sym, ◌∙◌, ap, subst, ◌+◌, ◌*◌, ◌≤◌, Bool, false, List, [], ◌∷◌, length, arith}
+use Rattle.std.proofs.Common.{◌≡◌, refl, sym, ◌∙◌, ap, subst, ◌+◌, ◌*◌, ◌≤◌, ℕ, Bool, false, List, [], ◌∷◌, length, arith}
 use Rattle.std.specs.Prelude.{◌==◌, if◌then◌else◌}
 use Rattle.lane_core.specs.declared.plan.Plan.{Plan}
 use Rattle.lane_core.specs.Plans.{IsAdmissible}
@@ -8,6 +8,7 @@ use Rattle.grid_assembly.specs.PlanDrawing.{start_grid}
 use Rattle.cell_plans.specs.Counts.{instr_count}
 use Rattle.netlist_core.specs.declared.flat.Flat.{Flat}
 use Rattle.netlist_meaning.specs.Flat.{names_of_ports}
+use Rattle.netlist_meaning.specs.FlatOrder.{IsOrder}
 use Rattle.cell_meaning.specs.Needs.{any_needs_one}
 use Rattle.pattern_reading.specs.declared.ports.NetLine.{NetLine}
 use Rattle.pattern_reading.specs.declared.ports.Ports.{Ports}
@@ -16,14 +17,17 @@ use Rattle.place_paths.specs.Paths.{names_and_paths}
 use Rattle.plan_ports.specs.Tables.{IsTableOf, driven_inputs, drawn_input_cells, named_paths}
 use Rattle.carries.specs.FlatNets.{CarriesFlat}
 use Rattle.netlist_plans.specs.Lists.{IsPlanned}
+use Rattle.netlist_plans.specs.Sparing.{SparesOne}
 use Rattle.netlist_plans.specs.Planned.{ComputesCells, IsSmall}
 use Rattle.aiger_text.specs.declared.aig.Aig.{Aig}
+use Rattle.aiger_text.specs.SoundAig.{IsSoundAig}
 use Rattle.aiger_meaning.specs.FlatOf.{IsFlatOfAig}
 use Rattle.aiger_meaning.specs.Lowered.{IsLowered}
 use Rattle.aiger_plans.specs.Laws.{AigsAreCarried}
 use Rattle.aiger_plans.specs.Needs.{AsksAlike, FlatsOfAigsAskAlike}
 use Rattle.aiger_plans.specs.Planned.{IsTableOfAig, IsPlanOfAig}
 use Rattle.aiger_plans.proofs.Named.{none_listed}
+use Rattle.aiger_plans.proofs.Sparing.{spares_one, no_output_is_one}
 
 -- beside no tape each input is driven
 all_driven : {X : Type 0} (plan : Plan) (inputs : List X) → plan.tape ≡ [] → driven_inputs plan inputs ≡ inputs
@@ -33,7 +37,7 @@ no_lines : (lines : List NetLine) → names_and_paths lines ≡ [] → lines ≡
 no_lines [] e = refl
 no_lines (line ∷ lines) e = absurd (omega (arith, ap length e))
 
-module _ (alike : FlatsOfAigsAskAlike) (carried : AigsAreCarried) (aig : Aig) (flat : Flat) (is_flat : IsFlatOfAig aig flat) (lowered : IsLowered aig flat) (plan : Plan) (ports : Ports) where
+module _ (alike : FlatsOfAigsAskAlike) (carried : AigsAreCarried) (aig : Aig) (flat : Flat) (order : List ℕ) (sound : IsSoundAig aig) (is_flat : IsFlatOfAig aig flat) (lowered : IsLowered aig flat) (ordered : IsOrder flat order) (plan : Plan) (ports : Ports) where
   asks : AsksAlike aig flat
   asks = alike aig flat is_flat
 
@@ -52,8 +56,8 @@ module _ (alike : FlatsOfAigsAskAlike) (carried : AigsAreCarried) (aig : Aig) (f
   }
 
   pub is_plan : IsAdmissible plan → HasStartEdges plan → plan.tape ≡ [] → IsPlanned flat plan → ComputesCells flat plan → IsSmall flat plan → IsTableOf flat plan 1 ports
-      → (length flat.latches ≡ 0 → any_needs_one flat ≡ false → ports.p ≡ 32) → CarriesFlat (pattern_text (start_grid plan) ports) flat → IsPlanOfAig aig plan ports
-  is_plan admissible edges bare planned cells small table short carries = record {
+      → (length flat.latches ≡ 0 → any_needs_one flat ≡ false → ports.p ≡ 32) → (SparesOne flat → ports.p ≡ 32) → CarriesFlat (pattern_text (start_grid plan) ports) flat → IsPlanOfAig aig plan ports
+  is_plan admissible edges bare planned cells small table short shorter carries = record {
     admissible = admissible;
     edges = edges;
     bare = bare;
@@ -63,5 +67,9 @@ module _ (alike : FlatsOfAigsAskAlike) (carried : AigsAreCarried) (aig : Aig) (f
     instrs = subst (λ w. instr_count plan.columns ≤ 256 * ((w + 1) * (w + 1))) lowered.weight small.instrs;
     table = table_of_aig bare table;
     period = λ none e. short (asks.latches ∙ none) (asks.one ∙ e);
+    at_zero = λ none. (
+      (λ e. no_output_is_one aig flat order sound is_flat lowered ordered none plan planned (sym table.period ∙ e) (carried (pattern_text (start_grid plan) ports) aig flat carries lowered)),
+      (λ e. shorter (spares_one aig flat order sound is_flat lowered ordered none e (carried (pattern_text (start_grid plan) ports) aig flat carries lowered))),
+    );
     carries = carried (pattern_text (start_grid plan) ports) aig flat carries lowered;
   }

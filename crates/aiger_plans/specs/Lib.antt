@@ -3,3 +3,4 @@ pub mod Laws
 pub mod Needs
 pub mod Planned
 pub mod ShownAigs
+pub mod Zero

@@ -1,5 +1,5 @@
 -- Which circuits ask for a constant 1. A pattern without one and without latches has the period 32.
-use Rattle.std.specs.Prelude.{ℕ, ◌≡◌, ◌==◌, ◌&&◌, ◌||◌, ◌%◌, ◌++◌, Bool, map, length}
+use Rattle.std.specs.Prelude.{◌≡◌, ◌&&◌, ◌||◌, ◌++◌, Bool, map, length}
 use Rattle.std.specs.List.{list_any}
 use Rattle.netlist_core.specs.declared.flat.Flat.{Flat}
 use Rattle.cell_meaning.specs.Needs.{any_needs_one}
@@ -7,9 +7,7 @@ use Rattle.aiger_text.specs.declared.aig.AigLatch.{AigLatch}
 use Rattle.aiger_text.specs.declared.aig.AigAnd.{AigAnd}
 use Rattle.aiger_text.specs.declared.aig.Aig.{Aig}
 use Rattle.aiger_meaning.specs.FlatOf.{IsFlatOfAig}
-
-abbrev pub is_odd : ℕ → Bool
-is_odd lit = lit % 2 == 1
+use Rattle.aiger_plans.specs.Zero.{is_odd}
 
 -- both sides of a gate are negated, or a latch or an output reads a negated literal; constant 1 is
 -- literal 0 negated

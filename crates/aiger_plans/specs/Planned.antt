@@ -1,5 +1,5 @@
 -- What a plan of an AIGER circuit is, and its table.
-use Rattle.std.specs.Prelude.{◌+◌, ◌*◌, ◌≤◌, ◌≡◌, false, [], length}
+use Rattle.std.specs.Prelude.{◌+◌, ◌*◌, ◌≤◌, ◌≡◌, ◌↔◌, false, [], length}
 use Rattle.lane_core.specs.declared.plan.Plan.{Plan}
 use Rattle.lane_core.specs.Plans.{IsAdmissible, period_of, latency_of}
 use Rattle.plan_layout.specs.Starts.{HasStartEdges}
@@ -16,6 +16,7 @@ use Rattle.aiger_text.specs.declared.aig.Aig.{Aig}
 use Rattle.aiger_meaning.specs.Circuit.{aig_weight}
 use Rattle.aiger_meaning.specs.FlatOf.{IsFlatOfAig}
 use Rattle.aiger_plans.specs.Needs.{aig_needs_one}
+use Rattle.aiger_plans.specs.Zero.{some_output_is_one}
 use Rattle.aiger_plans.specs.CarriesAig.{CarriesAig, NamesAig}
 
 -- The table of a plan of a circuit: the period, the latency and the cells of ports are the plan's,
@@ -41,8 +42,9 @@ pub record IsPlannedAig (aig : Aig) (plan : Plan) : Type 0 where
 -- cells that compute the circuit: so it has a loop for each latch, and one more exactly if constant
 -- 1 is named. It is small: if w is the circuit's weight, it has at most 4 w + 4 lanes, at most
 -- 256 (w + 1) (w + 1) columns, and at most that many instructions. The table is the plan's. Its
--- period is 32 if the circuit has no latch and needs no constant 1. The text that is written of the
--- plan and the table carries the circuit.
+-- period is 32 if the circuit has no latch and needs no constant 1; without latches it is 32 exactly
+-- if all outputs are 0 while all inputs are. The text that is written of the plan and the table
+-- carries the circuit.
 pub record IsPlanOfAig (aig : Aig) (plan : Plan) (ports : Ports) : Type 0 where
   pub admissible : IsAdmissible plan
   pub edges : HasStartEdges plan
@@ -53,4 +55,5 @@ pub record IsPlanOfAig (aig : Aig) (plan : Plan) (ports : Ports) : Type 0 where
   pub instrs : instr_count plan.columns ≤ 256 * ((aig_weight aig + 1) * (aig_weight aig + 1))
   pub table : IsTableOfAig aig plan ports
   pub period : length aig.latches ≡ 0 → aig_needs_one aig ≡ false → ports.p ≡ 32
+  pub at_zero : length aig.latches ≡ 0 → (ports.p ≡ 32) ↔ (some_output_is_one aig ≡ false)
   pub carries : CarriesAig (pattern_text (start_grid plan) ports) aig

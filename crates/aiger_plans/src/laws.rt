@@ -2,6 +2,7 @@
 // laws.
 ghost use Rattle.aiger_plans.specs.Laws.{AigsAreCarried, CarriesAigCycles, OneAigRunIsShown};
 ghost use Rattle.aiger_plans.specs.Needs.{FlatsOfAigsAskAlike};
+ghost use Rattle.aiger_plans.specs.Zero.{BitsAtZeroAreMeant};
 ghost use Rattle.aiger_plans.specs.ShownAigs.{CarriersShowAigRuns};
 
 /// A text that carries the flat netlist of a circuit carries the circuit.
@@ -23,6 +24,12 @@ pub fn carries_aig_cycles()
 /// reads a negated literal.
 pub fn flats_of_aigs_ask_alike()
     ensures { FlatsOfAigsAskAlike }
+{}
+
+/// In a sound circuit without latches and without loops, the outputs have their computed bits while
+/// all inputs are 0.
+pub fn bits_at_zero_are_meant()
+    ensures { BitsAtZeroAreMeant }
 {}
 
 /// If a text carries a sound circuit, then the circuit has a run under streams for its inputs, and

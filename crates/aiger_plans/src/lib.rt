@@ -3,13 +3,14 @@
 //! them.
 //!
 //! Theorem: `plan_circuit` (`plan`, `light`, `no_loop`, `refused`); `aigs_are_carried`, `carries_aig_cycles`,
-//! `flats_of_aigs_ask_alike`, `carriers_show_aig_runs`; definition `CarriesAig`.
+//! `flats_of_aigs_ask_alike`, `bits_at_zero_are_meant`, `carriers_show_aig_runs`; definition `CarriesAig`.
 #![tactic(auto)]
 
 mod laws;
 mod planning;
 
 pub use laws::{
-    aigs_are_carried, carriers_show_aig_runs, carries_aig_cycles, flats_of_aigs_ask_alike,
+    aigs_are_carried, bits_at_zero_are_meant, carriers_show_aig_runs, carries_aig_cycles,
+    flats_of_aigs_ask_alike,
 };
 pub use planning::plan_circuit;

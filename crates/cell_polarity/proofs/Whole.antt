@@ -109,5 +109,8 @@ module _ (old low now new : CellList) (kept lows still : List Src) (zeros marks 
     stands = λ src there. (low_of lows src, (low_at old (length old.cells) zeros low lows low_are src there).stands);
     few_low = subst (λ (l : List Cell). length low.cells ≤ sum_by (cells_for old) l) (take_all (length old.cells) old.cells (omega arith)) low_are.few;
     few_high = few_high;
+    own = λ src among inputs state.
+        ap (λ (c : List Cell). bit_in c inputs state (goes_to news src)) ported.cells
+        ∙ gone_bit old now news have.moved have.inputs have.starts src (gone_of old kept now news have src (in_from (needed old kept) src among)) inputs state;
     one = new_one;
   }

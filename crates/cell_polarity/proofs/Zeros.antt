@@ -86,8 +86,8 @@ names_none list e =
     record { cells = last.0; outs = last.1; latches = then.1; nets = first.1 }
 
 pub nothing_is_one_at_zero : NothingIsOneAtZero
-nothing_is_one_at_zero list src none other =
-    source_zero (bits_from [] [] [] list.cells) src (all_zero [] list.cells nothing_there (names_none list none).cells) other
+nothing_is_one_at_zero cells src none other =
+    source_zero (bits_from [] [] [] cells) src (all_zero [] cells nothing_there none) other
 
 -- ---- what is needed of such a list
 operand_of : (cell : Cell) (src : Src) → In src (operands cell) → reads_one cell ≡ false → is_one src ≡ false
@@ -125,4 +125,4 @@ needs_one list kept some = by (names_one list) refl
     by true e = refl
     by false e =
         let found = any_in (zero_bit list) (needed list kept) some in
-        absurd (true≢false (sym found.2 ∙ nothing_is_one_at_zero list found.0 e (needed_other list kept found.0 e found.1)))
+        absurd (true≢false (sym found.2 ∙ nothing_is_one_at_zero list.cells found.0 (names_none list e).cells (needed_other list kept found.0 e found.1)))

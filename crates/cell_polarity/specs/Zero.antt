@@ -1,12 +1,11 @@
 -- The bits of sources at zero: while all inputs and latches are 0.
-use Rattle.std.specs.Prelude.{ℕ, ◌≡◌, Bool, false, ◌&&◌, not, cond, []}
+use Rattle.std.specs.Prelude.{ℕ, ◌≡◌, Bool, false, ◌&&◌, not, cond, List, []}
 use Rattle.cell_core.specs.declared.cells.Src.{Src}
 use Rattle.cell_core.specs.declared.cells.Cell.{Cell}
 use Rattle.cell_core.specs.declared.cells.Cell.TheVariants.{Or, Xor, AndNot}
 use Rattle.cell_core.specs.declared.list.CellList.{CellList}
-use Rattle.cell_core.specs.Sources.{is_one}
-use Rattle.cell_core.specs.Loops.{names_one}
-use Rattle.cell_core.specs.Meaning.{bit_of}
+use Rattle.cell_core.specs.Sources.{is_one, read_one}
+use Rattle.cell_core.specs.Meaning.{bit_in, bit_of}
 
 -- the bit of a source at zero; a bit that is not given counts as 0
 abbrev pub zero_bit : CellList → Src → Bool
@@ -23,8 +22,8 @@ cells_for list (Or a b) = cond (zero_bit list a && zero_bit list b) 2 1
 cells_for list (Xor a b) = 1
 cells_for list (AndNot a b) = cond (not (zero_bit list a) && zero_bit list b) 2 1
 
--- in a list that does not name constant 1, each source but constant 1 itself is 0 at zero
+-- where no cell reads constant 1, each source but constant 1 itself is 0 at zero
 abbrev pub NothingIsOneAtZero : Type 0
 NothingIsOneAtZero =
-    (list : CellList) (src : Src) → names_one list ≡ false → is_one src ≡ false
-    → zero_bit list src ≡ false
+    (cells : List Cell) (src : Src) → read_one cells ≡ false → is_one src ≡ false
+    → bit_in cells [] [] src ≡ false

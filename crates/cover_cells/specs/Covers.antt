@@ -1,5 +1,5 @@
 -- What contracts claim of the cells of a cover.
-use Rattle.std.specs.Prelude.{ℕ, ◌+◌, ◌*◌, ◌≡◌, ◌≢◌, ◌⊎◌, Bool, true, false, not, List, [], length, sum_by, get_or, nat_lt, cond}
+use Rattle.std.specs.Prelude.{ℕ, ◌+◌, ◌*◌, ◌≡◌, ◌≢◌, ◌⊎◌, ◌&&◌, Bool, true, false, not, List, [], length, sum_by, get_or, nat_lt, cond}
 use Rattle.std.specs.List.{list_any}
 use Rattle.netlist_core.specs.OwnWeight.{literals, rows_weight}
 use Rattle.netlist_meaning.specs.CoverValue.{product_holds, any_holds, cover_value}
@@ -42,8 +42,18 @@ AnswersRows old new sources rows src =
     Answers old new (length rows + 2 * sum_by literals rows) (RowsNeedOne sources rows) src
     (λ inputs state. any_holds rows (bits_of old sources inputs state))
 
--- the source has the value of the cover, with at most twice as many new cells as its weight
+-- the cover has no rows, or one that ends in `1`
+abbrev pub is_product : List (List ℕ) → Bool → Bool
+is_product rows on = on && nat_lt (length rows) 2
+
+-- how many cells a cover takes at most: a product two for each literal, and another cover twice its
+-- weight
+abbrev pub most_cells : List (List ℕ) → Bool → ℕ
+most_cells rows on =
+    cond (is_product rows on) (2 * sum_by literals rows) (2 * rows_weight rows)
+
+-- the source has the value of the cover, with at most as many new cells as that
 abbrev pub AnswersCover : CellList → CellList → List Src → List (List ℕ) → Bool → Src → Type 0
 AnswersCover old new sources rows on src =
-    Answers old new (2 * rows_weight rows) (CoverNeedsOne sources rows on) src
+    Answers old new (most_cells rows on) (CoverNeedsOne sources rows on) src
     (λ inputs state. cover_value rows on (bits_of old sources inputs state))

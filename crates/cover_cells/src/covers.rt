@@ -1,13 +1,12 @@
 // A cover as cells: a constant, one cell, cells that a search found, or its rows.
-ghost use Rattle.std.specs.Prelude.{◌≡◌, ◌==◌, [], ◌⊎◌, ◌≤◌, ◌*◌, min, true, length, IsTrue, IfOk, IfSome, Some};
+ghost use Rattle.std.specs.Prelude.{◌≡◌, ◌==◌, [], ◌⊎◌, ◌≤◌, min, true, length, IsTrue, IfOk, IfSome, Some};
 ghost use Rattle.std.specs.List.{list_any};
-ghost use Rattle.netlist_core.specs.OwnWeight.{rows_weight};
 ghost use Rattle.cell_core.specs.Meaning.{bit_in};
 ghost use Rattle.cell_core.specs.Sources.{is_one, reads_one, read_one};
 ghost use Rattle.cover_cells.specs.Grown.{HasSources, bits_of, Answers};
 ghost use Rattle.cell_meaning.specs.Mapped.{IsCell};
 ghost use Rattle.cell_meaning.specs.Needs.{has_no_positive};
-ghost use Rattle.cover_cells.specs.Covers.{CoverNeedsOne, AnswersCover};
+ghost use Rattle.cover_cells.specs.Covers.{CoverNeedsOne, AnswersCover, most_cells};
 ghost use Rattle.cover_cells.specs.Placed.{ReadsOne};
 ghost use Rattle.cell_meaning.specs.Singles.{constant_source, single_cell};
 ghost use Rattle.cell_core.specs.declared.cells.Cell.{Cell};
@@ -15,7 +14,7 @@ ghost use Rattle.cell_core.specs.declared.cells.Src.{Src};
 ghost use Rattle.cover_cells.specs.Suits.{Suits, StandsAlone, ReadsOneRoot};
 
 use crate::placed::{place, relocated};
-use crate::rows::map_rows;
+use crate::rows::{is_product, map_rows};
 use crate::search::{Found, search};
 use crate::shared::{Places, share};
 use crate::singles::{constant_source, single_cell};
@@ -65,12 +64,26 @@ fn needs_one(sources: &[Src], rows: &[Bytes], on: bool) -> bool
     !rows.is_empty()
 }
 
+// How many cells the cover takes at most, or the greatest u64 if it is more. The weight of a product
+// is that of its literals, one for the cover and one for its row.
+fn most_cells(rows: &[Bytes], on: bool) -> u64
+    ensures { result ≡ min (most_cells rows.now on) u64.MAX }
+{
+    let weight = rows_weight(rows);
+    if !is_product(rows, on) {
+        return weight.saturating_mul(2);
+    }
+    weight
+        .saturating_sub(rows.len() as u64 + 1)
+        .saturating_mul(2)
+}
+
 // Whether what was found is no larger than it may be, and uses constant 1 only if it may.
 fn is_small(found: &Found, sources: &[Src], rows: &[Bytes], on: bool) -> bool
-    ensures few { IsTrue result → length found.now.cells ≤ 2 * rows_weight rows.now }
+    ensures few { IsTrue result → length found.now.cells ≤ most_cells rows.now on }
     ensures one { IsTrue result → ReadsOneRoot found.now → CoverNeedsOne sources.now rows.now on }
 {
-    if found.cells.len() as u64 > rows_weight(rows).saturating_mul(2) {
+    if found.cells.len() as u64 > most_cells(rows, on) {
         return false;
     }
     if read_one(found.cells.as_slice()) {

@@ -1,7 +1,7 @@
 // A cover by its rows: products of columns, and their sum.
-ghost use Rattle.std.specs.Prelude.{ℕ, ◌≡◌, ◌≢◌, ◌<◌, ◌≤◌, IfOk, length, slice_index};
+ghost use Rattle.std.specs.Prelude.{ℕ, ◌≡◌, ◌≢◌, ◌<◌, ◌≤◌, IfOk, true, length, slice_index};
 ghost use Rattle.cover_cells.specs.Grown.{HasSources};
-ghost use Rattle.cover_cells.specs.Covers.{start_of, AnswersRow, AnswersRows, AnswersCover};
+ghost use Rattle.cover_cells.specs.Covers.{start_of, is_product, AnswersRow, AnswersRows, AnswersCover};
 
 use crate::gates::{and_not, or, with_column};
 use crate::shared::Places;
@@ -77,6 +77,31 @@ fn sum(
     Ok(sum)
 }
 
+/// Returns whether a cover has no rows, or one that ends in `1`.
+pub fn is_product(rows: &[Bytes], on: bool) -> bool
+    ensures { result ≡ is_product rows.now on }
+{
+    on && rows.len() < 2
+}
+
+// The product of the first row, or constant 0 if there is none.
+fn first_product(
+    list: &mut CellList,
+    places: &mut Places,
+    alloc: Global,
+    sources: &[Src],
+    rows: &[Bytes],
+) -> Result<Src, CellError>
+    requires there { HasSources list.old sources.now }
+    requires few { length rows.now < 2 }
+    ensures { IfOk result (AnswersCover list.old list.new sources.now rows.now true) }
+{
+    match rows.first() {
+        None => Ok(Src::Zero),
+        Some(row) => product(list, places, alloc, sources, row.as_slice()),
+    }
+}
+
 /// Adds cells for a cover row by row, and returns the source that has its value.
 pub fn map_rows(
     list: &mut CellList,
@@ -89,6 +114,9 @@ pub fn map_rows(
     requires { HasSources list.old sources.now }
     ensures { IfOk result (AnswersCover list.old list.new sources.now rows.now on) }
 {
+    if is_product(rows, on) {
+        return first_product(list, places, alloc, sources, rows);
+    }
     let sum = sum(list, places, alloc, sources, rows)?;
     if on || rows.is_empty() {
         return Ok(sum);

@@ -7,6 +7,7 @@ use Rattle.std.proofs.lemmas.Bool.{true≢false, or_cases}
 use Rattle.std.proofs.lemmas.Option.{slice_get_within}
 use Rattle.std.proofs.lemmas.List.{get_or-map, length-map}
 use Rattle.std.proofs.lemmas.List.Elements.{All-get_or}
+use Rattle.std.proofs.lemmas.List.Sums.{sum_by-cons}
 use Rattle.std.proofs.lemmas.Simd.{map-map}
 use Rattle.netlist_meaning.proofs.ClockTest.{is_clock_class-Decides}
 use Rattle.netlist_core.specs.declared.flat.NetId.{NetId}
@@ -25,13 +26,14 @@ use Rattle.cell_core.specs.declared.cells.Cell.{Cell}
 use Rattle.cell_core.specs.Meaning.{bit_in, bit_of}
 use Rattle.cell_core.specs.Sources.{are_there, is_one, read_one}
 use Rattle.cell_core.specs.Loops.{names_one}
-use Rattle.netlist_core.specs.OwnWeight.{rows_weight}
+use Rattle.netlist_core.specs.OwnWeight.{literals, rows_weight}
+use Rattle.cover_cells.specs.Covers.{is_product}
 use Rattle.cover_cells.specs.Grown.{Grows}
 use Rattle.cell_meaning.specs.Listed.{listed_classes}
-use Rattle.cell_meaning.specs.Needs.{any_needs_one, covers_weight}
+use Rattle.cell_meaning.specs.Needs.{any_needs_one}
 use Rattle.cell_meaning.specs.Mapped.{IsMapped, IsMappedWith, HasBits}
 use Rattle.cover_mapper.specs.Singles.{single_source}
-use Rattle.cover_mapper.specs.Sourced.{ClassSources, AreSourced, HasSingle, HasConstant, IsComplete, sources_at, source_at}
+use Rattle.cover_mapper.specs.Sourced.{node_cells, most_cells_of, ClassSources, AreSourced, HasSingle, HasConstant, IsComplete, sources_at, source_at}
 use Rattle.cover_mapper.proofs.Known.{IsKnown, AreKnown, known_at, all_gathered, all_there, all_bits, any_one}
 use Rattle.cover_mapper.proofs.NextNode.{Made}
 use Rattle.cover_mapper.proofs.OneCell.{singles_among}
@@ -177,6 +179,30 @@ gathered_there flat made list sources classes found first known is = ap (are_the
 node_number : (flat : Flat) (order : List ℕ) → IsOrder flat order → (n : ℕ) → n < length flat.nodes → (j : ℕ) × (j < length order) × (get_or order j 0 ≡ n)
 node_number flat order ordered n lt = let (j, within, is) = ordered.all n lt in (j, within, sym (get_or_default_zero order j n within) ∙ is)
 
+-- ---- how many cells there are
+pub few_cells : (flat : Flat) (list new : CellList) (sources : ClassSources) → IsComplete flat list sources → new.cells ≡ list.cells → length new.cells ≤ most_cells_of flat
+few_cells flat list new sources whole same =
+    let grown = whole.mapped.grows in
+    let e : length new.cells ≡ length grown.more = ap length same ∙ ap length (grown.adds.cells ∙ ap (λ l. l ++ grown.more) whole.cells) in
+    let w : sum_by (λ n. node_cells (node_at flat n)) whole.order ≤ sum_by node_cells flat.nodes = weigh_at_most node_cells flat.nodes no_node whole.order whole.ordered.once whole.ordered.nodes in
+    omega (arith, e, grown.few, w)
+
+one_within : (node : Node) → node_cells node ≤ 2 * rows_weight node.rows
+one_within node = by (is_product node.rows node.on)
+  where
+    by : (b : Bool) → cond b (2 * sum_by literals node.rows) (2 * rows_weight node.rows) ≤ 2 * rows_weight node.rows
+    by true = omega arith
+    by false = omega arith
+
+most_within : (nodes : List Node) → sum_by node_cells nodes ≤ 2 * sum_by (λ (node : Node). rows_weight node.rows) nodes
+most_within [] = omega arith
+most_within (node ∷ nodes) =
+    let e = sum_by-cons node_cells node nodes in
+    let f = sum_by-cons (λ (node : Node). rows_weight node.rows) node nodes in
+    let here = one_within node in
+    let rest = most_within nodes in
+    omega (arith, e, f, here, rest)
+
 pub finished : (flat : Flat) → IsSound flat → (list new : CellList) (sources : ClassSources) → IsComplete flat list sources → Has flat list new sources → IsMapped flat new
 finished flat sound list new sources whole has =
     record {
@@ -197,13 +223,11 @@ finished flat sound list new sources whole has =
       constant = λ n src lt e.
           let (j, within, is) = node_number flat whole.order whole.ordered n lt in
           subst (HasConstant flat sources) is (whole.mapped.constant j within) src e;
-      few = let e : length new.cells ≡ length grown.more = ap length has.cells ∙ ap length cells in
-          let w : sum_by (λ n. rows_weight (node_at flat n).rows) whole.order ≤ covers_weight flat = weigh_at_most (λ (node : Node). rows_weight node.rows) flat.nodes no_node whole.order whole.ordered.once whole.ordered.nodes in
-          omega (arith, e, grown.few, w);
+      few = let few = few_cells flat list new sources whole has.cells in let most = most_within flat.nodes in omega (arith, few, most);
       one = one;
     }
   where
-    grown : Grows whole.start list (2 * sum_by (λ n. rows_weight (node_at flat n).rows) whole.order) (any_needs_one flat ≡ true)
+    grown : Grows whole.start list (sum_by (λ n. node_cells (node_at flat n)) whole.order) (any_needs_one flat ≡ true)
     grown = whole.mapped.grows
 
     first : AreSourced flat (Made flat whole.order) list sources

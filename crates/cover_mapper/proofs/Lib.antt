@@ -3,6 +3,6 @@ mod Gathering
 mod Starting
 mod Known
 mod NextNode
-mod Weights
+pub mod Weights
 mod OneCell
 mod Finishing

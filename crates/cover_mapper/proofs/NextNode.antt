@@ -25,14 +25,13 @@ use Rattle.cell_core.specs.declared.cells.Cell.{Cell}
 use Rattle.cell_core.specs.declared.list.CellList.{CellList}
 use Rattle.cell_core.specs.Meaning.{bit_in}
 use Rattle.cell_core.specs.Sources.{is_one}
-use Rattle.netlist_core.specs.OwnWeight.{rows_weight}
 use Rattle.cell_meaning.specs.Needs.{has_no_positive, needs_one, any_needs_one}
 use Rattle.cover_cells.specs.Covers.{CoverNeedsOne, AnswersCover}
 use Rattle.cover_cells.specs.Grown.{Grows, bits_of}
 use Rattle.cell_meaning.specs.Mapped.{IsCell}
 use Rattle.cell_meaning.specs.Singles.{constant_source, single_cell}
 use Rattle.cover_cells.proofs.Growing.{grows, grows_refl}
-use Rattle.cover_mapper.specs.Sourced.{ClassSources, AreSourced, AreMapped, IsAmongFirst, HasSingle, HasConstant, source_at}
+use Rattle.cover_mapper.specs.Sourced.{node_cells, ClassSources, AreSourced, AreMapped, IsAmongFirst, HasSingle, HasConstant, source_at}
 use Rattle.cover_mapper.proofs.Known.{IsKnown, AreKnown, all_bits, any_one}
 use Rattle.cover_mapper.proofs.Sourcing.{class_within, sourced_more}
 
@@ -115,8 +114,8 @@ node_mapped flat sound order ordered old l l' sources k n class node ins src wit
           (omega (arith, same, class_within flat sound.in_range (node_at flat n).out (All-get_or (λ (m : Node). IsNetId flat m.out) flat.nodes n no_node is_node sound.in_range.node_outs)))
           one_more still this tt answer.grows answer.there (λ e. needs (answer.one e)) bit;
       grows = grows old l l' _ _ _ _ _ _ first.grows answer.grows (λ e. e) needs
-          (let e : sum_by (λ m. rows_weight (node_at flat m).rows) (take (k + 1) order) ≡ sum_by (λ m. rows_weight (node_at flat m).rows) (take k order) + rows_weight (node_at flat (get_or order k 0)).rows = sum_by_more (λ m. rows_weight (node_at flat m).rows) order k 0 within in
-          let f : rows_weight (node_at flat (get_or order k 0)).rows ≡ rows_weight node.rows = ap (λ m. rows_weight (node_at flat m).rows) (sym is) ∙ ap (λ (m : Node). rows_weight m.rows) (sym is_at) in omega (arith, e, f));
+          (let e : sum_by (λ m. node_cells (node_at flat m)) (take (k + 1) order) ≡ sum_by (λ m. node_cells (node_at flat m)) (take k order) + node_cells (node_at flat (get_or order k 0)) = sum_by_more (λ m. node_cells (node_at flat m)) order k 0 within in
+          let f : node_cells (node_at flat (get_or order k 0)) ≡ node_cells node = ap (λ m. node_cells (node_at flat m)) (sym is) ∙ ap node_cells (sym is_at) in omega (arith, e, f));
       single = by_place (HasSingle flat l' news) earlier last;
       constant = by_place (HasConstant flat news) earlier_constant last_constant;
     }

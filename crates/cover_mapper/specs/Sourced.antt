@@ -1,7 +1,8 @@
 -- The sources of classes of nets, while covers are mapped in an order.
-use Rattle.std.specs.Prelude.{ℕ, ◌*◌, ◌<◌, ◌≡◌, ◌==◌, Bool, true, List, [], length, map, get_or, sum_by, Option, Some, None, Contains}
+use Rattle.std.specs.Prelude.{ℕ, ◌<◌, ◌≡◌, ◌==◌, Bool, true, List, [], length, map, get_or, sum_by, Option, Some, None, Contains}
 use Rattle.std.specs.List.{filter_map}
 use Rattle.std.specs.Option.{unwrap_or}
+use Rattle.netlist_core.specs.declared.flat.Node.{Node}
 use Rattle.netlist_core.specs.declared.flat.Flat.{Flat}
 use Rattle.netlist_meaning.specs.Flat.{FlatDriver, FlatDrives, node_at, in_classes, out_class}
 use Rattle.netlist_meaning.specs.FlatOrder.{IsOrder}
@@ -12,11 +13,18 @@ use Rattle.cell_core.specs.declared.cells.Cell.{Cell}
 use Rattle.cell_core.specs.declared.list.CellList.{CellList}
 use Rattle.cell_core.specs.Sources.{is_one}
 use Rattle.cell_core.specs.Meaning.{bit_in}
-use Rattle.netlist_core.specs.OwnWeight.{rows_weight}
+use Rattle.cover_cells.specs.Covers.{most_cells}
 use Rattle.cover_cells.specs.Grown.{HasSource, Grows}
 use Rattle.cell_meaning.specs.Mapped.{IsCell, IsOwn, constant_of}
 use Rattle.cell_meaning.specs.Singles.{single_cell}
 use Rattle.cell_meaning.specs.Needs.{any_needs_one}
+
+-- how many cells the cover of a node takes at most, and below it those of all nodes
+abbrev pub node_cells : Node → ℕ
+node_cells node = most_cells node.rows node.on
+
+abbrev pub most_cells_of : Flat → ℕ
+most_cells_of flat = sum_by node_cells flat.nodes
 
 -- a source for each class that has one
 abbrev pub ClassSources : Type 0
@@ -69,7 +77,7 @@ pub record AreMapped (flat : Flat) (old new : CellList) (sources : ClassSources)
     (nodes : List ℕ) : Type 0 where
   pub sourced : AreSourced flat (IsAmongFirst (length flat.ins)
       (length flat.latches) nodes) new sources
-  pub grows : Grows old new (2 * sum_by (λ n. rows_weight (node_at flat n).rows) nodes)
+  pub grows : Grows old new (sum_by (λ n. node_cells (node_at flat n)) nodes)
       (any_needs_one flat ≡ true)
   pub single : (j : ℕ) → j < length nodes → HasSingle flat new sources (get_or nodes j 0)
   pub constant : (j : ℕ) → j < length nodes → HasConstant flat sources (get_or nodes j 0)

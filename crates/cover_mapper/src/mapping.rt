@@ -1,10 +1,10 @@
 // A flat netlist as a list of cells.
-ghost use Rattle.std.specs.Prelude.{ℕ, ◌≡◌, ◌≤◌, ◌+◌, ◌*◌, Bool, List, None, length, replicate, IfOk};
+ghost use Rattle.std.specs.Prelude.{ℕ, ◌≡◌, ◌≤◌, ◌+◌, ◌*◌, Bool, false, List, [], None, length, replicate, IfOk};
 ghost use Rattle.netlist_meaning.specs.Flat.{IsSound, IsWeighed};
 ghost use Rattle.netlist_meaning.specs.FlatOrder.{IsOrder};
 ghost use Rattle.netlist_meaning.specs.FlatValuation.{IsFlatValuation};
 ghost use Rattle.cell_meaning.specs.Mapped.{HasBits, IsMappedWith};
-ghost use Rattle.cover_mapper.specs.Sourced.{IsComplete};
+ghost use Rattle.cover_mapper.specs.Sourced.{most_cells_of, IsComplete};
 
 use crate::MapError;
 use crate::classes::{sources_of_data, sources_of_listed, sources_of_ports};
@@ -36,6 +36,8 @@ fn with_ports(
     ensures mapped { IfOk result (λ m. IsMappedWith flat.now m.list m.singles.items) }
     ensures bits { IfOk result (λ m. (inputs state : List Bool) (bits : ℕ → Bool)
         → IsFlatValuation flat.now inputs state bits → HasBits flat.now m.list inputs state bits) }
+    ensures cells { IfOk result (λ m. length m.list.cells ≤ most_cells_of flat.now) }
+    ensures unlisted { IfOk result (λ m. flat.now.listed ≡ false → m.singles.items ≡ []) }
 {
     let outs = sources_of_ports(alloc, flat, sources, flat.outs.as_slice())?;
     let latches = sources_of_data(alloc, flat, sources, flat.latches.as_slice())?;
@@ -66,6 +68,8 @@ fn map_from(
     ensures mapped { IfOk result (λ m. IsMappedWith flat.now m.list m.singles.items) }
     ensures bits { IfOk result (λ m. (inputs state : List Bool) (bits : ℕ → Bool)
         → IsFlatValuation flat.now inputs state bits → HasBits flat.now m.list inputs state bits) }
+    ensures cells { IfOk result (λ m. length m.list.cells ≤ most_cells_of flat.now) }
+    ensures unlisted { IfOk result (λ m. flat.now.listed ≡ false → m.singles.items ≡ []) }
 {
     let mut list = start_list(alloc, flat)?;
     source_inputs(flat, &list, sources);
@@ -92,6 +96,8 @@ pub fn map(alloc: Global, flat: &Flat, order: &Order) -> Result<Mapped, MapError
         ) }
     ensures bits { IfOk result (λ m. (inputs state : List Bool) (bits : ℕ → Bool)
         → IsFlatValuation flat.now inputs state bits → HasBits flat.now m.list inputs state bits) }
+    ensures cells { IfOk result (λ m. length m.list.cells ≤ most_cells_of flat.now) }
+    ensures unlisted { IfOk result (λ m. flat.now.listed ≡ false → m.singles.items ≡ []) }
 {
     let mut sources = vec![in alloc; None; flat.nets.len()]?;
     map_from(alloc, flat, order, &mut sources)

@@ -1,5 +1,6 @@
 pub mod Names
 mod LowLists
+pub mod Sparing
 mod Bounds
 mod Lanes
 mod NetPlaces

@@ -1,4 +1,5 @@
 pub mod Lists
+pub mod Sparing
 pub mod Contexts
 pub mod Names
 pub mod Planned

@@ -1,5 +1,5 @@
 // The plan of a flat netlist, by its list of cells.
-ghost use Rattle.std.specs.Prelude.{◌≡◌, ◌≤◌, ◌<◌, ◌*◌, ◌^◌, min, [], true, false, length, All, IfOk, IfSome};
+ghost use Rattle.std.specs.Prelude.{◌≡◌, ◌≤◌, ◌<◌, ◌*◌, ◌^◌, ◌↔◌, min, [], true, false, length, All, IfOk, IfSome};
 ghost use Rattle.grid_assembly.specs.PlanDrawing.{start_grid};
 ghost use Rattle.lane_core.specs.Plans.{IsAdmissible};
 ghost use Rattle.plan_layout.specs.Starts.{HasStartEdges};
@@ -12,6 +12,7 @@ ghost use Rattle.pattern_writing.specs.WrittenText.{pattern_text};
 ghost use Rattle.carries.specs.FlatNets.{CarriesFlat};
 ghost use Rattle.netlist_plans.specs.Lists.{IsPlanned, MapsFlat};
 ghost use Rattle.netlist_plans.specs.NetPlaces.{HasNetPlaces};
+ghost use Rattle.netlist_plans.specs.Sparing.{SparesOne, HasRoomForComplements, NamesNoOne, ComplementsNameNoOne};
 ghost use Rattle.netlist_plans.specs.Planned.{ComputesCells, HasLanes, IsSmall};
 
 use crate::NetlistPlanError;
@@ -47,7 +48,7 @@ fn covers_weight(flat: &Flat) -> u64
 
 // Whether a list has no more cells than the weight of the covers allows.
 fn is_allowed(flat: &Flat, list: &CellList) -> bool
-    ensures { result ≡ true → length list.now.cells ≤ 2 * covers_weight flat.now }
+    ensures { result ≡ true ↔ length list.now.cells ≤ 2 * covers_weight flat.now }
 {
     list.cells.len() as u64 <= covers_weight(flat).saturating_mul(2)
 }
@@ -61,7 +62,10 @@ fn complements(
 ) -> Result<Option<KeptList>, NetlistPlanError>
     requires sound { IsSound flat.now }
     requires maps { MapsFlat flat.now mapped.now.list mapped.now.singles.items }
-    ensures { IfOk result (λ o. IfSome o (λ low. MapsFlat flat.now low.list low.kept.items)) }
+    ensures maps { IfOk result (λ o. IfSome o (λ low. MapsFlat flat.now low.list low.kept.items)) }
+    ensures spares { IfOk result (λ o.
+        HasRoomForComplements flat.now mapped.now.list mapped.now.singles.items
+        → ComplementsNameNoOne mapped.now.list o) }
 {
     if !mapped.list.names_one() {
         return Ok(None);
@@ -84,6 +88,7 @@ fn rewritten_lists(
     requires maps { MapsFlat flat.now list.now kept.now }
     ensures some { IfOk result (λ lists. 0 < length lists.items) }
     ensures computes { IfOk result (λ lists. All (ComputesFlat flat.now) lists.items) }
+    ensures spares { IfOk result (λ lists. NamesNoOne list.now → All NamesNoOne lists.items) }
 {
     let _flat = flat;
     let lists = rewritten(alloc, list, kept)?;
@@ -136,6 +141,8 @@ fn lists_of_both(
     requires low { MapsFlat flat.now low.now.list low.now.kept.items }
     ensures some { IfOk result (λ lists. 0 < length lists.items) }
     ensures computes { IfOk result (λ lists. All (ComputesFlat flat.now) lists.items) }
+    ensures spares { IfOk result (λ lists. length flat.now.latches ≡ 0 → NamesNoOne low.now.list
+        → All NamesNoOne lists.items) }
 {
     let spares_one = !low.list.names_one();
     let low_lists = rewritten_lists(alloc, flat, &low.list, &low.kept)?;
@@ -153,6 +160,7 @@ fn cell_lists(alloc: Global, flat: &Flat, order: &Order) -> Result<Vec<CellList>
     requires ordered { IsOrder flat.now order.now.nodes }
     ensures some { IfOk result (λ lists. 0 < length lists.items) }
     ensures computes { IfOk result (λ lists. All (ComputesFlat flat.now) lists.items) }
+    ensures spares { IfOk result (λ lists. SparesOne flat.now → All NamesNoOne lists.items) }
 {
     let mapped = map(alloc, flat, order)?;
     match complements(alloc, flat, &mapped)? {
@@ -167,7 +175,8 @@ fn plan_of_cells(alloc: Global, flat: &Flat, order: &Order) -> Result<Plan, Netl
     requires weighed { IsWeighed flat.now }
     requires small { flat.now.weight < 2 ^ 16 }
     requires ordered { IsOrder flat.now order.now.nodes }
-    ensures { IfOk result (IsPlanned flat.now) }
+    ensures planned { IfOk result (IsPlanned flat.now) }
+    ensures spares { IfOk result (λ plan. SparesOne flat.now → plan.latches ≡ 0) }
 {
     let lists = cell_lists(alloc, flat, order)?;
     let chosen = best_plan(alloc, &lists)?;
@@ -197,6 +206,7 @@ pub fn plan_netlist(alloc: Global, flat: &Flat, order: &Order) -> Result<Planned
     ensures places { IfOk result (λ p. HasNetPlaces flat.now p.plan) }
     ensures period { IfOk result (λ p. length flat.now.latches ≡ 0 →
         any_needs_one flat.now ≡ false → p.ports.p ≡ 32) }
+    ensures at_zero { IfOk result (λ p. SparesOne flat.now → p.ports.p ≡ 32) }
 {
     let plan = plan_of_cells(alloc, flat, order)?;
     plans_have_ports();

@@ -1,12 +1,14 @@
-use Rattle.std.proofs.Common.{◌≡◌, ◌==◌, refl, sym, ◌∙◌, ap, List, map, length}
+use Rattle.std.proofs.Common.{◌≡◌, ◌==◌, refl, sym, ◌∙◌, ap, cond, List, [], map, length}
+use Rattle.std.specs.List.{filter_map}
 use Rattle.std.proofs.lemmas.List.{length-map}
 use Rattle.netlist_core.specs.declared.flat.FlatPort.{FlatPort}
 use Rattle.netlist_core.specs.declared.flat.FlatLatch.{FlatLatch}
 use Rattle.netlist_meaning.specs.Flat.{class_of, port_classes}
 use Rattle.cell_meaning.specs.Listed.{listed_classes}
+use Rattle.cover_mapper.specs.Singles.{single_source}
 use Rattle.cover_mapper.specs.Sourced.{sources_at, source_at}
 use Rattle.cover_mapper.proofs.Known.{all_gathered}
-use Rattle.cover_mapper.proofs.Finishing.{Ports, ports, gathered_there, finished_with, with_bits}
+use Rattle.cover_mapper.proofs.Finishing.{Ports, ports, gathered_there, few_cells, finished_with, with_bits}
 use Rattle.cover_mapper.proofs.mapping.with_ports.Goals as goal
 
 pub invariant_of-list : goal.invariant_of-list
@@ -57,3 +59,10 @@ returns-clause-bits c =
       latches = c.of-2.ensures ∙ c.in_ok-latches.ensures ∙ ap (λ (l : List FlatLatch). sources_at sources (map (λ (latch : FlatLatch). class_of flat latch.input) l)) c.as_slice-2.ensures;
       nets = c.of-3.ensures ∙ c.in_ok-nets.ensures;
     })
+
+pub returns-clause-cells : goal.returns-clause-cells
+returns-clause-cells c = few_cells c.args.flat.now c.args.list _ c.args.sources.now c.requires.complete refl
+
+pub returns-clause-unlisted : goal.returns-clause-unlisted
+returns-clause-unlisted c listed =
+    c.in_ok-singles.ensures ∙ ap (λ b. cond b (filter_map (single_source c.args.flat.now c.args.sources.now) c.args.flat.now.nodes) []) listed

@@ -4,11 +4,11 @@ use Rattle.cell_polarity.specs.Complements.{Complements}
 use Rattle.netlist_plans.proofs.LowLists.{maps_low}
 use Rattle.netlist_plans.proofs.planning.complements.Goals as goal
 
-pub returns : goal.returns
-returns c =
+pub returns-clause-maps : goal.returns-clause-maps
+returns-clause-maps c =
     let mapped = c.args.mapped.now in
     let low = c.in_ok-low.low in
     let made : Complements mapped.list mapped.singles.items low.list low.kept.items =
     subst (λ (kept : List Src). Complements mapped.list kept low.list low.kept.items) c.deref.ensures.value c.in_ok-low.ensures in
     let allowed : c.is_allowed.result ≡ true = search rules in
-    maps_low c.args.flat.now mapped.list low.list mapped.singles.items low.kept.items c.requires.sound c.requires.maps made (c.is_allowed.ensures allowed)
+    maps_low c.args.flat.now mapped.list low.list mapped.singles.items low.kept.items c.requires.sound c.requires.maps made (c.is_allowed.ensures.0 allowed)
