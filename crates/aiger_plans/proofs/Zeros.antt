@@ -1,5 +1,5 @@
 -- The computed bits of a circuit while all inputs are 0 are those of each valuation.
-use Rattle.std.proofs.Common.{ℕ, zero, suc, ◌+◌, ◌*◌, ◌/◌, ◌%◌, ◌-◌, ◌<◌, ◌≤◌, ◌≡◌, ⊎_elim, inl, inr, refl, sym, ap, ap₂, ◌∙◌, subst, Bool, true, false, true≢false, cond, not, ◌&&◌, ◌==◌, List, [], ◌∷◌, ◌++◌, map, flat_map, take, length, get_or, arith}
+use Rattle.std.proofs.Common.{ℕ, zero, suc, ◌+◌, ◌*◌, ◌/◌, ◌%◌, ◌-◌, ◌<◌, ◌≤◌, ◌≡◌, ◌⊎◌, ⊎_elim, inl, inr, refl, sym, ap, ap₂, ◌∙◌, subst, Bool, true, false, true≢false, cond, not, ◌&&◌, ◌==◌, List, [], ◌∷◌, ◌++◌, map, flat_map, take, length, get_or, arith}
 use Rattle.std.specs.Prelude.{sum_by, replicate, Option, Some, None}
 use Rattle.std.specs.List.{find}
 use Rattle.std.specs.Option.{option_map_or}
@@ -31,25 +31,32 @@ use Rattle.aiger_meaning.proofs.Valuations.{gate_reads, no_gate}
 use Rattle.aiger_plans.specs.Zero.{is_odd, gate_of, bit_at_zero, BitsAtZeroAreMeant}
 
 -- ---- what `find` finds
-found_at : {X : Type 0} (p : X → Bool) (xs : List X) (x d : X) → find p xs ≡ Some x → (i : ℕ) × (i < length xs) × (get_or xs i d ≡ x) × (p x ≡ true)
+record FoundAt {X : Type 0} (p : X → Bool) (xs : List X) (x d : X) : Type 0 where
+  pub place : ℕ
+  pub within : place < length xs
+  pub is : get_or xs place d ≡ x
+  pub passes : p x ≡ true
+
+some_parts : {X : Type 0} (b : Bool) (y : X) (rest : Option X) (x : X) → cond b (Some y) rest ≡ Some x → ((b ≡ true) × (y ≡ x)) ⊎ (rest ≡ Some x)
+some_parts true y rest x e = inl (refl, same_Some _ _ e)
+some_parts false y rest x e = inr e
+
+none_parts : {X : Type 0} (b : Bool) (y : X) (rest : Option X) → cond b (Some y) rest ≡ None → (b ≡ false) × (rest ≡ None)
+none_parts true y rest e = absurd (none-some y (sym e))
+none_parts false y rest e = (refl, e)
+
+found_at : {X : Type 0} (p : X → Bool) (xs : List X) (x d : X) → find p xs ≡ Some x → FoundAt p xs x d
 found_at p [] x d e = absurd (none-some x e)
-found_at p (y ∷ ys) x d e = by (p y) refl
-  where
-    by : (b : Bool) → p y ≡ b → (i : ℕ) × (i < length (y ∷ ys)) × (get_or (y ∷ ys) i d ≡ x) × (p x ≡ true)
-    by true h = let same = same_Some _ _ (sym (ap (λ b. cond b (Some y) (find p ys)) h) ∙ e) in (0, omega arith, same, ap p (sym same) ∙ h)
-    by false h =
-        let rest = found_at p ys x d (sym (ap (λ b. cond b (Some y) (find p ys)) h) ∙ e) in
-        let lt = rest.1 in
-        (suc rest.0, omega (arith, lt), rest.2.0, rest.2.1)
+found_at p (y ∷ ys) x d e =
+    ⊎_elim
+    (λ here. record { place = 0; within = omega arith; is = here.1; passes = ap p (sym here.1) ∙ here.0 })
+    (λ later. let rest = found_at p ys x d later in let lt = rest.within in record { place = suc rest.place; within = omega (arith, lt); is = rest.is; passes = rest.passes })
+    (some_parts (p y) y (find p ys) x e)
 
 none_found : {X : Type 0} (p : X → Bool) (xs : List X) (i : ℕ) (d : X) → find p xs ≡ None → i < length xs → p (get_or xs i d) ≡ false
 none_found p [] i d e lt = absurd (omega (arith, lt))
-none_found p (y ∷ ys) i d e lt = by (p y) refl i lt
-  where
-    by : (b : Bool) → p y ≡ b → (i : ℕ) → i < length (y ∷ ys) → p (get_or (y ∷ ys) i d) ≡ false
-    by true h i lt = absurd (none-some y (sym (sym (ap (λ b. cond b (Some y) (find p ys)) h) ∙ e)))
-    by false h zero lt = h
-    by false h (suc i) lt = none_found p ys i d (sym (ap (λ b. cond b (Some y) (find p ys)) h) ∙ e) (omega (arith, lt))
+none_found p (y ∷ ys) zero d e lt = (none_parts (p y) y (find p ys) e).0
+none_found p (y ∷ ys) (suc i) d e lt = none_found p ys i d (none_parts (p y) y (find p ys) e).1 (omega (arith, lt))
 
 -- ---- how many gates there are
 abbrev of_gate : Node → ℕ
@@ -73,6 +80,10 @@ wires_count : (lits : List ℕ) → sum_by of_pair (map buffer lits) ≡ 0
 wires_count [] = refl
 wires_count (lit ∷ lits) = let e = sum_by-cons of_pair (buffer lit) (map buffer lits) in let rest = wires_count lits in omega (arith, e, rest)
 
+turned_none : (b : Bool) → b ≡ turned b false
+turned_none true = refl
+turned_none false = refl
+
 module _ (aig : Aig) (flat : Flat) (order : List ℕ) (s : IsSoundAig aig) (h : IsFlatOfAig aig flat) (o : IsOrder flat order) where
   gates_many : sum_by of_gate flat.nodes ≡ length aig.ands
   gates_many =
@@ -85,11 +96,10 @@ module _ (aig : Aig) (flat : Flat) (order : List ℕ) (s : IsSoundAig aig) (h : 
       omega (arith, zero_first, rest, split, gates, wires)
 
   -- how many gates stand before a place of the order
-  rank : ℕ → ℕ
+  abbrev rank : ℕ → ℕ
   rank place = sum_by (λ n. of_gate (node_at flat n)) (take place order)
 
   rank_next : (place : ℕ) → place < length order → rank (place + 1) ≡ rank place + of_gate (node_at flat (get_or order place 0))
-  unfolding rank
   rank_next place lt = sum_by_more (λ n. of_gate (node_at flat n)) order place 0 lt
 
   rank_grows : (more place later : ℕ) → later ≡ place + more → later ≤ length order → rank place ≤ rank later
@@ -101,7 +111,6 @@ module _ (aig : Aig) (flat : Flat) (order : List ℕ) (s : IsSoundAig aig) (h : 
       omega (arith, before, next, same)
 
   rank_all : rank (length order) ≤ length aig.ands
-  unfolding rank
   rank_all =
       let all : sum_by (λ n. of_gate (node_at flat n)) (take (length order) order) ≡ sum_by (λ n. of_gate (node_at flat n)) order =
       ap (sum_by (λ n. of_gate (node_at flat n))) (take_all (length order) order (omega arith)) in
@@ -212,17 +221,17 @@ module _ (aig : Aig) (flat : Flat) (order : List ℕ) (s : IsSoundAig aig) (h : 
         (net_of_literal aig lit - first_gate aig, omega (arith, past, inside, literal_count aig flat s h), omega (arith, past))
 
     same_bit : (count lit : ℕ) → HasNet aig lit → Below count lit → bit_at_zero aig count lit ≡ bits lit
-    same_bit zero lit has below = ⊎_elim (λ low. ap (turned (is_odd lit)) (sym (leaf lit has low)) ∙ signed lit) gate (cases_lt (net_of_literal aig lit) (first_gate aig))
+    same_bit zero lit has below = ⊎_elim (λ low. turned_none (is_odd lit) ∙ ap (turned (is_odd lit)) (sym (leaf lit has low)) ∙ signed lit) gate (cases_lt (net_of_literal aig lit) (first_gate aig))
       where
         gate : first_gate aig ≤ net_of_literal aig lit → bit_at_zero aig zero lit ≡ bits lit
         gate past = let at = split_off lit has past in let few = (below at.0 at.1 at.2).few in absurd (omega (arith, few))
-    same_bit (suc count) lit has below = by (gate_of aig (even lit)) refl
+    same_bit (suc count) lit has below = by (gate_of aig (even lit)) refl (same_bit count)
       where
         abbrev value : Option AigAnd → Bool
         value found = option_map_or (λ (gate : AigAnd). bit_at_zero aig count gate.rhs0 && bit_at_zero aig count gate.rhs1) found false
 
-        by : (found : Option AigAnd) → gate_of aig (even lit) ≡ found → bit_at_zero aig (suc count) lit ≡ bits lit
-        by None e =
+        by : (found : Option AigAnd) → gate_of aig (even lit) ≡ found → ((side : ℕ) → HasNet aig side → Below count side → bit_at_zero aig count side ≡ bits side) → bit_at_zero aig (suc count) lit ≡ bits lit
+        by None e sides =
             ap (λ f. turned (is_odd lit) (value f)) e
             ∙ ⊎_elim (λ low. ap (turned (is_odd lit)) (sym (leaf lit has low)) ∙ signed lit)
             (λ past.
@@ -230,20 +239,20 @@ module _ (aig : Aig) (flat : Flat) (order : List ℕ) (s : IsSoundAig aig) (h : 
             let own = own_gate lit has at.0 at.2 at.1 in
             absurd (true≢false (sym (eq-eqb _ _ own) ∙ none_found (λ (gate : AigAnd). gate.lhs == even lit) aig.ands at.0 no_gate e at.1)))
             (cases_lt (net_of_literal aig lit) (first_gate aig))
-        by (Some gate) e =
+        by (Some gate) e sides =
             let at = found_at (λ (g : AigAnd). g.lhs == even lit) aig.ands gate no_gate e in
-            let j : ℕ = at.0 in
-            let lt : j < length aig.ands = at.1 in
+            let j : ℕ = at.place in
+            let lt : j < length aig.ands = at.within in
             let many = many_reads aig in
-            let lhs : gate.lhs ≡ even lit = eqb-true gate.lhs (even lit) at.2.1 in
-            let net = gate_own j lit lt (sym lhs ∙ ap (λ (g : AigAnd). g.lhs) (sym at.2.0)) in
+            let lhs : gate.lhs ≡ even lit = eqb-true gate.lhs (even lit) at.passes in
+            let net = gate_own j lit lt (sym lhs ∙ ap (λ (g : AigAnd). g.lhs) (sym at.is)) in
             let stands_here = below j lt net in
-            let reads_are : get_or (node_reads aig) j [] ≡ sides_of gate = gate_reads aig j no_gate lt ∙ ap sides_of at.2.0 in
+            let reads_are : get_or (node_reads aig) j [] ≡ sides_of gate = gate_reads aig j no_gate lt ∙ ap sides_of at.is in
             let has0 : HasNet aig gate.rhs0 = node_has aig s j (omega (arith, lt, many)) gate.rhs0 (subst (In gate.rhs0) (sym reads_are) (inl refl)) in
             let has1 : HasNet aig gate.rhs1 = node_has aig s j (omega (arith, lt, many)) gate.rhs1 (subst (In gate.rhs1) (sym reads_are) (inr (inl refl))) in
-            let first = same_bit count gate.rhs0 has0 (side_below count j 0 gate.rhs0 lt has0 (omega arith) (ap (λ (g : AigAnd). g.rhs0) at.2.0) stands_here) in
-            let second = same_bit count gate.rhs1 has1 (side_below count j 1 gate.rhs1 lt has1 (omega arith) (ap (λ (g : AigAnd). g.rhs1) at.2.0) stands_here) in
-            let holds : bits gate.lhs ≡ (bits gate.rhs0 && bits gate.rhs1) = subst (λ (g : AigAnd). bits g.lhs ≡ (bits g.rhs0 && bits g.rhs1)) at.2.0 (v.gates_hold j no_gate lt) in
+            let first = sides gate.rhs0 has0 (side_below count j 0 gate.rhs0 lt has0 (omega arith) (ap (λ (g : AigAnd). g.rhs0) at.is) stands_here) in
+            let second = sides gate.rhs1 has1 (side_below count j 1 gate.rhs1 lt has1 (omega arith) (ap (λ (g : AigAnd). g.rhs1) at.is) stands_here) in
+            let holds : bits gate.lhs ≡ (bits gate.rhs0 && bits gate.rhs1) = subst (λ (g : AigAnd). bits g.lhs ≡ (bits g.rhs0 && bits g.rhs1)) at.is (v.gates_hold j no_gate lt) in
             ap (λ f. turned (is_odd lit) (value f)) e
             ∙ ap (turned (is_odd lit)) (ap₂ (λ a b. a && b) first second ∙ sym holds ∙ ap bits lhs)
             ∙ signed lit

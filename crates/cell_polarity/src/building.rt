@@ -47,8 +47,8 @@ fn ported(
 
 /// Keeps what is 1 at zero as its complement: the cells of the list become at most twice as many
 /// that are 0 at zero and do not read constant 1. Outputs, latches' data, nets and kept sources have
-/// the bits that they had, and kept sources stay the cells that they are. So for each of these that
-/// is 1 at zero there is at most one more cell, from constant 1.
+/// the bits that they had, and kept sources stay the cells that they are. So there is at most one
+/// more cell, from constant 1, for each of these that is 1 at zero, and one for each kept source.
 pub fn complemented(alloc: Global, list: &CellList, kept: &[Src]) -> Result<KeptList, PolarityError>
     ensures { IfOk result (λ c. Complements list.now kept.now c.list c.kept.items) }
 {

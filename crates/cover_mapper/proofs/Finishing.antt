@@ -180,10 +180,10 @@ node_number : (flat : Flat) (order : List ℕ) → IsOrder flat order → (n : �
 node_number flat order ordered n lt = let (j, within, is) = ordered.all n lt in (j, within, sym (get_or_default_zero order j n within) ∙ is)
 
 -- ---- how many cells there are
-pub few_cells : (flat : Flat) (list new : CellList) (sources : ClassSources) → IsComplete flat list sources → new.cells ≡ list.cells → length new.cells ≤ most_cells_of flat
-few_cells flat list new sources whole same =
+pub few_cells : (flat : Flat) (list : CellList) (sources : ClassSources) → IsComplete flat list sources → length list.cells ≤ most_cells_of flat
+few_cells flat list sources whole =
     let grown = whole.mapped.grows in
-    let e : length new.cells ≡ length grown.more = ap length same ∙ ap length (grown.adds.cells ∙ ap (λ l. l ++ grown.more) whole.cells) in
+    let e : length list.cells ≡ length grown.more = ap length (grown.adds.cells ∙ ap (λ l. l ++ grown.more) whole.cells) in
     let w : sum_by (λ n. node_cells (node_at flat n)) whole.order ≤ sum_by node_cells flat.nodes = weigh_at_most node_cells flat.nodes no_node whole.order whole.ordered.once whole.ordered.nodes in
     omega (arith, e, grown.few, w)
 
@@ -223,7 +223,7 @@ finished flat sound list new sources whole has =
       constant = λ n src lt e.
           let (j, within, is) = node_number flat whole.order whole.ordered n lt in
           subst (HasConstant flat sources) is (whole.mapped.constant j within) src e;
-      few = let few = few_cells flat list new sources whole has.cells in let most = most_within flat.nodes in omega (arith, few, most);
+      few = let same : length new.cells ≡ length list.cells = ap length has.cells in let few = few_cells flat list sources whole in let most = most_within flat.nodes in omega (arith, same, few, most);
       one = one;
     }
   where

@@ -61,7 +61,7 @@ returns-clause-bits c =
     })
 
 pub returns-clause-cells : goal.returns-clause-cells
-returns-clause-cells c = few_cells c.args.flat.now c.args.list _ c.args.sources.now c.requires.complete refl
+returns-clause-cells c = few_cells c.args.flat.now c.args.list c.args.sources.now c.requires.complete
 
 pub returns-clause-unlisted : goal.returns-clause-unlisted
 returns-clause-unlisted c listed =

@@ -1,4 +1,5 @@
-use Rattle.std.proofs.Common.{get_or}
+use Rattle.std.proofs.Common.{get_or, sym, ◌∙◌, true≢false}
+use Rattle.std.proofs.lemmas.Bool.{false_from_ne_true}
 use Rattle.cell_rewriting.proofs.Mapping.{mapped_stays, bits_stay}
 use Rattle.netlist_plans.proofs.planning.rewritten_lists.Goals as goal
 
@@ -13,3 +14,6 @@ returns-clause-computes c =
       mapped = mapped_stays flat list (get_or lists i d) kept c.requires.sound c.requires.maps.mapped (c.in_ok-lists.ensures.same i d lt);
       bits = λ inputs state bits solves. bits_stay flat list (get_or lists i d) kept inputs state bits (c.in_ok-lists.ensures.same i d lt) (c.requires.maps.bits inputs state bits solves);
     }
+
+pub returns-clause-spares : goal.returns-clause-spares
+returns-clause-spares c none = λ i d lt. false_from_ne_true _ (λ e. true≢false (sym ((c.in_ok-lists.ensures.same i d lt).one e) ∙ none))
