@@ -7,8 +7,7 @@ ghost use Rattle.cell_rewriting.specs.Same.{StaysCell};
 
 use crate::RewriteError;
 use crate::substitution::Substitution;
-use cell_core::{Cell, CellList, Src};
-use cover_cells::is_same_cell;
+use cell_core::{Cell, CellList, Src, is_same_cell};
 use std::alloc::Global;
 
 // The new source of a source, if it has one.
