@@ -9,10 +9,10 @@ use Rattle.ww_base.specs.declared.whole.ReadAllError.{ReadAllError}
 use Rattle.ww_base.specs.declared.whole.ReadAllError.TheVariants as read_error
 use Rattle.refusals.specs.declared.causes.TextError.{TextError}
 use Rattle.refusals.specs.declared.causes.TextError.TheVariants as text_error
-use Rattle.blifww_tool.specs.Answer.{HasStopped, HasStoppedOn, PrintsPart}
+use Rattle.blifww_tool.specs.Answer.{HasStopped, HasStoppedOn, IsUnwritten, PrintsPart}
 use Rattle.blifww_tool.specs.Commands.{reads_text, HasTextCause}
 use Rattle.refusals.specs.Refusals.{words_refusal, read_refusal, text_refusal}
-use Rattle.blifww_tool.specs.Run.{Reading, Writing, IsAsked, Gave, HasText, GainedNothing, ReadFailed, Does, text_limit}
+use Rattle.blifww_tool.specs.Run.{Reading, Writing, IsAsked, Gave, HasText, ReadFailed, Does, text_limit}
 use Rattle.refusals.specs.declared.refusal.Refusal.{Refusal}
 use Rattle.refusals.specs.declared.refusal.Refusal.TheVariants.{Usage, TooLong, ReadFault, WriteFault, NoMemory, Text}
 
@@ -29,12 +29,12 @@ does words src out command text t part asked given same h =
     record { command = command; asked = asked; text = text; given = given; output = p.output; prints = p.prints; wrote = p.wrote }
 
 -- at words that give no command,
-pub by_words : (words : List (List ℕ)) (src : Reading) (out : Writing) (e : WordsError) → GainedNothing out → ((e ≡ words_error.Usage) → IsCommand words → ⊥) → HasStopped words src out (words_refusal e)
+pub by_words : (words : List (List ℕ)) (src : Reading) (out : Writing) (e : WordsError) → IsUnwritten out → ((e ≡ words_error.Usage) → IsCommand words → ⊥) → HasStopped words src out (words_refusal e)
 by_words words src out words_error.Usage nothing h = (nothing, h refl)
 by_words words src out words_error.NoMemory nothing h = (nothing, tt)
 
 -- at a source that gives no text,
-pub by_read : (words : List (List ℕ)) (src : Reading) (out : Writing) (command : CommandValues) (e : ReadAllError) → GainedNothing out → IsAsked words command → reads_text command ≡ true
+pub by_read : (words : List (List ℕ)) (src : Reading) (out : Writing) (command : CommandValues) (e : ReadAllError) → IsUnwritten out → IsAsked words command → reads_text command ≡ true
     → ((e ≡ read_error.ReadFault) → ReadFailed src) → ((e ≡ read_error.TooLong) → (given : List ℕ) × Gave src given × (text_limit < length given)) → HasStopped words src out (read_refusal e)
 by_read words src out command read_error.ReadFault nothing asked reads failed long = (nothing, record { command = command; asked = asked; reads = reads; failed = failed refl })
 by_read words src out command read_error.TooLong nothing asked reads failed long =
@@ -42,7 +42,7 @@ by_read words src out command read_error.TooLong nothing asked reads failed long
 by_read words src out command read_error.NoMemory nothing asked reads failed long = (nothing, tt)
 
 -- at a text that gives no output,
-pub refused_on : (command : CommandValues) (text : List ℕ) (out : Writing) (e : TextError) → GainedNothing out → HasTextCause command text e → HasStoppedOn command text out (text_refusal e)
+pub refused_on : (command : CommandValues) (text : List ℕ) (out : Writing) (e : TextError) → IsUnwritten out → HasTextCause command text e → HasStoppedOn command text out (text_refusal e)
 refused_on command text out (text_error.Refused cause) nothing h = (nothing, h)
 refused_on command text out text_error.NoMemory nothing h = nothing
 

@@ -4,7 +4,7 @@
 use Rattle.std.specs.Prelude.{◌≡◌, ◌≢◌, ◌≤◌, ◌<◌, ◌⊎◌, ℕ, Bool, true, false, List, [], length, take, ⊤, Some}
 use Rattle.std.specs.declared.option.Option.{Option}
 use Rattle.std.specs.Io.KnownBytes.{Consumes, Appends, Keeps, IsAtEnd}
-use Rattle.ww_base.specs.Faults.{Rose}
+use Rattle.ww_base.specs.Faults.{Rose, RoseByOne}
 use Rattle.command_words.specs.Shapes.{CommandValues, command_values, IsCommand, IsTaken}
 use Rattle.blifww_tool.specs.Commands.{reads_text, Accepts, Prints, Refuses, MustRefuse, AreLikeCauses}
 use Rattle.refusals.specs.Refusals.{status_of, refusal_line}
@@ -113,9 +113,13 @@ GainedNothing sink = Keeps sink.written sink.written_after
 abbrev pub ReadFailed : Reading → Type 0
 ReadFailed src = Rose src.faults src.faults_after
 
--- a write failed
+-- one write failed
 abbrev pub WriteFailed : Writing → Type 0
-WriteFailed sink = Rose sink.faults sink.faults_after
+WriteFailed sink = RoseByOne sink.faults sink.faults_after
+
+-- no write failed
+abbrev pub NoWriteFailed : Writing → Type 0
+NoWriteFailed sink = sink.faults_after ≡ sink.faults
 
 -- the words ask for a command, the command has a text from the source, and out gained this part of
 -- what the command prints of the text
@@ -168,34 +172,39 @@ pub record TellsRefusal (err : Writing) (status : ℕ) (refusal : Refusal) : Typ
   pub status_is : status ≡ status_of refusal
   pub line : Gained err (refusal_line refusal)
 
--- out has the whole output, and err gained nothing
+-- out has the whole output, err gained nothing, and no write failed
 pub record IsDone (c : Call) : Type 0 where
   pub done : Does c.words c.src c.out (λ output. output)
   pub silent : GainedNothing c.err
+  pub out_calm : NoWriteFailed c.out
+  pub err_calm : NoWriteFailed c.err
 
--- a refusal that has its reason is told, and out gained nothing
+-- a refusal that has its reason is told, out gained nothing, and no write failed
 pub record IsRefused (c : Call) (status : ℕ) : Type 0 where
   pub refusal : Refusal
   pub reason : HasReason c.words c.src refusal
   pub nothing : GainedNothing c.out
   pub told : TellsRefusal c.err status refusal
+  pub out_calm : NoWriteFailed c.out
+  pub err_calm : NoWriteFailed c.err
 
--- a refusal's line was cut off, and out gained nothing
+-- a refusal's line was cut off by the one write that failed, and out gained nothing
 pub record CutsLine (c : Call) : Type 0 where
   pub refusal : Refusal
   pub reason : HasReason c.words c.src refusal
   pub nothing : GainedNothing c.out
+  pub out_calm : NoWriteFailed c.out
   pub size : ℕ
   pub front : Gained c.err (take size (refusal_line refusal))
   pub failed : WriteFailed c.err
 
--- the output was cut off, and err has the line that tells it, or, if err failed too, a prefix of
--- that line
+-- the output was cut off by the one write of out that failed, and err has the line that tells it,
+-- or, if a write of err failed too, a prefix of that line
 pub record CutsOutput (c : Call) : Type 0 where
   pub size : ℕ
   pub front : Does c.words c.src c.out (take size)
   pub failed : WriteFailed c.out
-  pub line : Gained c.err (refusal_line WriteFault)
+  pub line : (NoWriteFailed c.err × Gained c.err (refusal_line WriteFault))
       ⊎ (WriteFailed c.err × ((k : ℕ) × Gained c.err (take k (refusal_line WriteFault))))
 
 -- if the source is read, it has this text and no read failed; else the text is the empty one
