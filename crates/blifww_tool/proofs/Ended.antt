@@ -67,7 +67,7 @@ data Why (c : Call) (command : CommandValues) (text : List ℕ) (r : Refusal) : 
   by_text : (cause : Cause) → r ≡ Text cause → length text ≤ text_limit → Refuses command text cause → Why c command text r
 
 why : (c : Call) (command : CommandValues) (text : List ℕ) (r : Refusal) → IsCalm c command text → HasReason c.words c.src r → Why c command text r
-why c command text Usage calm h = absurd (h calm.shape)
+why c command text Usage calm h = absurd (h.0 calm.shape)
 why c command text TooLong calm h = too_long refl (too_many c command text calm h)
 why c command text ReadFault calm h = absurd ((held_by c command h.command text calm h.asked.asks h.reads).1 h.failed)
 why c command text WriteFault calm h = absurd h

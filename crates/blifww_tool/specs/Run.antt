@@ -1,10 +1,10 @@
 -- What a run does, by its words, and by what its source, its output and its errors hold before and
 -- after. This is stated once for all commands: `Commands` has what each command prints, and why it
 -- refuses a text.
-use Rattle.std.specs.Prelude.{◌≡◌, ◌≢◌, ◌≤◌, ◌<◌, ◌⊎◌, ℕ, Bool, true, false, List, [], length, take, ⊤, Some}
+use Rattle.std.specs.Prelude.{◌≡◌, ◌≢◌, ◌≤◌, ◌<◌, ◌⊎◌, ℕ, Bool, true, false, List, [], length, take, Some}
 use Rattle.std.specs.declared.option.Option.{Option}
 use Rattle.std.specs.Io.KnownBytes.{Consumes, Appends, Keeps, IsAtEnd}
-use Rattle.ww_base.specs.Faults.{Rose, RoseByOne}
+use Rattle.ww_base.specs.Faults.{RoseByOne}
 use Rattle.command_words.specs.Shapes.{CommandValues, command_values, IsCommand, IsTaken}
 use Rattle.blifww_tool.specs.Commands.{reads_text, Accepts, Prints, Refuses, MustRefuse, AreLikeCauses}
 use Rattle.refusals.specs.Refusals.{status_of, refusal_line}
@@ -81,11 +81,20 @@ call words src out err = record { words = words; src = src; out = out; err = err
 abbrev pub Gave : Reading → List ℕ → Type 0
 Gave src given = Consumes src.left src.left_after given
 
--- the source gave this text, which is not too long, and is at its end
+-- one read failed
+abbrev pub ReadFailed : Reading → Type 0
+ReadFailed src = RoseByOne src.faults src.faults_after
+
+-- no read failed
+abbrev pub NoReadFailed : Reading → Type 0
+NoReadFailed src = src.faults_after ≡ src.faults
+
+-- the source gave this text, which is not too long, and is at its end; no read failed
 pub record GaveAll (src : Reading) (text : List ℕ) : Type 0 where
   pub consumed : Gave src text
   pub end : IsAtEnd src.left_after
   pub within : length text ≤ text_limit
+  pub calm : NoReadFailed src
 
 -- the source is unchanged
 pub record IsUntouched (src : Reading) : Type 0 where
@@ -108,10 +117,6 @@ Gained sink bytes = Appends sink.written sink.written_after bytes
 -- the sink gained nothing
 abbrev pub GainedNothing : Writing → Type 0
 GainedNothing sink = Keeps sink.written sink.written_after
-
--- a read failed
-abbrev pub ReadFailed : Reading → Type 0
-ReadFailed src = Rose src.faults src.faults_after
 
 -- one write failed
 abbrev pub WriteFailed : Writing → Type 0
@@ -142,7 +147,7 @@ pub record RefusesText (words : List (List ℕ)) (src : Reading) (cause : Cause)
   pub given : HasText command src text
   pub refused : Refuses command text cause
 
--- the words ask for a command that reads a text, and the source gave too many bytes
+-- the words ask for a command that reads a text, and the source gave too many bytes; no read failed
 pub record GaveTooMany (words : List (List ℕ)) (src : Reading) : Type 0 where
   pub command : CommandValues
   pub asked : IsAsked words command
@@ -150,21 +155,22 @@ pub record GaveTooMany (words : List (List ℕ)) (src : Reading) : Type 0 where
   pub given : List ℕ
   pub gave : Gave src given
   pub many : text_limit < length given
+  pub calm : NoReadFailed src
 
--- the words ask for a command that reads a text, and a read failed
+-- the words ask for a command that reads a text, and one read failed
 pub record FailedToRead (words : List (List ℕ)) (src : Reading) : Type 0 where
   pub command : CommandValues
   pub asked : IsAsked words command
   pub reads : reads_text command ≡ true
   pub failed : ReadFailed src
 
--- why a run is refused before it writes
+-- why a run is refused before it writes; a read failed only if this is why
 abbrev pub HasReason : List (List ℕ) → Reading → Refusal → Type 0
-HasReason words src Usage = IsCommand words → ⊥
+HasReason words src Usage = (IsCommand words → ⊥) × NoReadFailed src
 HasReason words src TooLong = GaveTooMany words src
 HasReason words src ReadFault = FailedToRead words src
 HasReason words src WriteFault = ⊥
-HasReason words src NoMemory = ⊤
+HasReason words src NoMemory = NoReadFailed src
 HasReason words src (Text cause) = RefusesText words src cause
 
 -- the status and the errors tell this refusal

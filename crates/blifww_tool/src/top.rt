@@ -217,7 +217,7 @@ pub fn run<S: Source, O: Sink, E: Sink>(
         (writing O.written O.faults out.old out.new) }
 
     // How the run ends, for every command: done, refused or cut off, each status only with its
-    // cause. A sink fails at most once: its count of faults stays, or rises by one. A cause in the
+    // cause. No stream fails twice: its count of faults stays, or rises by one. A cause in the
     // words or the text is always told, unless a read or a write fails or memory runs out.
     ensures ends { Ends (call (map string_bytes words.now) (reading S.left S.faults src.old src.new)
         (writing O.written O.faults out.old out.new)
