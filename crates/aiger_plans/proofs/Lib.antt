@@ -6,4 +6,3 @@ pub mod Zeros
 pub mod Sparing
 pub mod Named
 pub mod OfFlat
-pub mod Shown

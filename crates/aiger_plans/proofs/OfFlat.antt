@@ -23,10 +23,11 @@ use Rattle.aiger_text.specs.declared.aig.Aig.{Aig}
 use Rattle.aiger_text.specs.SoundAig.{IsSoundAig}
 use Rattle.aiger_meaning.specs.FlatOf.{IsFlatOfAig}
 use Rattle.aiger_meaning.specs.Lowered.{IsLowered}
-use Rattle.aiger_plans.specs.Laws.{AigsAreCarried}
-use Rattle.aiger_plans.specs.Needs.{AsksAlike, FlatsOfAigsAskAlike}
+use Rattle.aiger_plans.specs.Needs.{AsksAlike}
 use Rattle.aiger_plans.specs.Planned.{IsTableOfAig, IsPlanOfAig}
+use Rattle.aiger_plans.proofs.Carried.{aigs_are_carried}
 use Rattle.aiger_plans.proofs.Named.{none_listed}
+use Rattle.aiger_plans.proofs.Needs.{flats_of_aigs_ask_alike}
 use Rattle.aiger_plans.proofs.Sparing.{spares_one, no_output_is_one}
 
 -- beside no tape each input is driven
@@ -37,9 +38,9 @@ no_lines : (lines : List NetLine) → names_and_paths lines ≡ [] → lines ≡
 no_lines [] e = refl
 no_lines (line ∷ lines) e = absurd (omega (arith, ap length e))
 
-module _ (alike : FlatsOfAigsAskAlike) (carried : AigsAreCarried) (aig : Aig) (flat : Flat) (order : List ℕ) (sound : IsSoundAig aig) (is_flat : IsFlatOfAig aig flat) (lowered : IsLowered aig flat) (ordered : IsOrder flat order) (plan : Plan) (ports : Ports) where
+module _ (aig : Aig) (flat : Flat) (order : List ℕ) (sound : IsSoundAig aig) (is_flat : IsFlatOfAig aig flat) (lowered : IsLowered aig flat) (ordered : IsOrder flat order) (plan : Plan) (ports : Ports) where
   asks : AsksAlike aig flat
-  asks = alike aig flat is_flat
+  asks = flats_of_aigs_ask_alike aig flat is_flat
 
   table_of_aig : plan.tape ≡ [] → IsTableOf flat plan 1 ports → IsTableOfAig aig plan ports
   table_of_aig bare table = record {
@@ -68,8 +69,8 @@ module _ (alike : FlatsOfAigsAskAlike) (carried : AigsAreCarried) (aig : Aig) (f
     table = table_of_aig bare table;
     period = λ none e. short (asks.latches ∙ none) (asks.one ∙ e);
     at_zero = λ none. (
-      (λ e. no_output_is_one aig flat order sound is_flat lowered ordered none plan planned (sym table.period ∙ e) (carried (pattern_text (start_grid plan) ports) aig flat carries lowered)),
-      (λ e. shorter (spares_one aig flat order sound is_flat lowered ordered none e (carried (pattern_text (start_grid plan) ports) aig flat carries lowered))),
+      (λ e. no_output_is_one aig flat order sound is_flat lowered ordered none plan planned (sym table.period ∙ e) (aigs_are_carried (pattern_text (start_grid plan) ports) aig flat carries lowered)),
+      (λ e. shorter (spares_one aig flat order sound is_flat lowered ordered none e (aigs_are_carried (pattern_text (start_grid plan) ports) aig flat carries lowered))),
     );
-    carries = carried (pattern_text (start_grid plan) ports) aig flat carries lowered;
+    carries = aigs_are_carried (pattern_text (start_grid plan) ports) aig flat carries lowered;
   }

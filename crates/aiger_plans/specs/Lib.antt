@@ -2,5 +2,4 @@ pub mod CarriesAig
 pub mod Laws
 pub mod Needs
 pub mod Planned
-pub mod ShownAigs
 pub mod Zero

@@ -3,7 +3,6 @@
 ghost use Rattle.aiger_plans.specs.Laws.{AigsAreCarried, CarriesAigCycles, OneAigRunIsShown};
 ghost use Rattle.aiger_plans.specs.Needs.{FlatsOfAigsAskAlike};
 ghost use Rattle.aiger_plans.specs.Zero.{BitsAtZeroAreMeant};
-ghost use Rattle.aiger_plans.specs.ShownAigs.{CarriersShowAigRuns};
 
 /// A text that carries the flat netlist of a circuit carries the circuit.
 pub fn aigs_are_carried()
@@ -30,10 +29,4 @@ pub fn flats_of_aigs_ask_alike()
 /// all inputs are 0.
 pub fn bits_at_zero_are_meant()
     ensures { BitsAtZeroAreMeant }
-{}
-
-/// If a text carries a sound circuit, then the circuit has a run under streams for its inputs, and
-/// in every such run the pattern shows the bits of the outputs, in order.
-pub fn carriers_show_aig_runs()
-    ensures { CarriersShowAigRuns }
 {}

@@ -3,7 +3,7 @@
 
 ghost use Rattle.std.specs.Prelude.{◌≡◌, ◌≢◌, codes};
 ghost use Rattle.std.specs.Io.KnownBytes.{Appends};
-ghost use Rattle.ww_base.specs.Faults.{Rose};
+ghost use Rattle.ww_base.specs.Faults.{RoseByOne};
 
 use std::env;
 use std::process::ExitCode;
@@ -13,7 +13,7 @@ use ww_base::{Failed, Sink, StdSink, StdSource, write_all};
 fn tell_no_memory<E: Sink>(err: &mut E) -> u8
     ensures told { result ≡ 7 → Appends (E.written err.old) (E.written err.new)
         (codes "no memory\n") }
-    ensures failed { result ≢ 7 → (result ≡ 6) × Rose (E.faults err.old) (E.faults err.new) }
+    ensures failed { result ≢ 7 → (result ≡ 6) × RoseByOne (E.faults err.old) (E.faults err.new) }
 {
     match write_all(err, b"no memory\n") {
         Ok(()) => 7,

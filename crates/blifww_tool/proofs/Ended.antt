@@ -3,8 +3,8 @@ use Rattle.std.proofs.Common.{ℕ, Bool, true, false, ◌≡◌, ◌≢◌, ◌�
 use Rattle.command_words.specs.Shapes.{CommandValues}
 use Rattle.blifww_tool.specs.Commands.{reads_text, Accepts, Prints, Refuses, MustRefuse}
 use Rattle.refusals.specs.Refusals.{status_of, status_of_cause, refusal_line}
-use Rattle.blifww_tool.specs.Answer.{HasStopped}
-use Rattle.blifww_tool.specs.Run.{Asks, AsksNothing, Reading, Writing, Call, Gave, GaveIfRead, HasText, HoldsIfRead, Gained, GainedNothing, WriteFailed, text_limit, Does, RefusesText, GaveTooMany, HasReason, TellsRefusal, TellsCause, TellsLike, TellsOr7, IsDone, IsRefused, CutsLine, CutsOutput, IsCalm, Ends}
+use Rattle.blifww_tool.specs.Answer.{HasStopped, IsUnwritten}
+use Rattle.blifww_tool.specs.Run.{Asks, AsksNothing, Reading, Writing, Call, Gave, GaveIfRead, HasText, HoldsIfRead, Gained, GainedNothing, NoWriteFailed, WriteFailed, text_limit, Does, RefusesText, GaveTooMany, HasReason, TellsRefusal, TellsCause, TellsLike, TellsOr7, IsDone, IsRefused, CutsLine, CutsOutput, IsCalm, Ends}
 use Rattle.blifww_tool.proofs.Given.{gave_whole, no_more, one_command}
 use Rattle.blifww_tool.proofs.Decided.{printed_or_refused, accepted_or_refused, one_cause}
 use Rattle.refusals.specs.declared.causes.Cause.{Cause}
@@ -67,7 +67,7 @@ data Why (c : Call) (command : CommandValues) (text : List ℕ) (r : Refusal) : 
   by_text : (cause : Cause) → r ≡ Text cause → length text ≤ text_limit → Refuses command text cause → Why c command text r
 
 why : (c : Call) (command : CommandValues) (text : List ℕ) (r : Refusal) → IsCalm c command text → HasReason c.words c.src r → Why c command text r
-why c command text Usage calm h = absurd (h calm.shape)
+why c command text Usage calm h = absurd (h.0 calm.shape)
 why c command text TooLong calm h = too_long refl (too_many c command text calm h)
 why c command text ReadFault calm h = absurd ((held_by c command h.command text calm h.asked.asks h.reads).1 h.failed)
 why c command text WriteFault calm h = absurd h
@@ -205,21 +205,22 @@ never_done (Text cause) = (cause_is cause).0
 pub not_done : {A : Type 0} (status : ℕ) (r : Refusal) → status ≡ status_of r → status ≡ 0 → A
 not_done status r is e = absurd (never_done r (sym is ∙ e))
 
-refused_as : (c : Call) (status : ℕ) (r : Refusal) → status ≡ status_of r → status_of r ≢ 0 → status_of r ≢ 6 → GainedNothing c.out × HasReason c.words c.src r → Gained c.err (refusal_line r) → Ending c status
-refused_as c status r e z s h line =
-    refused (λ k. z (sym e ∙ k)) (λ k. s (sym e ∙ k)) (record { refusal = r; reason = h.1; nothing = h.0; told = record { status_is = e; line = line } })
+refused_as : (c : Call) (status : ℕ) (r : Refusal) → status ≡ status_of r → status_of r ≢ 0 → status_of r ≢ 6 → IsUnwritten c.out × HasReason c.words c.src r → Gained c.err (refusal_line r) → NoWriteFailed c.err → Ending c status
+refused_as c status r e z s h line calm =
+    refused (λ k. z (sym e ∙ k)) (λ k. s (sym e ∙ k))
+    (record { refusal = r; reason = h.1; nothing = h.0.nothing; told = record { status_is = e; line = line }; out_calm = h.0.calm; err_calm = calm })
 
 -- a refusal that is told ends the run,
-pub told : (c : Call) (status : ℕ) (r : Refusal) → status ≡ status_of r → HasStopped c.words c.src c.out r → Gained c.err (refusal_line r) → Ending c status
-told c status Usage e h line = refused_as c status Usage e (λ k. cc) (λ k. cc) h line
-told c status TooLong e h line = refused_as c status TooLong e (λ k. cc) (λ k. cc) h line
-told c status ReadFault e h line = refused_as c status ReadFault e (λ k. cc) (λ k. cc) h line
-told c status WriteFault e h line = cut e (inr (record { size = h.0; front = h.2; failed = h.1; line = inl line }))
-told c status NoMemory e h line = refused_as c status NoMemory e (λ k. cc) (λ k. cc) h line
-told c status (Text cause) e h line = refused_as c status (Text cause) e (cause_is cause).0 (cause_is cause).1 h line
+pub told : (c : Call) (status : ℕ) (r : Refusal) → status ≡ status_of r → HasStopped c.words c.src c.out r → Gained c.err (refusal_line r) → NoWriteFailed c.err → Ending c status
+told c status Usage e h line calm = refused_as c status Usage e (λ k. cc) (λ k. cc) h line calm
+told c status TooLong e h line calm = refused_as c status TooLong e (λ k. cc) (λ k. cc) h line calm
+told c status ReadFault e h line calm = refused_as c status ReadFault e (λ k. cc) (λ k. cc) h line calm
+told c status WriteFault e h line calm = cut e (inr (record { size = h.0; front = h.2; failed = h.1; line = inl (calm, line) }))
+told c status NoMemory e h line calm = refused_as c status NoMemory e (λ k. cc) (λ k. cc) h line calm
+told c status (Text cause) e h line calm = refused_as c status (Text cause) e (cause_is cause).0 (cause_is cause).1 h line calm
 
-cuts_line : (c : Call) (r : Refusal) → GainedNothing c.out × HasReason c.words c.src r → ((n : ℕ) × Gained c.err (take n (refusal_line r))) → WriteFailed c.err → Ending c 6
-cuts_line c r h front failed = cut refl (inl (record { refusal = r; reason = h.1; nothing = h.0; size = front.0; front = front.1; failed = failed }))
+cuts_line : (c : Call) (r : Refusal) → IsUnwritten c.out × HasReason c.words c.src r → ((n : ℕ) × Gained c.err (take n (refusal_line r))) → WriteFailed c.err → Ending c 6
+cuts_line c r h front failed = cut refl (inl (record { refusal = r; reason = h.1; nothing = h.0.nothing; out_calm = h.0.calm; size = front.0; front = front.1; failed = failed }))
 
 -- and so does one that is not
 pub untold : (c : Call) (r : Refusal) → HasStopped c.words c.src c.out r → ((n : ℕ) × Gained c.err (take n (refusal_line r))) → WriteFailed c.err → Ending c 6

@@ -221,7 +221,7 @@ module _ (words : List (List ℕ)) (src : Reading) where
       (read.0, looped.0, read.1, looped.1)
 
 usage : (words : List (List ℕ)) (src : Reading) (r : Refusal) → HasReason words src r → status_of r ≡ 2 → IsCommand words → ⊥
-usage words src Usage h e = h
+usage words src Usage h e = h.0
 usage words src TooLong h e = cc
 usage words src ReadFault h e = cc
 usage words src WriteFault h e = absurd h

@@ -1,5 +1,5 @@
 -- How the part of a run that reads and writes stops.
-use Rattle.std.proofs.Common.{ℕ, true, ◌≡◌, ◌<◌, refl, subst, List, length, take, Err, Result, IfErr}
+use Rattle.std.proofs.Common.{ℕ, Bool, true, false, ◌≡◌, ◌<◌, refl, subst, List, length, take, Err, Result, IfErr}
 use Rattle.std.specs.Prelude.{Option, Some, None}
 use Rattle.std.specs.Io.KnownBytes.{Keeps}
 use Rattle.command_words.specs.Shapes.{CommandValues, IsCommand}
@@ -9,10 +9,10 @@ use Rattle.ww_base.specs.declared.whole.ReadAllError.{ReadAllError}
 use Rattle.ww_base.specs.declared.whole.ReadAllError.TheVariants as read_error
 use Rattle.refusals.specs.declared.causes.TextError.{TextError}
 use Rattle.refusals.specs.declared.causes.TextError.TheVariants as text_error
-use Rattle.blifww_tool.specs.Answer.{HasStopped, HasStoppedOn, PrintsPart}
+use Rattle.blifww_tool.specs.Answer.{HasStopped, HasStoppedOn, IsUnwritten, PrintsPart}
 use Rattle.blifww_tool.specs.Commands.{reads_text, HasTextCause}
 use Rattle.refusals.specs.Refusals.{words_refusal, read_refusal, text_refusal}
-use Rattle.blifww_tool.specs.Run.{Reading, Writing, IsAsked, Gave, HasText, GainedNothing, ReadFailed, Does, text_limit}
+use Rattle.blifww_tool.specs.Run.{Reading, Writing, IsAsked, Gave, GaveIfRead, HasText, NoReadFailed, ReadFailed, Does, text_limit}
 use Rattle.refusals.specs.declared.refusal.Refusal.{Refusal}
 use Rattle.refusals.specs.declared.refusal.Refusal.TheVariants.{Usage, TooLong, ReadFault, WriteFault, NoMemory, Text}
 
@@ -29,28 +29,33 @@ does words src out command text t part asked given same h =
     record { command = command; asked = asked; text = text; given = given; output = p.output; prints = p.prints; wrote = p.wrote }
 
 -- at words that give no command,
-pub by_words : (words : List (List ℕ)) (src : Reading) (out : Writing) (e : WordsError) → GainedNothing out → ((e ≡ words_error.Usage) → IsCommand words → ⊥) → HasStopped words src out (words_refusal e)
-by_words words src out words_error.Usage nothing h = (nothing, h refl)
-by_words words src out words_error.NoMemory nothing h = (nothing, tt)
+pub by_words : (words : List (List ℕ)) (src : Reading) (out : Writing) (e : WordsError) → IsUnwritten out → NoReadFailed src → ((e ≡ words_error.Usage) → IsCommand words → ⊥) → HasStopped words src out (words_refusal e)
+by_words words src out words_error.Usage nothing calm h = (nothing, (h refl, calm))
+by_words words src out words_error.NoMemory nothing calm h = (nothing, calm)
 
 -- at a source that gives no text,
-pub by_read : (words : List (List ℕ)) (src : Reading) (out : Writing) (command : CommandValues) (e : ReadAllError) → GainedNothing out → IsAsked words command → reads_text command ≡ true
-    → ((e ≡ read_error.ReadFault) → ReadFailed src) → ((e ≡ read_error.TooLong) → (given : List ℕ) × Gave src given × (text_limit < length given)) → HasStopped words src out (read_refusal e)
-by_read words src out command read_error.ReadFault nothing asked reads failed long = (nothing, record { command = command; asked = asked; reads = reads; failed = failed refl })
-by_read words src out command read_error.TooLong nothing asked reads failed long =
-    let l = long refl in (nothing, record { command = command; asked = asked; reads = reads; given = l.0; gave = l.1; many = l.2 })
-by_read words src out command read_error.NoMemory nothing asked reads failed long = (nothing, tt)
+pub by_read : (words : List (List ℕ)) (src : Reading) (out : Writing) (command : CommandValues) (e : ReadAllError) → IsUnwritten out → IsAsked words command → reads_text command ≡ true
+    → (((e ≡ read_error.ReadFault) → ⊥) → NoReadFailed src) → ((e ≡ read_error.ReadFault) → ReadFailed src) → ((e ≡ read_error.TooLong) → (given : List ℕ) × Gave src given × (text_limit < length given)) → HasStopped words src out (read_refusal e)
+by_read words src out command read_error.ReadFault nothing asked reads calm failed long = (nothing, record { command = command; asked = asked; reads = reads; failed = failed refl })
+by_read words src out command read_error.TooLong nothing asked reads calm failed long =
+    let l = long refl in (nothing, record { command = command; asked = asked; reads = reads; given = l.0; gave = l.1; many = l.2; calm = calm (λ e. cc) })
+by_read words src out command read_error.NoMemory nothing asked reads calm failed long = (nothing, calm (λ e. cc))
 
 -- at a text that gives no output,
-pub refused_on : (command : CommandValues) (text : List ℕ) (out : Writing) (e : TextError) → GainedNothing out → HasTextCause command text e → HasStoppedOn command text out (text_refusal e)
+pub refused_on : (command : CommandValues) (text : List ℕ) (out : Writing) (e : TextError) → IsUnwritten out → HasTextCause command text e → HasStoppedOn command text out (text_refusal e)
 refused_on command text out (text_error.Refused cause) nothing h = (nothing, h)
 refused_on command text out text_error.NoMemory nothing h = nothing
+
+-- no read failed where a command has a text
+calm_by : (reads : Bool) (src : Reading) (text : List ℕ) → GaveIfRead reads src text → NoReadFailed src
+calm_by true src text given = given.calm
+calm_by false src text given = given.0.faults
 
 -- where what is printed of a text stops,
 stopped_on : (words : List (List ℕ)) (src : Reading) (out : Writing) (command : CommandValues) (text : List ℕ) (r : Refusal) → IsAsked words command → HasText command src text → HasStoppedOn command text out r
     → HasStopped words src out r
 stopped_on words src out command text WriteFault asked given h = (h.0, h.1, does words src out command text text (take h.0) asked given refl h.2)
-stopped_on words src out command text NoMemory asked given h = (h, tt)
+stopped_on words src out command text NoMemory asked given h = (h, calm_by (reads_text command) src text given)
 stopped_on words src out command text (Text cause) asked given h = (h.0, record { command = command; asked = asked; text = text; given = given; refused = h.1 })
 stopped_on words src out command text Usage asked given h = absurd h
 stopped_on words src out command text TooLong asked given h = absurd h

@@ -1,10 +1,10 @@
 -- What a run does, by its words, and by what its source, its output and its errors hold before and
 -- after. This is stated once for all commands: `Commands` has what each command prints, and why it
 -- refuses a text.
-use Rattle.std.specs.Prelude.{◌≡◌, ◌≢◌, ◌≤◌, ◌<◌, ◌⊎◌, ℕ, Bool, true, false, List, [], length, take, ⊤, Some}
+use Rattle.std.specs.Prelude.{◌≡◌, ◌≢◌, ◌≤◌, ◌<◌, ◌⊎◌, ℕ, Bool, true, false, List, [], length, take, Some}
 use Rattle.std.specs.declared.option.Option.{Option}
 use Rattle.std.specs.Io.KnownBytes.{Consumes, Appends, Keeps, IsAtEnd}
-use Rattle.ww_base.specs.Faults.{Rose}
+use Rattle.ww_base.specs.Faults.{RoseByOne}
 use Rattle.command_words.specs.Shapes.{CommandValues, command_values, IsCommand, IsTaken}
 use Rattle.blifww_tool.specs.Commands.{reads_text, Accepts, Prints, Refuses, MustRefuse, AreLikeCauses}
 use Rattle.refusals.specs.Refusals.{status_of, refusal_line}
@@ -81,11 +81,20 @@ call words src out err = record { words = words; src = src; out = out; err = err
 abbrev pub Gave : Reading → List ℕ → Type 0
 Gave src given = Consumes src.left src.left_after given
 
--- the source gave this text, which is not too long, and is at its end
+-- one read failed
+abbrev pub ReadFailed : Reading → Type 0
+ReadFailed src = RoseByOne src.faults src.faults_after
+
+-- no read failed
+abbrev pub NoReadFailed : Reading → Type 0
+NoReadFailed src = src.faults_after ≡ src.faults
+
+-- the source gave this text, which is not too long, and is at its end; no read failed
 pub record GaveAll (src : Reading) (text : List ℕ) : Type 0 where
   pub consumed : Gave src text
   pub end : IsAtEnd src.left_after
   pub within : length text ≤ text_limit
+  pub calm : NoReadFailed src
 
 -- the source is unchanged
 pub record IsUntouched (src : Reading) : Type 0 where
@@ -109,13 +118,13 @@ Gained sink bytes = Appends sink.written sink.written_after bytes
 abbrev pub GainedNothing : Writing → Type 0
 GainedNothing sink = Keeps sink.written sink.written_after
 
--- a read failed
-abbrev pub ReadFailed : Reading → Type 0
-ReadFailed src = Rose src.faults src.faults_after
-
--- a write failed
+-- one write failed
 abbrev pub WriteFailed : Writing → Type 0
-WriteFailed sink = Rose sink.faults sink.faults_after
+WriteFailed sink = RoseByOne sink.faults sink.faults_after
+
+-- no write failed
+abbrev pub NoWriteFailed : Writing → Type 0
+NoWriteFailed sink = sink.faults_after ≡ sink.faults
 
 -- the words ask for a command, the command has a text from the source, and out gained this part of
 -- what the command prints of the text
@@ -138,7 +147,7 @@ pub record RefusesText (words : List (List ℕ)) (src : Reading) (cause : Cause)
   pub given : HasText command src text
   pub refused : Refuses command text cause
 
--- the words ask for a command that reads a text, and the source gave too many bytes
+-- the words ask for a command that reads a text, and the source gave too many bytes; no read failed
 pub record GaveTooMany (words : List (List ℕ)) (src : Reading) : Type 0 where
   pub command : CommandValues
   pub asked : IsAsked words command
@@ -146,21 +155,22 @@ pub record GaveTooMany (words : List (List ℕ)) (src : Reading) : Type 0 where
   pub given : List ℕ
   pub gave : Gave src given
   pub many : text_limit < length given
+  pub calm : NoReadFailed src
 
--- the words ask for a command that reads a text, and a read failed
+-- the words ask for a command that reads a text, and one read failed
 pub record FailedToRead (words : List (List ℕ)) (src : Reading) : Type 0 where
   pub command : CommandValues
   pub asked : IsAsked words command
   pub reads : reads_text command ≡ true
   pub failed : ReadFailed src
 
--- why a run is refused before it writes
+-- why a run is refused before it writes; a read failed only if this is why
 abbrev pub HasReason : List (List ℕ) → Reading → Refusal → Type 0
-HasReason words src Usage = IsCommand words → ⊥
+HasReason words src Usage = (IsCommand words → ⊥) × NoReadFailed src
 HasReason words src TooLong = GaveTooMany words src
 HasReason words src ReadFault = FailedToRead words src
 HasReason words src WriteFault = ⊥
-HasReason words src NoMemory = ⊤
+HasReason words src NoMemory = NoReadFailed src
 HasReason words src (Text cause) = RefusesText words src cause
 
 -- the status and the errors tell this refusal
@@ -168,34 +178,39 @@ pub record TellsRefusal (err : Writing) (status : ℕ) (refusal : Refusal) : Typ
   pub status_is : status ≡ status_of refusal
   pub line : Gained err (refusal_line refusal)
 
--- out has the whole output, and err gained nothing
+-- out has the whole output, err gained nothing, and no write failed
 pub record IsDone (c : Call) : Type 0 where
   pub done : Does c.words c.src c.out (λ output. output)
   pub silent : GainedNothing c.err
+  pub out_calm : NoWriteFailed c.out
+  pub err_calm : NoWriteFailed c.err
 
--- a refusal that has its reason is told, and out gained nothing
+-- a refusal that has its reason is told, out gained nothing, and no write failed
 pub record IsRefused (c : Call) (status : ℕ) : Type 0 where
   pub refusal : Refusal
   pub reason : HasReason c.words c.src refusal
   pub nothing : GainedNothing c.out
   pub told : TellsRefusal c.err status refusal
+  pub out_calm : NoWriteFailed c.out
+  pub err_calm : NoWriteFailed c.err
 
--- a refusal's line was cut off, and out gained nothing
+-- a refusal's line was cut off by the one write that failed, and out gained nothing
 pub record CutsLine (c : Call) : Type 0 where
   pub refusal : Refusal
   pub reason : HasReason c.words c.src refusal
   pub nothing : GainedNothing c.out
+  pub out_calm : NoWriteFailed c.out
   pub size : ℕ
   pub front : Gained c.err (take size (refusal_line refusal))
   pub failed : WriteFailed c.err
 
--- the output was cut off, and err has the line that tells it, or, if err failed too, a prefix of
--- that line
+-- the output was cut off by the one write of out that failed, and err has the line that tells it,
+-- or, if a write of err failed too, a prefix of that line
 pub record CutsOutput (c : Call) : Type 0 where
   pub size : ℕ
   pub front : Does c.words c.src c.out (take size)
   pub failed : WriteFailed c.out
-  pub line : Gained c.err (refusal_line WriteFault)
+  pub line : (NoWriteFailed c.err × Gained c.err (refusal_line WriteFault))
       ⊎ (WriteFailed c.err × ((k : ℕ) × Gained c.err (take k (refusal_line WriteFault))))
 
 -- if the source is read, it has this text and no read failed; else the text is the empty one

@@ -2,7 +2,7 @@
 ghost use Rattle.std.specs.Prelude.{◌≡◌, ◌<◌, true, false, List, ℕ, length, IfOk, OnErr, IsErrOf};
 ghost use Rattle.command_words.specs.Shapes.{values_of};
 ghost use Rattle.blifww_tool.specs.Commands.{reads_text};
-ghost use Rattle.blifww_tool.specs.Run.{reading, Gave, HasText, ReadFailed, text_limit};
+ghost use Rattle.blifww_tool.specs.Run.{reading, Gave, HasText, NoReadFailed, ReadFailed, text_limit};
 
 use command_words::Command;
 use lists::Bytes;
@@ -39,6 +39,8 @@ pub fn text_for<S: Source>(
     ensures given { IfOk result (λ text.
         HasText (values_of command.now) (reading S.left S.faults src.old src.new) text) }
     ensures read { OnErr result (reads_text (values_of command.now) ≡ true) }
+    ensures calm { (IsErrOf result ReadAllError.ReadFault → ⊥) →
+        NoReadFailed (reading S.left S.faults src.old src.new) }
     ensures fault { IsErrOf result ReadAllError.ReadFault →
         ReadFailed (reading S.left S.faults src.old src.new) }
     ensures too_long { IsErrOf result ReadAllError.TooLong →

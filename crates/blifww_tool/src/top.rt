@@ -6,7 +6,7 @@ ghost use Rattle.command_words.specs.Shapes.{aiger, compile, lift, tape, values_
 ghost use Rattle.blifww_tool.specs.Headline.{WritesDump, WritesInContexts, WritesItsAig, WritesItsNetlist, WritesTape, WritesWhatItRead};
 ghost use Rattle.blifww_tool.specs.Commands.{Prints, HasTextCause};
 ghost use Rattle.blifww_tool.specs.Answer.{output_text, IsWritableOutput, HasStopped, HasStoppedOn, PrintsPart};
-ghost use Rattle.blifww_tool.specs.Run.{Asks, AsksForNoText, reading, writing, call, Gave, Does, Ends};
+ghost use Rattle.blifww_tool.specs.Run.{Asks, AsksForNoText, reading, writing, call, Gave, Does, Ends, NoWriteFailed};
 
 use crate::aiger::aiger;
 use crate::compile::compile;
@@ -82,6 +82,7 @@ fn print<O: Sink>(alloc: Global, command: &Command, text: &[u8], out: &mut O) ->
     requires numbers { HasNumbersInRange (values_of command.now) }
     ensures done { OnOk result (PrintsPart (values_of command.now) text.now
         (writing O.written O.faults out.old out.new) (λ output. output)) }
+    ensures calm { OnOk result (NoWriteFailed (writing O.written O.faults out.old out.new)) }
     ensures stopped { IfErr result (HasStoppedOn (values_of command.now) text.now
         (writing O.written O.faults out.old out.new)) }
 {
@@ -100,6 +101,7 @@ fn work<S: Source, O: Sink>(
     ensures done { OnOk result (Does (map string_bytes words.now)
         (reading S.left S.faults src.old src.new)
         (writing O.written O.faults out.old out.new) (λ output. output)) }
+    ensures calm { OnOk result (NoWriteFailed (writing O.written O.faults out.old out.new)) }
     ensures stopped { IfErr result (λ r. HasStopped (map string_bytes words.now)
         (reading S.left S.faults src.old src.new)
         (writing O.written O.faults out.old out.new) r) }
@@ -215,8 +217,8 @@ pub fn run<S: Source, O: Sink, E: Sink>(
         (writing O.written O.faults out.old out.new) }
 
     // How the run ends, for every command: done, refused or cut off, each status only with its
-    // cause. A cause in the words or the text is always told, unless a read or a write fails or
-    // memory runs out.
+    // cause. No stream fails twice: its count of faults stays, or rises by one. A cause in the
+    // words or the text is always told, unless a read or a write fails or memory runs out.
     ensures ends { Ends (call (map string_bytes words.now) (reading S.left S.faults src.old src.new)
         (writing O.written O.faults out.old out.new)
         (writing E.written E.faults err.old err.new)) result }

@@ -1,5 +1,5 @@
 // Cells of two inputs, and what they read.
-ghost use Rattle.std.specs.Prelude.{◌≡◌};
+ghost use Rattle.std.specs.Prelude.{◌≡◌, IsTrue};
 ghost use Rattle.cell_core.specs.Sources.{is_there, reads_there, is_one, reads_one};
 
 /// What a cell or a port reads: an input, a latch or an earlier cell by its number from 0, or a
@@ -68,5 +68,31 @@ impl Cell {
         match self {
             Cell::Or(a, b) | Cell::Xor(a, b) | Cell::AndNot(a, b) => a.is_one() || b.is_one(),
         }
+    }
+}
+
+/// Returns whether the two are one source.
+pub fn is_same_src(a: Src, b: Src) -> bool
+    ensures { IsTrue result → a ≡ b }
+{
+    match (a, b) {
+        (Src::Input(i), Src::Input(j)) => i == j,
+        (Src::Latch(i), Src::Latch(j)) => i == j,
+        (Src::Cell(i), Src::Cell(j)) => i == j,
+        (Src::One, Src::One) => true,
+        (Src::Zero, Src::Zero) => true,
+        _ => false,
+    }
+}
+
+/// Returns whether the two are one cell: the same operator, over the same sources.
+pub fn is_same_cell(a: Cell, b: Cell) -> bool
+    ensures { IsTrue result → a ≡ b }
+{
+    match (a, b) {
+        (Cell::Or(p, q), Cell::Or(r, s)) => is_same_src(p, r) && is_same_src(q, s),
+        (Cell::Xor(p, q), Cell::Xor(r, s)) => is_same_src(p, r) && is_same_src(q, s),
+        (Cell::AndNot(p, q), Cell::AndNot(r, s)) => is_same_src(p, r) && is_same_src(q, s),
+        _ => false,
     }
 }

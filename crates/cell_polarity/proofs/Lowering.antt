@@ -15,8 +15,8 @@ use Rattle.cell_core.specs.declared.list.CellList.{CellList}
 use Rattle.cell_core.specs.Sources.{is_there, are_there, reads_there, is_one, reads_one, read_one}
 use Rattle.cell_core.specs.Meaning.{cell_bit, cell_bits, bit_of}
 use Rattle.cell_core.proofs.OwnBits.{cell_in_order, bit_of_cell}
-use Rattle.cover_cells.specs.Grown.{HasSource, Grows, Answers}
-use Rattle.cover_cells.proofs.Growing.{there_after, bit_after}
+use Rattle.cell_sharing.specs.Grown.{HasSource, Grows, Answers}
+use Rattle.cell_sharing.proofs.Growing.{there_after, bit_after}
 use Rattle.cell_polarity.specs.Zero.{zero_bit, turned, cells_for}
 use Rattle.cell_polarity.specs.Low.{low_of, zero_in, IsLowSource, ReadLow, own_bit, low_bit, xor_bit, cells_in, AnswersLow, IsLow, AreLow}
 use Rattle.cell_polarity.proofs.Zeros.{turned_twice, nothing_there}

@@ -7,7 +7,7 @@ use Rattle.cell_core.specs.declared.cells.Cell.TheVariants.{Or, Xor, AndNot}
 use Rattle.cell_core.specs.declared.list.CellList.{CellList}
 use Rattle.cell_core.specs.Sources.{is_one, read_one}
 use Rattle.cell_core.specs.Meaning.{source_bit, bit_in}
-use Rattle.cover_cells.specs.Grown.{HasSource, Answers}
+use Rattle.cell_sharing.specs.Grown.{HasSource, Answers}
 use Rattle.cell_polarity.specs.Zero.{zero_bit, turned, cells_for}
 use Rattle.cell_polarity.specs.Complements.{StandsLow}
 

@@ -2,9 +2,9 @@
 // needed.
 ghost use Rattle.std.specs.Prelude.{◌≡◌, true, length, map, IfOk, IsTrue};
 ghost use Rattle.cell_core.specs.Sources.{reads_there};
-ghost use Rattle.cell_rewriting.specs.Moved.{goes_to};
-ghost use Rattle.cell_rewriting.specs.Same.{cell_over};
-ghost use Rattle.cover_cells.specs.Grown.{HasSource};
+ghost use Rattle.cell_moves.specs.Moved.{goes_to};
+ghost use Rattle.cell_moves.specs.Same.{cell_over};
+ghost use Rattle.cell_sharing.specs.Grown.{HasSource};
 ghost use Rattle.cell_polarity.specs.Low.{AreLow};
 ghost use Rattle.cell_polarity.specs.Marks.{AreMarked};
 ghost use Rattle.cell_polarity.specs.Needed.{needed};
@@ -13,7 +13,7 @@ ghost use Rattle.cell_polarity.specs.Raised.{IsRaised, AreRaised};
 use crate::PolarityError;
 use crate::low::Lowered;
 use cell_core::{Cell, CellList, Src};
-use cover_cells::{Places, settle, share};
+use cell_sharing::{Places, settle, share};
 use std::alloc::Global;
 
 // Where a source goes: to its new one, or nowhere if it has none.

@@ -5,7 +5,7 @@ ghost use Rattle.cell_polarity.specs.Low.{low_of, zero_in, cells_in, low_or, low
 
 use crate::PolarityError;
 use cell_core::{Cell, CellList, Src};
-use cover_cells::{Places, and, and_not, or, settle};
+use cell_sharing::{Places, and, and_not, or, settle};
 use lists::List;
 use std::alloc::Global;
 

@@ -11,9 +11,8 @@ use Rattle.cell_core.specs.declared.cells.Cell.TheVariants.{AndNot}
 use Rattle.cell_core.specs.declared.list.CellList.{CellList}
 use Rattle.cell_core.specs.Meaning.{cell_bit, cell_bits, bit_of}
 use Rattle.cell_core.proofs.OwnBits.{bit_of_cell}
-use Rattle.cover_cells.specs.Words.{bits_number}
-use Rattle.cover_cells.proofs.Tables.{number_small}
-use Rattle.cover_cells.proofs.Tabled.{ones_shown}
+use Rattle.cell_core.specs.Tables.{bits_number}
+use Rattle.cell_core.proofs.TableBits.{number_small, ones_shown}
 use Rattle.lists.specs.Bits.{has_bit}
 use Rattle.cell_rewriting.specs.Substitution.{AreEquivalent}
 use Rattle.cell_rewriting.specs.Words.{word_says, IsWordOf, IsWordOfCell, AreWords}

@@ -5,7 +5,7 @@ use Rattle.cell_core.specs.declared.cells.Src.TheVariants.{Cell as Made}
 use Rattle.cell_core.specs.declared.cells.Cell.{Cell}
 use Rattle.cell_core.specs.declared.list.CellList.{CellList}
 use Rattle.cell_core.specs.Meaning.{cell_bit, cell_bits, bit_of}
-use Rattle.cover_cells.specs.Words.{table_bit}
+use Rattle.cell_core.specs.Tables.{table_bit}
 use Rattle.cell_rewriting.specs.declared.words.CellWord.{CellWord}
 
 -- the bit of the word that the bits of the leaves select

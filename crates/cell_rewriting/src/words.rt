@@ -7,8 +7,7 @@ ghost use Rattle.cell_rewriting.specs.Words.{IsWordOf, IsWordOfCell, AreWords};
 
 use crate::RewriteError;
 use crate::substitution::Substitution;
-use cell_core::{Cell, Src};
-use cover_cells::{and_not_words, is_same_src, net_word, or_words, xor_words};
+use cell_core::{Cell, Src, and_not_words, is_same_src, net_word, or_words, xor_words};
 use std::alloc::Global;
 
 /// A cell, by its number, and its word.

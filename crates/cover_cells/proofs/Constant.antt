@@ -6,10 +6,10 @@ use Rattle.cell_core.specs.declared.cells.Src.{Src}
 use Rattle.cell_core.specs.declared.cells.Src.TheVariants.{Zero}
 use Rattle.cell_core.specs.declared.list.CellList.{CellList}
 use Rattle.netlist_meaning.specs.CoverValue.{product_holds, any_holds, cover_value}
-use Rattle.cover_cells.specs.Grown.{bits_of}
+use Rattle.cell_sharing.specs.Grown.{bits_of}
 use Rattle.cover_cells.specs.Covers.{CoverNeedsOne, AnswersCover}
 use Rattle.cell_meaning.specs.Singles.{constant_source}
-use Rattle.cover_cells.proofs.Growing.{grows, grows_refl}
+use Rattle.cell_sharing.proofs.Growing.{grows, grows_refl}
 
 zero_answers : (l : CellList) (sources : List Src) (rows : List (List ℕ)) (on : Bool) → ((inputs state : List Bool) → false ≡ cover_value rows on (bits_of l sources inputs state)) → AnswersCover l l sources rows on Zero
 zero_answers l sources rows on value =

@@ -11,9 +11,9 @@ use Rattle.cell_core.specs.declared.cells.Cell.TheVariants.{Or, Xor, AndNot}
 use Rattle.cell_core.specs.declared.list.CellList.{CellList}
 use Rattle.cell_core.specs.Sources.{is_there, reads_there, is_one, reads_one}
 use Rattle.cell_core.specs.Meaning.{source_bit, cell_bit, cell_bits, bit_in}
-use Rattle.cover_cells.specs.Grown.{HasSource, HasSources, bits_of, Answers}
+use Rattle.cell_sharing.specs.Grown.{HasSource, HasSources, bits_of, Answers}
 use Rattle.cover_cells.specs.Placed.{relocated, relocated_cell, ReadsOne, ArePlaced}
-use Rattle.cover_cells.proofs.Growing.{grows, grows_refl, bits_after, all_there_after}
+use Rattle.cell_sharing.proofs.Growing.{grows, grows_refl, bits_after, all_there_after}
 use Rattle.cover_cells.proofs.Products.{source_there}
 use Rattle.cover_cells.proofs.Tabled.{cell_bits_more}
 

@@ -14,10 +14,10 @@ use Rattle.cell_core.specs.declared.cells.Src.TheVariants.{Input, One}
 use Rattle.cell_core.specs.declared.list.CellList.{CellList}
 use Rattle.cell_core.specs.Sources.{is_there, is_one}
 use Rattle.cell_core.specs.Meaning.{bit_in}
-use Rattle.cover_cells.specs.Grown.{HasSource, HasSources, bits_of, Answers}
+use Rattle.cell_sharing.specs.Grown.{HasSource, HasSources, bits_of, Answers}
 use Rattle.cover_cells.specs.Covers.{start_of, RowNeedsOne, AnswersRow}
 use Rattle.cell_meaning.specs.Needs.{has_no_positive}
-use Rattle.cover_cells.proofs.Growing.{grows, grows_refl, answers, bit_after}
+use Rattle.cell_sharing.proofs.Growing.{grows, grows_refl, answers, bit_after}
 
 -- the product of the first so many columns
 abbrev pub so_far : ℕ → List ℕ → List Bool → Bool

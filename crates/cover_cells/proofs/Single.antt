@@ -11,10 +11,10 @@ use Rattle.cell_core.specs.declared.cells.Cell.TheVariants.{Or, Xor, AndNot}
 use Rattle.cell_core.specs.declared.list.CellList.{CellList}
 use Rattle.cell_core.specs.Sources.{is_there, are_there, reads_there, is_one, reads_one}
 use Rattle.cell_core.specs.Meaning.{source_bit, cell_bit, cell_bits}
-use Rattle.cover_cells.specs.Grown.{Answers}
+use Rattle.cell_sharing.specs.Grown.{Answers}
 use Rattle.cover_cells.specs.Covers.{some_is_one, most_cells, AnswersCover}
 use Rattle.cell_meaning.specs.Singles.{is_only, are_both, are_pair, cell_of_rows, single_cell}
-use Rattle.cover_cells.proofs.Growing.{answers, grows_refl}
+use Rattle.cell_sharing.proofs.Growing.{answers, grows_refl}
 
 -- what a cell has that stands for a cover
 pub record IsFor (sources : List Src) (rows : List (List ℕ)) (on : Bool) (cell : Cell) : Type 0 where

@@ -12,10 +12,10 @@ use Rattle.cell_core.specs.declared.cells.Src.{Src}
 use Rattle.cell_core.specs.declared.list.CellList.{CellList}
 use Rattle.cell_core.specs.Sources.{is_one}
 use Rattle.cell_core.specs.Meaning.{bit_in}
-use Rattle.cover_cells.specs.Grown.{HasSources, bits_of, Grows, Answers}
+use Rattle.cell_sharing.specs.Grown.{HasSources, bits_of, Grows, Answers}
 use Rattle.cell_meaning.specs.Needs.{has_no_positive}
 use Rattle.cover_cells.specs.Covers.{RowNeedsOne, RowsNeedOne, CoverNeedsOne, most_cells, AnswersRow, AnswersCover}
-use Rattle.cover_cells.proofs.Growing.{grows, grows_refl, answers, bit_after, bits_after}
+use Rattle.cell_sharing.proofs.Growing.{grows, grows_refl, answers, bit_after, bits_after}
 
 -- what a sum has, as far as it has come
 abbrev pub SumsTo : CellList → CellList → List Src → List (List ℕ) → ℕ → Src → Type 0

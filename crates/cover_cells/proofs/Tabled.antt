@@ -3,18 +3,15 @@ use Rattle.std.proofs.Common.{◌≡◌, ◌≢◌, refl, sym, ◌∙◌, ap, ap
 use Rattle.std.specs.List.{list_all}
 use Rattle.std.proofs.lemmas.List.{take_all, take_more, length_push, map-append}
 use Rattle.std.proofs.lemmas.List.Sums.{fold_push}
-use Rattle.std.proofs.lemmas.Nat.Bits.{bit_at_ones}
 use Rattle.std.proofs.lemmas.Slice.Zip.{length-zip}
 use Rattle.netlist_meaning.specs.CoverValue.{fits, product_holds, any_holds, cover_value}
 use Rattle.cell_core.specs.declared.cells.Cell.{Cell}
 use Rattle.cell_core.specs.Meaning.{cell_bit, cell_bits}
-use Rattle.cover_cells.specs.Words.{bits_number, table_bit, ShowTables}
+use Rattle.cell_core.specs.Tables.{bits_number, table_bit}
+use Rattle.cover_cells.specs.Words.{ShowTables}
 use Rattle.lists.specs.Bits.{has_bit}
 use Rattle.cover_cells.proofs.Products.{so_far, so_far_more}
-use Rattle.cover_cells.proofs.Tables.{number_small}
-
-pub ones_shown : (bits : List Bool) (nets : ℕ) → nets ≤ 6 → length bits ≡ nets → table_bit bits 18446744073709551615 ≡ true
-ones_shown bits nets few long = ap (λ x. x == 1) (bit_at_ones 64 (bits_number bits) (number_small bits (omega (arith, long))))
+use Rattle.cell_core.proofs.TableBits.{number_small, ones_shown}
 
 -- ---- a row
 pub row_more : (bits : List Bool) (row : List ℕ) (i nets word net new : ℕ) → nets ≤ 6 → length bits ≡ nets → i < length row → i < nets

@@ -8,7 +8,7 @@ use Rattle.cell_core.specs.declared.cells.Src.TheVariants.{One}
 use Rattle.cell_core.specs.declared.list.CellList.{CellList}
 use Rattle.cell_core.specs.Sources.{is_one}
 use Rattle.cell_meaning.specs.Needs.{has_no_positive}
-use Rattle.cover_cells.specs.Grown.{bits_of, Answers}
+use Rattle.cell_sharing.specs.Grown.{bits_of, Answers}
 
 -- the source at a place, or constant 1 if it is not among the first so many
 abbrev pub start_of : List Src → ℕ → ℕ → Src

@@ -8,7 +8,7 @@ use Rattle.cell_core.specs.declared.cells.Cell.TheVariants.{Or, Xor, AndNot}
 use Rattle.cell_core.specs.declared.list.CellList.{CellList}
 use Rattle.cell_core.specs.Sources.{is_one, read_one}
 use Rattle.cell_core.specs.Meaning.{cell_bits}
-use Rattle.cover_cells.specs.Grown.{HasSources, bits_of, Grows}
+use Rattle.cell_sharing.specs.Grown.{HasSources, bits_of, Grows}
 
 -- input i stands for the i-th source, and cell j for the j-th that was made
 abbrev pub relocated : List Src → List Src → Src → Src

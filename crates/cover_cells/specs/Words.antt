@@ -1,20 +1,10 @@
--- Words of 64 bits as tables: the bit at a number is the value for the nets' bits that make this
--- number.
-use Rattle.std.specs.Prelude.{ℕ, ◌+◌, ◌*◌, ◌≡◌, Bool, true, cond, List, [], ◌∷◌, map, length}
+-- Truth tables of cells.
+use Rattle.std.specs.Prelude.{ℕ, ◌≡◌, Bool, true, List, [], map, length}
 use Rattle.cell_core.specs.declared.cells.Src.{Src}
 use Rattle.cell_core.specs.declared.cells.Cell.{Cell}
 use Rattle.cell_core.specs.Sources.{is_there, are_in_order}
 use Rattle.cell_core.specs.Meaning.{bit_in}
-use Rattle.lists.specs.Bits.{has_bit}
-
--- the number that bits make, the first of them lowest
-abbrev pub bits_number : List Bool → ℕ
-bits_number [] = 0
-bits_number (bit ∷ bits) = cond bit 1 0 + 2 * bits_number bits
-
--- the value of a table, if the nets have these bits
-abbrev pub table_bit : List Bool → ℕ → Bool
-table_bit bits word = has_bit word (bits_number bits)
+use Rattle.cell_core.specs.Tables.{table_bit}
 
 -- the tables have these values, if the nets have these bits
 abbrev pub ShowTables : List Bool → List ℕ → List Bool → Type 0

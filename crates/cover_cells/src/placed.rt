@@ -1,12 +1,11 @@
 // Cells that stand by themselves, put into a list.
 ghost use Rattle.std.specs.Prelude.{◌≡◌, length, IsTrue, IfOk};
 ghost use Rattle.cell_core.specs.Sources.{is_there, reads_there, are_in_order};
-ghost use Rattle.cover_cells.specs.Grown.{HasSources};
+ghost use Rattle.cell_sharing.specs.Grown.{HasSources};
 ghost use Rattle.cover_cells.specs.Placed.{relocated, relocated_cell, ArePlaced};
 
-use crate::reduced::settle;
-use crate::shared::Places;
 use cell_core::{Cell, CellError, CellList, Src};
+use cell_sharing::{Places, settle};
 use std::alloc::Global;
 
 /// The source in the list for a source of the cells.

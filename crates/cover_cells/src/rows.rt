@@ -1,11 +1,14 @@
 // A cover by its rows: products of columns, and their sum.
-ghost use Rattle.std.specs.Prelude.{ℕ, ◌≡◌, ◌≢◌, ◌<◌, ◌≤◌, IfOk, true, length, slice_index};
-ghost use Rattle.cover_cells.specs.Grown.{HasSources};
+ghost use Rattle.std.specs.Prelude.{ℕ, ◌≡◌, ◌≢◌, ◌<◌, ◌≤◌, ◌*◌, ◌⊎◌, ◌&&◌, true, ◌∷◌, [], IfOk, length, slice_index};
+ghost use Rattle.netlist_core.specs.OwnWeight.{literals};
+ghost use Rattle.netlist_meaning.specs.CoverValue.{fits};
+ghost use Rattle.cell_core.specs.Sources.{is_one};
+ghost use Rattle.cell_core.specs.Meaning.{bit_in};
+ghost use Rattle.cell_sharing.specs.Grown.{HasSource, HasSources, Answers};
 ghost use Rattle.cover_cells.specs.Covers.{start_of, is_product, AnswersRow, AnswersRows, AnswersCover};
 
-use crate::gates::{and_not, or, with_column};
-use crate::shared::Places;
 use cell_core::{CellError, CellList, Src};
+use cell_sharing::{Places, and, and_not, or};
 use lists::Bytes;
 use std::alloc::Global;
 
@@ -32,6 +35,30 @@ fn start(sources: &[Src], first: usize, width: usize) -> Src
         sources[first]
     } else {
         Src::One
+    }
+}
+
+// A source for the product with one more column.
+fn with_column(
+    list: &mut CellList,
+    places: &mut Places,
+    alloc: Global,
+    product: Src,
+    source: Src,
+    character: u8,
+) -> Result<Src, CellError>
+    requires first { HasSource list.old product }
+    requires second { HasSource list.old source }
+    ensures { IfOk result (λ src.
+        Answers list.old list.new (2 * literals (character ∷ []))
+        ((is_one product ≡ true) ⊎ (is_one source ≡ true)) src (λ inputs state.
+        bit_in list.old.cells inputs state product &&
+        fits character (bit_in list.old.cells inputs state source))) }
+{
+    match character {
+        b'0' => and_not(list, places, alloc, product, source),
+        b'1' => and(list, places, alloc, product, source),
+        _ => Ok(product),
     }
 }
 

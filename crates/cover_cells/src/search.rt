@@ -2,8 +2,7 @@
 // it.
 ghost use Rattle.std.specs.Prelude.{◌<◌, ◌≤◌};
 
-use crate::words::NETS;
-use cell_core::{Cell, CellError, Src};
+use cell_core::{Cell, CellError, Src, net_word};
 use lists::List;
 use std::alloc::Global;
 
@@ -40,7 +39,7 @@ fn down(word: u64, net: usize) -> u64 {
 fn without(table: u64, net: usize) -> u64
     requires { net < 6 }
 {
-    let half = table & !NETS[net];
+    let half = table & !net_word(net);
     half | up(half, net)
 }
 
@@ -48,7 +47,7 @@ fn without(table: u64, net: usize) -> u64
 fn with(table: u64, net: usize) -> u64
     requires { net < 6 }
 {
-    let half = table & NETS[net];
+    let half = table & net_word(net);
     half | down(half, net)
 }
 
@@ -150,7 +149,7 @@ fn build(cells: &mut Vec<Cell>, table: u64, depth: usize) -> Result<Src, CellErr
     }
     let split = split_at(table);
     let net = Src::Input(split as u32);
-    if table == NETS[split] {
+    if table == net_word(split) {
         return Ok(net);
     }
     let zero = without(table, split);

@@ -28,7 +28,7 @@ use Rattle.cell_core.specs.Sources.{are_there, is_one, read_one}
 use Rattle.cell_core.specs.Loops.{names_one}
 use Rattle.netlist_core.specs.OwnWeight.{literals, rows_weight}
 use Rattle.cover_cells.specs.Covers.{is_product}
-use Rattle.cover_cells.specs.Grown.{Grows}
+use Rattle.cell_sharing.specs.Grown.{Grows}
 use Rattle.cell_meaning.specs.Listed.{listed_classes}
 use Rattle.cell_meaning.specs.Needs.{any_needs_one}
 use Rattle.cell_meaning.specs.Mapped.{IsMapped, IsMappedWith, HasBits}

@@ -9,7 +9,7 @@ use Rattle.cell_core.specs.declared.cells.Src.{Src}
 use Rattle.cell_core.specs.declared.cells.Src.TheVariants.{Zero}
 use Rattle.cell_core.specs.declared.list.CellList.{CellList}
 use Rattle.cell_core.specs.Sources.{is_one}
-use Rattle.cover_cells.specs.Grown.{HasSources, bits_of}
+use Rattle.cell_sharing.specs.Grown.{HasSources, bits_of}
 use Rattle.cell_meaning.specs.Needs.{any_needs_one}
 use Rattle.cover_mapper.specs.Sourced.{ClassSources, AreSourced, sources_at, source_at}
 use Rattle.netlist_meaning.specs.Flat.{FlatDriver}

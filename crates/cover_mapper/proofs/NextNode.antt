@@ -27,10 +27,10 @@ use Rattle.cell_core.specs.Meaning.{bit_in}
 use Rattle.cell_core.specs.Sources.{is_one}
 use Rattle.cell_meaning.specs.Needs.{has_no_positive, needs_one, any_needs_one}
 use Rattle.cover_cells.specs.Covers.{CoverNeedsOne, AnswersCover}
-use Rattle.cover_cells.specs.Grown.{Grows, bits_of}
+use Rattle.cell_sharing.specs.Grown.{Grows, bits_of}
 use Rattle.cell_meaning.specs.Mapped.{IsCell}
 use Rattle.cell_meaning.specs.Singles.{constant_source, single_cell}
-use Rattle.cover_cells.proofs.Growing.{grows, grows_refl}
+use Rattle.cell_sharing.proofs.Growing.{grows, grows_refl}
 use Rattle.cover_mapper.specs.Sourced.{node_cells, ClassSources, AreSourced, AreMapped, IsAmongFirst, HasSingle, HasConstant, source_at}
 use Rattle.cover_mapper.proofs.Known.{IsKnown, AreKnown, all_bits, any_one}
 use Rattle.cover_mapper.proofs.Sourcing.{class_within, sourced_more}

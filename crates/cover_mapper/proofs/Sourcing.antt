@@ -14,8 +14,8 @@ use Rattle.cell_core.specs.declared.cells.Src.{Src}
 use Rattle.cell_core.specs.declared.list.CellList.{CellList}
 use Rattle.cell_core.specs.Sources.{is_one}
 use Rattle.cell_core.specs.Meaning.{bit_in}
-use Rattle.cover_cells.specs.Grown.{HasSource, Grows}
-use Rattle.cover_cells.proofs.Growing.{there_after, bit_after}
+use Rattle.cell_sharing.specs.Grown.{HasSource, Grows}
+use Rattle.cell_sharing.proofs.Growing.{there_after, bit_after}
 use Rattle.cell_meaning.specs.Needs.{any_needs_one}
 use Rattle.cover_mapper.specs.Sourced.{ClassSources, AreSourced}
 use Rattle.cell_meaning.specs.Mapped.{IsOwn}

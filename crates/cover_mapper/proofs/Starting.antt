@@ -11,7 +11,7 @@ use Rattle.netlist_core.specs.declared.flat.Flat.{Flat}
 use Rattle.netlist_meaning.specs.Flat.{class_of, IsNetId, IsSound, FlatDriver}
 use Rattle.cell_core.specs.declared.cells.Src.TheVariants.{Input, Latch}
 use Rattle.cell_core.specs.declared.list.CellList.{CellList}
-use Rattle.cover_cells.proofs.Growing.{grows_refl}
+use Rattle.cell_sharing.proofs.Growing.{grows_refl}
 use Rattle.cover_mapper.specs.Sourced.{ClassSources, AreSourced, IsAmongFirst}
 use Rattle.cover_mapper.proofs.Sourcing.{class_within, sourced_more}
 

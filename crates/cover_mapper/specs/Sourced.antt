@@ -14,7 +14,7 @@ use Rattle.cell_core.specs.declared.list.CellList.{CellList}
 use Rattle.cell_core.specs.Sources.{is_one}
 use Rattle.cell_core.specs.Meaning.{bit_in}
 use Rattle.cover_cells.specs.Covers.{most_cells}
-use Rattle.cover_cells.specs.Grown.{HasSource, Grows}
+use Rattle.cell_sharing.specs.Grown.{HasSource, Grows}
 use Rattle.cell_meaning.specs.Mapped.{IsCell, IsOwn, constant_of}
 use Rattle.cell_meaning.specs.Singles.{single_cell}
 use Rattle.cell_meaning.specs.Needs.{any_needs_one}

@@ -7,7 +7,8 @@ ghost use Rattle.cover_mapper.specs.Sourced.{AreMapped, AreSourced, IsAmongFirst
 use crate::MapError;
 use crate::classes::sources_of_nets;
 use cell_core::{CellList, Src};
-use cover_cells::{Places, map_cover};
+use cell_sharing::Places;
+use cover_cells::map_cover;
 use netlist_core::Flat;
 use netlist_meaning::class_of;
 use std::alloc::Global;

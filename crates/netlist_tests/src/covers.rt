@@ -4,7 +4,8 @@ ghost use Rattle.cell_core.specs.Sources.{are_there};
 
 use crate::texts::{copies_of, expect_number};
 use cell_core::{CellError, CellList, Src};
-use cover_cells::{Places, map_cover};
+use cell_sharing::Places;
+use cover_cells::map_cover;
 use lists::{Bytes, List};
 use std::alloc::Global;
 use std::test::Fail;

@@ -14,7 +14,6 @@ use Rattle.pattern_reading.specs.declared.ports.Ports.{Ports}
 use Rattle.netlist_core.specs.declared.model.Design.{Design}
 use Rattle.netlist_core.specs.Names.{Name}
 use Rattle.netlist_meaning.specs.Nets.{Net}
-use Rattle.netlist_meaning.specs.Places.{main_outputs}
 use Rattle.netlist_meaning.specs.Valuation.{LatchState, Valuation, IsRunFrom}
 use Rattle.netlist_meaning.proofs.Joined.{in_names_are_one}
 use Rattle.streams.specs.declared.streams.Streams.{Streams}
@@ -23,15 +22,19 @@ use Rattle.streams.specs.Streams.{Input, bits_for, inputs_of_context, inputs_of_
 use Rattle.streams.proofs.Contexts.{context_at, inputs_are, inputs_many}
 use Rattle.streams.proofs.Ranges.{flat_map_same}
 use Rattle.probe_view.specs.Probes.{has_name_and_path, net_named}
+use Rattle.carries.specs.DesignContexts.{CarriesNetsInContexts}
 use Rattle.netlist_run.specs.Runs.{bits_in_run}
 use Rattle.shown_runs.specs.ShownRuns.{CarriersShowContexts, CarriersShowNetsInContexts, StreamsAreFor, net_bits_in_run}
+use Rattle.vcd_write.specs.NetWaves.{NetsHaveTheirBits}
 use Rattle.start_words.specs.Starts.{start_of_words, starts_of_words}
 use Rattle.blifww_tool.specs.Lines.{context_line}
 use Rattle.blifww_tool.specs.Evaluation.{FeedsInputs}
-use Rattle.program_laws.specs.Isolated.{AgreeOn, CompiledPrintApart, ContextsPrintApart, HaveSameLines, NetsPrintApart, lines_of_names}
+use Rattle.program_laws.specs.Isolated.{AgreeOn, CompiledPrintApart, ContextsPrintApart, DumpsApart, NetsPrintApart, ProbesApart, SimulatesApart, lines_of_names}
 use Rattle.program_laws.specs.PrintsAlike.{AreRunsOn, PrintsRuns, lines_of_net}
 use Rattle.program_laws.proofs.PrintsRuns.{carriers_print_runs}
+use Rattle.program_laws.proofs.DumpsNets.{dumped}
 use Rattle.program_laws.proofs.Fed.{feeds, for_table, read}
+use Rattle.program_laws.proofs.NamedNets.{got_within}
 use Rattle.program_laws.proofs.PrintsNet.{found}
 use Rattle.program_laws.proofs.PrintsNetInContexts.{lines_probed}
 
@@ -135,18 +138,6 @@ contexts_print_apart law streams_for text design starts k cycles words others sh
       same = ap own (sym (in_it context (h.runs context) l.runs));
     }
 
-pub compiled_print_apart : CarriersShowContexts → StreamsAreFor → CompiledPrintApart
-compiled_print_apart law streams_for contexts starts netlist text compiled =
-    let states : List LatchState = starts_of_words compiled.design starts contexts in
-    let many : length states ≡ contexts = length-map-range_with_len (start_of_words compiled.design starts) 0 contexts in (
-      compiled.design,
-      compiled.has.netlist,
-      λ cycles words others shown seen printed too context less agree.
-          subst (λ (n : ℕ). HaveSameLines n cycles (main_outputs compiled.design) context shown seen) many
-          (contexts_print_apart law streams_for text compiled.design states compiled.carries cycles words others shown seen printed too context (omega (arith, less, many))
-          (subst (λ (n : ℕ). AgreeOn n context words others) (sym many) agree)),
-    )
-
 -- ---- nets
 
 -- the lines of one net
@@ -157,8 +148,8 @@ lines_of_one contexts name net cycles runs =
     (λ context. context_line contexts context name (net_bits_in_run (runs context) cycles net) ++ []) contexts
     (λ context less. sym (append-nil (context_line contexts context name (net_bits_in_run (runs context) cycles net))))
 
-pub nets_print_apart : CarriersShowNetsInContexts → CarriersShowContexts → StreamsAreFor → NetsPrintApart
-nets_print_apart law shows streams_for text design starts c cycles name path words others shown seen printed too context less agree =
+probes_apart : CarriersShowNetsInContexts → CarriersShowContexts → StreamsAreFor → (text : List ℕ) (design : Design) (starts : List LatchState) → CarriesNetsInContexts text design starts → ProbesApart text (length starts)
+probes_apart law shows streams_for text design starts c cycles name path words others shown seen printed too context less agree =
     let k = c.carried in
     let s = printed.probes.simulation in
     let t = too.probes.simulation in
@@ -189,3 +180,45 @@ nets_print_apart law shows streams_for text design starts c cycles name path wor
           ∙ lines_of_one (length starts) name net cycles runs;
       same = ap own (sym (in_it context (ran.runs context) ran_too.runs));
     }
+
+dumps_apart : NetsHaveTheirBits → CarriersShowContexts → StreamsAreFor → (text : List ℕ) (design : Design) (starts : List LatchState) → CarriesNetsInContexts text design starts → DumpsApart text design (length starts)
+dumps_apart their_bits shows streams_for text design starts c = (
+  c.nets,
+  c.are_nets,
+  λ cycles words others shown seen printed too context less agree.
+      let h = dumped their_bits shows streams_for text design starts c cycles words shown printed in
+      let l = dumped their_bits shows streams_for text design starts c cycles others seen too in
+      let same = same_rows (length starts) cycles context words others design h.fed l.fed h.feeds l.feeds less agree in
+      let runs : ℕ → ℕ → Valuation = but_in context (h.runs context) l.runs in
+      let are : AreRunsOn design starts l.fed runs =
+      are_runs_too design starts h.fed l.fed context (omega (arith, less, h.feeds.contexts)) (omega (arith, less, l.feeds.contexts)) same h.runs l.runs h.are_runs l.are_runs in
+      record {
+        form = h.form;
+        other = l.form;
+        reads = h.reads;
+        reads_too = l.reads;
+        variables = h.variables;
+        variables_too = l.variables;
+        same = λ number cycle low early.
+            let (net, at) = got_within c.nets number low in
+            h.bits number net at context less h.runs h.are_runs cycle early
+            ∙ sym (l.bits number net at context less runs are cycle early ∙ ap (λ (run : ℕ → Valuation). Some (run cycle net.place net.name)) (in_it context (h.runs context) l.runs));
+      },
+)
+
+pub nets_print_apart : NetsHaveTheirBits → CarriersShowNetsInContexts → CarriersShowContexts → StreamsAreFor → NetsPrintApart
+nets_print_apart their_bits law shows streams_for text design starts c = (probes_apart law shows streams_for text design starts c, dumps_apart their_bits shows streams_for text design starts c)
+
+-- ---- what `compile` writes
+
+pub compiled_print_apart : NetsHaveTheirBits → CarriersShowNetsInContexts → CarriersShowContexts → StreamsAreFor → CompiledPrintApart
+compiled_print_apart their_bits law shows streams_for contexts starts netlist text compiled =
+    let design : Design = compiled.design in
+    let states : List LatchState = starts_of_words design starts contexts in
+    let many : length states ≡ contexts = length-map-range_with_len (start_of_words design starts) 0 contexts in (
+      design,
+      compiled.has.netlist,
+      subst (λ (n : ℕ). SimulatesApart text design n) many (contexts_print_apart shows streams_for text design states compiled.carries),
+      subst (λ (n : ℕ). ProbesApart text n) many (probes_apart law shows streams_for text design states compiled.nets),
+      subst (λ (n : ℕ). DumpsApart text design n) many (dumps_apart their_bits shows streams_for text design states compiled.nets),
+    )

@@ -23,7 +23,7 @@ use Rattle.blifww_tool.specs.Simulation.{Simulation, simulation_text}
 use Rattle.blifww_tool.specs.Viewing.{cycles_in}
 use Rattle.blifww_tool.proofs.SimulationOrNot.{same_simulation}
 use Rattle.program_laws.specs.OneAnswer.{DumpsAreProbed, ProbePrintsOne, SimulatePrintsOne, VcdPrintsOne, WindowPrintsOne}
-use Rattle.program_laws.proofs.DumpsNets.{is_variable}
+use Rattle.program_laws.proofs.DumpsNets.{has_variables, is_variable}
 use Rattle.program_laws.proofs.PrintsNet.{found}
 
 pub simulate_prints_one : SimulatePrintsOne
@@ -92,6 +92,8 @@ dumps_are_probed their_bits cycles words name path text dump shown h k =
       lines = k.lines ∙ ap (λ (u : Simulation). net_text u.ports.c name k.bits) same;
       form = vcd_form (waves_of s);
       reads = subst (λ (d : List ℕ). ReadsAsVcd d (vcd_form (waves_of s))) (sym h.written) h.says.reads;
+      variables = has_variables (waves_of s);
+      ends = h.says.ends ∙ h.runs.is.many;
       same = λ context cycle less low.
           let early : cycle < s.streams.cycles = omega (arith, low, h.runs.is.many) in
           h.says.bits (context * length s.ports.nets + number) cycle (is_variable s context number less (slice_get_within s.ports.nets number line is_line)) early

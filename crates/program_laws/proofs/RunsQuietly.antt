@@ -10,13 +10,14 @@ use Rattle.drive.specs.Driving.{AreFor, first_miss}
 use Rattle.shown_runs.specs.ShownRuns.{CarriersAreQuiet, StreamsAreFor}
 use Rattle.aiger_text.specs.Laws.{ReadAigsAreSound}
 use Rattle.aiger_plans.specs.CarriesAig.{CarriesAig}
+use Rattle.start_words.specs.Starts.{starts_of_words}
 use Rattle.command_words.specs.Shapes.{CommandValues, compile, simulate, eval, probe, window, make, self_, tape, aiger, vcd, lift}
 use Rattle.blifww_tool.specs.Commands.{Refuses}
 use Rattle.blifww_tool.specs.Simulation.{Simulation, IsSimulation, MissesAt, miss_up_to}
 use Rattle.blifww_tool.proofs.SimulationOrNot.{miss_or_not}
 use Rattle.refusals.specs.declared.causes.Cause.TheVariants.{NotQuiet}
 use Rattle.program_laws.specs.AigPrints.{AigCarriersRunQuietly, AigsRunQuietly}
-use Rattle.program_laws.specs.PrintsAlike.{CarriersRunQuietly}
+use Rattle.program_laws.specs.PrintsAlike.{CarriersRunQuietly, CompiledRunQuietly}
 use Rattle.program_laws.proofs.AigQuiet.{quiet_aig}
 use Rattle.program_laws.proofs.Fed.{are_for}
 
@@ -50,6 +51,9 @@ module _ (streams_for : StreamsAreFor) (text : List ℕ) (grid : Grid) (ports : 
 
 pub carriers_run_quietly : CarriersAreQuiet → StreamsAreFor → CarriersRunQuietly
 carriers_run_quietly quiet for text design starts k = runs_quietly for text k.grid k.ports k.spells (quiet text design starts k)
+
+pub compiled_run_quietly : CarriersAreQuiet → StreamsAreFor → CompiledRunQuietly
+compiled_run_quietly quiet for contexts starts netlist text compiled = carriers_run_quietly quiet for text compiled.design (starts_of_words compiled.design starts contexts) compiled.carries
 
 pub aig_carriers_run_quietly : StreamsAreFor → AigCarriersRunQuietly
 aig_carriers_run_quietly for text aig sound c = runs_quietly for text c.grid c.ports c.spells (quiet_aig text aig sound c)

@@ -46,6 +46,7 @@ tapes_print_runs law streams_for cycles words netlist text taped = (
   taped.evaluation,
   taped.is,
   λ many given shown printed. record {
+    rows_fit = taped.tape.runs.rows_fit;
     run = taped.tape.runs.shows.run;
     lines = λ all zeros fit long run is_run.
         printed.2

@@ -1,5 +1,6 @@
 -- What the commands do with the text that `aiger` writes: `simulate` prints the circuit's runs, no
--- run ends with status 10, and `lift` accepts it.
+-- run ends with status 10, and `lift` accepts it if its box is within the limit and its names are
+-- good.
 use Rattle.std.specs.Prelude.{ℕ, ◌≡◌, Bool, false, List, map, flat_map, zip}
 use Rattle.ww_rule.specs.Grid.{Grid}
 use Rattle.pattern_reading.specs.declared.ports.Ports.{Ports}
@@ -11,7 +12,7 @@ use Rattle.aiger_text.specs.AigText.{ReadsAsAig}
 use Rattle.aiger_text.specs.SoundAig.{IsSoundAig, input_names, output_names}
 use Rattle.aiger_meaning.specs.Circuit.{IsAigRun}
 use Rattle.aiger_plans.specs.CarriesAig.{CarriesAig}
-use Rattle.aiger_plans.specs.ShownAigs.{aig_bits_in_run}
+use Rattle.program_laws.specs.ShownAigs.{aig_bits_in_run}
 use Rattle.streams.specs.declared.streams.Streams.{Streams}
 use Rattle.streams.specs.Streams.{HasStreams}
 use Rattle.streams.specs.Rows.{rows_of}
@@ -36,7 +37,7 @@ pub record PrintsAigRuns (cycles : ℕ) (words : List (List ℕ)) (aig : Aig) (o
   pub is_run : IsAigRun aig (rows_of fed) run
   pub lines : (other : ℕ → ℕ → Bool) → IsAigRun aig (rows_of fed) other → output ≡ aig_lines aig fed.cycles other
 
--- of a text that carries a circuit, whoever made it
+-- of a text that carries a sound circuit, whoever made it
 abbrev pub CarriersPrintAigRuns : Type 0
 CarriersPrintAigRuns =
     (text : List ℕ) (aig : Aig) → IsSoundAig aig → CarriesAig text aig
@@ -51,7 +52,7 @@ AigsPrintRuns =
     × ((cycles : ℕ) (words : List (List ℕ)) (output : List ℕ) → Prints (simulate cycles words) text output
     → PrintsAigRuns cycles words aig output)
 
--- if a text carries a circuit, no command refuses it because an injection meets no conductor,
+-- if a text carries a sound circuit, no command refuses it because an injection meets no conductor,
 -- whoever made the text
 abbrev pub AigCarriersRunQuietly : Type 0
 AigCarriersRunQuietly =

@@ -15,7 +15,7 @@ CarriedEvaluateAlike =
     → (cycles : ℕ) (words : List (List ℕ)) (of_a of_b : List ℕ)
     → Prints (eval cycles words) a of_a → Prints (eval cycles words) b of_b → of_a ≡ of_b
 
--- the round trip
+-- the round trip, without start words
 abbrev pub LiftedEvaluateAlike : Type 0
 LiftedEvaluateAlike =
     (netlist text lifted : List ℕ) → Prints (compile 1 []) netlist text → Prints lift text lifted

@@ -1,17 +1,19 @@
--- What a command prints of one text is one text; and what `vcd` says of a net is what `probe` prints
--- of it.
-use Rattle.std.specs.Prelude.{ℕ, ◌≡◌, ◌<◌, ◌+◌, ◌*◌, Bool, false, List, [], length, get_or, All, Some, slice_get}
+-- What each of four commands prints of one text is one text; and what `vcd` says of a net is what
+-- `probe` prints of it.
+use Rattle.std.specs.Prelude.{ℕ, ◌≡◌, ◌<◌, ◌+◌, ◌*◌, Bool, false, List, [], length, map, get_or, All, Some, slice_get}
 use Rattle.ww_rule.specs.Grid.{Grid}
 use Rattle.pattern_reading.specs.declared.ports.NetLine.{NetLine}
 use Rattle.pattern_reading.specs.declared.ports.Ports.{Ports}
 use Rattle.pattern_reading.specs.Pattern.{ReadsWithinLimit}
 use Rattle.pattern_reading.specs.PortTable.{ReadsAsPorts}
-use Rattle.vcd_write.specs.Reading.{VcdForm, ReadsAsVcd, value_at}
+use Rattle.vcd_write.specs.NetWaves.{nets_in_contexts, reference_of}
+use Rattle.vcd_write.specs.Reading.{VcdForm, ReadsAsVcd, last_time, value_at}
 use Rattle.vcd_write.specs.Writing.{vcd_id}
 use Rattle.command_words.specs.declared.command.View.{View}
 use Rattle.command_words.specs.Shapes.{CommandValues, simulate, probe, window, vcd}
 use Rattle.blifww_tool.specs.Probing.{net_text}
 use Rattle.blifww_tool.specs.Commands.{Prints}
+use Rattle.program_laws.specs.DumpsNets.{HasVariables}
 
 -- the command prints one output of each text
 abbrev pub PrintsOneAnswer : CommandValues → Type 0
@@ -34,8 +36,8 @@ VcdPrintsOne = (cycles : ℕ) (words : List (List ℕ)) → PrintsOneAnswer (vcd
 
 -- The text has a table, in which a line has the net's name and path. `probe` has printed bits of the
 -- net, a list for each of the table's contexts with a bit for each cycle. The dump reads as a form
--- that gives, at each cycle, this bit to the variable whose id has the number of the net's line in
--- the context.
+-- with the variables of all lines, by their references in each context, and its last time is the
+-- number of cycles. At each cycle it gives the bit to the variable of the net's line in the context.
 pub record DumpsProbe (cycles : ℕ) (name path text dump shown : List ℕ) : Type 0 where
   pub grid : Grid
   pub pattern : ReadsWithinLimit text grid
@@ -52,6 +54,8 @@ pub record DumpsProbe (cycles : ℕ) (name path text dump shown : List ℕ) : Ty
   pub lines : shown ≡ net_text ports.c name bits
   pub form : VcdForm
   pub reads : ReadsAsVcd dump form
+  pub variables : HasVariables form (map (reference_of ports.c) (nets_in_contexts ports))
+  pub ends : last_time form ≡ cycles
   pub same : (context cycle : ℕ) → context < ports.c → cycle < cycles
       → value_at form (vcd_id (context * length ports.nets + number)) cycle
       ≡ Some (get_or (get_or bits context []) cycle false)

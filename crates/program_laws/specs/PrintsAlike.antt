@@ -160,3 +160,11 @@ CarriersRunQuietly =
     → CarriesContexts text design starts
     → (command : CommandValues) (generation x y : ℕ)
     → Refuses command text (NotQuiet generation x y) → ⊥
+
+-- so it is with the text that `compile` writes
+abbrev pub CompiledRunQuietly : Type 0
+CompiledRunQuietly =
+    (contexts : ℕ) (starts : List (List ℕ)) (netlist text : List ℕ)
+    → Prints (compile contexts starts) netlist text
+    → (command : CommandValues) (generation x y : ℕ)
+    → Refuses command text (NotQuiet generation x y) → ⊥

@@ -11,10 +11,12 @@ use Rattle.blifww_tool.specs.Lines.{bits_line}
 use Rattle.blifww_tool.specs.Evaluation.{Evaluation, IsEvaluation}
 use Rattle.blifww_tool.specs.Commands.{Prints}
 
--- There is a run of the design on the rows, which goes on with rows of 0. The lines are those of
+-- The rows are rows of input bits of the design, and there is a run of the design on them, which
+-- goes on with rows of 0. The lines are those of
 -- the main outputs in every run on the rows, with as many rows of 0 after them as the cycles need.
 pub record PrintsOnward (design : Design) (rows : List (List Bool)) (cycles : ℕ)
     (shown : List ℕ) : Type 0 where
+  pub rows_fit : AreInputRows design rows
   pub run : (run : ℕ → Valuation) × IsRunOnward design rows run
   pub lines : (all : List (List Bool)) → ThenZeros rows all → AreInputRows design all
       → cycles ≤ length all → (run : ℕ → Valuation) → IsRun design all run

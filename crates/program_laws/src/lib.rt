@@ -11,12 +11,12 @@ ghost use Rattle.program_laws.specs.EvaluatesAlike.{CarriedEvaluateAlike, Compil
 ghost use Rattle.program_laws.specs.Isolated.{CompiledPrintApart, ContextsPrintApart, NetsPrintApart};
 ghost use Rattle.program_laws.specs.LiftsBack.{CompiledAreLifted, CompiledNamesAreGood, LiftedInOneWay, LiftedPrintAlike};
 ghost use Rattle.program_laws.specs.OneAnswer.{DumpsAreProbed, ProbePrintsOne, SimulatePrintsOne, VcdPrintsOne, WindowPrintsOne};
-ghost use Rattle.program_laws.specs.Onward.{ContextsGoOn, ContextsShowEachFront};
-ghost use Rattle.program_laws.specs.PrintsAlike.{CarriersPrintAlike, CarriersPrintNets, CarriersPrintNetsInContexts, CarriersPrintRuns, CarriersRunQuietly, CompiledPrintAlike, CompiledPrintNets, CompiledPrintRuns};
+ghost use Rattle.program_laws.specs.Onward.{ContextsGoOn, ContextsShowEachFront, NetsGoOn, NetsShowEachFront};
+ghost use Rattle.program_laws.specs.PrintsAlike.{CarriersPrintAlike, CarriersPrintNets, CarriersPrintNetsInContexts, CarriersPrintRuns, CarriersRunQuietly, CompiledPrintAlike, CompiledPrintNets, CompiledPrintRuns, CompiledRunQuietly};
+ghost use Rattle.program_laws.specs.ShownAigs.{CarriersShowAigRuns};
 ghost use Rattle.program_laws.specs.TapePrints.{TapesPrintAlike, TapesPrintRuns};
 
 use aiger_meaning::laws::flats_of_aigs_are_lowered;
-use aiger_plans::carriers_show_aig_runs;
 use aiger_text::laws::read_aigs_are_sound;
 use lift_carries::compiled_are_drawings;
 use netlist_plans::names_are_words;
@@ -51,9 +51,10 @@ pub fn carriers_print_runs()
     streams_match();
 }
 
-/// If a text carries the nets of a netlist, then `probe` prints of it the line of a net's bits in
-/// each run of the netlist. In contexts it prints the lines of a net's bits in runs, one in each
-/// context, from the context's start on.
+/// If a text carries the nets of a netlist, then `probe` prints of it the line of the bits that the
+/// net of the words' name and path has in each run of the netlist. In contexts, as of the text that
+/// `compile` writes, it prints the lines of the net's bits in runs, one in each context, from the
+/// context's start on.
 pub fn carriers_print_nets()
     ensures one { CarriersPrintNets }
     ensures contexts { CarriersPrintNetsInContexts }
@@ -66,14 +67,13 @@ pub fn carriers_print_nets()
 }
 
 /// If a text carries the nets of a design in contexts, as the text that `compile` writes does, then
-/// what `vcd` writes of it reads as the nets' bits in runs, one in each context, from the context's
-/// start on.
+/// what `vcd` writes of it reads as a variable for each net in each context, with the net's bits in
+/// runs, one in each context, from the context's start on.
 pub fn carriers_dump_nets()
     ensures carriers { CarriersDumpNets }
     ensures compiled { CompiledDumpNets }
 {
     nets_have_their_bits();
-    carriers_show_nets();
     carriers_show_contexts();
     streams_match();
 }
@@ -81,7 +81,8 @@ pub fn carriers_dump_nets()
 /// If a text carries a netlist in contexts, as the text that `compile` writes does, then each
 /// injection meets a conductor: no run on it ends with status 10.
 pub fn carriers_run_quietly()
-    ensures { CarriersRunQuietly }
+    ensures carriers { CarriersRunQuietly }
+    ensures compiled { CompiledRunQuietly }
 {
     carriers_are_quiet();
     streams_match();
@@ -99,10 +100,11 @@ pub fn tapes_print_alike()
     texts_are_decided();
 }
 
-/// The table that `compile` writes has a bad name exactly if one of its names ends with `\`. So
-/// `lift` accepts each text that `compile` writes for one context, if its box is within the limit of
-/// what is read and no name ends so: a run on it ends with status 0, or with 7 for lack of memory,
-/// or a read or a write fails.
+/// The table that `compile` writes has a bad name of a port exactly if the name of an input or an
+/// output ends with `\`. So `lift` accepts each text that `compile` writes for one context, if its
+/// box is within the limit of what is read and no such name ends so. If the text is also within the
+/// limit of what is read, a run on it ends with status 0, or with 7 for lack of memory, or a read or
+/// a write fails.
 pub fn compiled_are_lifted()
     ensures names { CompiledNamesAreGood }
     ensures lifted { CompiledAreLifted }
@@ -110,8 +112,8 @@ pub fn compiled_are_lifted()
     names_are_words();
 }
 
-/// What `lift` writes of a text is one netlist, and `simulate` prints of the text what `eval`
-/// prints of that netlist under the same words.
+/// `lift` writes one text of a text, and `simulate` prints of the latter what `eval` prints of the
+/// former under the same words.
 pub fn lifted_print_alike()
     ensures alike { LiftedPrintAlike }
     ensures one_way { LiftedInOneWay }
@@ -122,7 +124,8 @@ pub fn lifted_print_alike()
 }
 
 /// Netlists that one text carries evaluate alike. So `eval` prints one text of a netlist that can be
-/// compiled, and of what `lift` writes of its pattern it prints the same.
+/// compiled; and if `compile` writes a pattern of it without start words, and `eval` prints anything
+/// of what `lift` writes of the pattern, it prints the same.
 pub fn carried_evaluate_alike()
     ensures carried { CarriedEvaluateAlike }
     ensures one_way { CompiledEvaluateInOneWay }
@@ -133,8 +136,14 @@ pub fn carried_evaluate_alike()
     texts_are_decided();
 }
 
-/// What `simulate` prints of a text that carries a circuit, as the text that `aiger` writes does, is
-/// the lines of each of the circuit's runs on the streams of the words.
+/// If a text carries a sound circuit, then the circuit has a run under streams for its inputs, and
+/// in every such run the pattern shows the bits of the outputs, in order.
+pub fn carriers_show_aig_runs()
+    ensures { CarriersShowAigRuns }
+{}
+
+/// What `simulate` prints of a text that carries a sound circuit, as the text that `aiger` writes
+/// does, is the lines of each of the circuit's runs on the streams of the words.
 pub fn aigs_print_runs()
     ensures carriers { CarriersPrintAigRuns }
     ensures written { AigsPrintRuns }
@@ -144,8 +153,8 @@ pub fn aigs_print_runs()
     read_aigs_are_sound();
 }
 
-/// If a text carries a circuit, as the text that `aiger` writes does, then no run on it ends with
-/// status 10.
+/// If a text carries a sound circuit, as the text that `aiger` writes does, then no run on it ends
+/// with status 10.
 pub fn aigs_run_quietly()
     ensures carriers { AigCarriersRunQuietly }
     ensures written { AigsRunQuietly }
@@ -168,26 +177,31 @@ pub fn aigs_are_lifted()
 /// Contexts are isolated. Of a text that carries a design in contexts, as the text that
 /// `compile --contexts` writes does, `simulate` prints the same lines of a context under any words
 /// that give this context the same bits; words of other names are refused anyway. If the text also
-/// carries the nets, `probe` prints the same line of the context.
+/// carries the nets, `probe` prints the same line of the context, and `vcd` gives the nets in the
+/// context the same bits.
 pub fn contexts_print_apart()
     ensures outputs { ContextsPrintApart }
     ensures nets { NetsPrintApart }
     ensures compiled { CompiledPrintApart }
 {
+    nets_have_their_bits();
     carriers_show_nets();
     carriers_show_contexts();
     streams_match();
 }
 
 /// In a text that carries a design in contexts, the pattern goes on without a last generation when
-/// no further bits come, and what it shows of the first cycles does not depend on later bits.
+/// no further bits come, and the bits that outputs and nets show in the first cycles do not depend
+/// on the bits of later ones.
 pub fn contexts_go_on()
     ensures onward { ContextsGoOn }
+    ensures nets_onward { NetsGoOn }
     ensures each_front { ContextsShowEachFront }
+    ensures nets_each_front { NetsShowEachFront }
 {}
 
-/// A command that drives a pattern prints one output: two runs of it on one text, with the same
-/// words, print the same.
+/// `simulate`, `probe`, `window` and `vcd` print one output: two runs of such a command on one text,
+/// with the same words, print the same.
 pub fn driven_print_one_answer()
     ensures simulate { SimulatePrintsOne }
     ensures probe { ProbePrintsOne }

@@ -2,8 +2,7 @@
 // cut.
 use crate::cuts::Cut;
 use crate::network::{Network, Role};
-use cell_core::{Cell, CellError, Src};
-use cover_cells::net_word;
+use cell_core::{Cell, CellError, Src, net_word};
 use std::alloc::Global;
 
 // The number of known cells from which on a window spreads no further.

@@ -1,7 +1,7 @@
 // Reading all that a source has, and writing the whole of a piece.
 ghost use Rattle.std.specs.Prelude.{◌≡◌, ◌≤◌, ◌<◌, List, ℕ, length, take, IfOk, OnOk, OnErr, IsErrOf};
 ghost use Rattle.std.specs.Io.KnownBytes.{Appends, Consumes, IsAtEnd};
-ghost use Rattle.ww_base.specs.Faults.{HasCause, Rose};
+ghost use Rattle.ww_base.specs.Faults.{HasCause, RoseByOne};
 ghost use Rattle.ww_base.specs.declared.whole.ReadAllError.TheVariants.{NoMemory, ReadFault};
 
 use crate::{Failed, Sink, Source};
@@ -41,9 +41,10 @@ pub fn read_all<S: Source>(alloc: Global, src: &mut S, limit: usize) -> Result<B
     ensures all { IfOk result (λ bytes. Consumes (S.left src.old) (S.left src.new) bytes) }
     ensures end { OnOk result (IsAtEnd (S.left src.new)) }
     ensures within { IfOk result (λ bytes. length bytes ≤ limit) }
-    ensures faults { S.faults src.old ≤ S.faults src.new }
+    ensures calm { (IsErrOf result ReadAllError.ReadFault → ⊥) →
+        S.faults src.new ≡ S.faults src.old }
     ensures fault { IsErrOf result ReadAllError.ReadFault →
-        Rose (S.faults src.old) (S.faults src.new) }
+        RoseByOne (S.faults src.old) (S.faults src.new) }
     ensures too_long { IsErrOf result ReadAllError.TooLong →
         (given : List ℕ) × Consumes (S.left src.old) (S.left src.new) given ×
         (limit < length given) }

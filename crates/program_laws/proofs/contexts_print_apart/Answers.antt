@@ -5,7 +5,7 @@ pub returns-clause-outputs : goal.returns-clause-outputs
 returns-clause-outputs c = contexts_print_apart c.carriers_show_contexts.ensures c.streams_match.ensures.table
 
 pub returns-clause-nets : goal.returns-clause-nets
-returns-clause-nets c = nets_print_apart c.carriers_show_nets.ensures.contexts c.carriers_show_contexts.ensures c.streams_match.ensures.table
+returns-clause-nets c = nets_print_apart c.nets_have_their_bits.ensures c.carriers_show_nets.ensures.contexts c.carriers_show_contexts.ensures c.streams_match.ensures.table
 
 pub returns-clause-compiled : goal.returns-clause-compiled
-returns-clause-compiled c = compiled_print_apart c.carriers_show_contexts.ensures c.streams_match.ensures.table
+returns-clause-compiled c = compiled_print_apart c.nets_have_their_bits.ensures c.carriers_show_nets.ensures.contexts c.carriers_show_contexts.ensures c.streams_match.ensures.table

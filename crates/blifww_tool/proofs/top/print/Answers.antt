@@ -1,3 +1,4 @@
+use Rattle.std.proofs.Common.{refl}
 use Rattle.std.proofs.lemmas.Result.{err_from_is_err_and}
 use Rattle.command_words.specs.Shapes.{values_of}
 use Rattle.blifww_tool.specs.Answer.{output_text}
@@ -10,7 +11,7 @@ answer-requires g c = c.requires
 pub returns-in_err-output-clause-stopped : goal.returns-in_err-output-clause-stopped
 returns-in_err-output-clause-stopped g c =
     let p = err_from_is_err_and c.from_residual.result c.from_residual.ensures.1 in
-    rw (p.1, p.2) (refused_on (values_of c.args.command.now) c.args.text.now _ c.in_err-output.field-0.0 (kept _) c.in_err-output.ensures.refused)
+    rw (p.1, p.2) (refused_on (values_of c.args.command.now) c.args.text.now _ c.in_err-output.field-0.0 (record { nothing = kept _; calm = refl }) c.in_err-output.ensures.refused)
 
 pub send-requires : goal.send-requires
 send-requires g c = c.in_ok-output.ensures.writable
@@ -24,3 +25,6 @@ returns-in_err-send-clause-stopped g c =
 
 pub returns-clause-done : goal.returns-clause-done
 returns-clause-done g c = record { output = output_text c.in_ok-output.output; prints = c.in_ok-output.ensures.printed; wrote = c.in_ok-send.ensures.ok }
+
+pub returns-clause-calm : goal.returns-clause-calm
+returns-clause-calm g c = c.in_ok-send.ensures.cause.kept

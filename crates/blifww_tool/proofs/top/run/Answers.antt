@@ -23,11 +23,11 @@ pub returns-in-Ok-clause-tapes : goal.returns-in-Ok-clause-tapes
 returns-in-Ok-clause-tapes g c = λ e cycles streams asks. tapes _ _ _ c.in-Ok.ensures.done cycles streams asks
 
 pub returns-in-Ok-clause-ends : goal.returns-in-Ok-clause-ends
-returns-in-Ok-clause-ends g c = ends _ 0 (done refl (record { done = c.in-Ok.ensures.done; silent = kept _ })) c.work.ensures.front
+returns-in-Ok-clause-ends g c = ends _ 0 (done refl (record { done = c.in-Ok.ensures.done; silent = kept _; out_calm = c.in-Ok.ensures.calm; err_calm = refl })) c.work.ensures.front
 
 pub returns-in-Ok-tell-clause-ends : goal.returns-in-Ok-tell-clause-ends
 returns-in-Ok-tell-clause-ends g c =
-    ends _ c.status.result (told _ c.status.result c.in-Err.refusal c.status.ensures c.in-Err.ensures.stopped c.in-Ok-tell.ensures.ok) c.work.ensures.front
+    ends _ c.status.result (told _ c.status.result c.in-Err.refusal c.status.ensures c.in-Err.ensures.stopped c.in-Ok-tell.ensures.ok c.in-Ok-tell.ensures.cause.kept) c.work.ensures.front
 
 pub returns-clause-ends : goal.returns-clause-ends
 returns-clause-ends g c = ends _ 6 (untold _ c.in-Err.refusal c.in-Err.ensures.stopped c.in-Err-tell.ensures.front c.in-Err-tell.ensures.cause.failed) c.work.ensures.front

@@ -3,7 +3,7 @@ use Rattle.cell_core.specs.declared.cells.Src.{Src}
 use Rattle.cell_core.specs.declared.cells.Cell.{Cell}
 use Rattle.cell_core.specs.Sources.{is_one}
 use Rattle.cell_core.specs.Meaning.{bit_in}
-use Rattle.cover_cells.specs.Grown.{bits_of, Answers}
+use Rattle.cell_sharing.specs.Grown.{bits_of, Answers}
 use Rattle.cover_cells.specs.Placed.{relocated, ReadsOne, ArePlaced}
 use Rattle.cover_cells.proofs.Placing.{placed_root}
 use Rattle.cover_cells.proofs.covers.put.Goals as goal

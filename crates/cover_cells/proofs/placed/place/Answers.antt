@@ -5,9 +5,9 @@ use Rattle.cell_core.specs.declared.cells.Src.{Src}
 use Rattle.cell_core.specs.declared.cells.Src.TheVariants.{Input}
 use Rattle.cell_core.specs.Sources.{reads_there, reads_one}
 use Rattle.cell_core.specs.Meaning.{cell_bit, cell_bits}
-use Rattle.cover_cells.specs.Grown.{Answers}
+use Rattle.cell_sharing.specs.Grown.{Answers}
 use Rattle.cover_cells.specs.Placed.{relocated_cell}
-use Rattle.cover_cells.proofs.Growing.{all_there_after}
+use Rattle.cell_sharing.proofs.Growing.{all_there_after}
 use Rattle.cell_core.proofs.OwnBits.{cell_in_order}
 use Rattle.cover_cells.proofs.Placing.{moved_cell_there, placed_more}
 use Rattle.cover_cells.proofs.placed.place.Goals as goal

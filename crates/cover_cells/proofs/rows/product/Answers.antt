@@ -1,7 +1,7 @@
 use Rattle.std.proofs.Common.{◌≡◌, ◌<◌, ◌+◌, ◌∙◌, sym, ap, subst, min, length, get_or, arith}
 use Rattle.cell_core.specs.declared.cells.Src.TheVariants.{Input}
 use Rattle.cover_cells.specs.Covers.{start_of}
-use Rattle.cover_cells.proofs.Growing.{all_there_after}
+use Rattle.cell_sharing.proofs.Growing.{all_there_after}
 use Rattle.cover_cells.proofs.Products.{IsFirst, ComesTo, source_there, comes_from_start, comes_to_row, column_added, column_skipped, start_is}
 use Rattle.cover_cells.proofs.rows.product.Goals as goal
 use Rattle.cover_cells.proofs.rows.product.Goals.{then-i-first+in_ok-product, else-i-first}

@@ -1,7 +1,7 @@
 use Rattle.std.proofs.Common.{◌≡◌, ◌<◌, ◌∙◌, subst, length, get_or, [], arith}
 use Rattle.std.proofs.lemmas.List.{get_or_read}
 use Rattle.cover_cells.specs.Covers.{AnswersRow}
-use Rattle.cover_cells.proofs.Growing.{all_there_after}
+use Rattle.cell_sharing.proofs.Growing.{all_there_after}
 use Rattle.cover_cells.proofs.Sums.{row_added}
 use Rattle.cover_cells.proofs.rows.sum.Goals as goal
 

@@ -1,7 +1,7 @@
 use Rattle.std.proofs.Common.{◌∙◌, ap, ap₂, sym, [], ◌&&◌, not, arith}
 use Rattle.cell_core.specs.Meaning.{cell_bit}
-use Rattle.cover_cells.specs.Words.{bits_number}
-use Rattle.cover_cells.proofs.Tables.{number_small}
+use Rattle.cell_core.specs.Tables.{bits_number}
+use Rattle.cell_core.proofs.TableBits.{number_small}
 use Rattle.cover_cells.proofs.words.cell_word.Goals as goal
 
 pub returns-in-AndNot : goal.returns-in-AndNot

@@ -3,7 +3,7 @@ use Rattle.cell_core.specs.declared.cells.Cell.{Cell}
 use Rattle.cell_core.specs.declared.cells.Cell.TheVariants.{Or}
 use Rattle.cell_core.specs.declared.cells.Src.TheVariants.{Input}
 use Rattle.cell_core.specs.Sources.{reads_there}
-use Rattle.cover_cells.specs.Words.{table_bit}
+use Rattle.cell_core.specs.Tables.{table_bit}
 use Rattle.cell_core.proofs.OwnBits.{cell_in_order}
 use Rattle.cover_cells.proofs.Tabled.{word_added}
 use Rattle.cover_cells.proofs.words.list_words.Goals as goal

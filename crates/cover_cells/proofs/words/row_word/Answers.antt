@@ -1,5 +1,6 @@
 use Rattle.std.proofs.Common.{◌∙◌, arith}
-use Rattle.cover_cells.proofs.Tabled.{ones_shown, row_more, row_end}
+use Rattle.cell_core.proofs.TableBits.{ones_shown}
+use Rattle.cover_cells.proofs.Tabled.{row_more, row_end}
 use Rattle.cover_cells.proofs.words.row_word.Goals as goal
 
 pub loop-i-init : goal.loop-i-init

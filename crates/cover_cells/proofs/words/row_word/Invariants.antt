@@ -1,5 +1,5 @@
 use Rattle.std.proofs.Common.{◌≡◌, Bool, List, length}
-use Rattle.cover_cells.specs.Words.{table_bit}
+use Rattle.cell_core.specs.Tables.{table_bit}
 use Rattle.cover_cells.proofs.Products.{so_far}
 use Rattle.cover_cells.proofs.words.row_word.Given as goal
 

@@ -1,6 +1,6 @@
 use Rattle.std.proofs.Common.{◌≡◌, Bool, List, length, take}
 use Rattle.netlist_meaning.specs.CoverValue.{any_holds}
-use Rattle.cover_cells.specs.Words.{table_bit}
+use Rattle.cell_core.specs.Tables.{table_bit}
 use Rattle.cover_cells.proofs.words.rows_word.Given as goal
 
 abbrev pub invariant-loop-row : goal.invariant-loop-row

@@ -1,6 +1,6 @@
 use Rattle.std.proofs.Common.{◌∙◌, ap, sym, []}
 use Rattle.cell_core.specs.Meaning.{source_bit}
-use Rattle.cover_cells.proofs.Tabled.{ones_shown}
+use Rattle.cell_core.proofs.TableBits.{ones_shown}
 use Rattle.cover_cells.proofs.words.source_word.Goals as goal
 
 pub returns-in-One : goal.returns-in-One

@@ -6,7 +6,7 @@ use Rattle.netlist_meaning.specs.Flat.{class_of, node_at, no_node, in_classes}
 use Rattle.cell_core.specs.declared.cells.Src.{Src}
 use Rattle.cell_core.specs.declared.cells.Cell.{Cell}
 use Rattle.cover_cells.specs.Covers.{AnswersCover}
-use Rattle.cover_cells.specs.Grown.{HasSources}
+use Rattle.cell_sharing.specs.Grown.{HasSources}
 use Rattle.cell_meaning.specs.Mapped.{IsCell}
 use Rattle.cell_meaning.specs.Singles.{constant_source, single_cell}
 use Rattle.cover_mapper.specs.Sourced.{sources_at, source_at}

@@ -12,7 +12,7 @@ returns-in_err-put_line-clause-front g c =
     on_err _ (front_of (broke_as start (c.in_err-put_line.ensures.err [])))
 
 pub returns-in_err-put_line-clause-cause : goal.returns-in_err-put_line-clause-cause
-returns-in_err-put_line-clause-cause g c = broke_cause _ (c.in_err-put_line.ensures.err [])
+returns-in_err-put_line-clause-cause g c = broke_cause _ _ c.from_residual.ensures.1 (c.in_err-put_line.ensures.err [])
 
 pub returns-clause-ok : goal.returns-clause-ok
 returns-clause-ok g c =
@@ -27,5 +27,5 @@ returns-clause-front g c =
 pub returns-clause-cause : goal.returns-clause-cause
 returns-clause-cause g c =
     let done = c.in_ok-put_line.ensures.ok [] in
-    cause_of c.flush.result (λ wrote. (wrote_then done (wrote [])).later) (λ broke. ((wrote_broke done (broke [])).later, (wrote_broke done (broke [])).rose))
+    cause_of c.flush.result (λ wrote. (wrote_then done (wrote [])).kept) (λ broke. (wrote_broke done (broke [])).rose)
     c.flush.ensures.ok c.flush.ensures.err

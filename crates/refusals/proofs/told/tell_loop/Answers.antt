@@ -16,7 +16,7 @@ returns-in_err-put-clause-front g c =
     on_err _ (front_of (broke_as start (c.in_err-put.ensures.err (after_blanks c.args.names.now ++ codes "\n"))))
 
 pub returns-in_err-put-clause-cause : goal.returns-in_err-put-clause-cause
-returns-in_err-put-clause-cause g c = broke_cause _ (c.in_err-put.ensures.err [])
+returns-in_err-put-clause-cause g c = broke_cause _ _ c.from_residual.ensures.1 (c.in_err-put.ensures.err [])
 
 pub returns-in_err-put_spaced-clause-front : goal.returns-in_err-put_spaced-clause-front
 returns-in_err-put_spaced-clause-front g c =
@@ -26,7 +26,7 @@ returns-in_err-put_spaced-clause-front g c =
 
 pub returns-in_err-put_spaced-clause-cause : goal.returns-in_err-put_spaced-clause-cause
 returns-in_err-put_spaced-clause-cause g c =
-    broke_cause _ (wrote_broke (c.in_ok-put.ensures.ok (after_blanks c.args.names.now ++ codes "\n")) (c.in_err-put_spaced.ensures.err (codes "\n")))
+    broke_cause _ _ c.from_residual-in_err-put_spaced.ensures.1 (wrote_broke (c.in_ok-put.ensures.ok (after_blanks c.args.names.now ++ codes "\n")) (c.in_err-put_spaced.ensures.err (codes "\n")))
 
 pub returns-in_err-put-2-clause-front : goal.returns-in_err-put-2-clause-front
 returns-in_err-put-2-clause-front g c =
@@ -37,7 +37,7 @@ returns-in_err-put-2-clause-front g c =
 pub returns-in_err-put-2-clause-cause : goal.returns-in_err-put-2-clause-cause
 returns-in_err-put-2-clause-cause g c =
     let done = wrote_then (c.in_ok-put.ensures.ok (after_blanks c.args.names.now ++ codes "\n")) (c.in_ok-put_spaced.ensures.ok (codes "\n")) in
-    broke_cause _ (wrote_broke done (c.in_err-put-2.ensures.err []))
+    broke_cause _ _ c.from_residual-in_err-put-2.ensures.1 (wrote_broke done (c.in_err-put-2.ensures.err []))
 
 pub returns-clause-ok : goal.returns-clause-ok
 returns-clause-ok g c =
@@ -57,5 +57,5 @@ pub returns-clause-cause : goal.returns-clause-cause
 returns-clause-cause g c =
     let told = wrote_then (c.in_ok-put.ensures.ok (after_blanks c.args.names.now ++ codes "\n")) (c.in_ok-put_spaced.ensures.ok (codes "\n")) in
     let done = wrote_then told (c.in_ok-put-2.ensures.ok []) in
-    cause_of c.flush.result (λ wrote. (wrote_then done (wrote [])).later) (λ broke. ((wrote_broke done (broke [])).later, (wrote_broke done (broke [])).rose))
+    cause_of c.flush.result (λ wrote. (wrote_then done (wrote [])).kept) (λ broke. (wrote_broke done (broke [])).rose)
     c.flush.ensures.ok c.flush.ensures.err

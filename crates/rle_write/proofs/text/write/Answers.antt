@@ -39,7 +39,7 @@ returns-in_err-write_table g c =
     record {
       ok = rw (err_from_is_err_and c.from_residual.result c.from_residual.ensures.1).1 tt;
       front = on_err _ (front_of (broke_as text broke));
-      cause = broke_cause _ broke;
+      cause = broke_cause _ _ c.from_residual.ensures.1 broke;
     }
 
 pub returns-in_err-write_header : goal.returns-in_err-write_header
@@ -52,7 +52,7 @@ returns-in_err-write_header g c =
     record {
       ok = rw (err_from_is_err_and c.from_residual-in_err-write_header.result c.from_residual-in_err-write_header.ensures.1).1 tt;
       front = on_err _ (front_of (broke_as text broke));
-      cause = broke_cause _ broke;
+      cause = broke_cause _ _ c.from_residual-in_err-write_header.ensures.1 broke;
     }
 
 pub returns-in_err-write_plan_rows : goal.returns-in_err-write_plan_rows
@@ -65,7 +65,7 @@ returns-in_err-write_plan_rows g c =
     record {
       ok = rw (err_from_is_err_and c.from_residual-in_err-write_plan_rows.result c.from_residual-in_err-write_plan_rows.ensures.1).1 tt;
       front = on_err _ (front_of (broke_as text broke));
-      cause = broke_cause _ broke;
+      cause = broke_cause _ _ c.from_residual-in_err-write_plan_rows.ensures.1 broke;
     }
 
 pub returns : goal.returns
@@ -78,6 +78,6 @@ returns g c =
     record {
       ok = on_ok_weaker c.flush.result (λ last. wrote_whole (wrote_as text (wrote_then done (last [])))) c.flush.ensures.ok;
       front = on_err_weaker c.flush.result (λ last. front_of (broke_as text (wrote_broke done (last [])))) c.flush.ensures.err;
-      cause = cause_of c.flush.result (λ last. (wrote_then done (last [])).later) (λ last. ((wrote_broke done (last [])).later, (wrote_broke done (last [])).rose))
+      cause = cause_of c.flush.result (λ last. (wrote_then done (last [])).kept) (λ last. (wrote_broke done (last [])).rose)
           c.flush.ensures.ok c.flush.ensures.err;
     }

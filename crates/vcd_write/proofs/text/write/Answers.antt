@@ -18,7 +18,7 @@ pub returns-in_err-write_vars-clause-cause : goal.returns-in_err-write_vars-clau
 returns-in_err-write_vars-clause-cause g c =
     let third : List ℕ = blocks_text (waves_in c.args.vcd.now) 0 c.args.vcd.now.cycles ++ (time_line c.args.vcd.now.cycles ++ (10 ∷ [])) in
     let second : List ℕ = codes "$enddefinitions $end\n" ++ third in
-    broke_cause _ (c.in_err-write_vars.ensures.err second)
+    broke_cause _ _ c.from_residual.ensures.1 (c.in_err-write_vars.ensures.err second)
 
 pub returns-in_err-put-clause-front : goal.returns-in_err-put-clause-front
 returns-in_err-put-clause-front g c =
@@ -30,7 +30,7 @@ pub returns-in_err-put-clause-cause : goal.returns-in_err-put-clause-cause
 returns-in_err-put-clause-cause g c =
     let third : List ℕ = blocks_text (waves_in c.args.vcd.now) 0 c.args.vcd.now.cycles ++ (time_line c.args.vcd.now.cycles ++ (10 ∷ [])) in
     let second : List ℕ = codes "$enddefinitions $end\n" ++ third in
-    broke_cause _ (wrote_broke (c.in_ok-write_vars.ensures.ok second) (c.in_err-put.ensures.err third))
+    broke_cause _ _ c.from_residual-in_err-put.ensures.1 (wrote_broke (c.in_ok-write_vars.ensures.ok second) (c.in_err-put.ensures.err third))
 
 pub returns-in_err-write_blocks-clause-front : goal.returns-in_err-write_blocks-clause-front
 returns-in_err-write_blocks-clause-front g c =
@@ -42,7 +42,7 @@ pub returns-in_err-write_blocks-clause-cause : goal.returns-in_err-write_blocks-
 returns-in_err-write_blocks-clause-cause g c =
     let third : List ℕ = blocks_text (waves_in c.args.vcd.now) 0 c.args.vcd.now.cycles ++ (time_line c.args.vcd.now.cycles ++ (10 ∷ [])) in
     let second : List ℕ = codes "$enddefinitions $end\n" ++ third in
-    broke_cause _ (wrote_broke (wrote_then (c.in_ok-write_vars.ensures.ok second) (c.in_ok-put.ensures.ok third)) (c.in_err-write_blocks.ensures.err (time_line c.args.vcd.now.cycles ++ (10 ∷ []))))
+    broke_cause _ _ c.from_residual-in_err-write_blocks.ensures.1 (wrote_broke (wrote_then (c.in_ok-write_vars.ensures.ok second) (c.in_ok-put.ensures.ok third)) (c.in_err-write_blocks.ensures.err (time_line c.args.vcd.now.cycles ++ (10 ∷ []))))
 
 pub returns-in_err-write_time-clause-front : goal.returns-in_err-write_time-clause-front
 returns-in_err-write_time-clause-front g c =
@@ -54,7 +54,7 @@ pub returns-in_err-write_time-clause-cause : goal.returns-in_err-write_time-clau
 returns-in_err-write_time-clause-cause g c =
     let third : List ℕ = blocks_text (waves_in c.args.vcd.now) 0 c.args.vcd.now.cycles ++ (time_line c.args.vcd.now.cycles ++ (10 ∷ [])) in
     let second : List ℕ = codes "$enddefinitions $end\n" ++ third in
-    broke_cause _ (wrote_broke (wrote_then (wrote_then (c.in_ok-write_vars.ensures.ok second) (c.in_ok-put.ensures.ok third)) (c.in_ok-write_blocks.ensures.ok (time_line c.args.vcd.now.cycles ++ (10 ∷ [])))) (c.in_err-write_time.ensures.err []))
+    broke_cause _ _ c.from_residual-in_err-write_time.ensures.1 (wrote_broke (wrote_then (wrote_then (c.in_ok-write_vars.ensures.ok second) (c.in_ok-put.ensures.ok third)) (c.in_ok-write_blocks.ensures.ok (time_line c.args.vcd.now.cycles ++ (10 ∷ [])))) (c.in_err-write_time.ensures.err []))
 
 pub returns-clause-ok : goal.returns-clause-ok
 returns-clause-ok g c =
@@ -73,5 +73,5 @@ returns-clause-cause g c =
     let third : List ℕ = blocks_text (waves_in c.args.vcd.now) 0 c.args.vcd.now.cycles ++ (time_line c.args.vcd.now.cycles ++ (10 ∷ [])) in
     let second : List ℕ = codes "$enddefinitions $end\n" ++ third in
     let done = wrote_then (wrote_then (wrote_then (c.in_ok-write_vars.ensures.ok second) (c.in_ok-put.ensures.ok third)) (c.in_ok-write_blocks.ensures.ok (time_line c.args.vcd.now.cycles ++ (10 ∷ [])))) (c.in_ok-write_time.ensures.ok []) in
-    cause_of c.flush.result (λ wrote. (wrote_then done (wrote [])).later) (λ broke. ((wrote_broke done (broke [])).later, (wrote_broke done (broke [])).rose))
+    cause_of c.flush.result (λ wrote. (wrote_then done (wrote [])).kept) (λ broke. (wrote_broke done (broke [])).rose)
     c.flush.ensures.ok c.flush.ensures.err

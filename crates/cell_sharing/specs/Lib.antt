@@ -1,0 +1,3 @@
+pub mod Grown
+pub mod Reduced
+pub mod Noted

@@ -1,5 +1,0 @@
-use Rattle.lists.proofs.WordBits.{and_bit}
-use Rattle.cover_cells.proofs.words.and_words.Goals as goal
-
-pub returns : goal.returns
-returns c = λ n. and_bit c.args.a c.args.b n
