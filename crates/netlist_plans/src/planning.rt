@@ -152,6 +152,7 @@ fn lists_of_both(
 }
 
 // Lists of cells of a sound flat netlist; each list computes the netlist.
+#[tactic(auto, using(crate::proofs::Sparing::has_room))]
 fn cell_lists(alloc: Global, flat: &Flat, order: &Order) -> Result<Vec<CellList>, NetlistPlanError>
     requires sound { IsSound flat.now }
     requires weighed { IsWeighed flat.now }
