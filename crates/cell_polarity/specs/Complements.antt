@@ -7,7 +7,7 @@ use Rattle.cell_core.specs.declared.list.CellList.{CellList}
 use Rattle.cell_core.specs.Sources.{is_there, read_one}
 use Rattle.cell_core.specs.Loops.{names_one}
 use Rattle.cell_core.specs.Meaning.{bit_in, bit_of}
-use Rattle.cell_rewriting.specs.Same.{Keeps}
+use Rattle.cell_moves.specs.Same.{Keeps}
 use Rattle.cell_polarity.specs.Zero.{zero_bit, turned, cells_for}
 use Rattle.cell_polarity.specs.Needed.{needed}
 

@@ -5,7 +5,6 @@ use Rattle.std.specs.List.{list_any}
 use Rattle.std.proofs.lemmas.Bool.{and_parts, lt-ltb}
 use Rattle.std.proofs.lemmas.List.{append-nil, length-append, get_or_append_left}
 use Rattle.std.proofs.lemmas.Option.{slice_get_within, slice_get-get_or}
-use Rattle.lists.proofs.Members.{in_from, in_map, contains_from}
 use Rattle.cell_core.specs.declared.cells.Src.{Src}
 use Rattle.cell_core.specs.declared.cells.Cell.{Cell}
 use Rattle.cell_core.specs.declared.cells.Cell.TheVariants.{Or, Xor, AndNot}
@@ -15,7 +14,7 @@ use Rattle.cell_core.specs.Meaning.{bit_in}
 use Rattle.cell_core.specs.Adding.{Adds}
 use Rattle.cell_core.proofs.Bits.{appending_keeps_bits}
 use Rattle.cell_meaning.specs.Mapped.{IsCell}
-use Rattle.cell_rewriting.specs.Same.{cell_over, StaysCell, StaysBit, Keeps, IsNoLarger, IsRewritten, AreAlike, Rewrites}
+use Rattle.cell_moves.specs.Same.{cell_over, StaysCell, StaysBit, Keeps, IsNoLarger, IsRewritten, AreAlike, Rewrites}
 use Rattle.cell_rewriting.specs.Substitution.{Extends}
 
 all_stay : (sources : List Src) → sources ≡ map (λ s. s) sources
@@ -38,9 +37,6 @@ cell_same : (cell : Cell) → cell ≡ cell_over (λ s. s) cell
 cell_same (Or a b) = refl
 cell_same (Xor a b) = refl
 cell_same (AndNot a b) = refl
-
-pub contains_mapped : (f : Src → Src) (sources : List Src) (src : Src) → Contains sources src → Contains (map f sources) (f src)
-contains_mapped f sources src c = contains_from (map f sources) (f src) (in_map f sources src (in_from sources src c))
 
 pub then_keeps : (a b c : CellList) (k l m : List Src) → Keeps a k b l → Keeps b l c m → Keeps a k c m
 then_keeps a b c k l m p q =

@@ -1,6 +1,3 @@
-pub mod Moves
 mod Worded
 mod Substituting
 mod Keeping
-mod Driven
-pub mod Mapping

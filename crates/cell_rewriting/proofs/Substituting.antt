@@ -1,5 +1,5 @@
 -- Sources that are read in place of cells.
-use Rattle.std.proofs.Common.{◌≡◌, refl, sym, ◌∙◌, ap, ℕ, ◌+◌, ◌≤◌, Bool, true, List, [], ◌++◌, length, get_or, Option, None, replicate, arith}
+use Rattle.std.proofs.Common.{◌≡◌, refl, sym, ◌∙◌, ap, ℕ, ◌+◌, ◌<◌, ◌≤◌, Bool, true, List, [], ◌++◌, length, get_or, Option, Some, None, replicate, slice_set, arith}
 use Rattle.std.proofs.lemmas.Bool.{lt-ltb}
 use Rattle.std.proofs.lemmas.List.{length-append, append-nil, append_assoc}
 use Rattle.std.proofs.lemmas.Option.{none-some}
@@ -10,8 +10,9 @@ use Rattle.cell_core.specs.declared.list.CellList.{CellList}
 use Rattle.cell_core.specs.Meaning.{bit_in}
 use Rattle.cell_core.specs.Sources.{is_there}
 use Rattle.cell_core.proofs.Bits.{appending_keeps_bits}
-use Rattle.cell_rewriting.specs.Substitution.{AreEqual, Extends}
-use Rattle.cell_rewriting.proofs.Moves.{all_the_same, still_there}
+use Rattle.cell_moves.specs.Moved.{NewSources, new_source, AreMoved}
+use Rattle.cell_moves.proofs.Moves.{Follows, follows, put_moved, all_the_same, still_there}
+use Rattle.cell_rewriting.specs.Substitution.{AreEqual, AreEquivalent, Extends}
 
 -- ---- cells are added
 pub extends_itself : (list : CellList) → Extends list list
@@ -63,3 +64,10 @@ none_replaced list instead n is =
       there = λ i src e. absurd (none-some src (sym (none i) ∙ e));
       bit = λ i src e. absurd (none-some src (sym (none i) ∙ e));
     }
+
+-- ---- a cell that is replaced goes where that source goes
+pub replaced_moved : (list : CellList) (cells : List Cell) (news : NewSources) → AreMoved list cells news → (number : ℕ) (by new : Src) → is_there list.inputs (length list.starts) (length list.cells) by ≡ true
+    → AreEquivalent list (Made number) by → new_source news by ≡ Some new → number < length news → AreMoved list cells (slice_set news number (Some new))
+replaced_moved list cells news are number by new there bit goes inside =
+    let f : Follows list cells by new = follows list cells news are by new goes in
+    put_moved list cells news are number new inside (f.there (length list.cells) there) (λ inputs state. f.bit inputs state ∙ sym (bit inputs state))

@@ -1,11 +1,10 @@
 //! Rewrites a list of cells into lists that compute the same with no more cells. Each replacement of a cell is checked by tables
 //! over at most six leaves.
 //!
-//! Theorem: `rewritten`, `mapped_stays`, `bits_stay`.
+//! Theorem: `rewritten` (`some`, `same`).
 #![tactic(auto)]
 
 mod copying;
-pub mod laws;
 mod moving;
 mod ordering;
 mod rebuilding;

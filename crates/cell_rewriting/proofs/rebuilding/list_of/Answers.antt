@@ -1,6 +1,6 @@
 use Rattle.std.proofs.Common.{rules, ◌≡◌, refl, sym, ◌∙◌, ap, map, Some, length}
-use Rattle.cell_rewriting.specs.Moved.{new_source}
-use Rattle.cell_rewriting.proofs.Moves.{in_order_again, there_again, as_many, is_rebuilt}
+use Rattle.cell_moves.specs.Moved.{new_source}
+use Rattle.cell_moves.proofs.Moves.{in_order_again, there_again, as_many, is_rebuilt}
 use Rattle.cell_rewriting.proofs.rebuilding.list_of.Goals as goal
 
 pub invariant_of-result-clause-in_order : goal.invariant_of-result-clause-in_order

@@ -1,5 +1,5 @@
 use Rattle.std.proofs.Common.{get_or}
-use Rattle.cell_rewriting.proofs.Mapping.{mapped_stays, bits_stay}
+use Rattle.cell_moves.proofs.Mapping.{mapped_stays, bits_stay}
 use Rattle.netlist_plans.proofs.planning.rewritten_lists.Goals as goal
 
 pub returns-clause-computes : goal.returns-clause-computes

@@ -1,6 +1,6 @@
 use Rattle.std.proofs.Common.{rules, ◌≡◌, ◌<◌, Some, length}
-use Rattle.cell_rewriting.specs.Moved.{new_source}
-use Rattle.cell_rewriting.proofs.Moves.{replaced_moved}
+use Rattle.cell_moves.specs.Moved.{new_source}
+use Rattle.cell_rewriting.proofs.Substituting.{replaced_moved}
 use Rattle.cell_rewriting.proofs.moving.Moved.follow.Goals as goal
 
 pub returns-in-Some-get_mut : goal.returns-in-Some-get_mut

@@ -16,9 +16,8 @@ use Rattle.cell_core.specs.Meaning.{cell_bit, cell_bits, bit_in, bit_of}
 use Rattle.cell_core.proofs.Bits.{appending_keeps_bits, pushed_bit}
 use Rattle.cell_core.proofs.Order.{in_order_push}
 use Rattle.cell_core.proofs.OwnBits.{cell_in_order, bit_of_cell}
-use Rattle.cell_rewriting.specs.Same.{is_cell, cell_over, StaysCell, Keeps}
-use Rattle.cell_rewriting.specs.Substitution.{AreEquivalent}
-use Rattle.cell_rewriting.specs.Moved.{NewSources, new_source, new_cell, goes_to, AreMoved, IsRebuilt}
+use Rattle.cell_moves.specs.Same.{is_cell, cell_over, StaysCell, Keeps}
+use Rattle.cell_moves.specs.Moved.{NewSources, new_source, new_cell, goes_to, AreMoved, IsRebuilt}
 
 none_is_some : {A B : Type 0} (f : A → B) (x : A) (xs : List A) → [] ≡ map f (x ∷ xs) → ⊥
 none_is_some f x xs e = let n : 0 ≡ suc (length (map f xs)) = ap length e in omega arith
@@ -113,13 +112,6 @@ put_moved list cells news are number new inside there bit =
           (λ (h : i ≡ number). ap (bit_in cells inputs state) (sym (own i src h e)) ∙ bit inputs state ∙ ap (λ j. bit_of list inputs state (Made j)) (sym h))
           (λ (ne : i ≢ number). are.bits i src (other i src ne e) inputs state) (cases_eq i number);
     }
-
--- ---- a cell that is replaced goes where that source goes
-pub replaced_moved : (list : CellList) (cells : List Cell) (news : NewSources) → AreMoved list cells news → (number : ℕ) (by new : Src) → is_there list.inputs (length list.starts) (length list.cells) by ≡ true
-    → AreEquivalent list (Made number) by → new_source news by ≡ Some new → number < length news → AreMoved list cells (slice_set news number (Some new))
-replaced_moved list cells news are number by new there bit goes inside =
-    let f : Follows list cells by new = follows list cells news are by new goes in
-    put_moved list cells news are number new inside (f.there (length list.cells) there) (λ inputs state. f.bit inputs state ∙ sym (bit inputs state))
 
 -- ---- a cell comes, at the end
 pub still_there : (inputs latches few many : ℕ) (src : Src) → few ≤ many → is_there inputs latches few src ≡ true → is_there inputs latches many src ≡ true

@@ -2,7 +2,7 @@
 use Rattle.std.proofs.Common.{◌≡◌, refl, sym, ◌∙◌, ap, ℕ, zero, suc, ◌*◌, ◌≤◌, Bool, true, false, cond, List, [], ◌∷◌, length, map, subst, Option, Some, None, option_map, ⊎_elim, arith}
 use Rattle.std.specs.Prelude.{codes, Contains}
 use Rattle.std.proofs.lemmas.Option.{none-some, same_Some}
-use Rattle.lists.proofs.Members.{In, in_from, in_map}
+use Rattle.lists.proofs.Members.{In, contains_from, in_from, in_map}
 use Rattle.netlist_core.specs.declared.flat.Flat.{Flat}
 use Rattle.netlist_meaning.specs.Flat.{node_at, in_classes, out_class, class_of, port_classes, FlatDriver, IsSound}
 use Rattle.cell_core.specs.declared.cells.Src.{Src}
@@ -16,15 +16,17 @@ use Rattle.cell_meaning.specs.Mapped.{IsCell, IsOwn, IsMappedWith}
 use Rattle.cell_meaning.specs.Needs.{any_needs_one, covers_weight}
 use Rattle.cell_meaning.specs.Singles.{single_cell, constant_source, are_pair, is_only}
 use Rattle.cell_meaning.specs.Listed.{listed_classes}
-use Rattle.cell_rewriting.specs.Same.{is_cell, cell_over, Keeps}
-use Rattle.cell_rewriting.specs.Mapping.{MappedStays, BitsStay}
-use Rattle.cell_rewriting.proofs.Moves.{∷-parts}
-use Rattle.cell_rewriting.proofs.Driven.{driven_are_listed}
-use Rattle.cell_rewriting.proofs.Keeping.{contains_mapped}
+use Rattle.cell_moves.specs.Same.{is_cell, cell_over, Keeps}
+use Rattle.cell_moves.specs.Mapping.{MappedStays, BitsStay}
+use Rattle.cell_moves.proofs.Moves.{∷-parts}
+use Rattle.cell_moves.proofs.Driven.{driven_are_listed}
 
 mapped_twice : {X : Type 0} (f : X → Src) (g : Src → Src) (xs : List X) → map g (map f xs) ≡ map (λ x. g (f x)) xs
 mapped_twice f g [] = refl
 mapped_twice f g (x ∷ xs) = ap (λ l. g (f x) ∷ l) (mapped_twice f g xs)
+
+pub contains_mapped : (f : Src → Src) (sources : List Src) (src : Src) → Contains sources src → Contains (map f sources) (f src)
+contains_mapped f sources src c = contains_from (map f sources) (f src) (in_map f sources src (in_from sources src c))
 
 -- bits that agree on a list agree on each of its sources
 agree : (f g : Src → Bool) (to : Src → Src) (xs : List Src) (x : Src) → map f (map to xs) ≡ map g xs → In x xs → f (to x) ≡ g x

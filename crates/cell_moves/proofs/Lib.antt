@@ -1,0 +1,3 @@
+pub mod Moves
+mod Driven
+pub mod Mapping
