@@ -1,8 +1,13 @@
 -- The summary of a made netlist, as lines.
 use Rattle.std.specs.Prelude.{◌≡◌, ℕ, List, ◌++◌, flat_map, codes, decimal}
 use Rattle.made_summary.specs.Summaries.{Summarizes}
+use Rattle.made_summary.specs.declared.error.SummaryError.{SummaryError}
+use Rattle.made_summary.specs.declared.error.SummaryError.TheVariants as summarizing
 use Rattle.made_summary.specs.declared.summarizing.OutputBits.{OutputBits}
 use Rattle.made_summary.specs.declared.summarizing.Summary.{Summary}
+use Rattle.refusals.specs.declared.causes.Cause.TheVariants.{TooFar}
+use Rattle.refusals.specs.declared.causes.TextError.{TextError}
+use Rattle.refusals.specs.declared.causes.TextError.TheVariants.{Refused, NoMemory}
 use Rattle.blifww_tool.specs.Lines.{bits_line}
 
 -- a number with its name, as `lanes 9`
@@ -27,3 +32,8 @@ summary_text s =
 abbrev pub TellsSummary : (seed size cycles : ℕ) → List ℕ → Type 0
 TellsSummary seed size cycles output =
     (summary : Summary) × Summarizes seed size cycles summary × (output ≡ summary_text summary)
+
+-- the error of a made netlist without a summary
+abbrev pub summarizing_error : SummaryError → TextError
+summarizing_error (summarizing.TooFar generations) = Refused (TooFar generations)
+summarizing_error summarizing.NoMemory = NoMemory

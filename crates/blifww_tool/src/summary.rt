@@ -3,14 +3,14 @@ ghost use Rattle.std.specs.Prelude.{◌≡◌, ◌++◌, List, ℕ, IfOk, IfErr,
 ghost use Rattle.command_words.specs.Shapes.{self_, HasNumbersInRange};
 ghost use Rattle.blifww_tool.specs.Answer.{output_text, IsWritableOutput};
 ghost use Rattle.blifww_tool.specs.Commands.{HasTextCause};
-ghost use Rattle.blifww_tool.specs.Summary.{number_line, output_lines, summary_text, TellsSummary};
+ghost use Rattle.blifww_tool.specs.Summary.{number_line, output_lines, summarizing_error, summary_text, TellsSummary};
 
 use crate::lines::push_line;
 use crate::output::Output;
 use itoa::Buffer;
 use lists::Bytes;
-use made_summary::{OutputBits, Summary, summarize};
-use refusals::TextError;
+use made_summary::{OutputBits, Summary, SummaryError, summarize};
+use refusals::{Cause, TextError};
 use std::alloc::{AllocError, Global};
 
 // Adds a number's line.
@@ -52,6 +52,16 @@ fn summary_lines(alloc: Global, summary: &Summary) -> Result<Bytes, AllocError>
     Ok(Bytes::of(lines))
 }
 
+// Why there is no summary, as the error of a text.
+fn text_error(error: SummaryError) -> TextError
+    ensures { result ≡ summarizing_error error }
+{
+    match error {
+        SummaryError::TooFar { generations } => TextError::Refused(Cause::TooFar { generations }),
+        SummaryError::NoMemory => TextError::NoMemory,
+    }
+}
+
 /// Makes the lines of the summary of a netlist, given by a seed and a number of gates, under so
 /// many cycles of bits that are drawn after it: its weight, the lanes and columns of its plan, the
 /// period and latency of its pattern, and for each output the bits that the pattern shows and those
@@ -63,6 +73,9 @@ pub fn summary(alloc: Global, seed: u32, size: u32, cycles: usize) -> Result<Out
     ensures refused { IfErr result (λ e. (text : List ℕ) →
         HasTextCause (self_ seed size cycles) text e) }
 {
-    let summary = summarize(alloc, seed, size, cycles)?;
+    let summary = match summarize(alloc, seed, size, cycles) {
+        Ok(summary) => summary,
+        Err(error) => return Err(text_error(error)),
+    };
     Ok(Output::Lines(summary_lines(alloc, &summary)?))
 }

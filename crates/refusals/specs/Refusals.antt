@@ -42,8 +42,6 @@ use Rattle.probe_view.specs.declared.error.ProbeError.{ProbeError}
 use Rattle.probe_view.specs.declared.error.ProbeError.TheVariants as probing
 use Rattle.probe_view.specs.declared.error.WindowError.{WindowError}
 use Rattle.probe_view.specs.declared.error.WindowError.TheVariants as viewing
-use Rattle.made_summary.specs.declared.error.SummaryError.{SummaryError}
-use Rattle.made_summary.specs.declared.error.SummaryError.TheVariants as summarizing
 use Rattle.refusals.specs.declared.causes.Cause.{Cause}
 use Rattle.refusals.specs.declared.causes.Cause.TheVariants.{NetlistFault, WeightTooLarge, Loop, AigAtFault, AigLoop, Pattern, GridTooLarge, PortTable, Streams, StartWord, NoSuchNet, TooFar, TooManyContexts, NotQuiet, NotCircuit}
 use Rattle.refusals.specs.declared.causes.TextError.{TextError}
@@ -280,8 +278,3 @@ audit_error auditing.NoMemory = text.NoMemory
 abbrev pub window_error : WindowError → TextError
 window_error (viewing.NotQuiet generation x y) = text.Refused (NotQuiet generation x y)
 window_error viewing.NoMemory = text.NoMemory
-
--- the error of a made netlist without a summary
-abbrev pub summarizing_error : SummaryError → TextError
-summarizing_error (summarizing.TooFar generations) = text.Refused (TooFar generations)
-summarizing_error summarizing.NoMemory = text.NoMemory

@@ -7,7 +7,6 @@ use aiger_text::AigFault;
 use blif_text::Fault;
 use drive::{SimulateError, StreamError, StreamFault};
 use lists::{List, OutOfMemory};
-use made_summary::SummaryError;
 use netlist_core::Name;
 use netlist_text::NetlistError;
 use port_table::{PortFault, PortReadError};
@@ -235,21 +234,6 @@ impl From<AuditError> for TextError {
         match error {
             AuditError::NotCircuit(fault) => TextError::Refused(Cause::NotCircuit(fault)),
             AuditError::NoMemory => TextError::NoMemory,
-        }
-    }
-}
-
-impl From<SummaryError> for TextError {
-    ghost use Rattle.refusals.specs.Refusals.{summarizing_error};
-
-    ghost from_gives = { λ e r. r ≡ summarizing_error e };
-
-    fn from(error: SummaryError) -> Self {
-        match error {
-            SummaryError::TooFar { generations } => {
-                TextError::Refused(Cause::TooFar { generations })
-            }
-            SummaryError::NoMemory => TextError::NoMemory,
         }
     }
 }
