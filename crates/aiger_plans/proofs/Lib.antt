@@ -4,4 +4,3 @@ pub mod Cycles
 pub mod Needs
 pub mod Named
 pub mod OfFlat
-pub mod Shown

@@ -2,4 +2,3 @@ pub mod CarriesAig
 pub mod Laws
 pub mod Needs
 pub mod Planned
-pub mod ShownAigs

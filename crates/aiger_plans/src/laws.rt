@@ -2,7 +2,6 @@
 // laws.
 ghost use Rattle.aiger_plans.specs.Laws.{AigsAreCarried, CarriesAigCycles, OneAigRunIsShown};
 ghost use Rattle.aiger_plans.specs.Needs.{FlatsOfAigsAskAlike};
-ghost use Rattle.aiger_plans.specs.ShownAigs.{CarriersShowAigRuns};
 
 /// A text that carries the flat netlist of a circuit carries the circuit.
 pub fn aigs_are_carried()
@@ -23,10 +22,4 @@ pub fn carries_aig_cycles()
 /// reads a negated literal.
 pub fn flats_of_aigs_ask_alike()
     ensures { FlatsOfAigsAskAlike }
-{}
-
-/// If a text carries a sound circuit, then the circuit has a run under streams for its inputs, and
-/// in every such run the pattern shows the bits of the outputs, in order.
-pub fn carriers_show_aig_runs()
-    ensures { CarriersShowAigRuns }
 {}

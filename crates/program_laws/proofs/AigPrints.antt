@@ -11,7 +11,7 @@ use Rattle.shown_runs.specs.ShownRuns.{StreamsAreFor}
 use Rattle.shown_runs.proofs.Shown.{shown_alone}
 use Rattle.aiger_text.specs.Laws.{ReadAigsAreSound}
 use Rattle.aiger_plans.specs.CarriesAig.{CarriesAig}
-use Rattle.aiger_plans.specs.ShownAigs.{CarriersShowAigRuns}
+use Rattle.program_laws.specs.ShownAigs.{CarriersShowAigRuns}
 use Rattle.blifww_tool.specs.Lines.{bits_line}
 use Rattle.program_laws.specs.AigPrints.{CarriersPrintAigRuns, AigsPrintRuns}
 use Rattle.program_laws.proofs.Fed.{are_for}

@@ -15,3 +15,4 @@ pub mod Onward
 pub mod Isolated
 pub mod AigDrawings
 pub mod AigQuiet
+pub mod ShownAigs

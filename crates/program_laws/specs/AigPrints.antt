@@ -11,7 +11,7 @@ use Rattle.aiger_text.specs.AigText.{ReadsAsAig}
 use Rattle.aiger_text.specs.SoundAig.{IsSoundAig, input_names, output_names}
 use Rattle.aiger_meaning.specs.Circuit.{IsAigRun}
 use Rattle.aiger_plans.specs.CarriesAig.{CarriesAig}
-use Rattle.aiger_plans.specs.ShownAigs.{aig_bits_in_run}
+use Rattle.program_laws.specs.ShownAigs.{aig_bits_in_run}
 use Rattle.streams.specs.declared.streams.Streams.{Streams}
 use Rattle.streams.specs.Streams.{HasStreams}
 use Rattle.streams.specs.Rows.{rows_of}

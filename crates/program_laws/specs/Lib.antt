@@ -7,3 +7,4 @@ pub mod AigPrints
 pub mod Isolated
 pub mod Onward
 pub mod OneAnswer
+pub mod ShownAigs

@@ -13,10 +13,10 @@ ghost use Rattle.program_laws.specs.LiftsBack.{CompiledAreLifted, CompiledNamesA
 ghost use Rattle.program_laws.specs.OneAnswer.{DumpsAreProbed, ProbePrintsOne, SimulatePrintsOne, VcdPrintsOne, WindowPrintsOne};
 ghost use Rattle.program_laws.specs.Onward.{ContextsGoOn, ContextsShowEachFront};
 ghost use Rattle.program_laws.specs.PrintsAlike.{CarriersPrintAlike, CarriersPrintNets, CarriersPrintNetsInContexts, CarriersPrintRuns, CarriersRunQuietly, CompiledPrintAlike, CompiledPrintNets, CompiledPrintRuns};
+ghost use Rattle.program_laws.specs.ShownAigs.{CarriersShowAigRuns};
 ghost use Rattle.program_laws.specs.TapePrints.{TapesPrintAlike, TapesPrintRuns};
 
 use aiger_meaning::laws::flats_of_aigs_are_lowered;
-use aiger_plans::carriers_show_aig_runs;
 use aiger_text::laws::read_aigs_are_sound;
 use lift_carries::compiled_are_drawings;
 use netlist_plans::names_are_words;
@@ -132,6 +132,12 @@ pub fn carried_evaluate_alike()
     streams_match();
     texts_are_decided();
 }
+
+/// If a text carries a sound circuit, then the circuit has a run under streams for its inputs, and
+/// in every such run the pattern shows the bits of the outputs, in order.
+pub fn carriers_show_aig_runs()
+    ensures { CarriersShowAigRuns }
+{}
 
 /// What `simulate` prints of a text that carries a circuit, as the text that `aiger` writes does, is
 /// the lines of each of the circuit's runs on the streams of the words.

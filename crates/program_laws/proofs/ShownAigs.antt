@@ -24,7 +24,7 @@ use Rattle.aiger_text.specs.SoundAig.{IsSoundAig, output_names}
 use Rattle.aiger_meaning.specs.Circuit.{AreAigRows, IsAigRun, aig_output_bit}
 use Rattle.aiger_plans.specs.CarriesAig.{CarriesAig}
 use Rattle.aiger_plans.proofs.Cycles.{carries_aig_cycles}
-use Rattle.aiger_plans.specs.ShownAigs.{CarriersShowAigRuns, aig_bits_in_run}
+use Rattle.program_laws.specs.ShownAigs.{CarriersShowAigRuns, aig_bits_in_run}
 
 module _ (text : List ℕ) (aig : Aig) (s : IsSoundAig aig) (c : CarriesAig text aig) (streams : Streams) (are : AreFor c.ports streams) where
   one : streams.c ≡ 1
