@@ -15,6 +15,5 @@ mod table;
 
 pub use faults::PortFault;
 pub use pattern_reading::{NetLine, PortLine, Ports};
-pub use plan_ports::{PortsError, of_plan};
 pub use port_writing::write_line;
 pub use reading::{PortReadError, read};
