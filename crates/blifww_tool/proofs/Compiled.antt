@@ -13,9 +13,8 @@ use Rattle.lane_core.specs.declared.plan.Plan.{Plan}
 use Rattle.lane_core.specs.Plans.{IsAdmissible, period_of}
 use Rattle.plan_layout.specs.Starts.{HasStartEdges, start_edges}
 use Rattle.plan_waves.specs.Contexts.{StartsContexts}
-use Rattle.grid_assembly.specs.PlanDrawing.{start_grid}
 use Rattle.pattern_reading.specs.declared.ports.Ports.{Ports}
-use Rattle.pattern_writing.specs.WrittenText.{pattern_text}
+use Rattle.rle_write.specs.PlanText.{text_of_plan}
 use Rattle.cell_core.specs.declared.list.CellList.{CellList}
 use Rattle.cell_core.specs.Loops.{loop_state, names_one}
 use Rattle.cell_meaning.specs.Needs.{any_needs_one}
@@ -123,11 +122,11 @@ drawn_in_one circuit drawings flat plan ports sound named names places admissibl
 
 -- the plan by which a design is carried
 pub carried_by : FlatIsOne → DesignsAreCarried → (design : Design) (flat : Flat) (order : List ℕ) (plan : Plan) (ports : Ports) → AreParts design flat order
-    → IsAdmissible plan → HasStartEdges plan → IsTableOf flat plan 1 ports → ComputesCells flat plan → HasLanes flat plan → HasNetPlaces flat plan → CarriesFlat (pattern_text (start_grid plan) ports) flat → IsSmall flat plan
+    → IsAdmissible plan → HasStartEdges plan → IsTableOf flat plan 1 ports → ComputesCells flat plan → HasLanes flat plan → HasNetPlaces flat plan → CarriesFlat (text_of_plan plan ports) flat → IsSmall flat plan
     → (length flat.latches ≡ 0 → any_needs_one flat ≡ false → ports.p ≡ 32) → IsWrittenDrawing plan ports
     → IsCarriedBy design plan ports
 carried_by one law design flat order plan ports p admissible edges table cells size places carries few period drawing =
-    let nets : CarriesNets (pattern_text (start_grid plan) ports) design = law (pattern_text (start_grid plan) ports) design flat p.faultless p.clocks p.is_flat carries in
+    let nets : CarriesNets (text_of_plan plan ports) design = law (text_of_plan plan ports) design flat p.faultless p.clocks p.is_flat carries in
     record {
       admissible = admissible;
       edges = edges;
@@ -282,9 +281,9 @@ electrons_of law contexts starts design flat order base plan bits p are same h =
 
 -- the plan itself, in one context and without words
 pub compiles_alone : OneContextCarries → OneContextCarriesNets → NoWordsMeanStart → (text : List ℕ) (design : Design) (flat : Flat) (order : List ℕ) (plan : Plan) (ports : Ports) → HasStarts 1 [] text design
-    → AreParts design flat order → IsCarriedBy design plan ports → 1 ≤ ports.p / 32 → Compiles 1 [] text (pattern_text (start_grid plan) ports)
+    → AreParts design flat order → IsCarriedBy design plan ports → 1 ≤ ports.p / 32 → Compiles 1 [] text (text_of_plan plan ports)
 compiles_alone carry carry_nets none text design flat order plan ports has p h room =
-    let output = pattern_text (start_grid plan) ports in
+    let output = text_of_plan plan ports in
     record {
       design = design;
       has = has;
@@ -317,9 +316,9 @@ not_alone f contexts [] e one empty = true≢false (sym (ap (λ (n : ℕ). n == 
 not_alone f contexts (w ∷ ws) e one empty = cc
 
 pub compiles_plain : OneContextCarries → OneContextCarriesNets → NoWordsMeanStart → (contexts : ℕ) (starts : List (List ℕ)) → (contexts ≡ 1) × (starts ≡ []) → (text : List ℕ) (design : Design) (flat : Flat) (order : List ℕ)
-    (plan : Plan) (ports : Ports) → HasStarts contexts starts text design → AreParts design flat order → IsCarriedBy design plan ports → contexts ≤ ports.p / 32 → Compiles contexts starts text (pattern_text (start_grid plan) ports)
+    (plan : Plan) (ports : Ports) → HasStarts contexts starts text design → AreParts design flat order → IsCarriedBy design plan ports → contexts ≤ ports.p / 32 → Compiles contexts starts text (text_of_plan plan ports)
 compiles_plain carry carry_nets none contexts starts (one, empty) text design flat order plan ports has p h room =
-    let output = pattern_text (start_grid plan) ports in
+    let output = text_of_plan plan ports in
     subst (λ (n : ℕ). Compiles n starts text output) (sym one)
     (subst (λ (ws : List (List ℕ)). Compiles 1 ws text output) (sym empty)
     (compiles_alone carry carry_nets none text design flat order plan ports
@@ -330,10 +329,10 @@ pub compiles : FlatIsOne → DesignsAreCarriedInContexts → StartsAreFlat → (
     (bits : List (List Bool)) → HasStarts contexts starts text design → AreParts design flat order → IsCarriedBy design base base_ports → contexts ≤ base_ports.p / 32
     → (contexts ≡ 1 → starts ≡ [] → ⊥) → IsAdmissible plan → HasStartEdges plan → IsPaddedPlan (contexts_size base.latches contexts) base plan
     → bits ≡ flat_starts flat starts contexts → StartsContexts plan (map (loop_starting_bits base) bits) (start_edges plan)
-    → IsTableOf flat plan contexts ports → HasNetPlaces flat plan → CarriesFlatContexts (pattern_text (start_grid plan) ports) flat bits
-    → (contexts ≡ 1 → IsWrittenDrawing plan ports) → Compiles contexts starts text (pattern_text (start_grid plan) ports)
+    → IsTableOf flat plan contexts ports → HasNetPlaces flat plan → CarriesFlatContexts (text_of_plan plan ports) flat bits
+    → (contexts ≡ 1 → IsWrittenDrawing plan ports) → Compiles contexts starts text (text_of_plan plan ports)
 compiles one law flat_law contexts starts text design flat order base base_ports plan ports bits has p h room several admissible edges padded are_bits started table places carries drawing =
-    let output = pattern_text (start_grid plan) ports in
+    let output = text_of_plan plan ports in
     let states = starts_of_words design starts contexts in
     let by_states : CarriesFlatContexts output flat (map (state_in_order design) states) =
     subst (CarriesFlatContexts output flat) (are_bits ∙ flat_law design flat p.faultless p.is_flat starts contexts) carries in
@@ -364,6 +363,6 @@ compiles one law flat_law contexts starts text design flat order base base_ports
 pub carries_alone : (text output : List ℕ) → (c : Compiles 1 [] text output) → Carries output c.design × CarriesNets output c.design
 carries_alone text output c =
     let same = c.alone refl refl in
-    let written : pattern_text (start_grid c.base) c.base_ports ≡ output =
-    ap₂ (λ (plan : Plan) (ports : Ports). pattern_text (start_grid plan) ports) (sym same.0) (sym same.1) ∙ sym c.written in
+    let written : text_of_plan c.base c.base_ports ≡ output =
+    ap₂ (λ (plan : Plan) (ports : Ports). text_of_plan plan ports) (sym same.0) (sym same.1) ∙ sym c.written in
     (subst (λ (text : List ℕ). Carries text c.design) written c.is_carried.carries, subst (λ (text : List ℕ). CarriesNets text c.design) written c.is_carried.nets)

@@ -1,9 +1,8 @@
 -- The pattern that is written of the text of an AIGER circuit.
 use Rattle.std.specs.Prelude.{ℕ, ◌≡◌, ◌≤◌, List}
 use Rattle.lane_core.specs.declared.plan.Plan.{Plan}
-use Rattle.grid_assembly.specs.PlanDrawing.{start_grid}
 use Rattle.pattern_reading.specs.declared.ports.Ports.{Ports}
-use Rattle.pattern_writing.specs.WrittenText.{pattern_text}
+use Rattle.rle_write.specs.PlanText.{text_of_plan}
 use Rattle.netlist_core.specs.Limit.{weight_limit}
 use Rattle.aiger_text.specs.declared.aig.Aig.{Aig}
 use Rattle.aiger_text.specs.AigText.{ReadsAsAig, HasAigFault}
@@ -30,7 +29,7 @@ pub record CompilesAig (text output : List ℕ) : Type 0 where
   pub plan : Plan
   pub ports : Ports
   pub is_plan : IsPlanOfAig aig plan ports
-  pub written : output ≡ pattern_text (start_grid plan) ports
+  pub written : output ≡ text_of_plan plan ports
 
 -- why the text is no circuit: it is at fault; or it reads as a circuit that is too heavy, or is
 -- within the limit and has gates that read each other in a circle

@@ -1,8 +1,7 @@
 -- The output of a command, and how the part of a run that reads and writes ends.
 use Rattle.std.specs.Prelude.{ℕ, List, take, ⊤}
 use Rattle.lane_core.specs.Plans.{IsAdmissible}
-use Rattle.grid_assembly.specs.PlanDrawing.{start_grid}
-use Rattle.pattern_writing.specs.WrittenText.{pattern_text}
+use Rattle.rle_write.specs.PlanText.{text_of_plan}
 use Rattle.blif_write.specs.Lift.{text_of_lift}
 use Rattle.vcd_write.specs.Writing.{vcd_text}
 use Rattle.vcd_write.specs.Vcd.{waves_in}
@@ -17,7 +16,7 @@ use Rattle.refusals.specs.declared.refusal.Refusal.TheVariants.{WriteFault, NoMe
 -- the bytes of an output
 abbrev pub output_text : Output → List ℕ
 output_text (Lines text) = text
-output_text (Drawing planned) = pattern_text (start_grid planned.plan) planned.ports
+output_text (Drawing planned) = text_of_plan planned.plan planned.ports
 output_text (Waves vcd) = vcd_text (waves_in vcd)
 output_text (Lifted lift) = text_of_lift lift
 

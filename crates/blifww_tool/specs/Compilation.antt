@@ -4,9 +4,8 @@ use Rattle.lane_core.specs.declared.plan.Plan.{Plan}
 use Rattle.lane_core.specs.Plans.{IsAdmissible}
 use Rattle.plan_layout.specs.Starts.{HasStartEdges, start_edges}
 use Rattle.plan_waves.specs.Contexts.{StartsContexts}
-use Rattle.grid_assembly.specs.PlanDrawing.{start_grid}
 use Rattle.pattern_reading.specs.declared.ports.Ports.{Ports}
-use Rattle.pattern_writing.specs.WrittenText.{pattern_text}
+use Rattle.rle_write.specs.PlanText.{text_of_plan}
 use Rattle.carries.specs.Carries.{Carries}
 use Rattle.carries.specs.Nets.{CarriesNets}
 use Rattle.carries.specs.DesignContexts.{CarriesContexts, CarriesNetsInContexts}
@@ -41,8 +40,8 @@ use Rattle.refusals.specs.declared.causes.Cause.TheVariants.{NetlistFault, Weigh
 pub record IsCarriedBy (design : Design) (plan : Plan) (ports : Ports) : Type 0 where
   pub admissible : IsAdmissible plan
   pub edges : HasStartEdges plan
-  pub carries : Carries (pattern_text (start_grid plan) ports) design
-  pub nets : CarriesNets (pattern_text (start_grid plan) ports) design
+  pub carries : Carries (text_of_plan plan ports) design
+  pub nets : CarriesNets (text_of_plan plan ports) design
   pub lanes : plan.lanes ≤ 4 * weight design + 4
   pub columns : length plan.columns ≤ 256 * ((weight design + 1) * (weight design + 1))
   pub instrs : instr_count plan.columns ≤ 256 * ((weight design + 1) * (weight design + 1))
@@ -90,7 +89,7 @@ pub record Compiles (contexts : ℕ) (starts : List (List ℕ)) (text output : L
   pub alone : contexts ≡ 1 → starts ≡ [] → (plan ≡ base) × (ports ≡ base_ports)
   pub table : (flat : Flat) → IsFlatOf design flat → IsTableOf flat plan contexts ports
   pub places : (flat : Flat) → IsFlatOf design flat → HasNetPlaces flat plan
-  pub written : output ≡ pattern_text (start_grid plan) ports
+  pub written : output ≡ text_of_plan plan ports
   pub drawing : contexts ≡ 1 → IsWrittenDrawing plan ports
   pub carries : CarriesContexts output design (starts_of_words design starts contexts)
   pub nets : CarriesNetsInContexts output design (starts_of_words design starts contexts)

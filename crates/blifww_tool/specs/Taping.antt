@@ -3,9 +3,8 @@ use Rattle.std.specs.Prelude.{◌≡◌, ℕ, List, []}
 use Rattle.lane_core.specs.declared.plan.Plan.{Plan}
 use Rattle.lane_core.specs.Plans.{IsAdmissible}
 use Rattle.plan_layout.specs.Starts.{HasStartEdges}
-use Rattle.grid_assembly.specs.PlanDrawing.{start_grid}
 use Rattle.pattern_reading.specs.declared.ports.Ports.{Ports}
-use Rattle.pattern_writing.specs.WrittenText.{pattern_text}
+use Rattle.rle_write.specs.PlanText.{text_of_plan}
 use Rattle.carries.specs.ByItself.{RunsByItself}
 use Rattle.netlist_core.specs.declared.model.Design.{Design}
 use Rattle.netlist_core.specs.declared.flat.Flat.{Flat}
@@ -31,7 +30,7 @@ pub record IsTapeOf (design : Design) (fed : Streams) (output : List ℕ) : Type
   pub admissible : IsAdmissible plan
   pub edges : HasStartEdges plan
   pub table : (flat : Flat) → IsFlatOf design flat → IsTableOf flat plan 1 ports
-  pub written : output ≡ pattern_text (start_grid plan) ports
+  pub written : output ≡ text_of_plan plan ports
   pub runs : RunsByItself output design (rows_of fed)
 
 -- The text is a netlist, and the words give streams for its inputs; the output is their tape.

@@ -3,9 +3,8 @@ ghost use Rattle.std.specs.Prelude.{◌≡◌, ◌≤◌, ℕ, List, ◌++◌, t
 ghost use Rattle.std.specs.Io.KnownBytes.{Appends};
 ghost use Rattle.ww_base.specs.Faults.{HasCause};
 ghost use Rattle.lane_core.specs.Plans.{IsAdmissible};
-ghost use Rattle.grid_assembly.specs.PlanDrawing.{start_grid};
-ghost use Rattle.pattern_reading.specs.Spelling.{port_lines};
-ghost use Rattle.pattern_writing.specs.Writer.{header_text, writer_text};
+ghost use Rattle.pattern_writing.specs.Writer.{header_text};
+ghost use Rattle.rle_write.specs.PlanText.{text_of_plan};
 ghost use Rattle.ww_base.specs.Pages.{held, column_of};
 ghost use Rattle.ww_base.specs.Progress.{Wrote, Broke};
 
@@ -72,10 +71,10 @@ pub fn write<O: Sink>(plan: &Plan, ports: &Ports, sink: &mut O) -> Result<(), Fa
     requires { IsAdmissible plan.now }
     ensures ok { OnOk result (
         Appends (O.written sink.old) (O.written sink.new)
-        (writer_text (start_grid plan.now) (port_lines ports.now))) }
+        (text_of_plan plan.now ports.now)) }
     ensures front { OnErr result ((n : ℕ) ×
         Appends (O.written sink.old) (O.written sink.new)
-        (take n (writer_text (start_grid plan.now) (port_lines ports.now)))) }
+        (take n (text_of_plan plan.now ports.now))) }
     ensures cause { HasCause (O.faults sink.old) (O.faults sink.new) result }
 {
     let mut page = Page::new();
