@@ -1,5 +1,5 @@
-//! What VCD texts say (the value change dump of IEEE 1364, with variables of one bit), and a writer of what the nets of
-//! a driven pattern show, cycle after cycle, as such a text. All nets are read in one run, and the text is written
+//! What VCD texts say (a part of the value change dump of IEEE 1364: variables of one bit), and a writer of what the nets
+//! of a driven pattern show, cycle after cycle, as such a text. All nets are read in one run, and the text is written
 //! without memory.
 //!
 //! Theorem: `of` (`near`, `quiet`, `waves`, `says`, `refused`); `write` (`ok`, `front`, `cause`); `texts_say_waves`,
