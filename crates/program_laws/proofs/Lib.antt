@@ -11,6 +11,7 @@ pub mod EvaluatesAlike
 pub mod AigPrints
 pub mod OneAnswer
 pub mod GoodNames
+pub mod NamedNets
 pub mod Onward
 pub mod Isolated
 pub mod AigDrawings
