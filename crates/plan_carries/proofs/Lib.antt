@@ -1,9 +1,9 @@
 mod Alike
 pub mod SeenNets
 mod Runs
-mod Designs
+pub mod Designs
 pub mod Bare
 pub mod Carried
-mod Written
+pub mod Written
 mod Pictures
-mod Tapes
+pub mod Tapes

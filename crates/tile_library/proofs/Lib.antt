@@ -1,1 +1,2 @@
 mod Blank
+pub mod Kept
