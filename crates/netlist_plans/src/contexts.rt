@@ -18,12 +18,9 @@ ghost use Rattle.netlist_plans.specs.NetPlaces.{HasNetPlaces};
 
 use crate::{NetlistPlanError, Planned};
 use lane_core::Plan;
-use latch_loops::laws::padding_keeps_cells;
 use latch_loops::start_contexts;
 use lists::List;
 use netlist_core::Flat;
-use plan_carries::{plans_have_ports, texts_carry_contexts};
-use plan_ports::of_plan;
 use std::alloc::{AllocError, Global};
 
 // Puts a bit 1 at the end, if it is wanted.
@@ -101,9 +98,6 @@ pub fn plan_contexts(
 {
     let loops = all_loop_bits(alloc, &plan, starts)?;
     let plan = start_contexts(alloc, plan, &loops)?;
-    padding_keeps_cells();
-    plans_have_ports();
-    let ports = of_plan(alloc, flat, &plan, starts.len() as u64)?;
-    texts_carry_contexts();
+    let ports = plan_ports::of_plan(alloc, flat, &plan, starts.len() as u64)?;
     Ok(Planned { plan, ports })
 }

@@ -19,12 +19,10 @@ use cell_core::{CellList, Src};
 use cell_plans::best_plan;
 use cell_polarity::{KeptList, complemented};
 use cell_rewriting::rewritten;
-use cover_mapper::{Mapped, map};
+use cover_mapper::Mapped;
 use lane_core::Plan;
 use netlist_core::{Flat, Order, rows_weight};
 use pattern_reading::Ports;
-use plan_carries::{plans_have_ports, texts_carry_flats};
-use plan_ports::of_plan;
 use std::alloc::Global;
 
 /// A plan, and its port table: where its ports and nets are.
@@ -154,7 +152,7 @@ fn cell_lists(alloc: Global, flat: &Flat, order: &Order) -> Result<Vec<CellList>
     ensures some { IfOk result (λ lists. 0 < length lists.items) }
     ensures computes { IfOk result (λ lists. All (ComputesFlat flat.now) lists.items) }
 {
-    let mapped = map(alloc, flat, order)?;
+    let mapped = cover_mapper::map(alloc, flat, order)?;
     match complements(alloc, flat, &mapped)? {
         None => rewritten_lists(alloc, flat, &mapped.list, &mapped.singles),
         Some(low) => lists_of_both(alloc, flat, &mapped, &low),
@@ -199,8 +197,6 @@ pub fn plan_netlist(alloc: Global, flat: &Flat, order: &Order) -> Result<Planned
         any_needs_one flat.now ≡ false → p.ports.p ≡ 32) }
 {
     let plan = plan_of_cells(alloc, flat, order)?;
-    plans_have_ports();
-    let ports = of_plan(alloc, flat, &plan, 1)?;
-    texts_carry_flats();
+    let ports = plan_ports::of_plan(alloc, flat, &plan, 1)?;
     Ok(Planned { plan, ports })
 }

@@ -14,12 +14,8 @@ ghost use Rattle.netlist_plans.specs.Lists.{IsPlanned};
 ghost use Rattle.netlist_plans.specs.Planned.{IsSmall};
 
 use crate::{NetlistPlanError, Planned};
-use carries::runners_go_on;
 use lane_core::Plan;
 use netlist_core::Flat;
-use plan_carries::{plans_have_ports, tapes_run_by_themselves};
-use plan_ports::of_plan;
-use plan_tapes::load;
 use std::alloc::Global;
 use streams::Streams;
 
@@ -51,10 +47,7 @@ pub fn load_netlist(
     ensures runs { IfOk result (λ p. RunsByItselfFlat
         (pattern_text (start_grid p.plan) p.ports) flat.now (rows_of streams.now)) }
 {
-    plans_have_ports();
-    let plan = load(alloc, plan, streams.bits.as_slice())?;
-    let ports = of_plan(alloc, flat, &plan, 1)?;
-    tapes_run_by_themselves();
-    runners_go_on();
+    let plan = plan_tapes::load(alloc, plan, streams.bits.as_slice())?;
+    let ports = plan_ports::of_plan(alloc, flat, &plan, 1)?;
     Ok(Planned { plan, ports })
 }

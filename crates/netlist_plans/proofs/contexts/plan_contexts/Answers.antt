@@ -6,9 +6,11 @@ use Rattle.latch_loops.specs.Closed.{contexts_size}
 use Rattle.plan_layout.specs.Starts.{start_edges}
 use Rattle.plan_waves.specs.Contexts.{StartsContexts}
 use Rattle.latch_loops.specs.Padded.{IsPaddedPlan}
+use Rattle.latch_loops.proofs.Cells.{padding_keeps_cells}
 use Rattle.pattern_writing.specs.WrittenText.{pattern_text}
 use Rattle.carries.specs.FlatContexts.{CarriesFlatContexts}
 use Rattle.plan_carries.proofs.Bare.{bare_grid}
+use Rattle.plan_carries.proofs.Written.{plans_have_ports, texts_carry_contexts}
 use Rattle.netlist_plans.specs.Contexts.{loop_starting_bits}
 use Rattle.netlist_plans.proofs.Several.{loops_are, loops_long, contexts_fit, few_columns, padded_places}
 use Rattle.netlist_plans.proofs.contexts.plan_contexts.Goals as goal
@@ -29,8 +31,8 @@ start_contexts-requires-clause-few c more = few_columns c.args.flat.now c.args.p
 pub of_plan-requires-clause-ports : goal.of_plan-requires-clause-ports
 of_plan-requires-clause-ports c =
     let k = c.requires.planned in
-    c.plans_have_ports.ensures c.args.flat.now k.list c.in_ok-plan.plan k.computes
-    (c.padding_keeps_cells.ensures k.list _ c.args.plan c.in_ok-plan.plan c.in_ok-plan.ensures.padded c.in_ok-plan.ensures.same k.is.computes)
+    plans_have_ports c.args.flat.now k.list c.in_ok-plan.plan k.computes
+    (padding_keeps_cells k.list _ c.args.plan c.in_ok-plan.plan c.in_ok-plan.ensures.padded c.in_ok-plan.ensures.same k.is.computes)
 
 pub returns-clause-bare : goal.returns-clause-bare
 returns-clause-bare c = c.in_ok-plan.ensures.padded.tape ∙ c.requires.planned.is.bare
@@ -51,7 +53,7 @@ returns-clause-carries c =
     let is = c.deref.ensures.value ∙ c.in_ok-loops.ensures ∙ loops_are c.args.flat.now c.args.plan c.requires.weighed k c.args.starts.now c.requires.long in
     let bare : plan.tape ≡ [] = c.in_ok-plan.ensures.padded.tape ∙ k.is.bare in
     subst (λ (grid : Grid). CarriesFlatContexts (pattern_text grid c.in_ok-ports.ports) c.args.flat.now c.args.starts.now) (sym (bare_grid plan bare))
-    (c.texts_carry_contexts.ensures c.args.flat.now k.list plan c.in_ok-ports.ports c.args.starts.now c.requires.some (record {
+    (texts_carry_contexts c.args.flat.now k.list plan c.in_ok-ports.ports c.args.starts.now c.requires.some (record {
       sound = c.requires.sound;
       order = c.requires.ordered.0;
       ordered = c.requires.ordered.1;
@@ -61,7 +63,7 @@ returns-clause-carries c =
       list_computes = k.computes;
       admissible = c.in_ok-plan.ensures.admissible;
       bare = bare;
-      plan_computes = c.padding_keeps_cells.ensures k.list _ c.args.plan plan c.in_ok-plan.ensures.padded c.in_ok-plan.ensures.same k.is.computes;
+      plan_computes = padding_keeps_cells k.list _ c.args.plan plan c.in_ok-plan.ensures.padded c.in_ok-plan.ensures.same k.is.computes;
       table = c.in_ok-ports.ensures;
     }) (start_edges plan) (record {
       long = c.requires.long;

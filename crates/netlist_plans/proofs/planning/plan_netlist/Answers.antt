@@ -1,5 +1,6 @@
 use Rattle.std.proofs.Common.{◌∙◌}
 use Rattle.plan_carries.proofs.Carried.{starts_as_flat}
+use Rattle.plan_carries.proofs.Written.{plans_have_ports, texts_carry_flats}
 use Rattle.netlist_plans.proofs.Bounds.{is_small, computes_cells, loops_many, short_period}
 use Rattle.netlist_plans.proofs.Lanes.{has_lanes}
 use Rattle.netlist_plans.proofs.NetPlaces.{net_places}
@@ -8,7 +9,7 @@ use Rattle.netlist_plans.proofs.planning.plan_netlist.Goals as goal
 pub of_plan-requires-clause-ports : goal.of_plan-requires-clause-ports
 of_plan-requires-clause-ports c =
     let p = c.in_ok-plan.ensures in
-    c.plans_have_ports.ensures c.args.flat.now p.list c.in_ok-plan.plan p.computes p.is.computes
+    plans_have_ports c.args.flat.now p.list c.in_ok-plan.plan p.computes p.is.computes
 
 pub returns-clause-admissible : goal.returns-clause-admissible
 returns-clause-admissible c = c.in_ok-plan.ensures.is.admissible
@@ -16,7 +17,7 @@ returns-clause-admissible c = c.in_ok-plan.ensures.is.admissible
 pub returns-clause-carries : goal.returns-clause-carries
 returns-clause-carries c =
     let p = c.in_ok-plan.ensures in
-    c.texts_carry_flats.ensures c.args.flat.now p.list c.in_ok-plan.plan c.in_ok-ports.ports (record {
+    texts_carry_flats c.args.flat.now p.list c.in_ok-plan.plan c.in_ok-ports.ports (record {
       sound = c.requires.sound;
       order = c.args.order.now.nodes;
       ordered = c.requires.ordered;

@@ -4,12 +4,15 @@ use Rattle.lane_core.specs.Tape.{AreTapeLists}
 use Rattle.grid_assembly.specs.PlanDrawing.{start_grid}
 use Rattle.pattern_writing.specs.WrittenText.{pattern_text}
 use Rattle.carries.specs.ByItself.{RunsByItselfFlat}
+use Rattle.carries.proofs.ByItself.{zeros_change_nothing}
 use Rattle.plan_layout.specs.Starts.{HasStartEdges}
 use Rattle.streams.specs.Rows.{rows_of}
 use Rattle.plan_ports.specs.Tables.{HasPortsOf, IsTableOf}
 use Rattle.plan_tapes.specs.Loaded.{with_tape}
 use Rattle.plan_carries.specs.Compiled.{IsCompiled}
 use Rattle.plan_carries.proofs.Carried.{starts_as_flat}
+use Rattle.plan_carries.proofs.Tapes.{tapes_run_by_themselves}
+use Rattle.plan_carries.proofs.Written.{plans_have_ports}
 use Rattle.netlist_plans.specs.Planned.{IsSmall}
 use Rattle.netlist_plans.proofs.Tables.{a_table}
 use Rattle.netlist_plans.proofs.Tapes.{are_lists, runs_on_streams, small_with_tape, ports_with_tape}
@@ -18,7 +21,7 @@ use Rattle.netlist_plans.proofs.taping.load_netlist.Goals as goal
 pub load-requires-clause-each_input : goal.load-requires-clause-each_input
 load-requires-clause-each_input c =
     let p = c.requires.planned in
-    ap length c.as_slice.ensures ∙ c.requires.many ∙ sym (c.plans_have_ports.ensures c.args.flat.now p.list c.args.plan p.computes p.is.computes).ins
+    ap length c.as_slice.ensures ∙ c.requires.many ∙ sym (plans_have_ports c.args.flat.now p.list c.args.plan p.computes p.is.computes).ins
 
 pub load-requires-clause-lists : goal.load-requires-clause-lists
 load-requires-clause-lists c =
@@ -28,7 +31,7 @@ pub of_plan-requires-clause-ports : goal.of_plan-requires-clause-ports
 of_plan-requires-clause-ports c =
     let p = c.requires.planned in
     subst (HasPortsOf c.args.flat.now) (sym c.in_ok-plan.ensures.loaded)
-    (ports_with_tape c.args.flat.now c.args.plan c.as_slice.result.now (c.plans_have_ports.ensures c.args.flat.now p.list c.args.plan p.computes p.is.computes))
+    (ports_with_tape c.args.flat.now c.args.plan c.as_slice.result.now (plans_have_ports c.args.flat.now p.list c.args.plan p.computes p.is.computes))
 
 pub returns-clause-edges : goal.returns-clause-edges
 returns-clause-edges c = subst HasStartEdges (sym c.in_ok-plan.ensures.loaded) c.requires.planned.is.edges
@@ -47,7 +50,7 @@ returns-clause-runs c =
     let p = c.requires.planned in
     let ports = c.in_ok-ports.ports in
     let is : c.in_ok-plan.plan ≡ with_tape streams.bits plan = c.in_ok-plan.ensures.loaded ∙ ap (λ (bits : List (List Bool)). with_tape bits plan) c.as_slice.ensures in
-    let many = c.plans_have_ports.ensures flat p.list plan p.computes p.is.computes in
+    let many = plans_have_ports flat p.list plan p.computes p.is.computes in
     let own = a_table flat plan many 1 in
     let compiled : IsCompiled flat p.list plan 1 own.0 = record {
       sound = c.requires.sound;
@@ -63,7 +66,7 @@ returns-clause-runs c =
       table = own.1;
     } in
     subst (λ (loaded : Plan). RunsByItselfFlat (pattern_text (start_grid loaded) ports) flat (rows_of streams)) (sym is)
-    (runs_on_streams (pattern_text (start_grid (with_tape streams.bits plan)) ports) flat plan streams c.runners_go_on.ensures.zeros c.requires.many c.requires.long
-    (c.tapes_run_by_themselves.ensures flat p.list plan own.0 compiled (starts_as_flat flat p.list plan p.computes p.is.starts) p.is.edges streams.bits
+    (runs_on_streams (pattern_text (start_grid (with_tape streams.bits plan)) ports) flat plan streams zeros_change_nothing c.requires.many c.requires.long
+    (tapes_run_by_themselves flat p.list plan own.0 compiled (starts_as_flat flat p.list plan p.computes p.is.starts) p.is.edges streams.bits
     (c.requires.many ∙ sym many.ins) (are_lists streams.bits streams.cycles c.requires.some c.requires.few c.requires.long)
     ports (subst (λ (loaded : Plan). IsTableOf flat loaded 1 ports) is c.in_ok-ports.ensures)))
