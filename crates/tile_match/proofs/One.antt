@@ -12,8 +12,6 @@ use Rattle.lane_core.specs.Instrs.{are_sorted_apart}
 use Rattle.lane_core.specs.Starts.{are_starts_in_order}
 use Rattle.lane_core.specs.Plans.{row_of, left_of}
 use Rattle.circuit_plans.specs.Circuits.{without_nets, starts_where}
-use Rattle.tile_library.specs.Drawings.{shipped_drawing}
-use Rattle.tiling.specs.Steps.{KeepsLaw}
 use Rattle.grid_assembly.specs.PlanDrawing.{start_grid}
 use Rattle.pattern_reading.specs.declared.ports.Ports.{Ports}
 use Rattle.tile_match.specs.Blocks.{columns_shown, bit_shown}
@@ -99,12 +97,12 @@ one_read grid ports a b ra rb =
     (ra.no_tape ∙ sym rb.no_tape)
 
 -- what is read of the rows of a drawing is the plan's
-pub drawing_is_read : KeepsLaw shipped_drawing → (grid : Grid) (ports : Ports) (plan : Plan) → IsPlanDrawing grid ports plan → IsPlanRead grid ports plan
-drawing_is_read law grid ports plan d = record {
+pub drawing_is_read : (grid : Grid) (ports : Ports) (plan : Plan) → IsPlanDrawing grid ports plan → IsPlanRead grid ports plan
+drawing_is_read grid ports plan d = record {
   size = size_is grid.width grid.height ports plan d.circuit d.ports;
   contexts = d.ports.contexts;
   columns = sym (ap (λ g. columns_shown g.rows plan.lanes plan.latches (length plan.columns)) d.drawn ∙ columns_are plan d.circuit);
-  starts = sym (ap (λ g. starts_where plan.lanes plan.latches (bit_shown g.rows plan.lanes plan.latches)) d.drawn ∙ starts_are law plan d.circuit);
+  starts = sym (ap (λ g. starts_where plan.lanes plan.latches (bit_shown g.rows plan.lanes plan.latches)) d.drawn ∙ starts_are plan d.circuit);
   ins = d.circuit.admissible.ins;
   in_cells = d.ports.in_cells;
   outs = d.circuit.admissible.outs;
@@ -112,15 +110,15 @@ drawing_is_read law grid ports plan d = record {
   no_tape = d.circuit.no_tape;
 }
 
-pub draws_one_plan : KeepsLaw shipped_drawing → DrawsOnePlan
-draws_one_plan law grid ports a b da db = one_read grid ports a b (drawing_is_read law grid ports a da) (drawing_is_read law grid ports b db)
+pub draws_one_plan : DrawsOnePlan
+draws_one_plan grid ports a b da db = one_read grid ports a b (drawing_is_read grid ports a da) (drawing_is_read grid ports b db)
 
 -- where nets are seen is not drawn
 nets_aside : (plan : Plan) → start_grid plan ≡ start_grid (without_nets plan)
 nets_aside plan = refl
 
 -- a plan that draws the pattern is drawn as the one that is read
-pub read_is : KeepsLaw shipped_drawing → (grid : Grid) (ports : Ports) (plan : Plan) → IsPlanRead grid ports plan → (other : Plan) → IsPlanDrawing grid ports other
+pub read_is : (grid : Grid) (ports : Ports) (plan : Plan) → IsPlanRead grid ports plan → (other : Plan) → IsPlanDrawing grid ports other
     → grid ≡ start_grid plan
-read_is law grid ports plan r other d =
-    d.drawn ∙ nets_aside other ∙ ap start_grid (one_read grid ports other plan (drawing_is_read law grid ports other d) r) ∙ sym (nets_aside plan)
+read_is grid ports plan r other d =
+    d.drawn ∙ nets_aside other ∙ ap start_grid (one_read grid ports other plan (drawing_is_read grid ports other d) r) ∙ sym (nets_aside plan)

@@ -9,10 +9,10 @@ use Rattle.ww_rule.specs.declared.pattern.State.{State}
 use Rattle.ww_rule.specs.declared.pattern.State.TheVariants.{Empty, Head, Tail, Conductor}
 use Rattle.ww_rule.specs.Wireworld.{is_head}
 use Rattle.tile_library.specs.Drawings.{shipped_drawing}
+use Rattle.tile_library.proofs.Kept.{shipped_keeps_law}
 use Rattle.tiling.specs.Tiling.{drawn}
 use Rattle.tiling.specs.Tiling.Edge.{Beside}
 use Rattle.tiling.specs.Matched.{is_entered}
-use Rattle.tiling.specs.Steps.{KeepsLaw}
 use Rattle.tiling.proofs.Shown.{shows_edges}
 use Rattle.lane_core.specs.declared.starts.Start.{Start}
 use Rattle.lane_core.specs.declared.plan.Plan.{Plan}
@@ -60,13 +60,13 @@ body_entry : (plan : Plan) (q l : ℕ) → IsEntry (in_body plan q l)
 body_entry plan q l = in_body_has IsEntry plan q l refl entry_kind
 
 -- the cell at which a lane enters the body
-entry_is : KeepsLaw shipped_drawing → (plan : Plan) → IsCircuit plan → (lane : ℕ) → lane < plan.lanes
+entry_is : (plan : Plan) → IsCircuit plan → (lane : ℕ) → lane < plan.lanes
     → is_head (cell_shown (start_grid plan).rows (column_start plan.latches 0) (row_of lane)) ≡ start_edges plan (Beside plan.latches lane)
-entry_is law plan h lane low =
+entry_is plan h lane low =
     let some : 0 < length plan.columns = some_columns plan h.admissible (omega arith) in
     let entered : is_entered (tiling_of plan plan.latches lane) 0 8 ≡ true =
     ap (λ slot. is_entered slot 0 8) (body_at plan plan.latches lane (omega arith) (omega arith) low) ∙ body_entry plan plan.latches lane in
-    let shown = (shows_edges shipped_drawing law (tiling_of plan) (tiling_is_matched plan h.admissible) (start_edges plan)).entry plan.latches lane 0 (omega arith) entered in
+    let shown = (shows_edges shipped_drawing shipped_keeps_law (tiling_of plan) (tiling_is_matched plan h.admissible) (start_edges plan)).entry plan.latches lane 0 (omega arith) entered in
     let column : column_start plan.latches 0 ≡ 32 * plan.latches = omega arith in
     ap (λ x. is_head (cell_shown (start_grid plan).rows x (row_of lane))) column
     ∙ ap (λ p. is_head (p (pos (32 * plan.latches)) (pos (row_of lane)))) ((patterns_are_planes plan h.admissible).plane ∙ (bare plan h.no_tape).plane shipped_drawing)
@@ -84,11 +84,11 @@ none_west lanes loops y (start ∷ starts) all =
     ap (λ b. (b && start.y == y) || is_start_at starts (32 * loops - 1) y) off
     ∙ none_west lanes loops y starts (All-tail (IsLoopStart lanes loops) start starts all)
 
-bit_is : KeepsLaw shipped_drawing → (plan : Plan) → IsCircuit plan → (loop : ℕ) → loop < plan.latches
+bit_is : (plan : Plan) → IsCircuit plan → (loop : ℕ) → loop < plan.latches
     → bit_shown (start_grid plan).rows plan.lanes plan.latches loop ≡ starts_with_one plan.starts.list plan.lanes plan.latches loop
-bit_is law plan h loop within =
+bit_is plan h loop within =
     let on_lanes : plan.latches ≤ plan.lanes = h.admissible.size.loops_on_lanes in
-    entry_is law plan h (first_loop_lane plan.lanes plan.latches + loop) (omega arith)
+    entry_is plan h (first_loop_lane plan.lanes plan.latches + loop) (omega arith)
     ∙ ap (λ b. is_start_at plan.starts.list (32 * plan.latches) (row_of (first_loop_lane plan.lanes plan.latches + loop)) || b)
     (none_west plan.lanes plan.latches (row_of (first_loop_lane plan.lanes plan.latches + loop)) plan.starts.list h.at_loops)
     ∙ or-false _
@@ -114,6 +114,6 @@ pub shown_long : (rows : List (List State)) (lanes loops : ℕ) (bits : List Boo
 shown_long rows lanes loops bits e = ap length e ∙ length-map-range_with_len (bit_shown rows lanes loops) 0 loops
 
 -- and these are the starts
-pub starts_are : KeepsLaw shipped_drawing → (plan : Plan) → IsCircuit plan
+pub starts_are : (plan : Plan) → IsCircuit plan
     → starts_where plan.lanes plan.latches (bit_shown (start_grid plan).rows plan.lanes plan.latches) ≡ plan.starts.list
-starts_are law plan h = starts_are_of_loops plan h (bit_shown (start_grid plan).rows plan.lanes plan.latches) (bit_is law plan h)
+starts_are plan h = starts_are_of_loops plan h (bit_shown (start_grid plan).rows plan.lanes plan.latches) (bit_is plan h)

@@ -13,11 +13,9 @@ use crate::compare::is_drawn;
 use crate::error::{AuditError, CircuitFault};
 use crate::names::has_bad_name;
 use crate::plan::plan_shown;
-use grid_assembly::laws::keeps_law;
 use lane_core::Plan;
 use pattern_reading::Ports;
 use std::alloc::Global;
-use tile_library::Shipped;
 use ww_rule::Pattern;
 
 /// Returns the plan of which a pattern with a port table is the drawing, without the places of
@@ -30,7 +28,6 @@ pub fn audit(alloc: Global, pattern: &Pattern, ports: &Ports) -> Result<Plan, Au
         → IsErrOf result (NotCircuit fault)
         → HasCircuitFault (grid_of pattern.now) ports.now fault }
 {
-    keeps_law(&Shipped);
     let Some(plan) = plan_shown(alloc, pattern, ports)? else {
         return Err(AuditError::NotCircuit(CircuitFault::Ports));
     };
