@@ -8,4 +8,5 @@ pub mod PortNames
 pub mod Values
 pub mod Valuations
 pub mod Loops
+pub mod FlatsLowered
 pub mod NetIndex

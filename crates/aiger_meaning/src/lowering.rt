@@ -11,12 +11,11 @@ ghost use Rattle.aiger_meaning.specs.Lowered.{IsLowered};
 
 use crate::error::LowerError;
 use crate::flat::flat_of;
-use crate::laws::{flats_of_aigs_are_lowered, loops_of_aigs_are_flat};
 use crate::literals::OwnLiterals;
 use crate::loop_literals::literals_at;
 use crate::weight::weight_of;
 use aiger_text::Aig;
-use loop_check::{OrderError, order};
+use loop_check::OrderError;
 use netlist_core::{Flat, Order, WEIGHT_LIMIT};
 use std::alloc::Global;
 
@@ -47,9 +46,7 @@ pub fn lower(alloc: Global, aig: &Aig) -> Result<Lowered, LowerError>
     }
     let own = OwnLiterals::new(alloc, aig)?;
     let flat = flat_of(alloc, aig, &own, weight)?;
-    flats_of_aigs_are_lowered();
-    loops_of_aigs_are_flat();
-    match order(alloc, &flat) {
+    match loop_check::order(alloc, &flat) {
         Ok(order) => Ok(Lowered { flat, order }),
         Err(OrderError::Loop(nets)) => {
             Err(LowerError::Loop(literals_at(alloc, aig, &own, nets.as_slice())?))

@@ -20,10 +20,11 @@ use Rattle.netlist_plans.specs.Planned.{ComputesCells, IsSmall}
 use Rattle.aiger_text.specs.declared.aig.Aig.{Aig}
 use Rattle.aiger_meaning.specs.FlatOf.{IsFlatOfAig}
 use Rattle.aiger_meaning.specs.Lowered.{IsLowered}
-use Rattle.aiger_plans.specs.Laws.{AigsAreCarried}
-use Rattle.aiger_plans.specs.Needs.{AsksAlike, FlatsOfAigsAskAlike}
+use Rattle.aiger_plans.specs.Needs.{AsksAlike}
 use Rattle.aiger_plans.specs.Planned.{IsTableOfAig, IsPlanOfAig}
+use Rattle.aiger_plans.proofs.Carried.{aigs_are_carried}
 use Rattle.aiger_plans.proofs.Named.{none_listed}
+use Rattle.aiger_plans.proofs.Needs.{flats_of_aigs_ask_alike}
 
 -- beside no tape each input is driven
 all_driven : {X : Type 0} (plan : Plan) (inputs : List X) → plan.tape ≡ [] → driven_inputs plan inputs ≡ inputs
@@ -33,9 +34,9 @@ no_lines : (lines : List NetLine) → names_and_paths lines ≡ [] → lines ≡
 no_lines [] e = refl
 no_lines (line ∷ lines) e = absurd (omega (arith, ap length e))
 
-module _ (alike : FlatsOfAigsAskAlike) (carried : AigsAreCarried) (aig : Aig) (flat : Flat) (is_flat : IsFlatOfAig aig flat) (lowered : IsLowered aig flat) (plan : Plan) (ports : Ports) where
+module _ (aig : Aig) (flat : Flat) (is_flat : IsFlatOfAig aig flat) (lowered : IsLowered aig flat) (plan : Plan) (ports : Ports) where
   asks : AsksAlike aig flat
-  asks = alike aig flat is_flat
+  asks = flats_of_aigs_ask_alike aig flat is_flat
 
   table_of_aig : plan.tape ≡ [] → IsTableOf flat plan 1 ports → IsTableOfAig aig plan ports
   table_of_aig bare table = record {
@@ -63,5 +64,5 @@ module _ (alike : FlatsOfAigsAskAlike) (carried : AigsAreCarried) (aig : Aig) (f
     instrs = subst (λ w. instr_count plan.columns ≤ 256 * ((w + 1) * (w + 1))) lowered.weight small.instrs;
     table = table_of_aig bare table;
     period = λ none e. short (asks.latches ∙ none) (asks.one ∙ e);
-    carries = carried (pattern_text (start_grid plan) ports) aig flat carries lowered;
+    carries = aigs_are_carried (pattern_text (start_grid plan) ports) aig flat carries lowered;
   }

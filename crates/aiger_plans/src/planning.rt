@@ -7,8 +7,7 @@ ghost use Rattle.aiger_meaning.specs.Circuit.{aig_weight};
 ghost use Rattle.aiger_meaning.specs.Loop.{IsAigLoop};
 ghost use Rattle.aiger_plans.specs.Planned.{IsPlanOfAig};
 
-use crate::{aigs_are_carried, flats_of_aigs_ask_alike};
-use aiger_meaning::{LowerError, lower};
+use aiger_meaning::LowerError;
 use aiger_text::Aig;
 use netlist_plans::{NetlistPlanError, Planned, plan_netlist};
 use std::alloc::Global;
@@ -23,9 +22,7 @@ pub fn plan_circuit(alloc: Global, aig: &Aig) -> Result<Planned, LowerError>
     ensures no_loop { OnOk result ((lits : List ℕ) → ¬ IsAigLoop aig.now lits) }
     ensures refused { IfErr result (HasLowerCause aig.now) }
 {
-    aigs_are_carried();
-    flats_of_aigs_ask_alike();
-    let lowered = lower(alloc, aig)?;
+    let lowered = aiger_meaning::lower(alloc, aig)?;
     match plan_netlist(alloc, &lowered.flat, &lowered.order) {
         Ok(planned) => Ok(planned),
         Err(NetlistPlanError::NoMemory) => Err(LowerError::NoMemory),

@@ -4,9 +4,8 @@ ghost use Rattle.netlist_meaning.specs.Flat.{IsSound};
 ghost use Rattle.netlist_meaning.specs.FlatOrder.{IsOrder};
 ghost use Rattle.aiger_text.specs.SoundAig.{IsSoundAig};
 
-use aiger_meaning::{LowerError, Lowered, lower};
-use aiger_reader::{Aig, read};
-use aiger_text::laws::read_aigs_are_sound;
+use aiger_meaning::{LowerError, Lowered};
+use aiger_reader::Aig;
 use netlist_core::{Flat, Order};
 use netlist_eval::Machine;
 use std::alloc::{AllocError, Global};
@@ -118,7 +117,7 @@ fn refusal_said(alloc: Global, error: &LowerError) -> Result<Vec<u8>, AllocError
 fn aig_said(alloc: Global, aig: &Aig, rows: &[&[u8]]) -> Result<Vec<u8>, AllocError>
     requires { IsSoundAig aig.now }
 {
-    match lower(alloc, aig) {
+    match aiger_meaning::lower(alloc, aig) {
         Ok(lowered) => {
             let Lowered { flat, order } = lowered;
             flat_said(alloc, &flat, order, rows)
@@ -130,8 +129,7 @@ fn aig_said(alloc: Global, aig: &Aig, rows: &[&[u8]]) -> Result<Vec<u8>, AllocEr
 /// Lowers the circuit of a text to a flat netlist, and returns the weight of the netlist and its
 /// output bits for each row of input bits, or why there is no netlist.
 pub fn lowered_said(alloc: Global, text: &[u8], rows: &[&[u8]]) -> Result<Vec<u8>, AllocError> {
-    read_aigs_are_sound();
-    match read(alloc, text) {
+    match aiger_reader::read(alloc, text) {
         Ok(aig) => aig_said(alloc, &aig, rows),
         Err(_) => Err(AllocError),
     }

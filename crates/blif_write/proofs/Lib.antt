@@ -2,4 +2,4 @@ mod Counted
 mod Leading
 mod NamedWords
 mod Pieces
-mod TextsRead
+pub mod TextsRead

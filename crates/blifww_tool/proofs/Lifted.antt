@@ -9,16 +9,15 @@ use Rattle.cell_core.specs.declared.list.CellList.{CellList}
 use Rattle.netlist_core.specs.Names.{Name}
 use Rattle.circuit_plans.specs.Lists.{IsListOf}
 use Rattle.circuit_plans.proofs.Whole.{is_plain}
-use Rattle.lifted_designs.specs.Clocks.{LiftedHaveNoClockFault}
 use Rattle.lifted_designs.specs.Lifted.{lifted_design}
-use Rattle.lifted_designs.specs.NoLoop.{LiftedHaveNoLoop}
 use Rattle.lifted_designs.specs.Runs.{ArePortNames}
+use Rattle.lifted_designs.proofs.NoClocks.{lifted_have_no_clock_fault}
+use Rattle.lifted_designs.proofs.Rising.{lifted_have_no_loop}
 use Rattle.blif_write.specs.declared.lift.Lift.{Lift}
-use Rattle.blif_write.specs.Laws.{LiftedTextsRead}
 use Rattle.blif_write.specs.Lift.{IsLiftOf, text_of_lift}
 use Rattle.blif_write.specs.Text.{lifted_text}
-use Rattle.lift_carries.specs.Lifts.{LiftsCarry}
-use Rattle.lift_carries.proofs.Lifted.{loop_count_is, many_outs, named_ins, named_outs}
+use Rattle.blif_write.proofs.TextsRead.{lifted_texts_read}
+use Rattle.lift_carries.proofs.Lifted.{lifts_carry, loop_count_is, many_outs, named_ins, named_outs}
 use Rattle.lift_carries.proofs.PortNames.{are_port_names, ins_are_words, outs_are_words}
 use Rattle.pattern_reading.specs.Pattern.{ReadsWithinLimit}
 use Rattle.pattern_reading.specs.PortTable.{ReadsAsPorts, HasPortFault}
@@ -40,8 +39,7 @@ use Rattle.blifww_tool.specs.Lifting.{IsCircuitText, IsNetlistOf, Lifts}
 
 -- ---- the netlist
 
-module _ (texts : LiftedTextsRead) (clocks : LiftedHaveNoClockFault) (loops : LiftedHaveNoLoop) (carry : LiftsCarry)
-    (text : List ℕ) (grid : Grid) (ports : Ports) (plan : Plan) (is : IsCircuitText text grid ports plan)
+module _ (text : List ℕ) (grid : Grid) (ports : Ports) (plan : Plan) (is : IsCircuitText text grid ports plan)
     (list : CellList) (cells : IsListOf plan list) (few : length list.cells < 2 ^ 64) where
   abbrev ins : List Name
   ins = names_of ports.ins
@@ -63,10 +61,10 @@ module _ (texts : LiftedTextsRead) (clocks : LiftedHaveNoClockFault) (loops : Li
 
   netlist_of : IsNetlistOf text (lifted_text (names_of ports.ins) (names_of ports.outs) list) (lifted_design (names_of ports.ins) (names_of ports.outs) list)
   netlist_of = record {
-    design_of = texts list ins outs long wide (is_plain plan list cells) names (ins_are_words ports is.named) (outs_are_words ports is.named) few few_latches;
-    clocks = clocks list ins outs long wide (is_plain plan list cells);
-    no_loop = loops list ins outs long wide (is_plain plan list cells) names few few_latches;
-    carries = carry text grid ports plan list (record {
+    design_of = lifted_texts_read list ins outs long wide (is_plain plan list cells) names (ins_are_words ports is.named) (outs_are_words ports is.named) few few_latches;
+    clocks = lifted_have_no_clock_fault list ins outs long wide (is_plain plan list cells);
+    no_loop = lifted_have_no_loop list ins outs long wide (is_plain plan list cells) names few few_latches;
+    carries = lifts_carry text grid ports plan list (record {
       spells = record { reads = is.pattern.0; table = is.table };
       drawing = is.drawing;
       names = is.named;

@@ -6,8 +6,6 @@ ghost use Rattle.blifww_tool.specs.Commands.{Prints, HasTextCause};
 
 use crate::output::Output;
 use aiger_plans::plan_circuit;
-use aiger_reader::read;
-use aiger_text::laws::read_aigs_are_sound;
 use refusals::TextError;
 use std::alloc::Global;
 
@@ -18,8 +16,7 @@ pub fn aiger(alloc: Global, text: &[u8]) -> Result<Output, TextError>
     ensures writable { IfOk result IsWritableOutput }
     ensures refused { IfErr result (λ e. HasTextCause aiger text.now e) }
 {
-    let circuit = read(alloc, text)?;
-    read_aigs_are_sound();
+    let circuit = aiger_reader::read(alloc, text)?;
     let planned = plan_circuit(alloc, &circuit)?;
     Ok(Output::Drawing(planned))
 }

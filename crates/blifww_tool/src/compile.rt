@@ -11,10 +11,8 @@ ghost use Rattle.blifww_tool.specs.Commands.{Prints, HasTextCause};
 ghost use Rattle.blifww_tool.specs.Compilation.{Compiles, HasStarts, IsCarriedBy};
 
 use crate::output::Output;
-use lift_carries::compiled_are_drawings;
 use netlist_plans::{NetlistPlanError, Planned, plan_contexts, plan_netlist};
 use netlist_text::{Netlist, netlist_of};
-use plan_carries::{designs_are_carried, designs_are_carried_in_contexts};
 use refusals::{Cause, TextError};
 use start_words::Starts;
 use std::alloc::Global;
@@ -27,8 +25,6 @@ pub fn plan_of(alloc: Global, netlist: &Netlist) -> Result<Planned, NetlistPlanE
     ensures planned { IfOk result (λ p. IsPlanned netlist.now.flat p.plan) }
     ensures bare { IfOk result (λ p. p.plan.tape ≡ []) }
 {
-    designs_are_carried();
-    compiled_are_drawings();
     let planned = plan_netlist(alloc, &netlist.flat, &netlist.order)?;
     Ok(planned)
 }
@@ -64,8 +60,6 @@ fn started(
         → HasStarts contexts (map string_bytes words.now) text netlist.now.design
         → HasTextCause (compile contexts (map string_bytes words.now)) text e) }
 {
-    designs_are_carried_in_contexts();
-    compiled_are_drawings();
     let limit = planned.ports.p / 32;
     if contexts > limit {
         return Err(TextError::Refused(Cause::TooManyContexts { contexts, limit }));

@@ -11,7 +11,7 @@ ghost use Rattle.blifww_tool.specs.Driven.{names_in_context, simulation_of};
 
 use drive::Streams;
 use lists::Bytes;
-use pattern_reading::{PortLine, Ports, names_of};
+use pattern_reading::{PortLine, Ports};
 use refusals::TextError;
 use std::alloc::{AllocError, Global};
 use word_cuts::with_context;
@@ -79,7 +79,7 @@ pub fn driven_by(
 {
     let pattern = rle_read::read(alloc, text)?;
     let ports = port_table::read(alloc, text, pattern.width, pattern.height)?;
-    let names = names_of(alloc, ports.ins.as_slice())?;
+    let names = pattern_reading::names_of(alloc, ports.ins.as_slice())?;
     let streams = Streams::read(alloc, words, &names, cycles, ports.c)?;
     Ok(Driven {
         pattern,

@@ -10,7 +10,6 @@ ghost use Rattle.refusals.specs.declared.causes.TextError.TheVariants.{NoMemory}
 use crate::lines::output_lines;
 use crate::output::Output;
 use drive::{StreamError, Streams};
-use netlist_run::run;
 use netlist_text::{Netlist, netlist_of};
 use refusals::TextError;
 use std::alloc::Global;
@@ -47,7 +46,7 @@ fn run_lines(alloc: Global, netlist: Netlist, streams: &Streams) -> Result<Outpu
     ensures refused { IfErr result (λ e. e ≡ NoMemory) }
 {
     let outs = netlist.out_names(alloc)?;
-    let bits = run(alloc, netlist, streams)?;
+    let bits = netlist_run::run(alloc, netlist, streams)?;
     Ok(Output::Lines(output_lines(alloc, outs.as_slice(), bits.as_slice())?))
 }
 

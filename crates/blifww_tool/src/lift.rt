@@ -8,13 +8,9 @@ ghost use Rattle.blifww_tool.specs.Answer.{output_text, IsWritableOutput};
 ghost use Rattle.blifww_tool.specs.Commands.{Prints, HasTextCause};
 
 use crate::output::Output;
-use blif_write::laws::lifted_texts_read;
-use lift_carries::lifts_carry;
-use lifted_designs::{lifted_have_no_clock_fault, lifted_have_no_loop};
 use pattern_reading::Ports;
 use refusals::TextError;
 use std::alloc::Global;
-use tile_match::audit;
 use ww_rule::Pattern;
 
 // The netlist that a pattern with its port table carries, if they are the drawing of a circuit.
@@ -29,11 +25,7 @@ fn drawn(alloc: Global, pattern: &Pattern, ports: &Ports) -> Result<Output, Text
         → ReadsAsPorts text pattern.now.width pattern.now.height ports.now
         → HasTextCause lift text e) }
 {
-    let plan = audit(alloc, pattern, ports)?;
-    lifted_texts_read();
-    lifted_have_no_clock_fault();
-    lifted_have_no_loop();
-    lifts_carry();
+    let plan = tile_match::audit(alloc, pattern, ports)?;
     let made = blif_write::of(alloc, &plan, ports);
     drop(plan);
     let lifted = made?;

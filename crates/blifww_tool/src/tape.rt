@@ -15,7 +15,6 @@ use crate::output::Output;
 use drive::Streams;
 use netlist_plans::load_netlist;
 use netlist_text::{Netlist, netlist_of};
-use plan_carries::designs_run_by_themselves;
 use refusals::TextError;
 use std::alloc::Global;
 
@@ -32,7 +31,6 @@ fn taped(alloc: Global, netlist: &Netlist, streams: &Streams) -> Result<Output, 
     ensures writable { IfOk result IsWritableOutput }
     ensures refused { IfErr result (λ e. e ≡ NoMemory) }
 {
-    designs_run_by_themselves();
     let planned = plan_of(alloc, netlist)?;
     let loaded = load_netlist(alloc, &netlist.flat, planned.plan, streams)?;
     Ok(Output::Drawing(loaded))

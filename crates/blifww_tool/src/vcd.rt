@@ -8,7 +8,6 @@ use crate::driven::driven_by;
 use crate::output::Output;
 use refusals::TextError;
 use std::alloc::Global;
-use vcd_write::texts_say_waves;
 
 /// Makes the dump of the bits that the nets of the text's pattern show in each of its contexts. The
 /// words are the streams of the inputs. All nets of context 0 come first.
@@ -21,7 +20,6 @@ pub fn vcd(alloc: Global, cycles: usize, words: &[String], text: &[u8]) -> Resul
         (vcd cycles (map string_bytes words.now)) text.now e) }
 {
     let driven = driven_by(alloc, cycles, words, text)?;
-    texts_say_waves();
     let waves = vcd_write::of(alloc, driven.pattern, &driven.ports, &driven.streams)?;
     Ok(Output::Waves(waves))
 }

@@ -9,16 +9,15 @@ ghost use Rattle.drive.specs.Driving.{AreFor, first_miss, shown_bits, greatest_g
 ghost use Rattle.circuit_plans.specs.Lists.{IsListOf};
 ghost use Rattle.drawn_runs.specs.Laws.{DrawsList};
 
-use crate::laws::drawings_show_their_lists;
 use cell_core::CellList;
-use circuit_plans::{LiftError, cells_of};
-use drive::{GREATEST_GENERATION, SimulateError, last_from};
+use circuit_plans::LiftError;
+use drive::{GREATEST_GENERATION, SimulateError};
 use lane_core::Plan;
 use lists::List;
 use pattern_reading::Ports;
 use std::alloc::{AllocError, Global};
 use streams::Streams;
-use tile_match::{AuditError, audit};
+use tile_match::AuditError;
 use ww_rule::Pattern;
 
 // The number of a pattern's cells that can be looked at in the time of one generation.
@@ -34,7 +33,7 @@ fn pays(pattern: &Pattern, ports: &Ports, streams: &Streams) -> bool
     if ports.c != 1 {
         return false;
     }
-    let last = last_from(ports.l, ports, streams);
+    let last = drive::last_from(ports.l, ports, streams);
     let cells = pattern.width as u128 * pattern.height as u128;
     last <= GREATEST_GENERATION && cells <= CELLS_A_GENERATION * last
 }
@@ -44,7 +43,7 @@ fn list_of(alloc: Global, plan: &Plan) -> Result<CellList, AllocError>
     ensures cells { IfOk result (IsListOf plan.now) }
     ensures few { IfOk result (λ list. length list.cells < 2 ^ 64) }
 {
-    match cells_of(alloc, plan) {
+    match circuit_plans::cells_of(alloc, plan) {
         Ok(list) => {
             let _cells = list.cells.len();
             Ok(list)
@@ -63,7 +62,7 @@ fn list_drawn(
     ensures { IfOk result (λ found. MatchOption found ⊤
         (DrawsList (grid_of pattern.now) ports.now)) }
 {
-    match audit(alloc, pattern, ports) {
+    match tile_match::audit(alloc, pattern, ports) {
         Ok(plan) => Ok(Some(list_of(alloc, &plan)?)),
         Err(AuditError::NotCircuit(_)) => Ok(None),
         Err(AuditError::NoMemory) => Err(AllocError),
@@ -115,10 +114,7 @@ pub fn simulate(
         (last_generation ports.now streams.now)) }
 {
     match list_to_run(alloc, &pattern, ports, streams)? {
-        Some(list) => {
-            drawings_show_their_lists();
-            Ok(cell_runs::run(alloc, &list, streams)?)
-        }
+        Some(list) => Ok(cell_runs::run(alloc, &list, streams)?),
         None => drive::simulate(alloc, pattern, ports, streams),
     }
 }

@@ -10,13 +10,11 @@ use crate::fails::expect_turn;
 use crate::plans::admitted;
 use crate::samples::{Sample, written};
 use crate::tapes::taped;
-use grid_assembly::laws::keeps_law;
 use lane_core::Plan;
 use macro_grid::{Edges, EdgesError, macro_step};
 use std::alloc::Global;
 use std::mem;
 use std::test::Fail;
-use tile_library::Shipped;
 
 // A macro step: 32 generations of the plane with the shipped drawings.
 fn step_shipped(plan: &Plan, old: &Edges, new: &mut Edges)
@@ -26,7 +24,6 @@ fn step_shipped(plan: &Plan, old: &Edges, new: &mut Edges)
     ensures plane { IsDrawnAfter32 shipped_drawing (drawn_tiling plan.now) (lit_of old.now)
         (lit_of new.new) }
 {
-    keeps_law(&Shipped);
     macro_step(plan, old, new);
 }
 

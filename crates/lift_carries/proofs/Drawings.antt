@@ -1,22 +1,20 @@
 -- The text that is written of what is compiled for one context spells the drawing of the plan.
 use Rattle.std.proofs.Common.{refl, arith}
-use Rattle.ww_rule.specs.Grid.{Grid}
-use Rattle.grid_assembly.specs.Laws.{PatternsArePlanes}
 use Rattle.grid_assembly.specs.PlanDrawing.{start_grid}
-use Rattle.pattern_reading.specs.declared.ports.Ports.{Ports}
-use Rattle.pattern_writing.specs.WrittenText.{HasWrittenText}
-use Rattle.plan_ports.specs.Laws.{HasRoom, TablesAreReadable}
-use Rattle.plan_ports.proofs.Readable.{small_size}
+use Rattle.grid_assembly.proofs.Pattern.{patterns_are_planes}
+use Rattle.pattern_writing.proofs.Written.{written_text}
+use Rattle.plan_ports.specs.Laws.{HasRoom}
+use Rattle.plan_ports.proofs.Readable.{small_size, tables_are_readable}
 use Rattle.plan_carries.proofs.Bare.{bare_in_cells, bare_out_cells}
 use Rattle.lift_carries.specs.Compiled.{CompiledAreDrawings}
 
-pub compiled_are_drawings : PatternsArePlanes → ((grid : Grid) (ports : Ports) → HasWrittenText grid ports) → TablesAreReadable → CompiledAreDrawings
-compiled_are_drawings patterns written readable flat plan ports k =
+pub compiled_are_drawings : CompiledAreDrawings
+compiled_are_drawings flat plan ports k =
     let c = k.circuit in
     let size = small_size plan c.admissible in
     let room : HasRoom plan 1 = record { some = λ e. omega (arith, e); room = λ more. absurd (omega (arith, more)) } in
-    let table = readable flat plan 1 ports k.sound.in_range k.named k.names k.places c.admissible room k.table in
-    let reads = written (start_grid plan) ports (record { in_rows = (patterns plan c.admissible).box; width = omega (arith, size.0); height = omega (arith, size.1) }) table.sound table.inside in
+    let table = tables_are_readable flat plan 1 ports k.sound.in_range k.named k.names k.places c.admissible room k.table in
+    let reads = written_text (start_grid plan) ports (record { in_rows = (patterns_are_planes plan c.admissible).box; width = omega (arith, size.0); height = omega (arith, size.1) }) table.sound table.inside in
     record {
       spells = record { reads = reads.0; table = reads.1 };
       drawing = record {

@@ -12,7 +12,7 @@ use Rattle.ww_rule.specs.Injections.{MeetsConductors}
 use Rattle.ww_rule.specs.Contexts.{due_of_contexts}
 use Rattle.ww_rule.proofs.Contexts.{contexts_are_injected}
 use Rattle.tile_library.specs.Drawings.{shipped_drawing}
-use Rattle.tiling.specs.Steps.{KeepsLaw}
+use Rattle.tile_library.proofs.Kept.{shipped_keeps_law}
 use Rattle.lane_core.specs.declared.plan.Plan.{Plan}
 use Rattle.lane_core.specs.Instrs.{bit_on}
 use Rattle.lane_core.specs.Columns.{after_columns}
@@ -24,7 +24,7 @@ use Rattle.plan_layout.proofs.Bare.{bare}
 use Rattle.plan_waves.specs.ShownContexts.{ShowsContextBits}
 use Rattle.plan_waves.specs.ContextRows.{drive_of_contexts, bits_of_context_rows}
 use Rattle.plan_waves.proofs.ContextRows.{plans_show_context_rows}
-use Rattle.grid_assembly.specs.Laws.{PatternsArePlanes}
+use Rattle.grid_assembly.proofs.Pattern.{patterns_are_planes}
 use Rattle.cell_core.specs.declared.list.CellList.{CellList}
 use Rattle.cell_core.specs.Meaning.{Fits}
 use Rattle.cell_core.specs.Loops.{names_one, loop_state}
@@ -32,7 +32,7 @@ use Rattle.cell_meaning.specs.Computes.{ComputesByPlan}
 use Rattle.pattern_reading.specs.declared.ports.PortLine.{PortLine}
 use Rattle.pattern_reading.specs.declared.ports.Ports.{Ports}
 use Rattle.pattern_reading.specs.Ports.{cells_of, names_of}
-use Rattle.pattern_reading.specs.SoundTable.{HasSoundTable}
+use Rattle.port_table.proofs.SoundTable.{sound_table}
 use Rattle.netlist_core.specs.Names.{Name}
 use Rattle.netlist_core.specs.declared.model.Design.{Design}
 use Rattle.netlist_meaning.specs.Valuation.{Valuation, LatchState, AreInputRows, IsRun, IsValuation, start_state, latches_in, output_bit}
@@ -44,10 +44,10 @@ use Rattle.circuit_plans.specs.Lifted.{entry_lanes, lift_columns, source_on}
 use Rattle.circuit_plans.specs.Lists.{IsListOf}
 use Rattle.circuit_plans.proofs.Whole.{computes_bare, is_plain}
 use Rattle.plan_carries.proofs.Carried.{in_contexts}
-use Rattle.lifted_designs.specs.Computes.{ComputesDesign, ListsComputeLifted}
+use Rattle.lifted_designs.specs.Computes.{ComputesDesign}
 use Rattle.lifted_designs.specs.Lifted.{lifted_design}
-use Rattle.lifted_designs.specs.Runs.{LiftedHaveRuns}
-use Rattle.lifted_designs.proofs.Lifted.{ins_are, names_at}
+use Rattle.lifted_designs.proofs.Lifted.{ins_are, lists_compute, names_at}
+use Rattle.lifted_designs.proofs.Runs.{lifted_have_runs}
 use Rattle.tile_match.specs.Circuit.{HasBoxAndPorts}
 use Rattle.lift_carries.specs.Lifts.{LiftsCarry}
 use Rattle.lift_carries.proofs.PortNames.{are_port_names}
@@ -165,11 +165,11 @@ loop_count_is plan list cells =
     ap length cells.latches ∙ length-map-range_with_len (λ number. source_on (lift_columns (entry_lanes plan) plan.columns).sources (plan.lanes - 1 - number)) 0 plan.latches
 
 -- the plane of a circuit shows the runs of a design that its list computes
-module _ (law : KeepsLaw shipped_drawing) (width height : ℕ) (ports : Ports) (plan : Plan) (has : HasBoxAndPorts width height ports plan) (circuit : IsCircuit plan)
+module _ (width height : ℕ) (ports : Ports) (plan : Plan) (has : HasBoxAndPorts width height ports plan) (circuit : IsCircuit plan)
     (design : Design) (list : CellList) (cells : IsListOf plan list) (d : ComputesDesign list design) where
   shows : (rows : List (List Bool))
       → ShowsContextBits shipped_drawing plan (start_edges plan) (drive_of_contexts plan (rows ∷ [])) 1 (bits_of_context_rows plan (first_bits plan ∷ []) (rows ∷ []))
-  shows rows = plans_show_context_rows shipped_drawing law plan circuit.admissible (first_bits plan ∷ []) (start_edges plan) (circuit_on_loops plan circuit) (rows ∷ []) refl
+  shows rows = plans_show_context_rows shipped_drawing shipped_keeps_law plan circuit.admissible (first_bits plan ∷ []) (start_edges plan) (circuit_on_loops plan circuit) (rows ∷ []) refl
 
   conductors : (rows : List (List Bool)) → AreInputRows design rows → MeetsConductors (drive ports rows) (start_plane shipped_drawing plan)
   conductors rows are = subst (λ due. MeetsConductors due (start_plane shipped_drawing plan)) (sym (same_drive width height ports plan has rows)) (shows rows).conductors
@@ -190,17 +190,17 @@ module _ (law : KeepsLaw shipped_drawing) (width height : ℕ) (ports : Ports) (
       (subst (λ p. ShowsBitsFrom (latency_of plan) p (length rows) bits g (driven (drive_of_contexts plan (rows ∷ [])) (start_plane shipped_drawing plan) g) cell.x cell.y) (sym has.period)
       (subst (λ (at : ℕ × ℕ). ShowsBitsFrom (latency_of plan) (period_of plan) (length rows) bits g (driven (drive_of_contexts plan (rows ∷ [])) (start_plane shipped_drawing plan) g) at.0 at.1) (sym place.1) shown)))
 
-pub lifts_carry : KeepsLaw shipped_drawing → PatternsArePlanes → ((text : List ℕ) (width height : ℕ) → HasSoundTable text width height) → ListsComputeLifted → LiftedHaveRuns → LiftsCarry
-lifts_carry law patterns sound compute runs text grid ports plan list l = record {
+pub lifts_carry : LiftsCarry
+lifts_carry text grid ports plan list l = record {
   grid = grid;
   ports = ports;
   spells = l.spells;
   contexts = has.contexts;
   names = record { ins = ins_are list ins outs long wide plain; outs = sym (names_at 3 outs) };
   shows = subst (λ p. ShowsRuns p ports (lifted_design ins outs list)) (sym plane) (record {
-    conductors = conductors law grid.width grid.height ports plan has circuit (lifted_design ins outs list) list l.cells computes;
-    runs = runs list ins outs long wide plain (are_port_names ports (sound text grid.width grid.height ports l.spells.table) l.names) l.few_cells few_latches;
-    heads = heads law grid.width grid.height ports plan has circuit (lifted_design ins outs list) list l.cells computes;
+    conductors = conductors grid.width grid.height ports plan has circuit (lifted_design ins outs list) list l.cells computes;
+    runs = lifted_have_runs list ins outs long wide plain (are_port_names ports (sound_table text grid.width grid.height ports l.spells.table) l.names) l.few_cells few_latches;
+    heads = heads grid.width grid.height ports plan has circuit (lifted_design ins outs list) list l.cells computes;
   });
 }
   where
@@ -226,10 +226,10 @@ lifts_carry law patterns sound compute runs text grid ports plan list l = record
     plain = is_plain plan list l.cells
 
     computes : ComputesDesign list (lifted_design (names_of ports.ins) (names_of ports.outs) list)
-    computes = compute list (names_of ports.ins) (names_of ports.outs) long wide plain
+    computes = lists_compute list (names_of ports.ins) (names_of ports.outs) long wide plain
 
     few_latches : length list.latches < 2 ^ 64
     few_latches = omega (arith, loop_count_is plan list l.cells, circuit.admissible.size.lanes, circuit.admissible.size.loops_on_lanes)
 
     plane : plane_of grid.rows ≡ start_plane shipped_drawing plan
-    plane = ap (λ (g : Grid). plane_of g.rows) l.drawing.drawn ∙ (patterns plan circuit.admissible).plane ∙ (bare plan circuit.no_tape).plane shipped_drawing
+    plane = ap (λ (g : Grid). plane_of g.rows) l.drawing.drawn ∙ (patterns_are_planes plan circuit.admissible).plane ∙ (bare plan circuit.no_tape).plane shipped_drawing

@@ -9,24 +9,11 @@
 ghost use Rattle.lift_carries.specs.Compiled.{CircuitsStartOneContext, CompiledAreDrawings, OneContextIsCircuit};
 ghost use Rattle.lift_carries.specs.Lifts.{LiftsCarry};
 
-use grid_assembly::laws::{keeps_law, patterns_are_planes};
-use lifted_designs::{lifted_have_runs, lists_compute};
-use pattern_writing::written_text_reads;
-use plan_ports::tables_are_readable;
-use port_table::laws::tables_are_sound;
-use tile_library::Shipped;
-
 /// A text that spells the drawing of a plan carries the netlist of the plan's cells, with the names
 /// of the ports in the text.
 pub fn lifts_carry()
     ensures { LiftsCarry }
-{
-    keeps_law(&Shipped);
-    patterns_are_planes();
-    tables_are_sound();
-    lists_compute();
-    lifted_have_runs();
-}
+{}
 
 /// If an admissible plan without a tape starts one context, its starts are only where its loops
 /// enter the columns.
@@ -43,8 +30,4 @@ pub fn circuits_start_one_context()
 /// plan.
 pub fn compiled_are_drawings()
     ensures { CompiledAreDrawings }
-{
-    patterns_are_planes();
-    written_text_reads();
-    tables_are_readable();
-}
+{}

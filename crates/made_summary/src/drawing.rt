@@ -5,7 +5,6 @@ ghost use Rattle.made_summary.specs.Streams.{stream_after, streams_after};
 
 use drive::Streams;
 use lists::List;
-use made_netlists::draw;
 use std::alloc::{AllocError, Global};
 
 // Draws a bit for each cycle.
@@ -17,7 +16,7 @@ fn draw_stream(alloc: Global, state: &mut u32, cycles: usize) -> Result<Vec<bool
 {
     let mut stream = Vec::with_capacity(alloc, cycles)?;
     for cycle in 0..cycles {
-        stream.push(draw(state, 2) == 1)?;
+        stream.push(made_netlists::draw(state, 2) == 1)?;
     }
     Ok(stream)
 }

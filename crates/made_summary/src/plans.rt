@@ -8,14 +8,8 @@ ghost use Rattle.made_summary.specs.Plans.{IsMadeWithPlan};
 ghost use Rattle.made_summary.specs.declared.error.SummaryError.TheVariants.{NoMemory};
 
 use crate::error::SummaryError;
-use crate::laws::written_plans_read;
-use crate::texts::{made_are_netlists, made_have_sizes};
-use flat_designs::{flat_is_sound, flat_is_weighed};
-use made_netlists::make;
 use netlist_plans::{Planned, plan_netlist};
-use netlist_text::laws::texts_are_decided;
 use netlist_text::{Netlist, NetlistError, netlist_of};
-use plan_carries::designs_are_carried;
 use std::alloc::{AllocError, Global};
 
 /// A made netlist, its plan, and the state from which more may be drawn.
@@ -32,7 +26,6 @@ fn netlist_in(alloc: Global, text: &[u8]) -> Result<Netlist, AllocError>
     ensures netlist { IfOk result (λ n. IsNetlist text.now n.design) }
     ensures parts { IfOk result (λ n. AreParts n.design n.flat n.order.nodes) }
 {
-    texts_are_decided();
     match netlist_of(alloc, text) {
         Ok(netlist) => Ok(netlist),
         Err(NetlistError::NoMemory) => Err(AllocError),
@@ -52,14 +45,7 @@ pub fn plan_made(alloc: Global, seed: u32, size: u32) -> Result<MadePlan, Summar
     ensures range { IfOk result (λ made. made.state < 2 ^ 31) }
     ensures refused { IfErr result (λ e. e ≡ NoMemory) }
 {
-    made_are_netlists();
-    made_have_sizes();
-    texts_are_decided();
-    written_plans_read();
-    designs_are_carried();
-    flat_is_sound();
-    flat_is_weighed();
-    let made = make(alloc, seed, size)?;
+    let made = made_netlists::make(alloc, seed, size)?;
     let netlist = netlist_in(alloc, made.text.as_slice())?;
     let planned = plan_netlist(alloc, &netlist.flat, &netlist.order)?;
     Ok(MadePlan {

@@ -14,14 +14,12 @@ ghost use Rattle.made_summary.specs.declared.error.SummaryError.TheVariants.{NoM
 use crate::drawing::draw_streams;
 use crate::error::SummaryError;
 use crate::plans::plan_made;
-use drive::{SimulateError, Streams, simulate};
+use drive::{SimulateError, Streams};
 use grid_assembly::pattern_of;
 use lists::List;
 use netlist_core::Name;
 use netlist_plans::Planned;
-use netlist_run::run;
 use netlist_text::Netlist;
-use shown_runs::{carriers_are_quiet, carriers_show_runs};
 use std::alloc::{AllocError, Global};
 
 /// An output's bits, cycle after cycle: those that the pattern shows at the output's cell, and
@@ -131,7 +129,7 @@ fn shown_by(
     let Ok(pattern) = pattern_of(alloc, &planned.plan) else {
         return Err(SummaryError::NoMemory);
     };
-    match simulate(alloc, pattern, &planned.ports, streams) {
+    match drive::simulate(alloc, pattern, &planned.ports, streams) {
         Ok(bits) => Ok(bits),
         Err(SimulateError::NoMemory) => Err(SummaryError::NoMemory),
         Err(SimulateError::TooFar { generations }) => Err(SummaryError::TooFar { generations }),
@@ -154,7 +152,7 @@ fn outputs_in(
     ensures refused { IfErr result (λ e. e ≡ NoMemory) }
 {
     let names = netlist.out_names(alloc)?;
-    let evaluated = run(alloc, netlist, streams)?;
+    let evaluated = netlist_run::run(alloc, netlist, streams)?;
     let outputs = outputs_by_name(alloc, names.as_slice(), simulated, evaluated.as_slice())?;
     Ok(outputs)
 }
@@ -205,8 +203,6 @@ pub fn summarize(
     ensures summary { IfOk result (Summarizes seed size cycles) }
     ensures refused { IfErr result (HasSummaryCause seed size cycles) }
 {
-    carriers_show_runs();
-    carriers_are_quiet();
     let made = plan_made(alloc, seed, size)?;
     let streams = draw_streams(alloc, made.state, cycles)?;
     told_by(alloc, made.netlist, &made.planned, &streams)

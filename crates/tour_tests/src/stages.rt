@@ -6,8 +6,6 @@ ghost use Rattle.netlist_text.specs.Parts.{AreParts};
 use crate::page::{CELLS, FLAT, LANES};
 use crate::writing::Page;
 use cell_core::CellList;
-use cover_mapper::map;
-use flat_designs::{flat_is_sound, flat_is_weighed};
 use lane_core::{Column, Instr, Plan};
 use netlist_core::{Flat, FlatLatch, FlatPort, Node};
 use netlist_plans::plan_netlist;
@@ -227,9 +225,7 @@ fn check_plan(alloc: Global, flat: &Flat, plan: &Plan) -> Result<(), Fail> {
 fn check_cells(alloc: Global, netlist: &Netlist) -> Result<(), Fail>
     requires parts { AreParts netlist.now.design netlist.now.flat netlist.now.order.nodes }
 {
-    flat_is_sound();
-    flat_is_weighed();
-    let mapped = map(alloc, &netlist.flat, &netlist.order)?;
+    let mapped = cover_mapper::map(alloc, &netlist.flat, &netlist.order)?;
     check_list(alloc, &mapped.list)
 }
 
@@ -238,8 +234,6 @@ fn check_planned(alloc: Global, netlist: &Netlist) -> Result<(), Fail>
     requires of_text { (text : List ℕ) × IsNetlist text netlist.now.design }
     requires parts { AreParts netlist.now.design netlist.now.flat netlist.now.order.nodes }
 {
-    flat_is_sound();
-    flat_is_weighed();
     let planned = plan_netlist(alloc, &netlist.flat, &netlist.order)?;
     check_plan(alloc, &netlist.flat, &planned.plan)
 }

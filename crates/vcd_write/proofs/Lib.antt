@@ -2,7 +2,7 @@ mod Ids
 mod Values
 mod OneForm
 mod Order
-mod Alike
+pub mod Alike
 mod EscapedNames
 mod Packed
 mod DueOrder

@@ -2,4 +2,4 @@ use Rattle.lift_carries.proofs.Drawings.{compiled_are_drawings}
 use Rattle.lift_carries.proofs.compiled_are_drawings.Goals as goal
 
 pub returns : goal.returns
-returns c = compiled_are_drawings c.patterns_are_planes.ensures c.written_text_reads.ensures.text c.tables_are_readable.ensures
+returns c = compiled_are_drawings

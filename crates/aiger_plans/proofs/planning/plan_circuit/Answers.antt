@@ -15,7 +15,7 @@ plan_netlist-requires-clause-places c = table_places c.args.aig.now c.in_ok-lowe
 pub returns-in-Ok-clause-plan : goal.returns-in-Ok-clause-plan
 returns-in-Ok-clause-plan c =
     let made = c.in-Ok.ensures in
-    is_plan c.flats_of_aigs_ask_alike.ensures c.aigs_are_carried.ensures c.args.aig.now c.in_ok-lowered.lowered.flat c.in_ok-lowered.ensures.is_flat c.in_ok-lowered.ensures.lowered
+    is_plan c.args.aig.now c.in_ok-lowered.lowered.flat c.in_ok-lowered.ensures.is_flat c.in_ok-lowered.ensures.lowered
     c.in-Ok.planned.plan c.in-Ok.planned.ports made.admissible made.edges made.bare made.planned made.cells made.small made.table made.period made.carries
 
 pub returns-clause-refused : goal.returns-clause-refused

@@ -1,5 +1,6 @@
 use Rattle.std.proofs.Common.{ap, refl, Err}
 use Rattle.std.proofs.lemmas.Result.{err_from_is_err_and}
+use Rattle.aiger_text.proofs.SoundReads.{read_aigs_are_sound}
 use Rattle.blifww_tool.proofs.AigRead.{plan_refused, read_refused}
 use Rattle.blifww_tool.proofs.aiger.aiger.Goals as goal
 
@@ -9,7 +10,7 @@ returns-in_err-circuit-clause-refused c =
     rw (p.1, p.2) (read_refused c.args.text.now c.in_err-circuit.field-0.0 (λ fault is. c.in_err-circuit.ensures.fault fault (ap Err is)))
 
 pub plan_circuit-requires : goal.plan_circuit-requires
-plan_circuit-requires c = c.read_aigs_are_sound.ensures c.args.text.now c.in_ok-circuit.circuit c.in_ok-circuit.ensures.aig
+plan_circuit-requires c = read_aigs_are_sound c.args.text.now c.in_ok-circuit.circuit c.in_ok-circuit.ensures.aig
 
 pub returns-in_err-planned-clause-refused : goal.returns-in_err-planned-clause-refused
 returns-in_err-planned-clause-refused c =

@@ -1,10 +1,12 @@
 use Rattle.std.proofs.Common.{arith}
 use Rattle.flat_designs.proofs.Whole.{flat_is_named, flat_is_one}
 use Rattle.netlist_text.proofs.SoundParts.{sound, weighed, small}
+use Rattle.plan_carries.proofs.Designs.{designs_are_carried}
 use Rattle.plan_carries.proofs.SeenNets.{places_fit}
 use Rattle.blifww_tool.proofs.Compiled.{carried_by, drawn}
 use Rattle.flat_designs.proofs.Sound.{flat_is_sound}
 use Rattle.flat_designs.proofs.Weights.{flat_is_weighed}
+use Rattle.lift_carries.proofs.Drawings.{compiled_are_drawings}
 use Rattle.lift_carries.proofs.Starts.{one_context_is_circuit}
 use Rattle.blifww_tool.proofs.compile.plan_of.Goals as goal
 
@@ -34,9 +36,9 @@ plan_netlist-requires-clause-places c =
 pub returns-clause-carried : goal.returns-clause-carried
 returns-clause-carried c =
     let p = c.in_ok-planned.ensures in
-    carried_by flat_is_one c.designs_are_carried.ensures c.args.netlist.now.design c.args.netlist.now.flat _ c.in_ok-planned.planned.plan c.in_ok-planned.planned.ports c.requires.parts
+    carried_by flat_is_one designs_are_carried c.args.netlist.now.design c.args.netlist.now.flat _ c.in_ok-planned.planned.plan c.in_ok-planned.planned.ports c.requires.parts
     p.admissible p.edges p.table p.cells p.lanes p.places p.carries p.small p.period
-    (drawn one_context_is_circuit c.compiled_are_drawings.ensures c.args.netlist.now.flat c.in_ok-planned.planned.plan c.in_ok-planned.planned.ports
+    (drawn one_context_is_circuit compiled_are_drawings c.args.netlist.now.flat c.in_ok-planned.planned.plan c.in_ok-planned.planned.ports
     (sound c.args.netlist.now.design c.args.netlist.now.flat _ c.requires.parts flat_is_sound)
     (flat_is_named c.args.netlist.now.design c.args.netlist.now.flat c.requires.parts.faultless c.requires.parts.is_flat) c.requires.names
     (places_fit c.args.netlist.now.design c.args.netlist.now.flat c.requires.parts.faultless

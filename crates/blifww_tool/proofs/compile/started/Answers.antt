@@ -7,12 +7,14 @@ use Rattle.latch_loops.specs.Closed.{contexts_size}
 use Rattle.latch_loops.specs.Padded.{IsPaddedPlan}
 use Rattle.plan_ports.specs.Tables.{IsTableOf}
 use Rattle.netlist_text.proofs.SoundParts.{sound, weighed, small}
+use Rattle.plan_carries.proofs.Designs.{designs_are_carried_in_contexts}
 use Rattle.plan_carries.proofs.SeenNets.{places_fit}
 use Rattle.blifww_tool.proofs.Compiled.{alone, compiles, compiles_plain, drawn_in_one, long_starts, many_starts, not_alone, room_refused}
 use Rattle.flat_designs.proofs.Sound.{flat_is_sound}
 use Rattle.flat_designs.proofs.Weights.{flat_is_weighed}
 use Rattle.carries.proofs.OneContext.{one_context_carries, one_context_carries_nets}
 use Rattle.start_words.proofs.Started.{no_words_mean_start, starts_are_flat}
+use Rattle.lift_carries.proofs.Drawings.{compiled_are_drawings}
 use Rattle.lift_carries.proofs.Starts.{one_context_is_circuit}
 use Rattle.blifww_tool.proofs.compile.started.Goals as goal
 
@@ -95,12 +97,12 @@ returns-clause-printed c = λ text has.
     let room : contexts ≤ c.args.planned.ports.p / 32 = omega (arith, c.if-contexts-limit.false) in
     let bits = c.as_slice.ensures ∙ c.in_ok-bits.ensures words c.requires.set in
     let many : length c.as_slice.result.now ≡ contexts = many_starts flat words contexts c.as_slice.result.now bits in
-    compiles flat_is_one c.designs_are_carried_in_contexts.ensures starts_are_flat contexts words text c.args.netlist.now.design flat _ base c.args.planned.ports plan ports c.as_slice.result.now has
+    compiles flat_is_one designs_are_carried_in_contexts starts_are_flat contexts words text c.args.netlist.now.design flat _ base c.args.planned.ports plan ports c.as_slice.result.now has
     c.requires.parts c.requires.carried room (not_alone string_bytes contexts c.args.words.now (sym c.is_alone.ensures ∙ c.if-is_alone.false)) p.admissible p.edges
     (subst (λ (n : ℕ). IsPaddedPlan (contexts_size base.latches n) base plan) many p.padded) bits p.starts
     (subst (λ (n : ℕ). IsTableOf flat plan n ports) many p.table) p.places
     p.carries
-    (λ one. drawn_in_one one_context_is_circuit c.compiled_are_drawings.ensures flat plan ports
+    (λ one. drawn_in_one one_context_is_circuit compiled_are_drawings flat plan ports
     (sound c.args.netlist.now.design c.args.netlist.now.flat _ c.requires.parts flat_is_sound)
     (flat_is_named c.args.netlist.now.design c.args.netlist.now.flat c.requires.parts.faultless c.requires.parts.is_flat) c.requires.names
     (places_fit c.args.netlist.now.design c.args.netlist.now.flat c.requires.parts.faultless

@@ -37,4 +37,4 @@ returns-clause-printed c = λ text reads table.
     } in
     let of_names = c.in_ok-lifted.ensures.lift in
     subst (λ (output : List ℕ). Lifts text output) (lifted_text_is plan ports lift of_names)
-    (lifts c.lifted_texts_read.ensures c.lifted_have_no_clock_fault.ensures c.lifted_have_no_loop.ensures c.lifts_carry.ensures text grid ports plan is lift.list of_names.cells c.in_ok-lifted.ensures.few)
+    (lifts text grid ports plan is lift.list of_names.cells c.in_ok-lifted.ensures.few)

@@ -4,6 +4,7 @@ use Rattle.grid_assembly.specs.PlanDrawing.{start_grid}
 use Rattle.netlist_core.specs.declared.flat.Flat.{Flat}
 use Rattle.pattern_writing.specs.WrittenText.{pattern_text}
 use Rattle.netlist_text.proofs.SoundParts.{sound, small}
+use Rattle.plan_carries.proofs.Designs.{designs_run_by_themselves}
 use Rattle.plan_carries.proofs.SeenNets.{places_fit}
 use Rattle.plan_ports.specs.Tables.{IsTableOf}
 use Rattle.streams.specs.Rows.{rows_of}
@@ -67,7 +68,7 @@ returns-clause-taped c =
       edges = c.in_ok-loaded.ensures.edges;
       table = λ other h. subst (λ (f : Flat). IsTableOf f loaded.plan 1 loaded.ports) (flat_is_one design flat other parts.is_flat h) c.in_ok-loaded.ensures.table;
       written = refl;
-      runs = c.designs_run_by_themselves.ensures (pattern_text (start_grid loaded.plan) loaded.ports) design flat (rows_of c.args.streams.now) parts.faultless parts.clocks parts.is_flat c.in_ok-loaded.ensures.runs;
+      runs = designs_run_by_themselves (pattern_text (start_grid loaded.plan) loaded.ports) design flat (rows_of c.args.streams.now) parts.faultless parts.clocks parts.is_flat c.in_ok-loaded.ensures.runs;
     }
 
 pub returns-clause-writable : goal.returns-clause-writable

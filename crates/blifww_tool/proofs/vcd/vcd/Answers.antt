@@ -1,6 +1,7 @@
 use Rattle.std.proofs.Common.{map, string_bytes}
 use Rattle.std.proofs.lemmas.Result.{err_from_is_err_and}
 use Rattle.port_table.proofs.SoundTable.{sound_table}
+use Rattle.vcd_write.proofs.Alike.{same_waves_are_written_alike}
 use Rattle.blifww_tool.specs.Dumping.{waves_of}
 use Rattle.blifww_tool.specs.Driven.{simulation_of}
 use Rattle.blifww_tool.specs.Simulation.{Simulation}
@@ -25,6 +26,6 @@ returns-clause-printed c =
     record {
       simulation = s;
       runs = record { is = is; near = c.in_ok-waves.ensures.near; quiet = c.in_ok-waves.ensures.quiet };
-      written = c.texts_say_waves.ensures.alike _ (waves_of s) c.in_ok-waves.ensures.waves;
+      written = same_waves_are_written_alike _ (waves_of s) c.in_ok-waves.ensures.waves;
       says = c.in_ok-waves.ensures.says (sound_table c.args.text.now s.grid.width s.grid.height s.ports is.table);
     }

@@ -12,7 +12,8 @@ use Rattle.pattern_reading.specs.SoundTable.{IsSoundTable}
 use Rattle.pattern_writing.specs.WrittenText.{IsWritable}
 use Rattle.streams.specs.declared.streams.Streams.{Streams}
 use Rattle.drive.specs.Driving.{AreFor, last_generation}
-use Rattle.drawn_runs.specs.Laws.{DrawingsShowTheirLists, DrawsList, ShowsItsList}
+use Rattle.drawn_runs.specs.Laws.{DrawsList, ShowsItsList}
+use Rattle.drawn_runs.proofs.Drawn.{drawings_show_their_lists}
 use Rattle.drawn_runs.proofs.simulation.simulate.Goals as goal
 
 pub simulate-requires-clause-in_box : goal.simulate-requires-clause-in_box
@@ -24,22 +25,22 @@ pub run-requires : goal.run-requires
 run-requires c = c.requires.streams.long
 
 -- a pattern shows the list that was found
-list_shown : DrawingsShowTheirLists → (grid : Grid) (table : Ports) → IsWritable grid → IsSoundTable table → HasCellsInside grid.width grid.height table
+list_shown : (grid : Grid) (table : Ports) → IsWritable grid → IsSoundTable table → HasCellsInside grid.width grid.height table
     → (found : Option CellList) (list : CellList) → found ≡ Some list → MatchOption found ⊤ (DrawsList grid table)
     → (streams : Streams) → AreFor table streams → ShowsItsList grid table list streams
-list_shown law grid table writable sound inside found list is drawn streams for =
-    law grid table writable sound inside list (subst (λ (o : Option CellList). MatchOption o ⊤ (DrawsList grid table)) is drawn) streams for
+list_shown grid table writable sound inside found list is drawn streams for =
+    drawings_show_their_lists grid table writable sound inside list (subst (λ (o : Option CellList). MatchOption o ⊤ (DrawsList grid table)) is drawn) streams for
 
 pub returns-in_ok-run-in-Some-clause-quiet : goal.returns-in_ok-run-in-Some-clause-quiet
 returns-in_ok-run-in-Some-clause-quiet c =
     let writable : IsWritable (grid_of c.args.pattern) = record { in_rows = c.args.pattern.in_rows; width = omega arith; height = omega arith } in
-    let shows = list_shown c.drawings_show_their_lists.ensures (grid_of c.args.pattern) c.args.ports.now writable c.requires.sound c.requires.inside
+    let shows = list_shown (grid_of c.args.pattern) c.args.ports.now writable c.requires.sound c.requires.inside
     c.in_ok-list.field-0 c.in-Some.list c.in-Some.is c.in_ok-list.ensures.drawn c.args.streams.now c.requires.streams in
     shows.quiet (last_generation c.args.ports.now c.args.streams.now)
 
 pub returns-in_ok-run-in-Some-clause-bits : goal.returns-in_ok-run-in-Some-clause-bits
 returns-in_ok-run-in-Some-clause-bits c =
     let writable : IsWritable (grid_of c.args.pattern) = record { in_rows = c.args.pattern.in_rows; width = omega arith; height = omega arith } in
-    let shows = list_shown c.drawings_show_their_lists.ensures (grid_of c.args.pattern) c.args.ports.now writable c.requires.sound c.requires.inside
+    let shows = list_shown (grid_of c.args.pattern) c.args.ports.now writable c.requires.sound c.requires.inside
     c.in_ok-list.field-0 c.in-Some.list c.in-Some.is c.in_ok-list.ensures.drawn c.args.streams.now c.requires.streams in
     c.in_ok-run-in-Some.ensures ∙ sym shows.bits

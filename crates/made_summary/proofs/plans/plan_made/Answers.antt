@@ -2,10 +2,17 @@ use Rattle.std.proofs.Common.{ℕ, ◌<◌, ◌∙◌, sym, subst, List, arith}
 use Rattle.std.proofs.lemmas.Result.{err_from_is_err_and}
 use Rattle.netlist_text.specs.NetlistText.{IsNetlist}
 use Rattle.made_netlists.specs.Design.{made_design}
+use Rattle.flat_designs.proofs.Sound.{flat_is_sound}
+use Rattle.flat_designs.proofs.Weights.{flat_is_weighed}
 use Rattle.flat_designs.proofs.Whole.{flat_is_named}
+use Rattle.netlist_text.proofs.Decided.{texts_are_decided}
 use Rattle.netlist_text.proofs.SoundParts.{sound, weighed, small}
 use Rattle.netlist_plans.proofs.Names.{texts_have_port_names}
+use Rattle.plan_carries.proofs.Designs.{designs_are_carried}
 use Rattle.plan_carries.proofs.SeenNets.{places_fit}
+use Rattle.made_summary.proofs.Netlists.{are_netlists}
+use Rattle.made_summary.proofs.Read.{written_plans_read}
+use Rattle.made_summary.proofs.Sizes.{have_sizes}
 use Rattle.made_summary.proofs.Summarized.{is_planned}
 use Rattle.made_summary.proofs.plans.plan_made.Goals as goal
 
@@ -14,14 +21,14 @@ netlist_in-requires c =
     let some : 0 < c.args.size = c.requires.some_gate in (
       made_design c.args.seed c.args.size,
       subst (λ (text : List ℕ). IsNetlist text (made_design c.args.seed c.args.size)) (sym (c.as_slice.ensures ∙ c.in_ok-made.ensures.text))
-          (c.made_are_netlists.ensures c.args.seed c.args.size (omega (arith, some)) c.requires.few_gates),
+          (are_netlists c.args.seed c.args.size (omega (arith, some)) c.requires.few_gates),
     )
 
 pub plan_netlist-requires-clause-sound : goal.plan_netlist-requires-clause-sound
-plan_netlist-requires-clause-sound c = sound c.in_ok-netlist.netlist.design c.in_ok-netlist.netlist.flat _ c.in_ok-netlist.ensures.parts c.flat_is_sound.ensures
+plan_netlist-requires-clause-sound c = sound c.in_ok-netlist.netlist.design c.in_ok-netlist.netlist.flat _ c.in_ok-netlist.ensures.parts flat_is_sound
 
 pub plan_netlist-requires-clause-weighed : goal.plan_netlist-requires-clause-weighed
-plan_netlist-requires-clause-weighed c = weighed c.in_ok-netlist.netlist.design c.in_ok-netlist.netlist.flat _ c.in_ok-netlist.ensures.parts c.flat_is_weighed.ensures
+plan_netlist-requires-clause-weighed c = weighed c.in_ok-netlist.netlist.design c.in_ok-netlist.netlist.flat _ c.in_ok-netlist.ensures.parts flat_is_weighed
 
 pub plan_netlist-requires-clause-small : goal.plan_netlist-requires-clause-small
 plan_netlist-requires-clause-small c = small c.in_ok-netlist.netlist.design c.in_ok-netlist.netlist.flat _ c.in_ok-netlist.ensures.parts
@@ -41,7 +48,7 @@ plan_netlist-requires-clause-places c = places_fit c.in_ok-netlist.netlist.desig
 pub returns-clause-plan : goal.returns-clause-plan
 returns-clause-plan c =
     let text = c.as_slice.ensures ∙ c.in_ok-made.ensures.text in
-    is_planned c.designs_are_carried.ensures c.made_are_netlists.ensures c.made_have_sizes.ensures c.texts_are_decided.ensures c.written_plans_read.ensures c.args.seed c.args.size c.requires.some_gate c.requires.few_gates
+    is_planned designs_are_carried are_netlists have_sizes texts_are_decided written_plans_read c.args.seed c.args.size c.requires.some_gate c.requires.few_gates
     c.in_ok-netlist.netlist c.in_ok-planned.planned (subst (λ (t : List ℕ). IsNetlist t c.in_ok-netlist.netlist.design) text c.in_ok-netlist.ensures.netlist) c.in_ok-netlist.ensures.parts
     c.in_ok-planned.ensures.admissible c.in_ok-planned.ensures.bare c.in_ok-planned.ensures.table c.in_ok-planned.ensures.carries c.in_ok-planned.ensures.small
 

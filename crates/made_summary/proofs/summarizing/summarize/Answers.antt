@@ -5,6 +5,8 @@ use Rattle.grid_assembly.specs.PlanDrawing.{start_grid}
 use Rattle.netlist_meaning.specs.Places.{main_outputs}
 use Rattle.streams.specs.declared.streams.Streams.{Streams}
 use Rattle.drive.specs.Driving.{shown_bits}
+use Rattle.shown_runs.proofs.Quiet.{one_context_is_quiet}
+use Rattle.shown_runs.proofs.Shown.{carriers_show_runs}
 use Rattle.made_summary.specs.Streams.{streams_after}
 use Rattle.made_summary.proofs.Summarized.{streams_fit, streams_feed, is_quiet, not_run, shown_many, summarizes}
 use Rattle.made_summary.proofs.summarizing.summarize.Goals as goal
@@ -51,7 +53,7 @@ told_by-requires-clause-long c =
 pub told_by-requires-clause-quiet : goal.told_by-requires-clause-quiet
 told_by-requires-clause-quiet c =
     let are = c.in_ok-streams.ensures ∙ ap (λ (s : ℕ). streams_after s c.args.cycles) c.in_ok-made.ensures.state in
-    is_quiet c.carriers_are_quiet.ensures.one c.args.seed c.args.size c.args.cycles c.in_ok-made.made.netlist c.in_ok-made.made.planned c.in_ok-streams.streams c.in_ok-made.ensures.plan are
+    is_quiet one_context_is_quiet c.args.seed c.args.size c.args.cycles c.in_ok-made.made.netlist c.in_ok-made.made.planned c.in_ok-streams.streams c.in_ok-made.ensures.plan are
 
 pub told_by-requires-clause-outputs : goal.told_by-requires-clause-outputs
 told_by-requires-clause-outputs c =
@@ -64,7 +66,7 @@ returns-clause-summary c =
     let are = c.in_ok-streams.ensures ∙ ap (λ (s : ℕ). streams_after s c.args.cycles) c.in_ok-made.ensures.state in
     let names = main_outputs c.in_ok-made.made.netlist.design in
     IfOk-weaker c.told_by.result _ _
-    (λ m h. summarizes c.carriers_show_runs.ensures c.args.seed c.args.size c.args.cycles c.in_ok-made.made.netlist c.in_ok-made.made.planned c.in_ok-streams.streams
+    (λ m h. summarizes carriers_show_runs c.args.seed c.args.size c.args.cycles c.in_ok-made.made.netlist c.in_ok-made.made.planned c.in_ok-streams.streams
     names _ h.outputs.evaluated m c.in_ok-made.ensures.plan are refl refl h.outputs.runs h.weight h.lanes h.columns h.period h.latency h.outputs.are h.near)
     c.told_by.ensures.told
 

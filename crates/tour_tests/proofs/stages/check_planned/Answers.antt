@@ -1,4 +1,6 @@
 use Rattle.std.proofs.Common.{arith}
+use Rattle.flat_designs.proofs.Sound.{flat_is_sound}
+use Rattle.flat_designs.proofs.Weights.{flat_is_weighed}
 use Rattle.flat_designs.proofs.Whole.{flat_is_named}
 use Rattle.netlist_text.proofs.SoundParts.{sound, weighed, small}
 use Rattle.netlist_plans.proofs.Names.{texts_have_port_names}
@@ -6,10 +8,10 @@ use Rattle.plan_carries.proofs.SeenNets.{places_fit}
 use Rattle.tour_tests.proofs.stages.check_planned.Goals as goal
 
 pub plan_netlist-requires-clause-sound : goal.plan_netlist-requires-clause-sound
-plan_netlist-requires-clause-sound c = sound c.args.netlist.now.design c.args.netlist.now.flat _ c.requires.parts c.flat_is_sound.ensures
+plan_netlist-requires-clause-sound c = sound c.args.netlist.now.design c.args.netlist.now.flat _ c.requires.parts flat_is_sound
 
 pub plan_netlist-requires-clause-weighed : goal.plan_netlist-requires-clause-weighed
-plan_netlist-requires-clause-weighed c = weighed c.args.netlist.now.design c.args.netlist.now.flat _ c.requires.parts c.flat_is_weighed.ensures
+plan_netlist-requires-clause-weighed c = weighed c.args.netlist.now.design c.args.netlist.now.flat _ c.requires.parts flat_is_weighed
 
 pub plan_netlist-requires-clause-small : goal.plan_netlist-requires-clause-small
 plan_netlist-requires-clause-small c = small c.args.netlist.now.design c.args.netlist.now.flat _ c.requires.parts
