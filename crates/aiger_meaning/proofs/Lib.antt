@@ -8,5 +8,5 @@ pub mod PortNames
 pub mod Values
 pub mod Valuations
 pub mod Loops
-pub mod Lowered
+pub mod FlatsLowered
 pub mod NetIndex

@@ -7,7 +7,7 @@ use Rattle.aiger_meaning.specs.Ids.{net_numbers}
 use Rattle.aiger_meaning.specs.Laws.{literal_of_net}
 use Rattle.aiger_meaning.specs.Loop.{IsAigLoop}
 use Rattle.aiger_meaning.proofs.Loops.{same_loops, loop_of_nets, literals_once}
-use Rattle.aiger_meaning.proofs.Lowered.{flats_of_aigs_are_lowered}
+use Rattle.aiger_meaning.proofs.FlatsLowered.{flats_of_aigs_are_lowered}
 use Rattle.aiger_meaning.proofs.lowering.lower.Goals as goal
 
 pub order-requires : goal.order-requires
