@@ -6,6 +6,7 @@ from urllib.parse import unquote
 
 TILE = 32  # a tile's columns; the generations that an electron needs for it
 LANE = 16  # a lane's rows
+LAMP = 96  # the cells along a lamp of the computer
 
 
 @dataclass
@@ -131,3 +132,16 @@ def taken_near(pattern):
         yield name, [(first, row) for row in (y - 1, y, y + 1) for first, _ in rows.get(row, []) if first < x]
     for name, (x, y) in pattern.outputs.items():
         yield name, [(last, row) for row in (y - 1, y, y + 1) for _, last in rows.get(row, []) if last > x]
+
+
+def lamps_of(text):
+    """Returns the box of the lamps of a computer's pattern as left, top, right and bottom: its comments tell where each begins."""
+    lamps = [(int(x), int(y), way) for x, y, way in re.findall(r"^#C lamp \d+ (\d+) (\d+) (\w+)", text, re.M)]
+    right = max(x + (LAMP if way == "east" else LAMP // 8) for x, _, way in lamps)
+    bottom = max(y + (LAMP if way == "down" else LAMP // 8) for _, y, way in lamps)
+    return min(x for x, _, _ in lamps), min(y for _, y, _ in lamps), right, bottom
+
+
+def first_lit(text):
+    """Returns the first generation at which the lamps of a computer's pattern are lit."""
+    return int(re.search(r"are lit at generations (\d+)", text)[1])

@@ -48,7 +48,7 @@ class Reader:
             raise self.mistake(f"{name} is no name of a word: letters, digits and _, not a digit first, and no step")
         if not value:
             raise self.mistake(f"{name} needs a number from 0 to {(1 << self.width) - 1}")
-        if not re.fullmatch("[0-9]+", value, re.A) or int(value) >= 1 << self.width:
+        if not re.fullmatch("0*[0-9]{1,9}", value, re.A) or int(value) >= 1 << self.width:
             raise self.mistake(f"{value} is not a number from 0 to {(1 << self.width) - 1}")
         if len(self.program.words) == MOST_WORDS:
             raise self.mistake(f"there are more than {MOST_WORDS} words")
