@@ -72,10 +72,10 @@ outputs_are flat list bits has =
 
 -- ---- room for complements
 only_outs : (list : CellList) (kept : List Src) → list.latches ≡ [] → list.nets ≡ [] → kept ≡ [] → needed list kept ≡ list.outs
-only_outs list kept data nets none =
+only_outs list kept none_read nets none =
     ap (λ k. ports list ++ flat_map (with_operands list.cells) k) none
     ∙ append-nil (ports list)
-    ∙ ap₂ (λ l m. list.outs ++ (l ++ m)) data nets
+    ∙ ap₂ (λ l m. list.outs ++ (l ++ m)) none_read nets
     ∙ append-nil list.outs
 
 pub has_room : (flat : Flat) (list : CellList) (kept : List Src) → MapsFlat flat list kept → length list.cells ≤ most_cells_of flat → (flat.listed ≡ false → kept ≡ []) → SparesOne flat
@@ -83,13 +83,13 @@ pub has_room : (flat : Flat) (list : CellList) (kept : List Src) → MapsFlat fl
 has_room flat list kept maps cells unlisted s =
     let mapped = maps.mapped.mapped in
     let kept_none : kept ≡ [] = unlisted s.unlisted in
-    let data : list.latches ≡ [] =
+    let none_read : list.latches ≡ [] =
     mapped.latches ∙ ap (map (λ (latch : FlatLatch). mapped.sources (class_of flat latch.input))) (nil_from_length flat.latches s.latches) in
     let nets : list.nets ≡ [] =
     mapped.nets ∙ ap (λ b. map mapped.sources (map (λ (net : FlatNet). net.class) (cond b (nets_but_clocks flat) []))) s.unlisted in
     record {
       few = let none : length kept ≡ 0 = ap (λ (k : List Src). length k) kept_none in let few = s.few in omega (arith, cells, none, few);
-      none = ap (list_any (zero_bit list)) (only_outs list kept data nets kept_none) ∙ outputs_are flat list s.bits (maps.bits _ [] s.bits s.solves) ∙ s.zero;
+      none = ap (list_any (zero_bit list)) (only_outs list kept none_read nets kept_none) ∙ outputs_are flat list s.bits (maps.bits _ [] s.bits s.solves) ∙ s.zero;
     }
 
 -- ---- no loop
