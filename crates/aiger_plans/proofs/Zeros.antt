@@ -80,6 +80,9 @@ wires_count : (lits : List ℕ) → sum_by of_pair (map buffer lits) ≡ 0
 wires_count [] = refl
 wires_count (lit ∷ lits) = let e = sum_by-cons of_pair (buffer lit) (map buffer lits) in let rest = wires_count lits in omega (arith, e, rest)
 
+abbrev value_of : Aig → ℕ → Option AigAnd → Bool
+value_of aig count found = option_map_or (λ (gate : AigAnd). bit_at_zero aig count gate.rhs0 && bit_at_zero aig count gate.rhs1) found false
+
 turned_none : (b : Bool) → b ≡ turned b false
 turned_none true = refl
 turned_none false = refl
@@ -227,12 +230,9 @@ module _ (aig : Aig) (flat : Flat) (order : List ℕ) (s : IsSoundAig aig) (h : 
         gate past = let at = split_off lit has past in let few = (below at.0 at.1 at.2).few in absurd (omega (arith, few))
     same_bit (suc count) lit has below = by (gate_of aig (even lit)) refl (same_bit count)
       where
-        abbrev value : Option AigAnd → Bool
-        value found = option_map_or (λ (gate : AigAnd). bit_at_zero aig count gate.rhs0 && bit_at_zero aig count gate.rhs1) found false
-
         by : (found : Option AigAnd) → gate_of aig (even lit) ≡ found → ((side : ℕ) → HasNet aig side → Below count side → bit_at_zero aig count side ≡ bits side) → bit_at_zero aig (suc count) lit ≡ bits lit
         by None e sides =
-            ap (λ f. turned (is_odd lit) (value f)) e
+            ap (λ f. turned (is_odd lit) (value_of aig count f)) e
             ∙ ⊎_elim (λ low. ap (turned (is_odd lit)) (sym (leaf lit has low)) ∙ signed lit)
             (λ past.
             let at = split_off lit has past in
@@ -253,7 +253,7 @@ module _ (aig : Aig) (flat : Flat) (order : List ℕ) (s : IsSoundAig aig) (h : 
             let first = sides gate.rhs0 has0 (side_below count j 0 gate.rhs0 lt has0 (omega arith) (ap (λ (g : AigAnd). g.rhs0) at.is) stands_here) in
             let second = sides gate.rhs1 has1 (side_below count j 1 gate.rhs1 lt has1 (omega arith) (ap (λ (g : AigAnd). g.rhs1) at.is) stands_here) in
             let holds : bits gate.lhs ≡ (bits gate.rhs0 && bits gate.rhs1) = subst (λ (g : AigAnd). bits g.lhs ≡ (bits g.rhs0 && bits g.rhs1)) at.is (v.gates_hold j no_gate lt) in
-            ap (λ f. turned (is_odd lit) (value f)) e
+            ap (λ f. turned (is_odd lit) (value_of aig count f)) e
             ∙ ap (turned (is_odd lit)) (ap₂ (λ a b. a && b) first second ∙ sym holds ∙ ap bits lhs)
             ∙ signed lit
 

@@ -2,7 +2,7 @@
 use Rattle.std.proofs.Common.{◌≡◌, refl, sym, ◌∙◌, ap, ap₂, subst, ℕ, zero, suc, ◌+◌, ◌*◌, ◌<◌, ◌≤◌, ◌==◌, Bool, true, false, true≢false, cond, ◌&&◌, ◌||◌, not, List, [], ◌∷◌, ◌++◌, map, flat_map, length, replicate, get_or, arith}
 use Rattle.std.specs.Prelude.{All}
 use Rattle.std.specs.List.{list_any}
-use Rattle.std.proofs.lemmas.Bool.{or_parts}
+use Rattle.std.proofs.lemmas.Bool.{or_parts, eqb-true}
 use Rattle.std.proofs.lemmas.List.{append-nil, nil_from_length, length-map}
 use Rattle.std.proofs.lemmas.List.Elements.{All-get_or}
 use Rattle.std.proofs.lemmas.Simd.{map-map}
@@ -72,10 +72,10 @@ outputs_are flat list bits has =
 
 -- ---- room for complements
 only_outs : (list : CellList) (kept : List Src) → list.latches ≡ [] → list.nets ≡ [] → kept ≡ [] → needed list kept ≡ list.outs
-only_outs list kept loops nets none =
+only_outs list kept none_read nets none =
     ap (λ k. ports list ++ flat_map (with_operands list.cells) k) none
     ∙ append-nil (ports list)
-    ∙ ap₂ (λ l m. list.outs ++ (l ++ m)) loops nets
+    ∙ ap₂ (λ l m. list.outs ++ (l ++ m)) none_read nets
     ∙ append-nil list.outs
 
 pub has_room : (flat : Flat) (list : CellList) (kept : List Src) → MapsFlat flat list kept → length list.cells ≤ most_cells_of flat → (flat.listed ≡ false → kept ≡ []) → SparesOne flat
@@ -83,13 +83,13 @@ pub has_room : (flat : Flat) (list : CellList) (kept : List Src) → MapsFlat fl
 has_room flat list kept maps cells unlisted s =
     let mapped = maps.mapped.mapped in
     let kept_none : kept ≡ [] = unlisted s.unlisted in
-    let loops : list.latches ≡ [] =
+    let none_read : list.latches ≡ [] =
     mapped.latches ∙ ap (map (λ (latch : FlatLatch). mapped.sources (class_of flat latch.input))) (nil_from_length flat.latches s.latches) in
     let nets : list.nets ≡ [] =
     mapped.nets ∙ ap (λ b. map mapped.sources (map (λ (net : FlatNet). net.class) (cond b (nets_but_clocks flat) []))) s.unlisted in
     record {
       few = let none : length kept ≡ 0 = ap (λ (k : List Src). length k) kept_none in let few = s.few in omega (arith, cells, none, few);
-      none = ap (list_any (zero_bit list)) (only_outs list kept loops nets kept_none) ∙ outputs_are flat list s.bits (maps.bits _ [] s.bits s.solves) ∙ s.zero;
+      none = ap (list_any (zero_bit list)) (only_outs list kept none_read nets kept_none) ∙ outputs_are flat list s.bits (maps.bits _ [] s.bits s.solves) ∙ s.zero;
     }
 
 -- ---- no loop
@@ -116,9 +116,12 @@ outs_zero list none = all list.outs (names_none list none).outs
         let parts = or_parts (is_one src) (list_any is_one sources) e in
         ap₂ (λ a b. a || b) (nothing_is_one_at_zero list.cells src (names_none list none).cells parts.0) (all sources parts.1)
 
+no_loops : (n columns : ℕ) (b : Bool) → (n == 0) ≡ b → cond b 32 (32 * (2 * columns + 4 * n)) ≡ 32 → n ≡ 0
+no_loops n columns true is e = eqb-true n 0 is
+no_loops n columns false is e = absurd (let long : 32 * (2 * columns + 4 * n) ≡ 32 = e in omega (arith, long))
+
 none_loops : (n columns : ℕ) → cond (n == 0) 32 (32 * (2 * columns + 4 * n)) ≡ 32 → n ≡ 0
-none_loops zero columns e = refl
-none_loops (suc n) columns e = absurd (let long : 32 * (2 * columns + 4 * suc n) ≡ 32 = e in omega (arith, long))
+none_loops n columns e = no_loops n columns (n == 0) refl e
 
 none_named : (b : Bool) (n : ℕ) → n + cond b 1 0 ≡ 0 → b ≡ false
 none_named true n e = absurd (omega (arith, e))
