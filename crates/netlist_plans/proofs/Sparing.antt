@@ -1,9 +1,9 @@
 -- Plans without a loop.
-use Rattle.std.proofs.Common.{◌≡◌, refl, sym, ◌∙◌, ap, ap₂, subst, ℕ, zero, suc, ◌+◌, ◌*◌, ◌<◌, ◌≤◌, ◌==◌, Bool, true, false, true≢false, cond, ◌&&◌, ◌||◌, not, List, [], ◌∷◌, ◌++◌, map, flat_map, length, replicate, get_or, arith}
+use Rattle.std.proofs.Common.{◌≡◌, refl, sym, ◌∙◌, ap, ap₂, ℕ, zero, suc, ◌+◌, ◌*◌, ◌≤◌, ◌==◌, Bool, true, false, cond, ◌&&◌, ◌||◌, not, List, [], ◌∷◌, ◌++◌, map, flat_map, length, replicate, get_or, arith}
 use Rattle.std.specs.Prelude.{All}
 use Rattle.std.specs.List.{list_any}
 use Rattle.std.proofs.lemmas.Bool.{or_parts, eqb-true}
-use Rattle.std.proofs.lemmas.List.{append-nil, nil_from_length, length-map}
+use Rattle.std.proofs.lemmas.List.{append-nil, nil_from_length}
 use Rattle.std.proofs.lemmas.List.Elements.{All-get_or}
 use Rattle.std.proofs.lemmas.Simd.{map-map}
 use Rattle.lane_core.specs.declared.plan.Plan.{Plan}
@@ -12,8 +12,8 @@ use Rattle.netlist_core.specs.declared.flat.FlatLatch.{FlatLatch}
 use Rattle.netlist_core.specs.declared.flat.FlatPort.{FlatPort}
 use Rattle.netlist_core.specs.declared.flat.Net.{Net as FlatNet}
 use Rattle.netlist_core.specs.declared.flat.Flat.{Flat}
-use Rattle.netlist_meaning.specs.Flat.{IsWeighed, class_of, port_classes, nets_but_clocks}
-use Rattle.netlist_meaning.specs.FlatValuation.{IsFlatValuation, flat_output_bits}
+use Rattle.netlist_meaning.specs.Flat.{IsWeighed, class_of, nets_but_clocks}
+use Rattle.netlist_meaning.specs.FlatValuation.{flat_output_bits}
 use Rattle.cell_core.specs.declared.cells.Src.{Src}
 use Rattle.cell_core.specs.declared.cells.Src.TheVariants.{Input, Latch, One, Zero, Cell as Made}
 use Rattle.cell_core.specs.declared.cells.Cell.{Cell}
@@ -21,9 +21,9 @@ use Rattle.cell_core.specs.declared.cells.Cell.TheVariants.{Or, Xor, AndNot}
 use Rattle.cell_core.specs.declared.list.CellList.{CellList}
 use Rattle.cell_core.specs.Loops.{names_one, loop_count}
 use Rattle.cell_core.specs.Sources.{is_one}
-use Rattle.cell_core.specs.Meaning.{source_bit, cell_bit, bits_from, bit_in, bit_of}
+use Rattle.cell_core.specs.Meaning.{source_bit, cell_bit, bits_from, bit_of}
 use Rattle.cell_meaning.specs.Mapped.{HasBits}
-use Rattle.cell_plans.specs.PlanOf.{IsPlanOfOne, IsPlanOf}
+use Rattle.cell_plans.specs.PlanOf.{IsPlanOfOne}
 use Rattle.cover_mapper.specs.Sourced.{most_cells_of}
 use Rattle.cell_polarity.specs.Zero.{zero_bit}
 use Rattle.cell_polarity.specs.Needed.{ports, needed, with_operands}
