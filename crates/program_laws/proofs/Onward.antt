@@ -1,6 +1,6 @@
 -- What a text that carries a design in contexts shows after the given bits, and before later ones.
 use Rattle.std.proofs.Common.{pos, ℕ, ◌≡◌, ◌≤◌, ◌<◌, ◌+◌, ◌*◌, sym, ap, ◌∙◌, subst, Bool, List, [], length, map, take, get_or, arith}
-use Rattle.std.specs.Prelude.{◌↔◌, Some, All, slice_get}
+use Rattle.std.specs.Prelude.{◌↔◌, Some, slice_get}
 use Rattle.std.proofs.Math.Nat.{lt_of_mul-lt-mul_right, mul-le-mul_right}
 use Rattle.std.proofs.lemmas.List.{get_or-map, get_or-take, length-map, length-take-le}
 use Rattle.std.proofs.lemmas.List.Elements.{All-map, All-take}
@@ -18,7 +18,7 @@ use Rattle.netlist_meaning.specs.Valuation.{Valuation, LatchState, AreInputRows,
 use Rattle.carries.specs.Contexts.{AreRunsFrom, ShowsBitsInContexts, context_drive}
 use Rattle.carries.specs.DesignContexts.{AreInputContexts, CarriesContexts, CarriesNetsInContexts}
 use Rattle.program_laws.proofs.NamedNets.{net_of_line}
-use Rattle.program_laws.specs.Onward.{ContextsGoOn, ContextsShowEachFront, HaveSameFront, NetsGoOn, NetsShowEachFront, RunOnZeros, ShowsAlike, each_then}
+use Rattle.program_laws.specs.Onward.{ContextsGoOn, ContextsShowEachFront, NetsGoOn, NetsShowEachFront, RunOnZeros, ShowsAlike, each_then}
 
 -- ---- rows of 0 after the given ones
 
