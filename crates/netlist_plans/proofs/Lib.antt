@@ -5,6 +5,7 @@ mod Bounds
 mod Lanes
 mod NetPlaces
 mod OfOne
+pub mod OneContext
 mod Several
 mod FreeWords
 mod Newlines

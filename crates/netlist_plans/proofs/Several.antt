@@ -30,9 +30,11 @@ one_more : (n m : ℕ) (b : Bool) → m ≡ n + cond b 1 0 → nat_lt n m ≡ b
 one_more n m true e = (let more : n < m = omega (arith, e) in grind (arith, nat_tests))
 one_more n m false e = (let same : n ≡ m = omega (arith, e) in grind (arith, nat_tests))
 
+pub bits_alike : (list : CellList) (plan : Plan) (bits : List Bool) → plan.latches ≡ length bits + cond (names_one list) 1 0 → loop_starting_bits plan bits ≡ loop_state list bits
+bits_alike list plan bits loops = ap (λ b. bits ++ cond b (true ∷ []) []) (one_more (length bits) plan.latches (names_one list) loops)
+
 bits_are : (list : CellList) (plan : Plan) (bits : List Bool) → plan.latches ≡ loop_count list → length bits ≡ length list.starts → loop_starting_bits plan bits ≡ loop_state list bits
-bits_are list plan bits loops long =
-    ap (λ b. bits ++ cond b (true ∷ []) []) (one_more (length bits) plan.latches (names_one list) (loops ∙ ap (λ n. n + cond (names_one list) 1 0) (sym long)))
+bits_are list plan bits loops long = bits_alike list plan bits (loops ∙ ap (λ n. n + cond (names_one list) 1 0) (sym long))
 
 all_bits_are : (list : CellList) (plan : Plan) (starts : List (List Bool)) → plan.latches ≡ loop_count list → All (λ bits. length bits ≡ length list.starts) starts
     → map (loop_starting_bits plan) starts ≡ map (loop_state list) starts

@@ -1,5 +1,5 @@
 -- What a plan of a flat netlist is.
-use Rattle.std.specs.Prelude.{◌+◌, ◌*◌, ◌≤◌, ◌≡◌, ◌≢◌, false, cond, [], ◌∷◌, length}
+use Rattle.std.specs.Prelude.{ℕ, ◌+◌, ◌*◌, ◌≤◌, ◌≡◌, ◌≢◌, false, cond, [], ◌∷◌, length}
 use Rattle.lane_core.specs.declared.plan.Plan.{Plan}
 use Rattle.netlist_core.specs.declared.flat.Flat.{Flat}
 use Rattle.netlist_meaning.specs.Flat.{listed_nets, nets_but_clocks}
@@ -9,11 +9,15 @@ use Rattle.cell_core.specs.Loops.{names_one, loop_state}
 use Rattle.cell_meaning.specs.Computes.{ComputesByPlan}
 use Rattle.cell_plans.specs.Counts.{instr_count}
 use Rattle.cell_plans.specs.Exits.{AreAtExits}
-use Rattle.plan_layout.specs.Starts.{start_edges}
-use Rattle.plan_waves.specs.Contexts.{StartsContexts}
+use Rattle.pattern_reading.specs.declared.ports.Ports.{Ports}
 use Rattle.row_placer.specs.Entries.{AreAtEntries}
 use Rattle.cell_meaning.specs.Mapped.{IsMapped}
 use Rattle.cell_meaning.specs.Needs.{any_needs_one}
+use Rattle.netlist_plans.specs.Contexts.{StartsLoops}
+
+-- the plan of a netlist of this weight w has at most 256 (w + 1) (w + 1) instructions in its columns
+abbrev pub HasFewInstrs : (weight : ℕ) → Plan → Type 0
+HasFewInstrs weight plan = instr_count plan.columns ≤ 256 * ((weight + 1) * (weight + 1))
 
 -- The plan is small. If w is the weight, it has at most 4 w + 4 lanes, at most 256 (w + 1) (w + 1)
 -- columns, and in them at most that many instructions. It has a loop for each latch, and at most
@@ -21,7 +25,7 @@ use Rattle.cell_meaning.specs.Needs.{any_needs_one}
 pub record IsSmall (flat : Flat) (plan : Plan) : Type 0 where
   pub lanes : plan.lanes ≤ 4 * flat.weight + 4
   pub columns : length plan.columns ≤ 256 * ((flat.weight + 1) * (flat.weight + 1))
-  pub instrs : instr_count plan.columns ≤ 256 * ((flat.weight + 1) * (flat.weight + 1))
+  pub instrs : HasFewInstrs flat.weight plan
   pub loops : plan.latches ≤ length flat.latches + 1
   pub no_more_loops : any_needs_one flat ≡ false → plan.latches ≡ length flat.latches
 
@@ -36,10 +40,14 @@ pub record ComputesCells (flat : Flat) (plan : Plan) : Type 0 where
   pub entries : AreAtEntries list plan.lanes plan.ins plan.nets
   pub exits : AreAtExits list plan.columns plan.nets
   pub loops : plan.latches ≡ length flat.latches + cond (names_one list) 1 0
-  pub starts : StartsContexts plan (loop_state list (start_bits flat) ∷ []) (start_edges plan)
+  pub starts : StartsLoops plan (loop_state list (start_bits flat) ∷ [])
 
 -- If all nets are clock nets, there is no lane and no column. If nets are listed, there is at least
 -- one of each.
 pub record HasLanes (flat : Flat) (plan : Plan) : Type 0 where
   pub none : nets_but_clocks flat ≡ [] → (plan.lanes ≡ 0) × (plan.columns ≡ [])
   pub some : listed_nets flat ≢ [] → (1 ≤ plan.lanes) × (1 ≤ length plan.columns)
+
+-- the period is 32, the shortest, if the netlist has no latch and no cover needs constant 1
+abbrev pub HasShortPeriod : Flat → Ports → Type 0
+HasShortPeriod flat ports = length flat.latches ≡ 0 → any_needs_one flat ≡ false → ports.p ≡ 32

@@ -4,15 +4,12 @@ ghost use Rattle.lists.specs.Items.{alone_if};
 ghost use Rattle.carries.specs.FlatContexts.{CarriesFlatContexts};
 ghost use Rattle.grid_assembly.specs.PlanDrawing.{start_grid};
 ghost use Rattle.lane_core.specs.Plans.{IsAdmissible, period_of};
-ghost use Rattle.latch_loops.specs.Closed.{contexts_size};
-ghost use Rattle.latch_loops.specs.Padded.{IsPaddedPlan};
 ghost use Rattle.netlist_meaning.specs.Flat.{IsNamed, IsSound, IsWeighed};
 ghost use Rattle.netlist_meaning.specs.FlatOrder.{IsOrder};
 ghost use Rattle.pattern_writing.specs.WrittenText.{pattern_text};
-ghost use Rattle.plan_layout.specs.Starts.{start_edges, HasStartEdges};
-ghost use Rattle.plan_waves.specs.Contexts.{StartsContexts};
+ghost use Rattle.plan_layout.specs.Starts.{HasStartEdges};
 ghost use Rattle.plan_ports.specs.Tables.{HasPortNames, HasTablePlaces, IsTableOf};
-ghost use Rattle.netlist_plans.specs.Contexts.{loop_starting_bits};
+ghost use Rattle.netlist_plans.specs.Contexts.{loop_starting_bits, IsPaddedFor, StartsLoops};
 ghost use Rattle.netlist_plans.specs.Lists.{IsPlanned};
 ghost use Rattle.netlist_plans.specs.NetPlaces.{HasNetPlaces};
 
@@ -85,11 +82,9 @@ pub fn plan_contexts(
     ensures admissible { IfOk result (λ p. IsAdmissible p.plan) }
     ensures edges { IfOk result (λ p. HasStartEdges p.plan) }
     ensures bare { IfOk result (λ p. p.plan.tape ≡ []) }
-    ensures padded { IfOk result (λ p. IsPaddedPlan (contexts_size plan.latches
-        (length starts.now)) plan p.plan) }
+    ensures padded { IfOk result (λ p. IsPaddedFor (length starts.now) plan p.plan) }
     ensures starts { IfOk result (λ p.
-        StartsContexts p.plan (map (loop_starting_bits plan) starts.now) (start_edges p.plan)
-        ) }
+        StartsLoops p.plan (map (loop_starting_bits plan) starts.now)) }
     ensures table { IfOk result (λ p. IsTableOf flat.now p.plan (length starts.now) p.ports) }
     ensures carries { IfOk result (λ p.
         CarriesFlatContexts (pattern_text (start_grid p.plan) p.ports) flat.now starts.now

@@ -1,11 +1,11 @@
 // The plan of a flat netlist, by its list of cells.
-ghost use Rattle.std.specs.Prelude.{◌≡◌, ◌≤◌, ◌<◌, ◌*◌, ◌^◌, ◌↔◌, min, [], true, false, length, All, IfOk, IfSome};
+ghost use Rattle.std.specs.Prelude.{◌≡◌, ◌≤◌, ◌<◌, ◌*◌, ◌^◌, ◌↔◌, min, [], true, length, All, IfOk, IfSome};
 ghost use Rattle.grid_assembly.specs.PlanDrawing.{start_grid};
 ghost use Rattle.lane_core.specs.Plans.{IsAdmissible};
 ghost use Rattle.plan_layout.specs.Starts.{HasStartEdges};
 ghost use Rattle.netlist_meaning.specs.Flat.{IsNamed, IsSound, IsWeighed};
 ghost use Rattle.netlist_meaning.specs.FlatOrder.{IsOrder};
-ghost use Rattle.cell_meaning.specs.Needs.{any_needs_one, covers_weight};
+ghost use Rattle.cell_meaning.specs.Needs.{covers_weight};
 ghost use Rattle.plan_carries.specs.Compiled.{ComputesFlat};
 ghost use Rattle.plan_ports.specs.Tables.{HasPortNames, HasTablePlaces, IsTableOf};
 ghost use Rattle.pattern_writing.specs.WrittenText.{pattern_text};
@@ -13,7 +13,7 @@ ghost use Rattle.carries.specs.FlatNets.{CarriesFlat};
 ghost use Rattle.netlist_plans.specs.Lists.{IsPlanned, MapsFlat};
 ghost use Rattle.netlist_plans.specs.NetPlaces.{HasNetPlaces};
 ghost use Rattle.netlist_plans.specs.Sparing.{SparesOne, HasRoomForComplements, NamesNoOne, ComplementsNameNoOne};
-ghost use Rattle.netlist_plans.specs.Planned.{ComputesCells, HasLanes, IsSmall};
+ghost use Rattle.netlist_plans.specs.Planned.{ComputesCells, HasLanes, HasShortPeriod, IsSmall};
 
 use crate::NetlistPlanError;
 use cell_core::{CellList, Src};
@@ -203,8 +203,7 @@ pub fn plan_netlist(alloc: Global, flat: &Flat, order: &Order) -> Result<Planned
     ensures cells { IfOk result (λ p. ComputesCells flat.now p.plan) }
     ensures lanes { IfOk result (λ p. HasLanes flat.now p.plan) }
     ensures places { IfOk result (λ p. HasNetPlaces flat.now p.plan) }
-    ensures period { IfOk result (λ p. length flat.now.latches ≡ 0 →
-        any_needs_one flat.now ≡ false → p.ports.p ≡ 32) }
+    ensures period { IfOk result (λ p. HasShortPeriod flat.now p.ports) }
     ensures at_zero { IfOk result (λ p. SparesOne flat.now → p.ports.p ≡ 32) }
 {
     let plan = plan_of_cells(alloc, flat, order)?;

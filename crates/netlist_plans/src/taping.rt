@@ -9,8 +9,8 @@ ghost use Rattle.pattern_writing.specs.WrittenText.{pattern_text};
 ghost use Rattle.plan_layout.specs.Starts.{HasStartEdges};
 ghost use Rattle.plan_ports.specs.Tables.{HasPortNames, HasTablePlaces, IsTableOf};
 ghost use Rattle.streams.specs.Rows.{rows_of};
-ghost use Rattle.plan_tapes.specs.Loaded.{with_tape};
 ghost use Rattle.netlist_plans.specs.Lists.{IsPlanned};
+ghost use Rattle.netlist_plans.specs.Loaded.{IsLoadedWith};
 ghost use Rattle.netlist_plans.specs.Planned.{IsSmall};
 
 use crate::{NetlistPlanError, Planned};
@@ -41,7 +41,7 @@ pub fn load_netlist(
     requires few { streams.now.cycles ≤ 4096 }
     ensures admissible { IfOk result (λ p. IsAdmissible p.plan) }
     ensures edges { IfOk result (λ p. HasStartEdges p.plan) }
-    ensures loaded { IfOk result (λ p. p.plan ≡ with_tape streams.now.bits plan) }
+    ensures loaded { IfOk result (λ p. IsLoadedWith streams.now plan p.plan) }
     ensures table { IfOk result (λ p. IsTableOf flat.now p.plan 1 p.ports) }
     ensures small { IsSmall flat.now plan → IfOk result (λ p. IsSmall flat.now p.plan) }
     ensures runs { IfOk result (λ p. RunsByItselfFlat

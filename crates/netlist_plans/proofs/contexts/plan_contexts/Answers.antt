@@ -2,16 +2,13 @@ use Rattle.std.proofs.Common.{◌≡◌, sym, ◌∙◌, ap, subst, Bool, List, 
 use Rattle.std.specs.Prelude.{All}
 use Rattle.std.proofs.lemmas.List.{length-map}
 use Rattle.ww_rule.specs.Grid.{Grid}
-use Rattle.latch_loops.specs.Closed.{contexts_size}
 use Rattle.plan_layout.specs.Starts.{start_edges}
-use Rattle.plan_waves.specs.Contexts.{StartsContexts}
-use Rattle.latch_loops.specs.Padded.{IsPaddedPlan}
 use Rattle.latch_loops.proofs.Cells.{padding_keeps_cells}
 use Rattle.pattern_writing.specs.WrittenText.{pattern_text}
 use Rattle.carries.specs.FlatContexts.{CarriesFlatContexts}
 use Rattle.plan_carries.proofs.Bare.{bare_grid}
 use Rattle.plan_carries.proofs.Written.{plans_have_ports, texts_carry_contexts}
-use Rattle.netlist_plans.specs.Contexts.{loop_starting_bits}
+use Rattle.netlist_plans.specs.Contexts.{loop_starting_bits, IsPaddedFor, StartsLoops}
 use Rattle.netlist_plans.proofs.Several.{loops_are, loops_long, contexts_fit, few_columns, padded_places}
 use Rattle.netlist_plans.proofs.contexts.plan_contexts.Goals as goal
 
@@ -40,11 +37,11 @@ returns-clause-bare c = c.in_ok-plan.ensures.padded.tape ∙ c.requires.planned.
 pub returns-clause-padded : goal.returns-clause-padded
 returns-clause-padded c =
     let many : length c.deref.result.now ≡ length c.args.starts.now = ap length (c.deref.ensures.value ∙ c.in_ok-loops.ensures) ∙ length-map c.args.starts.now (loop_starting_bits c.args.plan) in
-    subst (λ n. IsPaddedPlan (contexts_size c.args.plan.latches n) c.args.plan c.in_ok-plan.plan) many c.in_ok-plan.ensures.padded
+    subst (λ n. IsPaddedFor n c.args.plan c.in_ok-plan.plan) many c.in_ok-plan.ensures.padded
 
 pub returns-clause-starts : goal.returns-clause-starts
 returns-clause-starts c =
-    subst (λ (bits : List (List Bool)). StartsContexts c.in_ok-plan.plan bits (start_edges c.in_ok-plan.plan)) (c.deref.ensures.value ∙ c.in_ok-loops.ensures) c.in_ok-plan.ensures.contexts
+    subst (StartsLoops c.in_ok-plan.plan) (c.deref.ensures.value ∙ c.in_ok-loops.ensures) c.in_ok-plan.ensures.contexts
 
 pub returns-clause-carries : goal.returns-clause-carries
 returns-clause-carries c =
@@ -67,7 +64,7 @@ returns-clause-carries c =
       table = c.in_ok-ports.ensures;
     }) (start_edges plan) (record {
       long = c.requires.long;
-      on_plan = subst (λ (bits : List (List Bool)). StartsContexts plan bits (start_edges plan)) is c.in_ok-plan.ensures.contexts;
+      on_plan = subst (StartsLoops plan) is c.in_ok-plan.ensures.contexts;
     }))
 
 pub returns-clause-places : goal.returns-clause-places
