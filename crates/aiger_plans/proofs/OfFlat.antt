@@ -5,7 +5,6 @@ use Rattle.lane_core.specs.declared.plan.Plan.{Plan}
 use Rattle.lane_core.specs.Plans.{IsAdmissible}
 use Rattle.plan_layout.specs.Starts.{HasStartEdges}
 use Rattle.grid_assembly.specs.PlanDrawing.{start_grid}
-use Rattle.cell_plans.specs.Counts.{instr_count}
 use Rattle.netlist_core.specs.declared.flat.Flat.{Flat}
 use Rattle.netlist_meaning.specs.Flat.{names_of_ports}
 use Rattle.netlist_meaning.specs.FlatOrder.{IsOrder}
@@ -18,7 +17,7 @@ use Rattle.plan_ports.specs.Tables.{IsTableOf, driven_inputs, drawn_input_cells,
 use Rattle.carries.specs.FlatNets.{CarriesFlat}
 use Rattle.netlist_plans.specs.Lists.{IsPlanned}
 use Rattle.netlist_plans.specs.Sparing.{SparesOne}
-use Rattle.netlist_plans.specs.Planned.{ComputesCells, IsSmall}
+use Rattle.netlist_plans.specs.Planned.{ComputesCells, HasFewInstrs, IsSmall}
 use Rattle.aiger_text.specs.declared.aig.Aig.{Aig}
 use Rattle.aiger_text.specs.SoundAig.{IsSoundAig}
 use Rattle.aiger_meaning.specs.FlatOf.{IsFlatOfAig}
@@ -65,7 +64,7 @@ module _ (aig : Aig) (flat : Flat) (order : List ℕ) (sound : IsSoundAig aig) (
     planned = record { flat = flat; is_flat = is_flat; planned = planned; cells = cells };
     lanes = subst (λ w. plan.lanes ≤ 4 * w + 4) lowered.weight small.lanes;
     columns = subst (λ w. length plan.columns ≤ 256 * ((w + 1) * (w + 1))) lowered.weight small.columns;
-    instrs = subst (λ w. instr_count plan.columns ≤ 256 * ((w + 1) * (w + 1))) lowered.weight small.instrs;
+    instrs = subst (λ w. HasFewInstrs w plan) lowered.weight small.instrs;
     table = table_of_aig bare table;
     period = λ none e. short (asks.latches ∙ none) (asks.one ∙ e);
     at_zero = λ none. (

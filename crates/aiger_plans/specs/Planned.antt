@@ -4,14 +4,13 @@ use Rattle.lane_core.specs.declared.plan.Plan.{Plan}
 use Rattle.lane_core.specs.Plans.{IsAdmissible, period_of, latency_of}
 use Rattle.plan_layout.specs.Starts.{HasStartEdges}
 use Rattle.grid_assembly.specs.PlanDrawing.{start_grid}
-use Rattle.cell_plans.specs.Counts.{instr_count}
 use Rattle.pattern_reading.specs.declared.ports.Ports.{Ports}
 use Rattle.pattern_reading.specs.Ports.{cells_of}
 use Rattle.pattern_writing.specs.WrittenText.{pattern_text}
 use Rattle.plan_ports.specs.Tables.{drawn_input_cells, drawn_output_cells}
 use Rattle.netlist_core.specs.declared.flat.Flat.{Flat}
 use Rattle.netlist_plans.specs.Lists.{IsPlanned}
-use Rattle.netlist_plans.specs.Planned.{ComputesCells}
+use Rattle.netlist_plans.specs.Planned.{ComputesCells, HasFewInstrs}
 use Rattle.aiger_text.specs.declared.aig.Aig.{Aig}
 use Rattle.aiger_meaning.specs.Circuit.{aig_weight}
 use Rattle.aiger_meaning.specs.FlatOf.{IsFlatOfAig}
@@ -52,7 +51,7 @@ pub record IsPlanOfAig (aig : Aig) (plan : Plan) (ports : Ports) : Type 0 where
   pub planned : IsPlannedAig aig plan
   pub lanes : plan.lanes ≤ 4 * aig_weight aig + 4
   pub columns : length plan.columns ≤ 256 * ((aig_weight aig + 1) * (aig_weight aig + 1))
-  pub instrs : instr_count plan.columns ≤ 256 * ((aig_weight aig + 1) * (aig_weight aig + 1))
+  pub instrs : HasFewInstrs (aig_weight aig) plan
   pub table : IsTableOfAig aig plan ports
   pub period : length aig.latches ≡ 0 → aig_needs_one aig ≡ false → ports.p ≡ 32
   pub at_zero : length aig.latches ≡ 0 → (ports.p ≡ 32) ↔ (some_output_is_one aig ≡ false)
