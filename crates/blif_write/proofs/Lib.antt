@@ -2,4 +2,5 @@ mod Counted
 mod Leading
 mod NamedWords
 mod Pieces
+pub mod Plain
 pub mod TextsRead

@@ -1,26 +1,19 @@
 -- What the parts of a compilation give together.
-use Rattle.std.proofs.Common.{ℕ, ◌≡◌, ◌≢◌, ◌≤◌, ◌<◌, ◌+◌, ◌-◌, ◌*◌, ◌/◌, ◌^◌, ◌==◌, ◌&&◌, true≢false, max, cond, refl, sym, ap, ap₂, ◌∙◌, subst, Bool, true, false, List, [], ◌∷◌, length, map, flat_map, arith, length-append}
+use Rattle.std.proofs.Common.{ℕ, ◌≡◌, ◌≢◌, ◌≤◌, ◌<◌, ◌+◌, ◌*◌, ◌/◌, ◌^◌, ◌==◌, ◌&&◌, true≢false, max, cond, refl, sym, ap, ap₂, ◌∙◌, subst, Bool, true, false, List, [], ◌∷◌, length, map, flat_map, arith, length-append}
 use Rattle.std.specs.Prelude.{None, All, get_or, nat_lt, ◌++◌}
 use Rattle.std.specs.List.{range_with_len}
 use Rattle.std.proofs.lemmas.List.Elements.{All-map}
 use Rattle.std.proofs.lemmas.List.FromFn.{length-map-range_with_len}
 use Rattle.std.proofs.Math.Nat.{max-le}
 use Rattle.std.proofs.Math.Path.{fun_ext}
-use Rattle.std.proofs.lemmas.Bool.{and_parts, eqb-false, eqb-true, lt-ltb, ltb-true}
+use Rattle.std.proofs.lemmas.Bool.{and_parts, eqb-false, eqb-true}
 use Rattle.std.proofs.lemmas.Simd.{map-map}
-use Rattle.std.proofs.lemmas.List.{append-nil, length-map}
+use Rattle.std.proofs.lemmas.List.{length-map}
 use Rattle.lane_core.specs.declared.plan.Plan.{Plan}
 use Rattle.lane_core.specs.Plans.{IsAdmissible, period_of}
-use Rattle.plan_layout.specs.Starts.{HasStartEdges, start_edges}
-use Rattle.plan_waves.specs.Contexts.{StartsContexts}
+use Rattle.plan_layout.specs.Starts.{HasStartEdges}
 use Rattle.pattern_reading.specs.declared.ports.Ports.{Ports}
 use Rattle.rle_write.specs.PlanText.{text_of_plan}
-use Rattle.cell_core.specs.declared.list.CellList.{CellList}
-use Rattle.cell_core.specs.Loops.{loop_state, names_one}
-use Rattle.cell_meaning.specs.Needs.{any_needs_one}
-use Rattle.cell_plans.specs.Counts.{instr_count}
-use Rattle.latch_loops.specs.Closed.{contexts_size}
-use Rattle.latch_loops.specs.Padded.{IsPaddedPlan}
 use Rattle.netlist_core.specs.declared.model.Design.{Design}
 use Rattle.netlist_core.specs.declared.model.Model.{Model}
 use Rattle.netlist_core.specs.declared.flat.Flat.{Flat}
@@ -32,7 +25,7 @@ use Rattle.netlist_meaning.specs.FlatOf.{IsFlatOf, at_places, flat_latch}
 use Rattle.netlist_meaning.specs.Valuation.{LatchState, start_state}
 use Rattle.netlist_meaning.specs.FlatValuation.{start_bits}
 use Rattle.flat_designs.specs.Laws.{FlatIsOne, state_in_order}
-use Rattle.flat_designs.proofs.Valuations.{state_length, valuations_are_flat}
+use Rattle.flat_designs.proofs.Valuations.{valuations_are_flat}
 use Rattle.flat_designs.proofs.Weights.{parts_are_few}
 use Rattle.netlist_text.specs.NetlistText.{IsNetlist}
 use Rattle.netlist_text.specs.Parts.{AreParts}
@@ -40,9 +33,10 @@ use Rattle.netlist_text.proofs.SoundParts.{small}
 use Rattle.netlist_text.specs.Causes.{HasNetlistCause}
 use Rattle.netlist_text.specs.declared.error.NetlistError.{NetlistError}
 use Rattle.netlist_text.specs.declared.error.NetlistError.TheVariants as netlist_of
-use Rattle.netlist_plans.specs.Planned.{ComputesCells, HasLanes, IsSmall}
+use Rattle.netlist_plans.specs.Planned.{ComputesCells, HasFewInstrs, HasLanes, HasShortPeriod, IsSmall}
 use Rattle.netlist_plans.specs.NetPlaces.{HasNetPlaces}
-use Rattle.netlist_plans.specs.Contexts.{loop_starting_bits}
+use Rattle.netlist_plans.specs.Contexts.{loop_starting_bits, IsPaddedFor, StartsLoops}
+use Rattle.netlist_plans.proofs.OneContext.{starts_with_latches, unpadded}
 use Rattle.carries.specs.Carries.{Carries}
 use Rattle.carries.specs.Nets.{CarriesNets}
 use Rattle.carries.specs.FlatNets.{CarriesFlat}
@@ -100,7 +94,7 @@ few_latches design flat order p =
 
 -- what is written of a plan that starts one context spells the drawing of a circuit,
 pub drawn : OneContextIsCircuit → CompiledAreDrawings → (flat : Flat) (plan : Plan) (ports : Ports) → IsSound flat → IsNamed flat → HasPortNames flat → HasTablePlaces flat
-    → IsAdmissible plan → plan.tape ≡ [] → HasStartEdges plan → (bits : List Bool) → StartsContexts plan (bits ∷ []) (start_edges plan) → IsTableOf flat plan 1 ports → IsWrittenDrawing plan ports
+    → IsAdmissible plan → plan.tape ≡ [] → HasStartEdges plan → (bits : List Bool) → StartsLoops plan (bits ∷ []) → IsTableOf flat plan 1 ports → IsWrittenDrawing plan ports
 drawn circuit drawings flat plan ports sound named names places admissible bare edges bits starts table =
     drawings flat plan ports (record {
       sound = sound;
@@ -113,7 +107,7 @@ drawn circuit drawings flat plan ports sound named names places admissible bare 
 
 -- also where the context is one of a list
 pub drawn_in_one : OneContextIsCircuit → CompiledAreDrawings → (flat : Flat) (plan : Plan) (ports : Ports) → IsSound flat → IsNamed flat → HasPortNames flat → HasTablePlaces flat
-    → IsAdmissible plan → plan.tape ≡ [] → HasStartEdges plan → (starts : List (List Bool)) → StartsContexts plan starts (start_edges plan) → length starts ≡ 1 → IsTableOf flat plan 1 ports
+    → IsAdmissible plan → plan.tape ≡ [] → HasStartEdges plan → (starts : List (List Bool)) → StartsLoops plan starts → length starts ≡ 1 → IsTableOf flat plan 1 ports
     → IsWrittenDrawing plan ports
 drawn_in_one circuit drawings flat plan ports sound named names places admissible bare edges [] starts one table = absurd (omega (arith, one))
 drawn_in_one circuit drawings flat plan ports sound named names places admissible bare edges (bits ∷ []) starts one table =
@@ -123,7 +117,7 @@ drawn_in_one circuit drawings flat plan ports sound named names places admissibl
 -- the plan by which a design is carried
 pub carried_by : FlatIsOne → DesignsAreCarried → (design : Design) (flat : Flat) (order : List ℕ) (plan : Plan) (ports : Ports) → AreParts design flat order
     → IsAdmissible plan → HasStartEdges plan → IsTableOf flat plan 1 ports → ComputesCells flat plan → HasLanes flat plan → HasNetPlaces flat plan → CarriesFlat (text_of_plan plan ports) flat → IsSmall flat plan
-    → (length flat.latches ≡ 0 → any_needs_one flat ≡ false → ports.p ≡ 32) → IsWrittenDrawing plan ports
+    → HasShortPeriod flat ports → IsWrittenDrawing plan ports
     → IsCarriedBy design plan ports
 carried_by one law design flat order plan ports p admissible edges table cells size places carries few period drawing =
     let nets : CarriesNets (text_of_plan plan ports) design = law (text_of_plan plan ports) design flat p.faultless p.clocks p.is_flat carries in
@@ -134,12 +128,12 @@ carried_by one law design flat order plan ports p admissible edges table cells s
       nets = nets;
       lanes = subst (λ (w : ℕ). plan.lanes ≤ 4 * w + 4) p.is_flat.weight few.lanes;
       columns = subst (λ (w : ℕ). length plan.columns ≤ 256 * ((w + 1) * (w + 1))) p.is_flat.weight few.columns;
-      instrs = subst (λ (w : ℕ). instr_count plan.columns ≤ 256 * ((w + 1) * (w + 1))) p.is_flat.weight few.instrs;
+      instrs = subst (λ (w : ℕ). HasFewInstrs w plan) p.is_flat.weight few.instrs;
       table = λ other h. subst (λ (f : Flat). IsTableOf f plan 1 ports) (one design flat other p.is_flat h) table;
       cells = λ other h. subst (λ (f : Flat). ComputesCells f plan) (one design flat other p.is_flat h) cells;
       size = λ other h. subst (λ (f : Flat). HasLanes f plan) (one design flat other p.is_flat h) size;
       places = λ other h. subst (λ (f : Flat). HasNetPlaces f plan) (one design flat other p.is_flat h) places;
-      period = λ other h. subst (λ (f : Flat). length f.latches ≡ 0 → any_needs_one f ≡ false → ports.p ≡ 32) (one design flat other p.is_flat h) period;
+      period = λ other h. subst (λ (f : Flat). HasShortPeriod f ports) (one design flat other p.is_flat h) period;
       drawing = drawing;
     }
 
@@ -217,64 +211,25 @@ long_starts flat starts contexts bits e =
 
 -- ---- what is written
 
--- no columns are added for one context,
-one_needs_none : (loops : ℕ) → contexts_size loops 1 ≡ 0
-one_needs_none loops = go (loops == 0) refl
-  where
-    go : (b : Bool) → (loops == 0) ≡ b → cond b 0 (1 - 4 * loops) ≡ 0
-    go true e = refl
-    go false e = let not_zero : loops ≢ 0 = eqb-false loops 0 e in omega (arith, not_zero)
-
-unpadded : (plan : Plan) → IsPaddedPlan (contexts_size plan.latches 1) plan plan
-unpadded plan = record {
-  lanes = refl;
-  latches = refl;
-  ins = refl;
-  outs = refl;
-  nets = refl;
-  columns = record {
-    more = [];
-    is = sym (append-nil plan.columns);
-    empty = λ i d lt. absurd (omega (arith, lt));
-    count = omega (arith, one_needs_none plan.latches);
-  };
-  tape = refl;
-}
-
 no_words : NoWordsMeanStart → (design : Design) → start_state design ∷ [] ≡ starts_of_words design [] 1
 no_words law design = ap (λ (s : LatchState). s ∷ []) (sym (law design 0))
 
--- the bits of the loops, by the list that the plan computes, and by its number of loops
-loops_alike : (plan : Plan) (list : CellList) (bits : List Bool) → plan.latches ≡ length bits + cond (names_one list) 1 0 → loop_state list bits ≡ loop_starting_bits plan bits
-loops_alike plan list bits e = ap (λ (b : Bool). bits ++ cond b (true ∷ []) []) (more (names_one list) (length bits) plan.latches e)
-  where
-    by_less : (b : Bool) (n m : ℕ) → nat_lt n m ≡ b → m ≡ n → false ≡ nat_lt n m
-    by_less false n m less same = sym less
-    by_less true n m less same = absurd (let below : n < m = ltb-true n m less in omega (arith, below, same))
-
-    more : (b : Bool) (n m : ℕ) → m ≡ n + cond b 1 0 → b ≡ nat_lt n m
-    more true n m e = sym (lt-ltb n m (omega (arith, e)))
-    more false n m e = by_less (nat_lt n m) n m refl (omega (arith, e))
-
 -- the electrons of the plan of one context
 electrons_alone : NoWordsMeanStart → (design : Design) (flat : Flat) (order : List ℕ) (plan : Plan) (ports : Ports) → AreParts design flat order → IsCarriedBy design plan ports
-    → StartsContexts plan (loop_starts design plan (starts_of_words design [] 1)) (start_edges plan)
+    → StartsLoops plan (loop_starts design plan (starts_of_words design [] 1))
 electrons_alone none design flat order plan ports p h =
-    let cells = h.cells flat p.is_flat in
     let start : start_bits flat ≡ state_in_order design (start_state design) = (valuations_are_flat design flat p.faultless p.clocks p.is_flat).starts in
-    let long : length (start_bits flat) ≡ length flat.latches = ap (λ (b : List Bool). length b) start ∙ state_length design flat p.is_flat (start_state design) in
-    let alike : loop_state cells.list (start_bits flat) ≡ loop_starting_bits plan (start_bits flat) = loops_alike plan cells.list (start_bits flat) (cells.loops ∙ ap (λ (n : ℕ). n + cond (names_one cells.list) 1 0) (sym long)) in
-    subst (λ (states : List LatchState). StartsContexts plan (loop_starts design plan states) (start_edges plan)) (no_words none design)
-    (subst (λ (bits : List Bool). StartsContexts plan (bits ∷ []) (start_edges plan)) (alike ∙ ap (loop_starting_bits plan) start) cells.starts)
+    subst (λ (states : List LatchState). StartsLoops plan (loop_starts design plan states)) (no_words none design)
+    (subst (λ (bits : List Bool). StartsLoops plan (loop_starting_bits plan bits ∷ [])) start (starts_with_latches flat plan (h.cells flat p.is_flat)))
 
 -- and of a plan of several contexts, or with words
 electrons_of : StartsAreFlat → (contexts : ℕ) (starts : List (List ℕ)) (design : Design) (flat : Flat) (order : List ℕ) (base plan : Plan) (bits : List (List Bool)) → AreParts design flat order
-    → bits ≡ flat_starts flat starts contexts → plan.latches ≡ base.latches → StartsContexts plan (map (loop_starting_bits base) bits) (start_edges plan)
-    → StartsContexts plan (loop_starts design plan (starts_of_words design starts contexts)) (start_edges plan)
+    → bits ≡ flat_starts flat starts contexts → plan.latches ≡ base.latches → StartsLoops plan (map (loop_starting_bits base) bits)
+    → StartsLoops plan (loop_starts design plan (starts_of_words design starts contexts))
 electrons_of law contexts starts design flat order base plan bits p are same h =
     let states : List LatchState = starts_of_words design starts contexts in
     let of_states : bits ≡ map (state_in_order design) states = are ∙ law design flat p.faultless p.is_flat starts contexts in
-    subst (λ (loops : List (List Bool)). StartsContexts plan loops (start_edges plan))
+    subst (StartsLoops plan)
     (ap (map (loop_starting_bits base)) of_states
     ∙ map-map (loop_starting_bits base) (state_in_order design) states
     ∙ ap (λ (n : ℕ). map (λ (state : LatchState). state_in_order design state ++ cond (nat_lt (length (state_in_order design state)) n) (true ∷ []) []) states) (sym same)) h
@@ -327,8 +282,8 @@ compiles_plain carry carry_nets none contexts starts (one, empty) text design fl
 -- and in contexts, from the starts that the words say
 pub compiles : FlatIsOne → DesignsAreCarriedInContexts → StartsAreFlat → (contexts : ℕ) (starts : List (List ℕ)) (text : List ℕ) (design : Design) (flat : Flat) (order : List ℕ) (base : Plan) (base_ports : Ports) (plan : Plan) (ports : Ports)
     (bits : List (List Bool)) → HasStarts contexts starts text design → AreParts design flat order → IsCarriedBy design base base_ports → contexts ≤ base_ports.p / 32
-    → (contexts ≡ 1 → starts ≡ [] → ⊥) → IsAdmissible plan → HasStartEdges plan → IsPaddedPlan (contexts_size base.latches contexts) base plan
-    → bits ≡ flat_starts flat starts contexts → StartsContexts plan (map (loop_starting_bits base) bits) (start_edges plan)
+    → (contexts ≡ 1 → starts ≡ [] → ⊥) → IsAdmissible plan → HasStartEdges plan → IsPaddedFor contexts base plan
+    → bits ≡ flat_starts flat starts contexts → StartsLoops plan (map (loop_starting_bits base) bits)
     → IsTableOf flat plan contexts ports → HasNetPlaces flat plan → CarriesFlatContexts (text_of_plan plan ports) flat bits
     → (contexts ≡ 1 → IsWrittenDrawing plan ports) → Compiles contexts starts text (text_of_plan plan ports)
 compiles one law flat_law contexts starts text design flat order base base_ports plan ports bits has p h room several admissible edges padded are_bits started table places carries drawing =

@@ -13,7 +13,6 @@ use Rattle.blifww_tool.specs.Dumping.{Dumps}
 use Rattle.blifww_tool.specs.Evaluation.{IsEvaluation}
 use Rattle.lifted_designs.specs.Lifted.{lifted_design}
 use Rattle.netlist_core.specs.declared.model.Design.{Design}
-use Rattle.pattern_reading.specs.Ports.{names_of}
 use Rattle.blifww_tool.specs.Lifting.{IsNetlistOf, Lifts}
 use Rattle.blifww_tool.specs.Taping.{Tapes}
 use Rattle.blifww_tool.specs.Headline.{WritesDump, WritesInContexts, WritesItsAig, WritesItsNetlist, WritesTape, WritesWhatItRead}
@@ -94,7 +93,7 @@ module _ (words : List (List ℕ)) (src : Reading) (out : Writing) (d : Does wor
   pub lifts : Asks words lift → WritesItsNetlist src out
   lifts asks text before has held =
       let p = lift_prints asks in
-      let design : Design = lifted_design (names_of p.ports.ins) (names_of p.ports.outs) p.list in
+      let design : Design = lifted_design p.lift.ins p.lift.outs p.lift.list in
       let given : GaveAll src d.text = subst (λ (v : CommandValues). HasText v src d.text) (one_command words d.command lift d.asked.asks asks) d.given in
       let same : d.text ≡ text = gave_whole src.left src.left_after d.text text given.consumed given.end has in (
         d.output,

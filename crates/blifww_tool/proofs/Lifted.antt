@@ -1,14 +1,11 @@
 -- What is written of a circuit is a netlist that its text carries; and why there is none.
-use Rattle.std.proofs.Common.{◌≡◌, ◌<◌, ◌^◌, refl, sym, ap₂, arith, ℕ, List, length}
+use Rattle.std.proofs.Common.{◌≡◌, ◌<◌, ◌^◌, refl, sym, subst, arith, ℕ, List, length}
 use Rattle.ww_rule.specs.Grid.{Grid}
 use Rattle.lane_core.specs.declared.plan.Plan.{Plan}
 use Rattle.pattern_reading.specs.declared.ports.Ports.{Ports}
 use Rattle.pattern_reading.specs.Ports.{names_of}
 use Rattle.port_table.proofs.SoundTable.{sound_table}
-use Rattle.cell_core.specs.declared.list.CellList.{CellList}
 use Rattle.netlist_core.specs.Names.{Name}
-use Rattle.circuit_plans.specs.Lists.{IsListOf}
-use Rattle.circuit_plans.proofs.Whole.{is_plain}
 use Rattle.lifted_designs.specs.Lifted.{lifted_design}
 use Rattle.lifted_designs.specs.Runs.{ArePortNames}
 use Rattle.lifted_designs.proofs.NoClocks.{lifted_have_no_clock_fault}
@@ -16,6 +13,7 @@ use Rattle.lifted_designs.proofs.Rising.{lifted_have_no_loop}
 use Rattle.blif_write.specs.declared.lift.Lift.{Lift}
 use Rattle.blif_write.specs.Lift.{IsLiftOf, text_of_lift}
 use Rattle.blif_write.specs.Text.{lifted_text}
+use Rattle.blif_write.proofs.Plain.{lift_is_plain}
 use Rattle.blif_write.proofs.TextsRead.{lifted_texts_read}
 use Rattle.lift_carries.proofs.Lifted.{lifts_carry, loop_count_is, many_outs, named_ins, named_outs}
 use Rattle.lift_carries.proofs.PortNames.{are_port_names, ins_are_words, outs_are_words}
@@ -40,58 +38,56 @@ use Rattle.blifww_tool.specs.Lifting.{IsCircuitText, IsNetlistOf, Lifts}
 -- ---- the netlist
 
 module _ (text : List ℕ) (grid : Grid) (ports : Ports) (plan : Plan) (is : IsCircuitText text grid ports plan)
-    (list : CellList) (cells : IsListOf plan list) (few : length list.cells < 2 ^ 64) where
+    (lifted : Lift) (of : IsLiftOf plan ports lifted) (few : length lifted.list.cells < 2 ^ 64) where
   abbrev ins : List Name
   ins = names_of ports.ins
 
   abbrev outs : List Name
   outs = names_of ports.outs
 
-  long : length (names_of ports.ins) ≡ list.inputs
-  long = named_ins grid.width grid.height ports plan is.drawing.ports list cells
+  long : length (names_of ports.ins) ≡ lifted.list.inputs
+  long = named_ins grid.width grid.height ports plan is.drawing.ports lifted.list of.cells
 
-  wide : length (names_of ports.outs) ≡ length list.outs
-  wide = named_outs grid.width grid.height ports plan is.drawing.ports list cells
+  wide : length (names_of ports.outs) ≡ length lifted.list.outs
+  wide = named_outs grid.width grid.height ports plan is.drawing.ports lifted.list of.cells
 
-  few_latches : length list.latches < 2 ^ 64
-  few_latches = omega (arith, loop_count_is plan list cells, is.drawing.circuit.admissible.size.lanes, is.drawing.circuit.admissible.size.loops_on_lanes)
+  few_latches : length lifted.list.latches < 2 ^ 64
+  few_latches = omega (arith, loop_count_is plan lifted.list of.cells, is.drawing.circuit.admissible.size.lanes, is.drawing.circuit.admissible.size.loops_on_lanes)
 
   names : ArePortNames (names_of ports.ins) (names_of ports.outs)
   names = are_port_names ports (sound_table text grid.width grid.height ports is.table) is.named
 
-  netlist_of : IsNetlistOf text (lifted_text (names_of ports.ins) (names_of ports.outs) list) (lifted_design (names_of ports.ins) (names_of ports.outs) list)
+  netlist_of : IsNetlistOf text (lifted_text (names_of ports.ins) (names_of ports.outs) lifted.list) (lifted_design (names_of ports.ins) (names_of ports.outs) lifted.list)
   netlist_of = record {
-    design_of = lifted_texts_read list ins outs long wide (is_plain plan list cells) names (ins_are_words ports is.named) (outs_are_words ports is.named) few few_latches;
-    clocks = lifted_have_no_clock_fault list ins outs long wide (is_plain plan list cells);
-    no_loop = lifted_have_no_loop list ins outs long wide (is_plain plan list cells) names few few_latches;
-    carries = lifts_carry text grid ports plan list (record {
+    design_of = lifted_texts_read lifted.list ins outs long wide (lift_is_plain plan ports lifted of) names (ins_are_words ports is.named) (outs_are_words ports is.named) few few_latches;
+    clocks = lifted_have_no_clock_fault lifted.list ins outs long wide (lift_is_plain plan ports lifted of);
+    no_loop = lifted_have_no_loop lifted.list ins outs long wide (lift_is_plain plan ports lifted of) names few few_latches;
+    carries = lifts_carry text grid ports plan lifted.list (record {
       spells = record { reads = is.pattern.0; table = is.table };
       drawing = is.drawing;
       names = is.named;
-      cells = cells;
+      cells = of.cells;
       few_cells = few;
     });
   }
 
-  pub lifts : Lifts text (lifted_text (names_of ports.ins) (names_of ports.outs) list)
+  pub lifts : Lifts text (text_of_lift lifted)
   lifts = record {
     grid = grid;
     ports = ports;
     plan = plan;
     is = is;
-    list = list;
-    of_plan = cells;
+    lift = lifted;
+    of_plan = of;
     written = refl;
-    netlist = netlist_of;
+    netlist =
+        subst (λ (names : List Name). IsNetlistOf text (lifted_text lifted.ins names lifted.list) (lifted_design lifted.ins names lifted.list)) (sym of.outs)
+        (subst (λ (names : List Name). IsNetlistOf text (lifted_text names (names_of ports.outs) lifted.list) (lifted_design names (names_of ports.outs) lifted.list)) (sym of.ins) netlist_of);
   }
 
 -- a circuit's table has a line for each output
 pub many_outs_of : (grid : Grid) (ports : Ports) (plan : Plan) → IsPlanDrawing grid ports plan → length ports.outs ≡ length plan.outs
 many_outs_of grid ports plan drawing = many_outs grid.width grid.height ports plan drawing.ports
-
--- what is written of a lift is the text of its cells with the ports' names
-pub lifted_text_is : (plan : Plan) (ports : Ports) (lifted : Lift) → IsLiftOf plan ports lifted → lifted_text (names_of ports.ins) (names_of ports.outs) lifted.list ≡ text_of_lift lifted
-lifted_text_is plan ports lifted h = ap₂ (λ ins outs. lifted_text ins outs lifted.list) (sym h.ins) (sym h.outs)
 
 -- ---- refusals
 

@@ -1,26 +1,21 @@
 -- The pattern that is written of a netlist.
-use Rattle.std.specs.Prelude.{ℕ, ◌≡◌, ◌≤◌, ◌<◌, ◌+◌, ◌*◌, ◌/◌, max, Bool, List, [], length, map, false, Some, None}
+use Rattle.std.specs.Prelude.{ℕ, ◌≡◌, ◌≤◌, ◌<◌, ◌+◌, ◌*◌, ◌/◌, max, Bool, List, [], length, map, Some, None}
 use Rattle.lane_core.specs.declared.plan.Plan.{Plan}
 use Rattle.lane_core.specs.Plans.{IsAdmissible}
-use Rattle.plan_layout.specs.Starts.{HasStartEdges, start_edges}
-use Rattle.plan_waves.specs.Contexts.{StartsContexts}
+use Rattle.plan_layout.specs.Starts.{HasStartEdges}
 use Rattle.pattern_reading.specs.declared.ports.Ports.{Ports}
 use Rattle.rle_write.specs.PlanText.{text_of_plan}
 use Rattle.carries.specs.Carries.{Carries}
 use Rattle.carries.specs.Nets.{CarriesNets}
 use Rattle.carries.specs.DesignContexts.{CarriesContexts, CarriesNetsInContexts}
-use Rattle.cell_meaning.specs.Needs.{any_needs_one}
-use Rattle.cell_plans.specs.Counts.{instr_count}
-use Rattle.latch_loops.specs.Closed.{contexts_size}
-use Rattle.latch_loops.specs.Padded.{IsPaddedPlan}
 use Rattle.netlist_core.specs.declared.model.Design.{Design}
 use Rattle.netlist_core.specs.declared.flat.Flat.{Flat}
 use Rattle.netlist_meaning.specs.Valuation.{LatchState}
 use Rattle.netlist_meaning.specs.Weight.{weight}
 use Rattle.netlist_meaning.specs.FlatOf.{IsFlatOf, at_places}
-use Rattle.netlist_plans.specs.Planned.{ComputesCells, HasLanes}
+use Rattle.netlist_plans.specs.Planned.{ComputesCells, HasFewInstrs, HasLanes, HasShortPeriod}
 use Rattle.netlist_plans.specs.NetPlaces.{HasNetPlaces}
-use Rattle.netlist_plans.specs.Contexts.{loop_starting_bits}
+use Rattle.netlist_plans.specs.Contexts.{loop_starting_bits, IsPaddedFor, StartsLoops}
 use Rattle.flat_designs.specs.Laws.{state_in_order}
 use Rattle.plan_ports.specs.Tables.{IsTableOf}
 use Rattle.lift_carries.specs.Compiled.{IsWrittenDrawing}
@@ -44,13 +39,12 @@ pub record IsCarriedBy (design : Design) (plan : Plan) (ports : Ports) : Type 0 
   pub nets : CarriesNets (text_of_plan plan ports) design
   pub lanes : plan.lanes ≤ 4 * weight design + 4
   pub columns : length plan.columns ≤ 256 * ((weight design + 1) * (weight design + 1))
-  pub instrs : instr_count plan.columns ≤ 256 * ((weight design + 1) * (weight design + 1))
+  pub instrs : HasFewInstrs (weight design) plan
   pub table : (flat : Flat) → IsFlatOf design flat → IsTableOf flat plan 1 ports
   pub cells : (flat : Flat) → IsFlatOf design flat → ComputesCells flat plan
   pub size : (flat : Flat) → IsFlatOf design flat → HasLanes flat plan
   pub places : (flat : Flat) → IsFlatOf design flat → HasNetPlaces flat plan
-  pub period : (flat : Flat) → IsFlatOf design flat → length flat.latches ≡ 0
-      → any_needs_one flat ≡ false → ports.p ≡ 32
+  pub period : (flat : Flat) → IsFlatOf design flat → HasShortPeriod flat ports
   pub drawing : IsWrittenDrawing plan ports
 
 -- the text is the netlist of this design, in which the words give starts for so many contexts
@@ -83,9 +77,9 @@ pub record Compiles (contexts : ℕ) (starts : List (List ℕ)) (text output : L
   pub ports : Ports
   pub admissible : IsAdmissible plan
   pub edges : HasStartEdges plan
-  pub padded : IsPaddedPlan (contexts_size base.latches contexts) base plan
-  pub electrons : StartsContexts plan
-      (loop_starts design plan (starts_of_words design starts contexts)) (start_edges plan)
+  pub padded : IsPaddedFor contexts base plan
+  pub electrons :
+      StartsLoops plan (loop_starts design plan (starts_of_words design starts contexts))
   pub alone : contexts ≡ 1 → starts ≡ [] → (plan ≡ base) × (ports ≡ base_ports)
   pub table : (flat : Flat) → IsFlatOf design flat → IsTableOf flat plan contexts ports
   pub places : (flat : Flat) → IsFlatOf design flat → HasNetPlaces flat plan

@@ -3,14 +3,11 @@ use Rattle.std.specs.Prelude.{◌≡◌, false, ℕ, List}
 use Rattle.ww_rule.specs.Grid.{Grid}
 use Rattle.lane_core.specs.declared.plan.Plan.{Plan}
 use Rattle.pattern_reading.specs.declared.ports.Ports.{Ports}
-use Rattle.pattern_reading.specs.Ports.{names_of}
 use Rattle.pattern_reading.specs.Pattern.{ReadsWithinLimit, HasReaderFault, HasLargeBox}
 use Rattle.pattern_reading.specs.PortTable.{ReadsAsPorts, HasPortFault}
 use Rattle.tile_match.specs.Circuit.{IsPlanDrawing}
 use Rattle.tile_match.specs.Faults.{HasCircuitFault}
 use Rattle.tile_match.specs.Names.{has_bad_name}
-use Rattle.cell_core.specs.declared.list.CellList.{CellList}
-use Rattle.circuit_plans.specs.Lists.{IsListOf}
 use Rattle.netlist_core.specs.declared.model.Design.{Design}
 use Rattle.netlist_meaning.specs.Nets.{Net}
 use Rattle.netlist_meaning.specs.Loop.{IsCombinationalLoop}
@@ -18,7 +15,8 @@ use Rattle.netlist_rules.specs.Clocks.{HasNoClockFault}
 use Rattle.blif_text.specs.Faults.{IsDesignOf}
 use Rattle.carries.specs.Carries.{Carries}
 use Rattle.lifted_designs.specs.Lifted.{lifted_design}
-use Rattle.blif_write.specs.Text.{lifted_text}
+use Rattle.blif_write.specs.declared.lift.Lift.{Lift}
+use Rattle.blif_write.specs.Lift.{IsLiftOf, text_of_lift}
 use Rattle.refusals.specs.declared.causes.Cause.{Cause}
 use Rattle.refusals.specs.declared.causes.Cause.TheVariants.{Pattern, GridTooLarge, PortTable, NotCircuit}
 
@@ -45,11 +43,10 @@ pub record Lifts (text output : List ℕ) : Type 0 where
   pub ports : Ports
   pub plan : Plan
   pub is : IsCircuitText text grid ports plan
-  pub list : CellList
-  pub of_plan : IsListOf plan list
-  pub written : output ≡ lifted_text (names_of ports.ins) (names_of ports.outs) list
-  pub netlist : IsNetlistOf text output
-      (lifted_design (names_of ports.ins) (names_of ports.outs) list)
+  pub lift : Lift
+  pub of_plan : IsLiftOf plan ports lift
+  pub written : output ≡ text_of_lift lift
+  pub netlist : IsNetlistOf text output (lifted_design lift.ins lift.outs lift.list)
 
 -- why the text is no circuit: it is no pattern, or its box is too large; its port table is at
 -- fault; or the pattern with this table is the drawing of no circuit, or has a bad name

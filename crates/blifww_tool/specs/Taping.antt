@@ -12,7 +12,7 @@ use Rattle.netlist_meaning.specs.FlatOf.{IsFlatOf}
 use Rattle.plan_ports.specs.Tables.{IsTableOf}
 use Rattle.streams.specs.declared.streams.Streams.{Streams}
 use Rattle.streams.specs.Rows.{rows_of}
-use Rattle.plan_tapes.specs.Loaded.{with_tape}
+use Rattle.netlist_plans.specs.Loaded.{IsLoadedWith}
 use Rattle.blifww_tool.specs.Compilation.{IsCarriedBy}
 use Rattle.blifww_tool.specs.Evaluation.{Evaluation, IsEvaluation}
 
@@ -26,7 +26,7 @@ pub record IsTapeOf (design : Design) (fed : Streams) (output : List ℕ) : Type
   pub bare : machine.tape ≡ []
   pub plan : Plan
   pub ports : Ports
-  pub loaded : plan ≡ with_tape fed.bits machine
+  pub loaded : IsLoadedWith fed machine plan
   pub admissible : IsAdmissible plan
   pub edges : HasStartEdges plan
   pub table : (flat : Flat) → IsFlatOf design flat → IsTableOf flat plan 1 ports

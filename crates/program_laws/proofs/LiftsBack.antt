@@ -97,10 +97,12 @@ lifted_in_one_way law text a b h k =
     let drawing : IsPlanDrawing k.grid k.ports h.plan =
     subst (λ (p : Ports). IsPlanDrawing k.grid p h.plan) same.1 (subst (λ (g : Grid). IsPlanDrawing g h.ports h.plan) same.0 h.is.drawing) in
     let plans : without_nets h.plan ≡ without_nets k.plan = law k.grid k.ports h.plan k.plan drawing k.is.drawing in
-    let of_other : IsListOf (without_nets k.plan) h.list = subst (λ (p : Plan). IsListOf p h.list) plans (bare_list h.plan h.list h.of_plan) in
+    let of_other : IsListOf (without_nets k.plan) h.lift.list = subst (λ (p : Plan). IsListOf p h.lift.list) plans (bare_list h.plan h.lift.list h.of_plan.cells) in
+    let ins : h.lift.ins ≡ k.lift.ins = h.of_plan.ins ∙ ap (λ (p : Ports). names_of p.ins) same.1 ∙ sym k.of_plan.ins in
+    let outs : h.lift.outs ≡ k.lift.outs = h.of_plan.outs ∙ ap (λ (p : Ports). names_of p.outs) same.1 ∙ sym k.of_plan.outs in
     h.written
-    ∙ ap (λ (p : Ports). lifted_text (names_of p.ins) (names_of p.outs) h.list) same.1
-    ∙ same_text (without_nets k.plan) (names_of k.ports.ins) (names_of k.ports.outs) h.list k.list of_other (bare_list k.plan k.list k.of_plan)
+    ∙ ap₂ (λ ins outs. lifted_text ins outs h.lift.list) ins outs
+    ∙ same_text (without_nets k.plan) k.lift.ins k.lift.outs h.lift.list k.lift.list of_other (bare_list k.plan k.lift.list k.of_plan.cells)
     ∙ sym k.written
 
 -- ---- what is printed
@@ -108,7 +110,7 @@ lifted_in_one_way law text a b h k =
 pub lifted_print_alike : CarriersShowRuns → StreamsMatch → LiftedPrintAlike
 lifted_print_alike law match text netlist h cycles words shown evaluated simulated evaluates =
     let e = evaluates.evaluation in
-    let design : Design = lifted_design (names_of h.ports.ins) (names_of h.ports.outs) h.list in
+    let design : Design = lifted_design h.lift.ins h.lift.outs h.lift.list in
     let same : design ≡ e.design = one_design netlist design e.design h.netlist.design_of evaluates.is.netlist.is.design_of in
     simulated.2
     ∙ same_lines law match text netlist cycles words simulated.0 e simulated.1.is evaluates.is (subst (λ (d : Design). Carries text d) same h.netlist.carries) evaluates.run evaluates.is_run

@@ -1,10 +1,8 @@
 use Rattle.std.proofs.Common.{◌≡◌, ◌∙◌, ◌≤◌, ◌/◌, refl, subst, sym, arith, ℕ, map, length, string_bytes}
 use Rattle.std.proofs.lemmas.List.{length-map}
 use Rattle.std.proofs.lemmas.Result.{err_from_is_err_and}
-use Rattle.netlist_plans.specs.Contexts.{loop_starting_bits}
+use Rattle.netlist_plans.specs.Contexts.{loop_starting_bits, IsPaddedFor}
 use Rattle.flat_designs.proofs.Whole.{flat_is_named, flat_is_one}
-use Rattle.latch_loops.specs.Closed.{contexts_size}
-use Rattle.latch_loops.specs.Padded.{IsPaddedPlan}
 use Rattle.plan_ports.specs.Tables.{IsTableOf}
 use Rattle.netlist_text.proofs.SoundParts.{sound, weighed, small}
 use Rattle.plan_carries.proofs.Designs.{designs_are_carried_in_contexts}
@@ -99,7 +97,7 @@ returns-clause-printed c = λ text has.
     let many : length c.as_slice.result.now ≡ contexts = many_starts flat words contexts c.as_slice.result.now bits in
     compiles flat_is_one designs_are_carried_in_contexts starts_are_flat contexts words text c.args.netlist.now.design flat _ base c.args.planned.ports plan ports c.as_slice.result.now has
     c.requires.parts c.requires.carried room (not_alone string_bytes contexts c.args.words.now (sym c.is_alone.ensures ∙ c.if-is_alone.false)) p.admissible p.edges
-    (subst (λ (n : ℕ). IsPaddedPlan (contexts_size base.latches n) base plan) many p.padded) bits p.starts
+    (subst (λ (n : ℕ). IsPaddedFor n base plan) many p.padded) bits p.starts
     (subst (λ (n : ℕ). IsTableOf flat plan n ports) many p.table) p.places
     p.carries
     (λ one. drawn_in_one one_context_is_circuit compiled_are_drawings flat plan ports

@@ -1,9 +1,9 @@
-use Rattle.std.proofs.Common.{ap, subst, ℕ, List, Err}
+use Rattle.std.proofs.Common.{ap, Err}
 use Rattle.std.proofs.lemmas.Result.{err_from_is_err_and}
 use Rattle.ww_rule.specs.Grid.{Grid}
 use Rattle.ww_rule.specs.Patterns.{grid_of}
-use Rattle.blifww_tool.specs.Lifting.{IsCircuitText, Lifts}
-use Rattle.blifww_tool.proofs.Lifted.{audit_refused, lifted_text_is, lifts, many_outs_of}
+use Rattle.blifww_tool.specs.Lifting.{IsCircuitText}
+use Rattle.blifww_tool.proofs.Lifted.{audit_refused, lifts, many_outs_of}
 use Rattle.blifww_tool.proofs.lift.drawn.Goals as goal
 
 pub returns-in_err-plan-clause-refused : goal.returns-in_err-plan-clause-refused
@@ -35,6 +35,4 @@ returns-clause-printed c = λ text reads table.
       drawing = c.in_ok-plan.ensures.drawn;
       named = c.in_ok-plan.ensures.named;
     } in
-    let of_names = c.in_ok-lifted.ensures.lift in
-    subst (λ (output : List ℕ). Lifts text output) (lifted_text_is plan ports lift of_names)
-    (lifts text grid ports plan is lift.list of_names.cells c.in_ok-lifted.ensures.few)
+    lifts text grid ports plan is lift c.in_ok-lifted.ensures.lift c.in_ok-lifted.ensures.few
