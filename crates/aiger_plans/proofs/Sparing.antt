@@ -1,6 +1,6 @@
 -- Where the plan of a circuit has no loop.
-use Rattle.std.proofs.Common.{◌≡◌, refl, sym, ◌∙◌, ap, ap₂, subst, ℕ, zero, suc, ◌+◌, ◌*◌, ◌<◌, ◌≤◌, Bool, false, List, [], ◌∷◌, ◌++◌, map, length, replicate, arith, ⊎_elim}
-use Rattle.std.specs.Prelude.{All, sum_by}
+use Rattle.std.proofs.Common.{◌≡◌, refl, sym, ◌∙◌, ap, subst, ℕ, zero, suc, ◌+◌, ◌*◌, ◌≤◌, ◌==◌, Bool, false, List, [], ◌∷◌, ◌++◌, map, length, replicate, arith, inl, inr, ⊎_elim}
+use Rattle.std.specs.Prelude.{sum_by}
 use Rattle.std.specs.List.{list_any}
 use Rattle.std.proofs.lemmas.List.{length-map, length-replicate, nil_from_length}
 use Rattle.std.proofs.lemmas.List.Sums.{sum_by-cons, count_by-le-length}
@@ -18,12 +18,11 @@ use Rattle.netlist_plans.specs.Lists.{IsPlanned}
 use Rattle.netlist_plans.specs.Sparing.{SparesOne}
 use Rattle.netlist_plans.proofs.Sparing.{any_of, outputs_are, outs_zero, loopless}
 use Rattle.aiger_text.specs.declared.aig.AigLatch.{AigLatch}
-use Rattle.aiger_text.specs.declared.aig.AigAnd.{AigAnd}
 use Rattle.aiger_text.specs.declared.aig.Aig.{Aig}
 use Rattle.aiger_text.specs.SoundAig.{sides_of, IsSoundAig}
 use Rattle.aiger_meaning.specs.Circuit.{AreAigRows, IsAigValuation, aig_start_bits}
 use Rattle.aiger_meaning.specs.FlatOf.{zero_node, node_of, nodes_from, node_reads, row_character, buffer, first_gate, IsFlatOfAig}
-use Rattle.aiger_meaning.specs.Lowered.{IsLowered, AreSameCycle}
+use Rattle.aiger_meaning.specs.Lowered.{IsLowered}
 use Rattle.aiger_meaning.proofs.View.{in_count, latch_count}
 use Rattle.aiger_plans.specs.CarriesAig.{CarriesAig}
 use Rattle.aiger_plans.specs.Zero.{bit_at_zero, some_output_is_one}

@@ -1,5 +1,5 @@
 -- The computed bits of a circuit while all inputs are 0 are those of each valuation.
-use Rattle.std.proofs.Common.{ℕ, zero, suc, ◌+◌, ◌*◌, ◌/◌, ◌%◌, ◌-◌, ◌<◌, ◌≤◌, ◌≡◌, ◌⊎◌, ⊎_elim, inl, inr, refl, sym, ap, ap₂, ◌∙◌, subst, Bool, true, false, true≢false, cond, not, ◌&&◌, ◌==◌, List, [], ◌∷◌, ◌++◌, map, flat_map, take, length, get_or, arith}
+use Rattle.std.proofs.Common.{ℕ, zero, suc, ◌+◌, ◌*◌, ◌/◌, ◌%◌, ◌-◌, ◌<◌, ◌≤◌, ◌≡◌, ◌⊎◌, ⊎_elim, inl, inr, refl, sym, ap, ap₂, ◌∙◌, subst, Bool, true, false, true≢false, cond, ◌&&◌, ◌==◌, List, [], ◌∷◌, ◌++◌, map, flat_map, take, length, get_or, arith}
 use Rattle.std.specs.Prelude.{sum_by, replicate, Option, Some, None}
 use Rattle.std.specs.List.{find}
 use Rattle.std.specs.Option.{option_map_or}
@@ -9,7 +9,6 @@ use Rattle.std.proofs.lemmas.Option.{none-some, same_Some}
 use Rattle.std.proofs.lemmas.List.{get_or-map, get_or-replicate, length-map, take_all}
 use Rattle.std.proofs.lemmas.List.Sums.{sum_by-append, sum_by-cons, sum_by_more}
 use Rattle.lists.proofs.Members.{In, in_left, in_right}
-use Rattle.netlist_core.specs.declared.flat.NetId.{NetId}
 use Rattle.netlist_core.specs.declared.flat.Node.{Node}
 use Rattle.netlist_core.specs.declared.flat.Flat.{Flat}
 use Rattle.netlist_meaning.specs.Flat.{class_of, node_at, no_node, in_classes, out_class}
@@ -23,8 +22,8 @@ use Rattle.aiger_text.specs.EntryFaults.{even}
 use Rattle.aiger_text.specs.SoundAig.{sides_of, IsSoundAig}
 use Rattle.aiger_meaning.specs.Circuit.{IsAigValuation}
 use Rattle.aiger_meaning.specs.FlatOf.{own_literals, net_of_literal, net_id, node_of, nodes_from, node_reads, zero_node, buffer, first_gate, IsFlatOfAig}
-use Rattle.aiger_meaning.proofs.NetLists.{HasNet, net_is, literal_even, even_is, many_reads}
-use Rattle.aiger_meaning.proofs.View.{class_is, node_at_is, node_count, literal_count, count_is, nodes_many, out_class_is}
+use Rattle.aiger_meaning.proofs.NetLists.{HasNet, net_is, many_reads}
+use Rattle.aiger_meaning.proofs.View.{class_is, node_at_is, node_count, literal_count, count_is, out_class_is}
 use Rattle.aiger_meaning.proofs.Within.{read_has, node_has}
 use Rattle.aiger_meaning.proofs.Values.{input_literal, gate_literal}
 use Rattle.aiger_meaning.proofs.Valuations.{gate_reads, no_gate}

@@ -41,9 +41,9 @@ pub record IsPlannedAig (aig : Aig) (plan : Plan) : Type 0 where
 -- cells that compute the circuit: so it has a loop for each latch, and one more exactly if constant
 -- 1 is named. It is small: if w is the circuit's weight, it has at most 4 w + 4 lanes, at most
 -- 256 (w + 1) (w + 1) columns, and at most that many instructions. The table is the plan's. Its
--- period is 32 if the circuit has no latch and needs no constant 1; without latches it is 32 exactly
--- if all outputs are 0 while all inputs are. The text that is written of the plan and the table
--- carries the circuit.
+-- period is 32 if the circuit has no latch and needs no constant 1; without latches it is 32
+-- exactly if all outputs are 0 while all inputs are. The text that is written of the plan and the
+-- table carries the circuit.
 pub record IsPlanOfAig (aig : Aig) (plan : Plan) (ports : Ports) : Type 0 where
   pub admissible : IsAdmissible plan
   pub edges : HasStartEdges plan

@@ -85,6 +85,7 @@ line_reference contexts context named = with_context contexts context (path_befo
 
 -- lines that name nets have their references
 references_are : (ports : Ports) (nets : List Net) → names_and_paths ports.nets ≡ map (λ net. name_and_path net.place net.name) nets → map (reference_of ports.c) (nets_in_contexts ports) ≡ net_references ports.c nets
+unfolding line_reference
 references_are ports nets named =
     map-flat_map (reference_of ports.c) (λ context. nets_in context ports.nets) (range_with_len 0 ports.c)
     ∙ flat_map_same (λ context. map (reference_of ports.c) (nets_in context ports.nets)) (λ context. map (net_reference ports.c context) nets) ports.c
@@ -112,16 +113,16 @@ module _ (their_bits : NetsHaveTheirBits) (shows : CarriersShowContexts) (stream
   many : s.ports.c ≡ length starts
   many = as_many streams_for text design starts k cycles words s is
 
-  are : AreFor k.ports s.streams
+  pub are : AreFor k.ports s.streams
   are = for_table streams_for text design starts k cycles words s is
 
-  variables : HasVariables (vcd_form (waves_of s)) (net_references (length starts) c.nets)
+  pub variables : HasVariables (vcd_form (waves_of s)) (net_references (length starts) c.nets)
   variables =
       let named : names_and_paths s.ports.nets ≡ map (λ net. name_and_path net.place net.name) c.nets = ap (λ (p : Ports). names_and_paths p.nets) (sym same.1) ∙ c.names in
       subst (λ (references : List (List ℕ)). HasVariables (vcd_form (waves_of s)) references)
       (references_are s.ports c.nets named ∙ ap (λ (n : ℕ). net_references n c.nets) many) (has_variables (waves_of s))
 
-  bits : (number : ℕ) (net : Net) → slice_get c.nets number ≡ Some net → (context : ℕ) → context < length starts → (others : ℕ → ℕ → Valuation) → AreRunsOn design starts s.streams others
+  pub bits : (number : ℕ) (net : Net) → slice_get c.nets number ≡ Some net → (context : ℕ) → context < length starts → (others : ℕ → ℕ → Valuation) → AreRunsOn design starts s.streams others
       → (cycle : ℕ) → cycle < cycles → value_at (vcd_form (waves_of s)) (vcd_id (context * length c.nets + number)) cycle ≡ Some (others context cycle net.place net.name)
   bits number net at context less others are_others cycle low =
       let (line, here) = line_of_net text design starts c number net at in
@@ -143,7 +144,7 @@ module _ (their_bits : NetsHaveTheirBits) (shows : CarriersShowContexts) (stream
       ∙ ap (λ (n : Net). get_or (net_bits_in_run (others context) s.streams.cycles n) cycle false) (get_or_from_slice_get c.nets number net (net_at [] []) at)
       ∙ bit_in_run (others context) s.streams.cycles cycle net early)
 
-  pub dumped : DumpsNets cycles words design starts output
+  unfoldable pub dumped : DumpsNets cycles words design starts output
   dumped =
       let ran = shows text design starts k s.streams are in
       record {

@@ -182,6 +182,7 @@ probes_apart law shows streams_for text design starts c cycles name path words o
     }
 
 dumps_apart : NetsHaveTheirBits → CarriersShowContexts → StreamsAreFor → (text : List ℕ) (design : Design) (starts : List LatchState) → CarriesNetsInContexts text design starts → DumpsApart text design (length starts)
+unfolding dumped
 dumps_apart their_bits shows streams_for text design starts c = (
   c.nets,
   c.are_nets,
