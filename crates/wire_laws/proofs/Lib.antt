@@ -1,0 +1,6 @@
+pub mod Lit
+pub mod Dues
+pub mod Around
+pub mod Order
+pub mod Unite
+pub mod Delay

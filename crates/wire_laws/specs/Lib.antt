@@ -1,0 +1,4 @@
+pub mod Signals
+pub mod Wires
+pub mod Rows
+pub mod Laws

@@ -1,0 +1,24 @@
+//! Laws of signals and wires: each function does nothing, and its contract is the law.
+ghost use Rattle.wire_laws.specs.Laws.{SignalsKeepTime, OrderIsFree, PlanesUnite, WiresDelay};
+
+/// A signal is lit exactly at the generations of its cycles in which the bit is 1.
+pub fn signals_keep_time()
+    ensures { SignalsKeepTime }
+{}
+
+/// The order of ports says nothing, outputs may be left out, and an input may be read like an
+/// output.
+pub fn order_is_free()
+    ensures { OrderIsFree }
+{}
+
+/// Two planes that stand apart carry their signals side by side.
+pub fn planes_unite()
+    ensures { PlanesUnite }
+{}
+
+/// A wire that is m cycles long holds back the bits by m cycles; its first m bits are those of the
+/// electrons on it.
+pub fn wires_delay()
+    ensures { WiresDelay }
+{}
