@@ -60,6 +60,10 @@ pub stays_empty : (period : ℕ) (p : Plane) (signals : List Signal) (c : ℤ ×
 stays_empty period p signals c drawn e g =
     driven_empty (due_of_signals period signals) p c.0 c.1 e (λ h. empty_not_due period p signals h c drawn e) g
 
+pub never_due : (period : ℕ) (p : Plane) (signals : List Signal) (c : ℤ × ℤ) → state_in p c ≡ Empty → ((s : Signal) → Contains signals s → s.cell ≢ c) → (g : ℕ) → state_in (driven (due_of_signals period signals) p g) c ≡ Empty
+never_due period p signals c e none g =
+    driven_empty (due_of_signals period signals) p c.0 c.1 e (λ h. not_due period signals h c none) g
+
 pub Head≢Empty : Head ≢ Empty
 Head≢Empty e = true≢false (ap is_full e)
   where

@@ -8,13 +8,14 @@ use Rattle.lists.proofs.Members.{in_from, contains_from}
 use Rattle.ww_rule.specs.declared.pattern.State.{State}
 use Rattle.ww_rule.specs.declared.pattern.State.TheVariants.{Empty, Head, Tail, Conductor}
 use Rattle.ww_rule.specs.Wireworld.{Plane, next_plane, next_state, heads_around, count_head, driven}
+use Rattle.ww_rule.proofs.Cells.{not_counted}
 use Rattle.wire_laws.specs.Signals.{Signal, state_in, is_lit, due_of_signals, IsReady, CarriesSignals}
 use Rattle.wire_laws.specs.Wires.{IsNear, IsWirePath, LaysWire, ComesByWire}
 use Rattle.wire_laws.specs.Laws.{WiresFeed}
 use Rattle.wire_laws.proofs.Lit.{not_soon}
-use Rattle.wire_laws.proofs.Dues.{lights, lights_at, at_lights, empty_not_due, stays_empty, cases_Empty, cases_cell, Head≢Empty}
+use Rattle.wire_laws.proofs.Dues.{lights, lights_at, at_lights, empty_not_due, stays_empty, never_due, cases_Empty, cases_cell, Head≢Empty}
 use Rattle.wire_laws.proofs.Around.{near_itself, near_back, as_many, one_more}
-use Rattle.wire_laws.proofs.Wire.{state_by, count_by, wire_rule, IsOn, IsOff, on_or_off}
+use Rattle.wire_laws.proofs.Wire.{state_by, count_by, count_if, wire_rule, IsOn, IsOff, on_or_off}
 
 pub among_more : (to s : Signal) (ins outs : List Signal) → Contains (ins ++ outs) s → Contains ((to ∷ ins) ++ outs) s
 among_more to s ins outs among = contains_from ((to ∷ ins) ++ outs) s (inr (in_from (ins ++ outs) s among))
@@ -236,7 +237,152 @@ module _ (period n : ℕ) (path : ℕ → ℤ × ℤ) (before after : Plane) (fr
   off_empty : (g : ℕ) (c : ℤ × ℤ) → IsOff n wire c → state_in before c ≡ Empty → state_in (new g) c ≡ state_in (old g) c
   off_empty g c off none =
       let d : c ≢ to.cell = λ e. to_drawn (ap (state_in before) (sym e) ∙ none) in
-      new_empty c (h.laid.others c d off ∙ none) (λ s among e. ins_drawn s among (ap (state_in before) e ∙ none)) g ∙ sym (stays_empty period before (to ∷ ins) c all_drawn none g)
+      never_due period after ins c (h.laid.others c d off ∙ none) (λ s among e. ins_drawn s among (ap (state_in before) e ∙ none)) g
+      ∙ sym (stays_empty period before (to ∷ ins) c all_drawn none g)
+
+  -- what is empty beside the wire is never a head
+  void : (i : ℕ) → i < n → (c : ℤ × ℤ) → IsNear c (wire i) → state_in after c ≡ Empty → (g : ℕ) → state_in (new g) c ≡ Empty
+  void i l c near none g =
+      never_due period after ins c none (λ s among e. kept c (subst (IsOff n wire) e (drawn_off s.cell (ins_drawn s among))) (subst (λ d. state_in before d ≢ Empty) e (ins_drawn s among)) none) g
+
+  -- a wire's cell that is neither a head nor a tail sees the cell before it, and no other head
+  module _ (g : ℕ) (at : IsAt g) (i rest : ℕ) (place : i + suc rest ≡ n) (no_head : lit (g + suc rest) ≡ false) (no_tail : lit (g + rest) ≡ false) where
+    inside : i < n
+    inside = omega (arith, place)
+
+    after_it : (c : ℤ × ℤ) → c ≡ path (suc (suc i)) → (rest ≡ 0) ⊎ (rest ≢ 0) → count_head (state_in (new g) c) ≡ 0
+    after_it c e (inl end) =
+        let last : suc (suc i) ≡ suc n = omega (arith, place, end) in
+        let same : g + rest ≡ g = omega (arith, end) in
+        let there : c ≡ to.cell = e ∙ ap path last ∙ h.ends in
+        ap (λ d. count_head (state_in (new g) d)) there
+        ∙ ap count_head (at.off to.cell (drawn_off to.cell to_drawn))
+        ∙ not_counted (state_in (old g) to.cell) (λ w. true≢false (sym ((to_shows g).0 w) ∙ sym (ap lit same) ∙ no_tail))
+    after_it c e (inr more) =
+        let there : suc i + suc (rest - 1) ≡ n = omega (arith, place, more) in
+        let same : g + suc (rest - 1) ≡ g + rest = omega (arith, more) in
+        ap (λ d. count_head (state_in (new g) d)) e
+        ∙ wire_count g at (suc i) (rest - 1) there
+        ∙ ap (λ b. cond b 1 0) (ap lit same ∙ no_tail)
+
+    dark_at : (c : ℤ × ℤ) → c ≢ path i → (j : ℕ) → i ≤ j → j ≤ i + 2 → c ≡ path j → count_head (state_in (new g) c) ≡ 0
+    dark_at c away j low high e =
+        elim (cases_eq j (suc i)) [
+          | inl same ↦
+              ap (λ d. count_head (state_in (new g) d)) (e ∙ ap path same)
+              ∙ wire_count g at i rest place
+              ∙ ap (λ b. cond b 1 0) no_head
+          | inr other ↦
+              elim (cases_eq j i) [
+                | inl same ↦ absurd (away (e ∙ ap path same))
+                | inr further ↦ let beyond : j ≡ suc (suc i) = omega arith in after_it c (e ∙ ap path beyond) (cases_eq rest 0)
+              ]
+        ]
+
+    dark : (c : ℤ × ℤ) → IsNear c (wire i) → c ≢ path i → count_head (state_in (new g) c) ≡ 0
+    dark c near away =
+        elim (cases_Empty (state_in after c)) [
+          | inl none ↦ ap count_head (void i inside c near none g)
+          | inr full ↦ let by = h.laid.alone i inside c near full in dark_at c away by.0 by.1 by.2 by.3
+        ]
+
+    before_it : (k : ℕ) → i ≡ k → count_head (state_in (new g) (path i)) ≡ cond (lit (suc g + suc rest)) 1 0
+    before_it zero e =
+        let here : path i ≡ from.cell = ap path e ∙ h.begins in
+        let time : g + suc n ≡ suc g + suc rest = omega (arith, place, e) in
+        ap (λ c. count_head (state_in (new g) c)) here
+        ∙ ap count_head (at.off from.cell (drawn_off from.cell from_drawn))
+        ∙ count_if (state_in (old g) from.cell) (is_lit period from g) (from_shows g)
+        ∙ ap (λ b. cond b 1 0) (sym (h.comes.later g) ∙ ap lit time)
+    before_it (suc k) e =
+        let there : k + suc (suc rest) ≡ n = omega (arith, place, e) in
+        let time : g + suc (suc rest) ≡ suc g + suc rest = omega arith in
+        ap (λ j. count_head (state_in (new g) (path j))) e
+        ∙ wire_count g at k (suc rest) there
+        ∙ ap (λ b. cond b 1 0) (ap lit time)
+
+    sees_one : heads_around (new g) (wire i).0 (wire i).1 ≡ cond (lit (suc g + suc rest)) 1 0
+    sees_one =
+        let apart : path i ≢ wire i = λ e. (let same : i ≡ suc i = h.laid.along.once i (suc i) (omega (arith, inside)) (omega (arith, inside)) e in omega arith) in
+        let around : heads_around (new g) (wire i).0 (wire i).1 ≡ 0 + count_head (state_in (new g) (path i)) = one_more (new g) (λ x y. Empty) (wire i) (path i) (h.laid.along.goes_on i (omega (arith, inside))) apart refl dark in
+        let seen = before_it i refl in
+        let alone : 0 + count_head (state_in (new g) (path i)) ≡ count_head (state_in (new g) (path i)) = omega arith in
+        around ∙ alone ∙ seen
+
+  wire_next : (g : ℕ) → IsAt g → (i rest : ℕ) → i + suc rest ≡ n → state_in (new (suc g)) (wire i) ≡ state_by (lit (suc g + suc rest)) (lit (suc g + rest))
+  wire_next g at i rest place =
+      let long = h.long in
+      let l : i < n = omega (arith, place) in
+      let soon : (g + suc rest) + 1 ≡ suc g + suc rest = omega arith in
+      let two : (g + rest) + 2 ≡ suc g + suc rest = omega arith in
+      let same : g + suc rest ≡ suc g + rest = omega arith in
+      ap₂ (λ b s. cond b Head s) (wire_not_due i l (suc g)) (ap (λ s. next_state s (heads_around (new g) (wire i).0 (wire i).1)) (at.on i rest place))
+      ∙ wire_rule (lit (g + suc rest)) (lit (g + rest)) (lit (suc g + suc rest)) (heads_around (new g) (wire i).0 (wire i).1) (λ head. false_from_ne_true _ (λ e. not_soon period to (g + suc rest) 1 head (ap lit soon ∙ e) (omega arith) (omega (arith, long)))) (λ tail. false_from_ne_true _ (λ e. not_soon period to (g + rest) 2 tail (ap lit two ∙ e) (omega arith) (omega (arith, long)))) (λ no_head no_tail. sees_one g at i rest place no_head no_tail)
+      ∙ ap (state_by (lit (suc g + suc rest))) (ap lit same)
+
+  at_first : IsAt 0
+  at_first =
+      record {
+        on = λ i rest place. (let l : i < n = omega (arith, place) in
+            let head : suc rest ≡ 0 + suc rest = omega arith in
+            let tail : rest ≡ 0 + rest = omega arith in
+            ap₂ (λ b s. cond b Head s) (wire_not_due i l 0) (h.laid.wire i rest place) ∙ ap₂ state_by (ap lit head) (ap lit tail));
+        off = off_first;
+      }
     where
-      new_empty : (c : ℤ × ℤ) → state_in after c ≡ Empty → ((s : Signal) → Contains ins s → s.cell ≢ c) → (g : ℕ) → state_in (new g) c ≡ Empty
-      new_empty c e apart g = never_due period after ins c e apart g
+      head_anyway : (b : Bool) (s : State) → s ≡ Head → cond b Head s ≡ Head
+      head_anyway true s e = refl
+      head_anyway false s e = e
+
+      at_to : (lit 0 ≡ true) ⊎ (lit 0 ≡ false) → state_in (new 0) to.cell ≡ state_in (old 0) to.cell
+      at_to (inl bright) =
+          head_anyway (due_of_signals period ins 0 to.cell.0 to.cell.1) (state_in after to.cell) (h.laid.end ∙ ap (λ b. if b then Head else state_in before to.cell) bright)
+          ∙ sym ((to_shows 0).1 bright)
+      at_to (inr dark) =
+          ap₂ (λ b s. cond b Head s) (sym (due_unlit 0 dark)) (h.laid.end ∙ ap (λ b. if b then Head else state_in before to.cell) dark)
+
+      off_first : (c : ℤ × ℤ) → IsOff n wire c → state_in (new 0) c ≡ state_in (old 0) c
+      off_first c off =
+          elim (cases_cell c to.cell) [
+            | inl e ↦ subst (λ d. state_in (new 0) d ≡ state_in (old 0) d) (sym e) (at_to (cases_Bool (lit 0)))
+            | inr d ↦ ap₂ (λ b s. cond b Head s) (sym (due_kept c d 0)) (h.laid.others c d off)
+          ]
+
+  is_at : (g : ℕ) → IsAt g
+  is_at zero = at_first
+  is_at (suc g) =
+      record {
+        on = wire_next g (is_at g);
+        off = λ c off. elim (cases_Empty (state_in before c)) [
+          | inl none ↦ off_empty (suc g) c off none
+          | inr full ↦ off_drawn g (is_at g) c full
+        ];
+      }
+
+  ready : (s : Signal) → Contains ins s → (g : ℕ) → is_lit period s (suc g) ≡ true → IsReady (new g) s.cell
+  ready s among g bright =
+      let full = ins_drawn s among in
+      let is = h.run.ready s (input_more to s ins among) g bright in
+      record {
+        conductor = (is_at g).off s.cell (drawn_off s.cell full) ∙ is.conductor;
+        alone = same_around g (is_at g) s.cell full (λ e. false_from_ne_true _ (λ on_way. (let f = first_lit g on_way in too_soon f.0 f.1 f.2 e))) (λ e. absurd (h.own s among e)) ∙ is.alone;
+      }
+    where
+      too_soon : (k : ℕ) → g ≡ suc k → is_lit period from k ≡ true → s.cell ≡ from.cell → ⊥
+      too_soon k now was e =
+          let long = h.long in
+          let time : suc g ≡ k + 2 = omega (arith, now) in
+          let head : state_in (old k) s.cell ≡ Head = ap (state_in (old k)) e ∙ (from_shows k).1 was in
+          not_soon period s k 2 ((h.run.shows s (Contains-append_left (to ∷ ins) outs s (input_more to s ins among)) k).0 head) (ap (is_lit period s) (sym time) ∙ bright) (omega arith) (omega (arith, long))
+
+  carried : CarriesSignals period after ins outs
+  carried =
+      record {
+        drawn = λ s among. (let full = h.run.drawn s (among_more to s ins outs among) in kept s.cell (drawn_off s.cell full) full);
+        shows = λ s among g. (let full = h.run.drawn s (among_more to s ins outs among) in subst (λ t. (t ≡ Head) ↔ (is_lit period s g ≡ true)) (sym ((is_at g).off s.cell (drawn_off s.cell full))) (h.run.shows s (among_more to s ins outs among) g));
+        ready = ready;
+      }
+
+pub wires_feed : WiresFeed
+wires_feed period n long some path before after from to ins outs run own source begins ends laid comes =
+    carried period n path before after from to ins outs (record { long = long; some = some; run = run; own = own; source = source; begins = begins; ends = ends; laid = laid; comes = comes })

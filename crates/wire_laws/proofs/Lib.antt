@@ -4,3 +4,5 @@ pub mod Around
 pub mod Order
 pub mod Unite
 pub mod Delay
+pub mod Wire
+pub mod Feed

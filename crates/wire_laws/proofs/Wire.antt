@@ -1,10 +1,11 @@
 -- What a wire does from generation to generation.
 use Rattle.std.proofs.Common.{ℤ, ℕ, zero, suc, ◌+◌, ◌<◌, ◌≤◌, ◌≡◌, refl, sym, ap, ap₂, ◌∙◌, inl, inr, Bool, true, false, ◌&&◌, ◌||◌, ◌==◌, cond, List, ◌∷◌, ◌++◌, arith}
-use Rattle.std.specs.Prelude.{Contains, ◌≢◌, ◌⊎◌, if◌then◌else◌}
+use Rattle.std.specs.Prelude.{Contains, ◌≢◌, ◌⊎◌, ◌↔◌, if◌then◌else◌}
 use Rattle.std.proofs.lemmas.Bool.{cases_Bool, cases_lt, cases_eq, true≢false, false_from_ne_true}
 use Rattle.ww_rule.specs.declared.pattern.State.{State}
 use Rattle.ww_rule.specs.declared.pattern.State.TheVariants.{Empty, Head, Tail, Conductor}
 use Rattle.ww_rule.specs.Wireworld.{Plane, next_plane, next_state, heads_around, count_head, driven}
+use Rattle.ww_rule.proofs.Cells.{not_counted}
 use Rattle.wire_laws.specs.Signals.{Signal, state_in}
 use Rattle.wire_laws.proofs.Dues.{cases_cell}
 
@@ -16,6 +17,10 @@ pub count_by : (head tail : Bool) → count_head (state_by head tail) ≡ cond h
 count_by true tail = refl
 count_by false true = refl
 count_by false false = refl
+
+pub count_if : (s : State) (b : Bool) → (s ≡ Head) ↔ (b ≡ true) → count_head s ≡ cond b 1 0
+count_if s true e = ap count_head (e.1 refl)
+count_if s false e = not_counted s (λ head. true≢false (sym (e.0 head)))
 
 -- a cell of a wire that is a conductor takes what the cell before it brings
 pub wire_rule : (head tail next : Bool) (n : ℕ) → (head ≡ true → next ≡ false) → (tail ≡ true → next ≡ false) → (head ≡ false → tail ≡ false → n ≡ cond next 1 0) → next_state (state_by head tail) n ≡ state_by next head

@@ -1,5 +1,5 @@
 //! Laws of signals and wires: each function does nothing, and its contract is the law.
-ghost use Rattle.wire_laws.specs.Laws.{SignalsKeepTime, OrderIsFree, PlanesUnite, WiresDelay};
+ghost use Rattle.wire_laws.specs.Laws.{SignalsKeepTime, OrderIsFree, PlanesUnite, WiresFeed, WiresDelay};
 
 /// A signal is lit exactly at the generations of its cycles in which the bit is 1.
 pub fn signals_keep_time()
@@ -15,6 +15,11 @@ pub fn order_is_free()
 /// Two planes that stand apart carry their signals side by side.
 pub fn planes_unite()
     ensures { PlanesUnite }
+{}
+
+/// A wire from an output to an input takes the place of the input's drive.
+pub fn wires_feed()
+    ensures { WiresFeed }
 {}
 
 /// A wire that is m cycles long holds back the bits by m cycles; its first m bits are those of the

@@ -5,4 +5,4 @@
 
 mod laws;
 
-pub use laws::{order_is_free, planes_unite, signals_keep_time, wires_delay};
+pub use laws::{order_is_free, planes_unite, signals_keep_time, wires_delay, wires_feed};
