@@ -1,9 +1,9 @@
 -- Wires that are some cycles long.
-use Rattle.std.proofs.Common.{ℕ, suc, ◌+◌, ◌-◌, ◌*◌, ◌<◌, ◌≤◌, ◌≡◌, refl, sym, ap, ◌∙◌, inl, inr, Bool, true, false, arith}
+use Rattle.std.proofs.Common.{ℕ, suc, ◌+◌, ◌-◌, ◌*◌, ◌<◌, ◌≤◌, ◌≡◌, sym, ap, ◌∙◌, inl, inr, true, arith}
 use Rattle.std.specs.Cmp.{both_ways}
 use Rattle.std.proofs.lemmas.Bool.{cases_lt, true≢false, false_from_ne_true}
 use Rattle.wire_laws.specs.Signals.{Signal, is_lit}
-use Rattle.wire_laws.specs.Wires.{ComesCyclesLater, ComesByWire}
+use Rattle.wire_laws.specs.Wires.{ComesCyclesLater}
 use Rattle.wire_laws.specs.Laws.{WiresDelay}
 use Rattle.wire_laws.proofs.Lit.{lit_in, in_lit}
 

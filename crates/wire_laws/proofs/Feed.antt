@@ -1,21 +1,20 @@
 -- A wire takes the place of the drive of an input.
-use Rattle.std.proofs.Common.{ℤ, ℕ, zero, suc, ◌+◌, ◌-◌, ◌<◌, ◌≤◌, ◌≡◌, refl, sym, ap, ap₂, ◌∙◌, subst, inl, inr, Bool, true, false, ◌&&◌, ◌||◌, cond, List, ◌∷◌, ◌++◌, arith}
+use Rattle.std.proofs.Common.{ℤ, ℕ, zero, suc, ◌+◌, ◌-◌, ◌<◌, ◌≤◌, ◌≡◌, refl, sym, ap, ap₂, ◌∙◌, subst, inl, inr, Bool, true, false, ◌||◌, cond, List, ◌∷◌, ◌++◌, arith}
 use Rattle.std.specs.Prelude.{Contains, ◌≢◌, ◌⊎◌, ◌↔◌, if◌then◌else◌}
-use Rattle.std.specs.Ordering.{int_eq}
 use Rattle.std.proofs.lemmas.Bool.{cases_Bool, cases_eq, cases_lt, true≢false, false_from_ne_true}
-use Rattle.std.proofs.lemmas.List.Elements.{Contains-append_cases, Contains-append_left, Contains-append_right}
+use Rattle.std.proofs.lemmas.List.Elements.{Contains-append_left}
 use Rattle.lists.proofs.Members.{in_from, contains_from}
 use Rattle.ww_rule.specs.declared.pattern.State.{State}
-use Rattle.ww_rule.specs.declared.pattern.State.TheVariants.{Empty, Head, Tail, Conductor}
+use Rattle.ww_rule.specs.declared.pattern.State.TheVariants.{Empty, Head, Tail}
 use Rattle.ww_rule.specs.Wireworld.{Plane, next_plane, next_state, heads_around, count_head, driven}
 use Rattle.ww_rule.proofs.Cells.{not_counted}
 use Rattle.wire_laws.specs.Signals.{Signal, state_in, is_lit, due_of_signals, IsReady, CarriesSignals}
-use Rattle.wire_laws.specs.Wires.{IsNear, IsWirePath, LaysWire, ComesByWire}
+use Rattle.wire_laws.specs.Wires.{IsNear, LaysWire, ComesByWire}
 use Rattle.wire_laws.specs.Laws.{WiresFeed}
 use Rattle.wire_laws.proofs.Lit.{not_soon}
-use Rattle.wire_laws.proofs.Dues.{lights, lights_at, at_lights, empty_not_due, stays_empty, never_due, cases_Empty, cases_cell, Head≢Empty}
-use Rattle.wire_laws.proofs.Around.{near_itself, near_back, as_many, one_more}
-use Rattle.wire_laws.proofs.Wire.{state_by, count_by, count_if, wire_rule, IsOn, IsOff, on_or_off}
+use Rattle.wire_laws.proofs.Dues.{lights, lights_at, empty_not_due, stays_empty, never_due, cases_Empty, cases_cell, Head≢Empty}
+use Rattle.wire_laws.proofs.Around.{near_back, as_many, one_more}
+use Rattle.wire_laws.proofs.Wire.{state_by, count_by, count_if, wire_rule, IsOff, on_or_off}
 
 pub among_more : (to s : Signal) (ins outs : List Signal) → Contains (ins ++ outs) s → Contains ((to ∷ ins) ++ outs) s
 among_more to s ins outs among = contains_from ((to ∷ ins) ++ outs) s (inr (in_from (ins ++ outs) s among))

@@ -6,3 +6,5 @@ pub mod Unite
 pub mod Delay
 pub mod Wire
 pub mod Feed
+pub mod Rows
+pub mod Slower

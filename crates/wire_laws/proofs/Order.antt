@@ -1,10 +1,10 @@
 -- The order of ports.
-use Rattle.std.proofs.Common.{ℕ, suc, ◌≡◌, ◌≢◌, subst, inl, inr, true, List, ◌++◌}
+use Rattle.std.proofs.Common.{◌≡◌, subst, inl, inr, true, ◌++◌}
 use Rattle.std.specs.Prelude.{Contains, ◌↔◌}
 use Rattle.std.proofs.lemmas.List.Elements.{Contains-append_cases, Contains-append_left}
 use Rattle.ww_rule.specs.declared.pattern.State.TheVariants.{Head}
 use Rattle.ww_rule.specs.Wireworld.{driven}
-use Rattle.wire_laws.specs.Signals.{Signal, state_in, is_lit, due_of_signals, IsReady, CarriesSignals}
+use Rattle.wire_laws.specs.Signals.{Signal, state_in, is_lit, due_of_signals, IsReady}
 use Rattle.wire_laws.specs.Laws.{OrderIsFree}
 use Rattle.wire_laws.proofs.Dues.{same_dues}
 

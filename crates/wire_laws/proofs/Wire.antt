@@ -1,12 +1,11 @@
 -- What a wire does from generation to generation.
-use Rattle.std.proofs.Common.{ℤ, ℕ, zero, suc, ◌+◌, ◌<◌, ◌≤◌, ◌≡◌, refl, sym, ap, ap₂, ◌∙◌, inl, inr, Bool, true, false, ◌&&◌, ◌||◌, ◌==◌, cond, List, ◌∷◌, ◌++◌, arith}
-use Rattle.std.specs.Prelude.{Contains, ◌≢◌, ◌⊎◌, ◌↔◌, if◌then◌else◌}
-use Rattle.std.proofs.lemmas.Bool.{cases_Bool, cases_lt, cases_eq, true≢false, false_from_ne_true}
+use Rattle.std.proofs.Common.{ℤ, ℕ, zero, suc, ◌<◌, ◌≤◌, ◌≡◌, refl, sym, ap, ◌∙◌, inl, inr, Bool, true, false, ◌||◌, ◌==◌, cond, arith}
+use Rattle.std.specs.Prelude.{◌≢◌, ◌⊎◌, ◌↔◌, if◌then◌else◌}
+use Rattle.std.proofs.lemmas.Bool.{cases_lt, true≢false}
 use Rattle.ww_rule.specs.declared.pattern.State.{State}
-use Rattle.ww_rule.specs.declared.pattern.State.TheVariants.{Empty, Head, Tail, Conductor}
-use Rattle.ww_rule.specs.Wireworld.{Plane, next_plane, next_state, heads_around, count_head, driven}
+use Rattle.ww_rule.specs.declared.pattern.State.TheVariants.{Head, Tail, Conductor}
+use Rattle.ww_rule.specs.Wireworld.{next_state, count_head}
 use Rattle.ww_rule.proofs.Cells.{not_counted}
-use Rattle.wire_laws.specs.Signals.{Signal, state_in}
 use Rattle.wire_laws.proofs.Dues.{cases_cell}
 
 -- the state of a wire's cell that is to be a head, or was one just before

@@ -1,9 +1,14 @@
 //! Laws of signals and wires: each function does nothing, and its contract is the law.
-ghost use Rattle.wire_laws.specs.Laws.{SignalsKeepTime, OrderIsFree, PlanesUnite, WiresFeed, WiresDelay};
+ghost use Rattle.wire_laws.specs.Laws.{SignalsKeepTime, RowsAreSignals, OrderIsFree, PlanesUnite, WiresFeed, WiresDelay, StretchedAreSlower, AnswersGoSlower};
 
 /// A signal is lit exactly at the generations of its cycles in which the bit is 1.
 pub fn signals_keep_time()
     ensures { SignalsKeepTime }
+{}
+
+/// The signals of rows of bits drive a plane as the rows do.
+pub fn rows_are_signals()
+    ensures { RowsAreSignals }
 {}
 
 /// The order of ports says nothing, outputs may be left out, and an input may be read like an
@@ -26,4 +31,15 @@ pub fn wires_feed()
 /// electrons on it.
 pub fn wires_delay()
     ensures { WiresDelay }
+{}
+
+/// A plane carries stretched signals at a period exactly if it carries the signals at a multiple of
+/// the period.
+pub fn stretched_are_slower()
+    ensures { StretchedAreSlower }
+{}
+
+/// A plane without electrons that answers row by row does so at each multiple of its period.
+pub fn answers_go_slower()
+    ensures { AnswersGoSlower }
 {}
