@@ -123,17 +123,17 @@ module _ (period times : ℕ) (some : 0 < period) (more : 0 < times) (p : Plane)
   undriven : (g : ℕ) (x y : ℤ) → due_of_signals period (signals_at ins (λ t. zeros)) g x y ≡ false
   undriven g x y =
       false_from_ne_true _ (λ e. (let by = due_by_signal period (signals_at ins (λ t. zeros)) g (x, y) e in
-          let of = port_of_signal ins (λ t. zeros) by.0 (in_from (signals_at ins (λ t. zeros)) by.0 by.1) in
-          let cycle = lit_in period by.0 g by.2 in
-          true≢false (sym cycle.2 ∙ ap (λ s. s.bit cycle.0) of.is)))
+      let of = port_of_signal ins (λ t. zeros) by.0 (in_from (signals_at ins (λ t. zeros)) by.0 by.1) in
+      let cycle = lit_in period by.0 g by.2 in
+      true≢false (sym cycle.2 ∙ ap (λ s. s.bit cycle.0) of.is)))
 
   answer_dark : (i : ℕ) → i < length outs → answer zeros i ≡ false
   answer_dark i l =
       false_from_ne_true _ (λ e. (let s = port_signal (get_or outs i no_port) (λ t. answer zeros) i in
-          let among : Contains (signals_at ins (λ t. zeros) ++ signals_at outs (λ t. answer zeros)) s = contains_from _ s (in_right (signals_at ins (λ t. zeros)) (signals_at outs (λ t. answer zeros)) s (signal_of_port outs (λ t. answer zeros) i l)) in
-          let time : s.first ≡ s.first + 0 * period = omega arith in
-          let lit : is_lit period s s.first ≡ true = in_lit period s s.first 0 some time e in
-          none.heads s.cell.0 s.cell.1 (ap (λ q. state_in q s.cell) (sym (rests_driven period p none (signals_at ins (λ t. zeros)) undriven s.first)) ∙ ((answers (λ t. zeros)).shows s among s.first).1 lit)))
+      let among : Contains (signals_at ins (λ t. zeros) ++ signals_at outs (λ t. answer zeros)) s = contains_from _ s (in_right (signals_at ins (λ t. zeros)) (signals_at outs (λ t. answer zeros)) s (signal_of_port outs (λ t. answer zeros) i l)) in
+      let time : s.first ≡ s.first + 0 * period = omega arith in
+      let lit : is_lit period s s.first ≡ true = in_lit period s s.first 0 some time e in
+      none.heads s.cell.0 s.cell.1 (ap (λ q. state_in q s.cell) (sym (rests_driven period p none (signals_at ins (λ t. zeros)) undriven s.first)) ∙ ((answers (λ t. zeros)).shows s among s.first).1 lit)))
 
   abbrev slow : (ℕ → ℕ → Bool) → ℕ → ℕ → Bool
   slow bits t = cond (t % times == 0) (bits (t / times)) zeros

@@ -26,9 +26,6 @@ record Beside (period : ℕ) (p q : Plane) (ins inputs : List Signal) : Type 0 w
   others_drawn : (s : Signal) → Contains inputs s → state_in q s.cell ≢ Empty
 
 module _ (period : ℕ) (p q : Plane) (ins inputs : List Signal) (h : Beside period p q ins inputs) where
-
-
-
   -- near a cell of the one plane the other is empty for ever
   alone : (cell other : ℤ × ℤ) → state_in p cell ≢ Empty → IsNear other cell → (g : ℕ) → state_in (driven (due_of_signals period inputs) q g) other ≡ Empty
   alone cell other full near g = stays_empty period q inputs other h.others_drawn (h.apart cell other full near) g
@@ -140,8 +137,8 @@ module _ (period : ℕ) (p q : Plane) (ins outs inputs outputs : List Signal) (a
   which : (s : Signal) → Contains ((ins ++ inputs) ++ (outs ++ outputs)) s → Contains (ins ++ outs) s ⊎ Contains (inputs ++ outputs) s
   which s among =
       elim (Contains-append_cases (ins ++ inputs) (outs ++ outputs) s among) [
-        | inl i ↦ elim (Contains-append_cases ins inputs s i) [ | inl a ↦ inl (Contains-append_left ins outs s a) | inr b ↦ inr (Contains-append_left inputs outputs s b) ]
-        | inr o ↦ elim (Contains-append_cases outs outputs s o) [ | inl a ↦ inl (Contains-append_right ins outs s a) | inr b ↦ inr (Contains-append_right inputs outputs s b) ]
+        | inl i ↦ elim (Contains-append_cases ins inputs s i) [ inl a ↦ inl (Contains-append_left ins outs s a) | inr b ↦ inr (Contains-append_left inputs outputs s b) ]
+        | inr o ↦ elim (Contains-append_cases outs outputs s o) [ inl a ↦ inl (Contains-append_right ins outs s a) | inr b ↦ inr (Contains-append_right inputs outputs s b) ]
       ]
 
   is_drawn : (s : Signal) → Contains ((ins ++ inputs) ++ (outs ++ outputs)) s → state_in (side_by_side p q) s.cell ≢ Empty

@@ -5,4 +5,7 @@
 
 mod laws;
 
-pub use laws::{answers_go_slower, order_is_free, planes_unite, rows_are_signals, signals_keep_time, stretched_are_slower, wires_delay, wires_feed};
+pub use laws::{
+    answers_go_slower, order_is_free, planes_unite, rows_are_signals, signals_keep_time,
+    stretched_are_slower, wires_delay, wires_feed,
+};
