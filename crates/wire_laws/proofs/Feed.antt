@@ -9,8 +9,7 @@ use Rattle.ww_rule.specs.declared.pattern.State.TheVariants.{Empty, Head, Tail}
 use Rattle.ww_rule.specs.Wireworld.{Plane, next_plane, next_state, heads_around, count_head, driven}
 use Rattle.ww_rule.proofs.Cells.{not_counted}
 use Rattle.wire_laws.specs.Signals.{Signal, state_in, is_lit, due_of_signals, IsReady, CarriesSignals}
-use Rattle.wire_laws.specs.Wires.{IsNear, LaysWire, ComesByWire}
-use Rattle.wire_laws.specs.Laws.{WiresFeed}
+use Rattle.wire_laws.specs.Wires.{IsNear, Wire, IsWire, IsLaid, IsAwayFrom}
 use Rattle.wire_laws.proofs.Lit.{not_soon}
 use Rattle.wire_laws.proofs.Dues.{lights, lights_at, empty_not_due, stays_empty, never_due, cases_Empty, cases_cell, Head≢Empty}
 use Rattle.wire_laws.proofs.Around.{near_back, as_many, one_more}
@@ -22,18 +21,29 @@ among_more to s ins outs among = contains_from ((to ∷ ins) ++ outs) s (inr (in
 pub input_more : (to s : Signal) (ins : List Signal) → Contains ins s → Contains (to ∷ ins) s
 input_more to s ins among = contains_from (to ∷ ins) s (inr (in_from ins s among))
 
-pub record IsFed (period n : ℕ) (path : ℕ → ℤ × ℤ) (before after : Plane) (from to : Signal) (ins outs : List Signal) : Type 0 where
+-- one wire that is laid
+pub record IsFed (period : ℕ) (wire : Wire) (ins outs : List Signal) (before after : Plane) : Type 0 where
   pub long : 3 ≤ period
-  pub some : 0 < n
-  pub run : CarriesSignals period before (to ∷ ins) outs
-  pub own : (s : Signal) → Contains ins s → s.cell ≢ to.cell
-  pub source : Contains (ins ++ outs) from
-  pub begins : path 0 ≡ from.cell
-  pub ends : path (suc n) ≡ to.cell
-  pub laid : LaysWire period n path to before after
-  pub comes : ComesByWire period n from to
+  pub run : CarriesSignals period before (wire.to ∷ ins) outs
+  pub own : (s : Signal) → Contains ins s → s.cell ≢ wire.to.cell
+  pub source : Contains (ins ++ outs) wire.from
+  pub is : IsWire period wire
+  pub laid : IsLaid period wire before after
+  pub others : (cell : ℤ × ℤ) → IsAwayFrom wire cell → state_in after cell ≡ state_in before cell
 
-module _ (period n : ℕ) (path : ℕ → ℤ × ℤ) (before after : Plane) (from to : Signal) (ins outs : List Signal) (h : IsFed period n path before after from to ins outs) where
+module _ (period : ℕ) (fed : Wire) (ins outs : List Signal) (before after : Plane) (h : IsFed period fed ins outs before after) where
+  abbrev n : ℕ
+  n = fed.size
+
+  abbrev path : ℕ → ℤ × ℤ
+  path = fed.path
+
+  abbrev from : Signal
+  from = fed.from
+
+  abbrev to : Signal
+  to = fed.to
+
   abbrev old : ℕ → Plane
   old g = driven (due_of_signals period (to ∷ ins)) before g
 
@@ -76,14 +86,14 @@ module _ (period n : ℕ) (path : ℕ → ℤ × ℤ) (before after : Plane) (fr
   -- the other ends of the path
   apart : from.cell ≢ to.cell
   apart e =
-      let same : 0 ≡ suc n = h.laid.along.once 0 (suc n) (omega arith) (omega arith) (h.begins ∙ e ∙ sym h.ends) in omega arith
+      let same : 0 ≡ suc n = h.is.along.once 0 (suc n) (omega arith) (omega arith) (h.is.begins ∙ e ∙ sym h.is.ends) in omega arith
 
   -- a cell off the wire is drawn as before
   kept : (c : ℤ × ℤ) → IsOff n wire c → state_in before c ≢ Empty → state_in after c ≢ Empty
   kept c off full =
       elim (cases_cell c to.cell) [
         | inl e ↦ λ w. either (lit 0) (sym (ap (state_in after) e ∙ h.laid.end) ∙ w)
-        | inr d ↦ λ w. full (sym (h.laid.others c d off) ∙ w)
+        | inr d ↦ λ w. full (sym (h.others c (record { end = d; cells = off })) ∙ w)
       ]
     where
       either : (b : Bool) → (if b then Head else state_in before to.cell) ≡ Empty → ⊥
@@ -95,13 +105,13 @@ module _ (period n : ℕ) (path : ℕ → ℤ × ℤ) (before after : Plane) (fr
   near_wire i l c near off full = at (h.laid.alone i l c near (kept c off full))
     where
       at : (j : ℕ) × (i ≤ j) × (j ≤ i + 2) × (c ≡ path j) → ((c ≡ from.cell) × (i ≡ 0)) ⊎ ((c ≡ to.cell) × (suc i ≡ n))
-      at (zero, low, high, e) = inl (e ∙ h.begins, omega arith)
+      at (zero, low, high, e) = inl (e ∙ h.is.begins, omega arith)
       at (suc k, low, high, e) =
           elim (cases_lt k n) [
             | inl lt ↦ absurd (off k lt e)
             | inr ge ↦
                 let last : suc k ≡ suc n = omega arith in
-                inr (e ∙ ap path last ∙ h.ends, omega arith)
+                inr (e ∙ ap path last ∙ h.is.ends, omega arith)
           ]
 
   -- no wire's cell is ever drawn or due in the old plane
@@ -124,10 +134,10 @@ module _ (period n : ℕ) (path : ℕ → ℤ × ℤ) (before after : Plane) (fr
   -- if the wire's first cell is a head, the output's was one just before
   first_lit : (g : ℕ) → lit (g + n) ≡ true → (k : ℕ) × (g ≡ suc k) × (is_lit period from k ≡ true)
   first_lit zero e =
-      let same : zero + n ≡ n = omega arith in absurd (true≢false (sym e ∙ ap lit same ∙ h.comes.clear))
+      let same : zero + n ≡ n = omega arith in absurd (true≢false (sym e ∙ ap lit same ∙ h.is.comes.clear))
   first_lit (suc k) e =
       let same : suc k + n ≡ k + suc n = omega arith in
-      (k, refl, sym (h.comes.later k) ∙ sym (ap lit same) ∙ e)
+      (k, refl, sym (h.is.comes.later k) ∙ sym (ap lit same) ∙ e)
 
   -- the wire's cell i at a generation, as a head or not
   wire_count : (g : ℕ) → IsAt g → (i rest : ℕ) → i + suc rest ≡ n → count_head (state_in (new g) (wire i)) ≡ cond (lit (g + suc rest)) 1 0
@@ -151,7 +161,7 @@ module _ (period n : ℕ) (path : ℕ → ℤ × ℤ) (before after : Plane) (fr
 
         on_wire : (i : ℕ) → i < n → d ≡ wire i → ((c ≡ from.cell) × (i ≡ 0)) ⊎ ((c ≡ to.cell) × (suc i ≡ n)) → count_head (state_in (new g) d) ≡ count_head (state_in (old g) d)
         on_wire i l e (inl (here, start)) =
-            let some = h.some in
+            let some = h.is.some in
             let same : g + suc (n - 1) ≡ g + n = omega (arith, some) in
             dark i (n - 1) l e (omega (arith, some, start)) (ap lit same ∙ first here)
         on_wire i l e (inr (here, stop)) =
@@ -187,13 +197,13 @@ module _ (period n : ℕ) (path : ℕ → ℤ × ℤ) (before after : Plane) (fr
   -- the input's cell is lit by the wire
   to_lit : (g : ℕ) → IsAt g → lit (suc g) ≡ true → next_plane (new g) to.cell.0 to.cell.1 ≡ Head
   to_lit g at bright =
-      let some = h.some in
+      let some = h.is.some in
       let is = h.run.ready to (contains_from (to ∷ ins) to (inl refl)) g bright in
       let k = n - 1 in
       let place : k + 1 ≡ n = omega (arith, some) in
       let last : suc k ≡ n = omega (arith, some) in
       let l : k < n = omega (arith, some) in
-      let beside : IsNear (wire k) to.cell = subst (λ i. IsNear (path i) to.cell) (sym last) (subst (IsNear (path n)) h.ends (h.laid.along.goes_on n (omega arith))) in
+      let beside : IsNear (wire k) to.cell = subst (λ i. IsNear (path i) to.cell) (sym last) (subst (IsNear (path n)) h.is.ends (h.is.along.goes_on n (omega arith))) in
       let other : wire k ≢ to.cell = λ e. drawn_off to.cell to_drawn k l (sym e) in
       let seen : count_head (state_in (new g) (wire k)) ≡ 1 = wire_count g at k 0 place ∙ ap (λ b. cond b 1 0) (ap lit (let next : g + 1 ≡ suc g = omega arith in next) ∙ bright) in
       let around : heads_around (new g) to.cell.0 to.cell.1 ≡ 1 = one_more (new g) (old g) to.cell (wire k) beside other (ap count_head (old_empty k l g)) (λ d near away. rest d near away) ∙ ap₂ (λ a b. a + b) is.alone seen in
@@ -236,7 +246,7 @@ module _ (period n : ℕ) (path : ℕ → ℤ × ℤ) (before after : Plane) (fr
   off_empty : (g : ℕ) (c : ℤ × ℤ) → IsOff n wire c → state_in before c ≡ Empty → state_in (new g) c ≡ state_in (old g) c
   off_empty g c off none =
       let d : c ≢ to.cell = λ e. to_drawn (ap (state_in before) (sym e) ∙ none) in
-      never_due period after ins c (h.laid.others c d off ∙ none) (λ s among e. ins_drawn s among (ap (state_in before) e ∙ none)) g
+      never_due period after ins c (h.others c (record { end = d; cells = off }) ∙ none) (λ s among e. ins_drawn s among (ap (state_in before) e ∙ none)) g
       ∙ sym (stays_empty period before (to ∷ ins) c all_drawn none g)
 
   -- what is empty beside the wire is never a head
@@ -253,7 +263,7 @@ module _ (period n : ℕ) (path : ℕ → ℤ × ℤ) (before after : Plane) (fr
     after_it c e (inl end) =
         let last : suc (suc i) ≡ suc n = omega (arith, place, end) in
         let same : g + rest ≡ g = omega (arith, end) in
-        let there : c ≡ to.cell = e ∙ ap path last ∙ h.ends in
+        let there : c ≡ to.cell = e ∙ ap path last ∙ h.is.ends in
         ap (λ d. count_head (state_in (new g) d)) there
         ∙ ap count_head (at.off to.cell (drawn_off to.cell to_drawn))
         ∙ not_counted (state_in (old g) to.cell) (λ w. true≢false (sym ((to_shows g).0 w) ∙ sym (ap lit same) ∙ no_tail))
@@ -287,12 +297,12 @@ module _ (period n : ℕ) (path : ℕ → ℤ × ℤ) (before after : Plane) (fr
 
     before_it : (k : ℕ) → i ≡ k → count_head (state_in (new g) (path i)) ≡ cond (lit (suc g + suc rest)) 1 0
     before_it zero e =
-        let here : path i ≡ from.cell = ap path e ∙ h.begins in
+        let here : path i ≡ from.cell = ap path e ∙ h.is.begins in
         let time : g + suc n ≡ suc g + suc rest = omega (arith, place, e) in
         ap (λ c. count_head (state_in (new g) c)) here
         ∙ ap count_head (at.off from.cell (drawn_off from.cell from_drawn))
         ∙ count_if (state_in (old g) from.cell) (is_lit period from g) (from_shows g)
-        ∙ ap (λ b. cond b 1 0) (sym (h.comes.later g) ∙ ap lit time)
+        ∙ ap (λ b. cond b 1 0) (sym (h.is.comes.later g) ∙ ap lit time)
     before_it (suc k) e =
         let there : k + suc (suc rest) ≡ n = omega (arith, place, e) in
         let time : g + suc (suc rest) ≡ suc g + suc rest = omega arith in
@@ -302,8 +312,8 @@ module _ (period n : ℕ) (path : ℕ → ℤ × ℤ) (before after : Plane) (fr
 
     sees_one : heads_around (new g) (wire i).0 (wire i).1 ≡ cond (lit (suc g + suc rest)) 1 0
     sees_one =
-        let apart : path i ≢ wire i = λ e. (let same : i ≡ suc i = h.laid.along.once i (suc i) (omega (arith, inside)) (omega (arith, inside)) e in omega arith) in
-        let around : heads_around (new g) (wire i).0 (wire i).1 ≡ 0 + count_head (state_in (new g) (path i)) = one_more (new g) (λ x y. Empty) (wire i) (path i) (h.laid.along.goes_on i (omega (arith, inside))) apart refl dark in
+        let apart : path i ≢ wire i = λ e. (let same : i ≡ suc i = h.is.along.once i (suc i) (omega (arith, inside)) (omega (arith, inside)) e in omega arith) in
+        let around : heads_around (new g) (wire i).0 (wire i).1 ≡ 0 + count_head (state_in (new g) (path i)) = one_more (new g) (λ x y. Empty) (wire i) (path i) (h.is.along.goes_on i (omega (arith, inside))) apart refl dark in
         let seen = before_it i refl in
         let alone : 0 + count_head (state_in (new g) (path i)) ≡ count_head (state_in (new g) (path i)) = omega arith in
         around ∙ alone ∙ seen
@@ -325,7 +335,7 @@ module _ (period n : ℕ) (path : ℕ → ℤ × ℤ) (before after : Plane) (fr
         on = λ i rest place. (let l : i < n = omega (arith, place) in
             let head : suc rest ≡ 0 + suc rest = omega arith in
             let tail : rest ≡ 0 + rest = omega arith in
-            ap₂ (λ b s. cond b Head s) (wire_not_due i l 0) (h.laid.wire i rest place) ∙ ap₂ state_by (ap lit head) (ap lit tail));
+            ap₂ (λ b s. cond b Head s) (wire_not_due i l 0) (h.laid.states i rest place) ∙ ap₂ state_by (ap lit head) (ap lit tail));
         off = off_first;
       }
     where
@@ -344,7 +354,7 @@ module _ (period n : ℕ) (path : ℕ → ℤ × ℤ) (before after : Plane) (fr
       off_first c off =
           elim (cases_cell c to.cell) [
             | inl e ↦ subst (λ d. state_in (new 0) d ≡ state_in (old 0) d) (sym e) (at_to (cases_Bool (lit 0)))
-            | inr d ↦ ap₂ (λ b s. cond b Head s) (sym (due_kept c d 0)) (h.laid.others c d off)
+            | inr d ↦ ap₂ (λ b s. cond b Head s) (sym (due_kept c d 0)) (h.others c (record { end = d; cells = off }))
           ]
 
   is_at : (g : ℕ) → IsAt g
@@ -374,14 +384,10 @@ module _ (period n : ℕ) (path : ℕ → ℤ × ℤ) (before after : Plane) (fr
           let head : state_in (old k) s.cell ≡ Head = ap (state_in (old k)) e ∙ (from_shows k).1 was in
           not_soon period s k 2 ((h.run.shows s (Contains-append_left (to ∷ ins) outs s (input_more to s ins among)) k).0 head) (ap (is_lit period s) (sym time) ∙ bright) (omega arith) (omega (arith, long))
 
-  carried : CarriesSignals period after ins outs
+  pub carried : CarriesSignals period after ins outs
   carried =
       record {
         drawn = λ s among. (let full = h.run.drawn s (among_more to s ins outs among) in kept s.cell (drawn_off s.cell full) full);
         shows = λ s among g. (let full = h.run.drawn s (among_more to s ins outs among) in subst (λ t. (t ≡ Head) ↔ (is_lit period s g ≡ true)) (sym ((is_at g).off s.cell (drawn_off s.cell full))) (h.run.shows s (among_more to s ins outs among) g));
         ready = ready;
       }
-
-pub wires_feed : WiresFeed
-wires_feed period n long some path before after from to ins outs run own source begins ends laid comes =
-    carried period n path before after from to ins outs (record { long = long; some = some; run = run; own = own; source = source; begins = begins; ends = ends; laid = laid; comes = comes })

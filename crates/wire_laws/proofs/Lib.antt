@@ -8,3 +8,6 @@ pub mod Wire
 pub mod Feed
 pub mod Rows
 pub mod Slower
+pub mod Together
+pub mod Moved
+pub mod Lone

@@ -1,11 +1,11 @@
 -- Laws of planes that carry signals: put side by side, joined by wires, and run more slowly.
-use Rattle.std.specs.Prelude.{ℤ, ℕ, suc, ◌+◌, ◌*◌, ◌<◌, ◌≤◌, ◌≡◌, ◌≢◌, ◌↔◌, Bool, true, List, ◌∷◌, ◌++◌, map, Contains}
+use Rattle.std.specs.Prelude.{ℤ, ℕ, ◌+◌, ◌*◌, ◌<◌, ◌≤◌, ◌≡◌, ◌≢◌, ◌↔◌, Bool, true, List, [], ◌∷◌, ◌++◌, map, Contains}
 use Rattle.ww_rule.specs.declared.pattern.State.{State}
-use Rattle.ww_rule.specs.declared.pattern.State.TheVariants.{Empty}
+use Rattle.ww_rule.specs.declared.pattern.State.TheVariants.{Empty, Conductor}
 use Rattle.ww_rule.specs.Wireworld.{Plane}
 use Rattle.ww_rule.specs.Injections.{due_of_streams}
 use Rattle.wire_laws.specs.Signals.{Signal, state_in, is_lit, due_of_signals, CarriesSignals}
-use Rattle.wire_laws.specs.Wires.{IsNear, LaysWire, ComesByWire, ComesCyclesLater}
+use Rattle.wire_laws.specs.Wires.{IsNear, Wire, HasWires, ComesByWire, ComesCyclesLater}
 use Rattle.wire_laws.specs.Rows.{signals_of_rows, stretched, HasNoElectrons, AnswersEachRow}
 
 -- a signal is lit exactly at the generations of its cycles in which the bit is 1
@@ -19,6 +19,17 @@ abbrev pub RowsAreSignals : Type 0
 RowsAreSignals =
     (period : ℕ) → 0 < period → (cells : List (ℕ × ℕ)) (rows : List (List Bool))
     → due_of_signals period (signals_of_rows cells rows) ≡ due_of_streams period cells rows
+
+-- the plane has one cell, a conductor
+pub record IsLoneCell (p : Plane) (cell : ℤ × ℤ) : Type 0 where
+  pub conductor : state_in p cell ≡ Conductor
+  pub others : (other : ℤ × ℤ) → other ≢ cell → state_in p other ≡ Empty
+
+-- a lone cell carries each signal from itself to itself
+abbrev pub LoneCellsCarry : Type 0
+LoneCellsCarry =
+    (period : ℕ) → 3 ≤ period → (p : Plane) (s : Signal) → IsLoneCell p s.cell
+    → CarriesSignals period p (s ∷ []) (s ∷ [])
 
 -- inputs may stand in any order, and outputs too; outputs may be left out, and an input shows its
 -- own signal
@@ -49,23 +60,21 @@ PlanesUnite =
     → CarriesSignals period p ins outs → CarriesSignals period q inputs outputs
     → CarriesSignals period (side_by_side p q) (ins ++ inputs) (outs ++ outputs)
 
--- A wire from an output to an input takes the place of the input's drive, if the input's signal is
--- the one that comes by the wire. All other signals stay as they are, so more wires can be laid.
+-- Wires take the place of the drive of the inputs at their ends, if the signals of these are those
+-- that come by the wires. All other ports show what they showed, and are ready as they were, so
+-- more wires can be laid.
 abbrev pub WiresFeed : Type 0
 WiresFeed =
-    (period n : ℕ) → 3 ≤ period → 0 < n → (path : ℕ → ℤ × ℤ) (before after : Plane)
-    (from to : Signal) (ins outs : List Signal)
-    → CarriesSignals period before (to ∷ ins) outs
-    → ((s : Signal) → Contains ins s → s.cell ≢ to.cell) → Contains (ins ++ outs) from
-    → path 0 ≡ from.cell → path (suc n) ≡ to.cell → LaysWire period n path to before after
-    → ComesByWire period n from to
+    (period : ℕ) → 3 ≤ period → (wires : List Wire) (ins outs : List Signal) (before after : Plane)
+    → HasWires period wires ins outs before after
+    → CarriesSignals period before (map (λ wire. wire.to) wires ++ ins) outs
     → CarriesSignals period after ins outs
 
 -- a wire that is m cycles long holds back the bits by m cycles
 abbrev pub WiresDelay : Type 0
 WiresDelay =
-    (period n m : ℕ) (from to : Signal) → 0 < period → ComesCyclesLater period n m from to
-    → ComesByWire period n from to
+    (period size m : ℕ) (from to : Signal) → 0 < period
+    → ComesCyclesLater period size m from to → ComesByWire period size from to
 
 -- a plane carries stretched signals at a period exactly if it carries the signals at a multiple
 abbrev pub StretchedAreSlower : Type 0

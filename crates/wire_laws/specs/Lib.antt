@@ -2,3 +2,4 @@ pub mod Signals
 pub mod Wires
 pub mod Rows
 pub mod Laws
+pub mod Moved

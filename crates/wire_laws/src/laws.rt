@@ -1,5 +1,7 @@
 //! Laws of signals and wires: each function does nothing, and its contract is the law.
-ghost use Rattle.wire_laws.specs.Laws.{SignalsKeepTime, RowsAreSignals, OrderIsFree, PlanesUnite, WiresFeed, WiresDelay, StretchedAreSlower, AnswersGoSlower};
+ghost use Rattle.ww_rule.specs.Wireworld.{Plane};
+ghost use Rattle.wire_laws.specs.Moved.{CarriesAnywhere};
+ghost use Rattle.wire_laws.specs.Laws.{SignalsKeepTime, RowsAreSignals, OrderIsFree, LoneCellsCarry, PlanesUnite, WiresFeed, WiresDelay, StretchedAreSlower, AnswersGoSlower};
 
 /// A signal is lit exactly at the generations of its cycles in which the bit is 1.
 pub fn signals_keep_time()
@@ -17,12 +19,22 @@ pub fn order_is_free()
     ensures { OrderIsFree }
 {}
 
+/// A lone cell carries each signal from itself to itself.
+pub fn lone_cells_carry()
+    ensures { LoneCellsCarry }
+{}
+
+/// A plane that carries signals may be moved, mirrored, and turned by an exchange of x and y.
+pub fn carries_anywhere()
+    ensures { (p : Plane) → CarriesAnywhere p }
+{}
+
 /// Two planes that stand apart carry their signals side by side.
 pub fn planes_unite()
     ensures { PlanesUnite }
 {}
 
-/// A wire from an output to an input takes the place of the input's drive.
+/// Wires from outputs to inputs take the place of the drive of these inputs.
 pub fn wires_feed()
     ensures { WiresFeed }
 {}

@@ -6,6 +6,6 @@
 mod laws;
 
 pub use laws::{
-    answers_go_slower, order_is_free, planes_unite, rows_are_signals, signals_keep_time,
-    stretched_are_slower, wires_delay, wires_feed,
+    answers_go_slower, carries_anywhere, lone_cells_carry, order_is_free, planes_unite,
+    rows_are_signals, signals_keep_time, stretched_are_slower, wires_delay, wires_feed,
 };

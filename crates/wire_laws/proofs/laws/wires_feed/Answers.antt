@@ -1,4 +1,4 @@
-use Rattle.wire_laws.proofs.Feed.{wires_feed}
+use Rattle.wire_laws.proofs.Together.{wires_feed}
 use Rattle.wire_laws.proofs.laws.wires_feed.Goals as goal
 
 pub returns : goal.returns
