@@ -16,7 +16,8 @@ signals_at (port ∷ ports) bits =
 -- the signals of rows of bits, one row a cycle; after the rows all bits are 0
 abbrev pub signals_of_rows : List (ℕ × ℕ) → List (List Bool) → List Signal
 signals_of_rows cells rows =
-    signals_at (map (λ cell. ((pos cell.0, pos cell.1), 0)) cells) (λ t i. flag_at (list_at rows t) i)
+    signals_at (map (λ cell. ((pos cell.0, pos cell.1), 0)) cells)
+    (λ t i. flag_at (list_at rows t) i)
 
 -- the signal with each cycle stretched to so many: its bit, and then bits that are 0
 abbrev pub stretched : (times : ℕ) → Signal → Signal
