@@ -1,0 +1,4 @@
+pub mod Open
+pub mod Ins
+pub mod Ready
+pub mod Carried
