@@ -2,3 +2,4 @@ pub mod Open
 pub mod Ins
 pub mod Ready
 pub mod Carried
+pub mod Loopless

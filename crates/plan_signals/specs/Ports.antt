@@ -1,5 +1,6 @@
 -- The ports of a plan, and the signals in them.
 use Rattle.std.specs.Prelude.{ℤ, pos, ℕ, ◌+◌, ◌≤◌, Bool, List, [], ◌∷◌, length, map, slice_index}
+use Rattle.std.specs.List.{range_with_len}
 use Rattle.lists.specs.Items.{one_if}
 use Rattle.wire_laws.specs.Signals.{Signal, due_of_signals}
 use Rattle.wire_laws.specs.Rows.{signals_at}
@@ -11,6 +12,7 @@ use Rattle.lane_core.specs.declared.plan.Plan.{Plan}
 use Rattle.lane_core.specs.Instrs.{bit_on}
 use Rattle.lane_core.specs.Columns.{after_columns}
 use Rattle.lane_core.specs.Plans.{left_of, row_of, latency_of, period_of}
+use Rattle.lane_core.specs.Entering.{row_bits}
 use Rattle.plan_layout.specs.Layout.{kind_of}
 use Rattle.plan_waves.specs.Contexts.{context_bits}
 
@@ -35,6 +37,13 @@ out_signals plan start bits =
     (λ t i. bit_on (after_columns plan.columns
     (context_bits plan (due_of_signals (period_of plan) (in_signals plan bits)) (start ∷ []) 0 t))
     (slice_index plan.outs i))
+
+-- what the columns of a plan without loops make of a row of bits: the bits of its outputs
+abbrev pub plan_answer : Plan → (row : ℕ → Bool) → (output : ℕ) → Bool
+plan_answer plan row i =
+    bit_on (after_columns plan.columns
+    (row_bits plan.lanes plan.ins (map row (range_with_len 0 (length plan.ins)))))
+    (slice_index plan.outs i)
 
 -- how many cells of a tile's drawing are beside the cell at its west side that is in the row after
 -- this

@@ -1,8 +1,8 @@
 //! Laws of drawn plans as planes that carry signals: what is promised of wires holds of them.
 //!
-//! Theorem: `plans_carry_signals`.
+//! Theorem: `plans_carry_signals`, `plans_answer_each_row`.
 #![tactic(auto)]
 
 mod laws;
 
-pub use laws::{plans_carry_signals, tiles_are_open};
+pub use laws::{plans_answer_each_row, plans_carry_signals, tiles_are_open};
