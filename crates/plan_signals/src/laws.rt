@@ -1,4 +1,4 @@
-//! Laws of plans as planes that carry signals: each function does nothing, and its contract is the law.
+//! Laws of plans that carry signals: each function does nothing, and its contract is the law.
 ghost use Rattle.plan_signals.specs.Laws.{PlansCarrySignals, PlansAnswerEachRow, TilesAreOpen};
 
 /// The plane of an admissible plan carries the signals of its inputs to those of its outputs.
