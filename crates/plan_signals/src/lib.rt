@@ -1,4 +1,4 @@
-//! Laws of drawn plans as planes that carry signals: what is promised of wires holds of them.
+//! Drawn plans carry signals, so that wires may join them.
 //!
 //! Theorem: `plans_carry_signals`, `plans_answer_each_row`.
 #![tactic(auto)]

@@ -1,4 +1,4 @@
-//! Laws of planes that carry signals: put side by side, joined by wires, and run more slowly.
+//! Laws of planes that carry signals: side by side, joined by wires, run more slowly.
 //!
 //! Theorem: `planes_unite`, `wires_feed`, `wires_delay`, `answers_go_slower`.
 #![tactic(auto)]
