@@ -1,0 +1,5 @@
+pub mod Open
+pub mod Ins
+pub mod Ready
+pub mod Carried
+pub mod Loopless

@@ -1,0 +1,128 @@
+-- The cells beside a free entry: few of them are drawn, and none is a head just before the entry is due.
+use Rattle.std.proofs.Common.{ℤ, pos, negsuc, ◌+ℤ◌, ◌-ℤ◌, ℕ, zero, suc, ◌+◌, ◌-◌, ◌*◌, ◌/◌, ◌%◌, ◌<◌, ◌≤◌, ◌≡◌, ◌≢◌, refl, sym, ap, ap₂, ◌∙◌, Bool, true, false, ◌||◌, ◌==◌, cond, List, length, arith}
+use Rattle.std.specs.Prelude.{Contains, slice_index}
+use Rattle.std.proofs.lemmas.Int.{ints}
+use Rattle.std.proofs.lemmas.Bool.{true≢false}
+use Rattle.lists.specs.Items.{one_if}
+use Rattle.ww_rule.specs.declared.pattern.State.{State}
+use Rattle.ww_rule.specs.declared.pattern.State.TheVariants.{Empty, Head, Tail, Conductor}
+use Rattle.ww_rule.specs.Wireworld.{Plane, next_state, heads_around, count_head, driven}
+use Rattle.wire_laws.specs.Signals.{Signal, state_in, due_of_signals}
+use Rattle.wire_laws.proofs.Dues.{stays_empty}
+use Rattle.tile_core.specs.declared.kind.Kind.{Kind}
+use Rattle.tile_core.specs.Drawing.{Drawing, Cell, picture, is_cell_of}
+use Rattle.tiling.specs.Tiling.{Slot, Lit, interface_of, heads_of, tails_of, piece_drawing, drawn_slot}
+use Rattle.tiling.specs.Tiling.Slot.{Nothing, Whole, Upper, Lower}
+use Rattle.lane_core.specs.declared.plan.Plan.{Plan}
+use Rattle.lane_core.specs.Plans.{IsAdmissible, left_of, row_of}
+use Rattle.lane_core.specs.Entering.{first_loop_lane}
+use Rattle.plan_layout.specs.Layout.{in_body, tiling_of}
+use Rattle.plan_layout.specs.Planes.{plane_with}
+use Rattle.plan_layout.proofs.Parts.{some_columns, body_at}
+use Rattle.plan_layout.proofs.Sides.{in_body_has}
+use Rattle.plan_waves.proofs.FreePorts.{ports_stand_free}
+use Rattle.plan_signals.specs.Ports.{HasOpenEntries}
+
+-- is a cell of a block drawn, by its place in the block?
+abbrev pub slot_has : (Kind → Drawing) → Slot → ℕ → ℕ → Bool
+slot_has library Nothing x y = false
+slot_has library (Whole piece) x y = piece_drawing library piece (pos x) (pos y)
+slot_has library (Upper piece) x y = piece_drawing library piece (pos x) (pos y)
+slot_has library (Lower piece) x y = piece_drawing library piece (pos x) (pos (y + 16))
+
+not_pictured : (drawing : Drawing) (hs ts : List Cell) (x y : ℤ) → drawing x y ≡ false → picture drawing hs ts x y ≡ Empty
+not_pictured drawing hs ts x y e = ap (λ b. cond b (cond (is_cell_of x y hs) Head (cond (is_cell_of x y ts) Tail Conductor)) Empty) e
+
+pub not_drawn : (library : Kind → Drawing) (lit : Lit) (q l : ℕ) (slot : Slot) (x y : ℕ) → slot_has library slot x y ≡ false → drawn_slot library lit q l slot x y ≡ Empty
+not_drawn library lit q l Nothing x y e = refl
+not_drawn library lit q l (Whole piece) x y e =
+    not_pictured (piece_drawing library piece) (heads_of lit q l (interface_of piece)) (tails_of lit q l (interface_of piece)) (pos x) (pos y) e
+not_drawn library lit q l (Upper piece) x y e =
+    not_pictured (piece_drawing library piece) (heads_of lit q l (interface_of piece)) (tails_of lit q l (interface_of piece)) (pos x) (pos y) e
+not_drawn library lit q l (Lower piece) x y e =
+    not_pictured (piece_drawing library piece) (heads_of lit q (l - 1) (interface_of piece)) (tails_of lit q (l - 1) (interface_of piece)) (pos x) (pos (y + 16)) e
+
+-- the cells beside the entry at the west side of a block
+abbrev pub slot_beside : (Kind → Drawing) → Slot → ℕ
+slot_beside library slot =
+    one_if (slot_has library slot 0 7) + one_if (slot_has library slot 1 7) + one_if (slot_has library slot 1 8) + one_if (slot_has library slot 0 9) + one_if (slot_has library slot 1 9)
+
+pub few_in_body : (library : Kind → Drawing) → HasOpenEntries library → (plan : Plan) (q l : ℕ) → slot_beside library (in_body plan q l) ≤ 2
+few_in_body library roomy plan q l =
+    in_body_has (λ slot. slot_beside library slot ≤ 2) plan q l roomy.east (λ i. (roomy.upper i, roomy.lower i))
+
+-- eight cells around, of which those in the west are no heads
+few_of_eight : (a b c d e f g h b' c' e' g' h' : ℕ) → a ≡ 0 → d ≡ 0 → f ≡ 0 → b ≤ b' → c ≤ c' → e ≤ e' → g ≤ g' → h ≤ h' → b' + c' + e' + g' + h' ≤ 2 → a + b + c + d + e + f + g + h ≤ 2
+few_of_eight a b c d e f g h b' c' e' g' h' p1 p2 p3 p4 p5 p6 p7 p8 s = omega arith
+
+count_at_most : (s : State) (b : Bool) → (b ≡ false → s ≡ Empty) → count_head s ≤ one_if b
+count_at_most Empty true h = omega arith
+count_at_most Head true h = omega arith
+count_at_most Tail true h = omega arith
+count_at_most Conductor true h = omega arith
+count_at_most s false h = let e : count_head s ≡ 0 = ap count_head (h refl) in omega (arith, e)
+
+module _ (library : Kind → Drawing) (roomy : HasOpenEntries library) (plan : Plan) (h : IsAdmissible plan) (lit : Lit) (period : ℕ) (signals : List Signal) (all_drawn : (s : Signal) → Contains signals s → state_in (plane_with library plan lit) s.cell ≢ Empty) (i : ℕ) (within : i < length plan.ins) where
+  abbrev lane : ℕ
+  lane = slice_index plan.ins i
+
+  abbrev plane : ℕ → Plane
+  plane g = driven (due_of_signals period signals) (plane_with library plan lit) g
+
+  low : lane < first_loop_lane plan.lanes plan.latches
+  low = h.ins.below i 0 within
+
+  in_lanes : lane < plan.lanes
+  in_lanes = omega (arith, low)
+
+  block : tiling_of plan plan.latches lane ≡ in_body plan plan.latches lane
+  block =
+      let some : 0 < length plan.columns = some_columns plan h (omega (arith, low)) in
+      body_at plan plan.latches lane (omega arith) (omega (arith, some)) in_lanes
+
+  -- a cell of the block, by its place in it
+  in_block : (g : ℕ) (u v : ℤ) (dx dy : ℕ) → dx < 32 → dy < 16 → u ≡ pos (32 * plan.latches + dx) → v ≡ pos (16 * lane + dy) → count_head (plane g u v) ≤ one_if (slot_has library (in_body plan plan.latches lane) dx dy)
+  in_block g u v dx dy narrow small column row =
+      let x = 32 * plan.latches + dx in
+      let y = 16 * lane + dy in
+      let q : x / 32 ≡ plan.latches = omega (arith, narrow) in
+      let l : y / 16 ≡ lane = omega (arith, small) in
+      let a : x % 32 ≡ dx = omega (arith, narrow) in
+      let b : y % 16 ≡ dy = omega (arith, small) in
+      count_at_most (plane g u v) (slot_has library (in_body plan plan.latches lane) dx dy) (λ none. stays_empty period (plane_with library plan lit) signals (u, v) all_drawn (ap₂ (plane_with library plan lit) column row ∙ not_drawn library lit (x / 32) (y / 16) (tiling_of plan (x / 32) (y / 16)) (x % 32) (y % 16) (ap₂ (λ q l. slot_has library (tiling_of plan q l) (x % 32) (y % 16)) q l ∙ ap (λ s. slot_has library s (x % 32) (y % 16)) block ∙ ap₂ (slot_has library (in_body plan plan.latches lane)) a b ∙ none)) g)
+
+  -- nothing stands west of it
+  west_is_free : (u v : ℤ) (y : ℕ) → u ≡ pos (left_of plan 0) -ℤ pos 1 → v ≡ pos y → 16 * lane ≤ y → y < 16 * lane + 16 → plane_with library plan lit u v ≡ Empty
+  west_is_free (pos x) v y column row from to =
+      let left : x < left_of plan 0 = omega (arith, ints, column) in
+      ap (plane_with library plan lit (pos x)) row ∙ (ports_stand_free plan h library lit).west i x y within (from, to) left
+  west_is_free (negsuc x) v y column row from to = refl
+
+  west : (g : ℕ) (v : ℤ) (y : ℕ) → v ≡ pos y → 16 * lane ≤ y → y < 16 * lane + 16 → count_head (plane g (pos (left_of plan 0) -ℤ pos 1) v) ≡ 0
+  west g v y row from to =
+      ap count_head (stays_empty period (plane_with library plan lit) signals (pos (left_of plan 0) -ℤ pos 1, v) all_drawn (west_is_free (pos (left_of plan 0) -ℤ pos 1) v y refl row from to) g)
+
+  pub few_around : (g : ℕ) → heads_around (plane g) (pos (left_of plan 0)) (pos (row_of lane)) ≤ 2
+  few_around g =
+      let here : pos (left_of plan 0) ≡ pos (32 * plan.latches + 0) = ap pos (let e : left_of plan 0 ≡ 32 * plan.latches + 0 = omega arith in e) in
+      let east : pos (left_of plan 0) +ℤ pos 1 ≡ pos (32 * plan.latches + 1) = omega (arith, ints) in
+      let above : pos (row_of lane) -ℤ pos 1 ≡ pos (16 * lane + 7) = omega (arith, ints) in
+      let below : pos (row_of lane) +ℤ pos 1 ≡ pos (16 * lane + 9) = omega (arith, ints) in
+      few_of_eight _ _ _ _ _ _ _ _ _ _ _ _ _ (west g _ (16 * lane + 7) above (omega arith) (omega arith)) (west g _ (16 * lane + 8) refl (omega arith) (omega arith)) (west g _ (16 * lane + 9) below (omega arith) (omega arith)) (in_block g _ _ 0 7 (omega arith) (omega arith) here above) (in_block g _ _ 1 7 (omega arith) (omega arith) east above) (in_block g _ _ 1 8 (omega arith) (omega arith) east refl) (in_block g _ _ 0 9 (omega arith) (omega arith) here below) (in_block g _ _ 1 9 (omega arith) (omega arith) east below) (few_in_body library roomy plan plan.latches lane)
+
+abbrev is_conductor : State → Bool
+is_conductor Conductor = true
+is_conductor _ = false
+
+-- a cell that becomes a conductor, and was no tail, was a conductor with no head around it, or with three and more
+pub none_around : (s : State) (n : ℕ) → next_state s n ≡ Conductor → s ≢ Tail → n ≤ 2 → (s ≡ Conductor) × (n ≡ 0)
+none_around Empty n e t few = absurd (true≢false (sym (ap is_conductor e)))
+none_around Head n e t few = absurd (true≢false (sym (ap is_conductor e)))
+none_around Tail n e t few = absurd (t refl)
+none_around Conductor n e t few = (refl, count n e few)
+  where
+    count : (n : ℕ) → cond (n == 1 || n == 2) Head Conductor ≡ Conductor → n ≤ 2 → n ≡ 0
+    count zero e few = refl
+    count (suc zero) e few = absurd (true≢false (sym (ap is_conductor e)))
+    count (suc (suc zero)) e few = absurd (true≢false (sym (ap is_conductor e)))
+    count (suc (suc (suc n))) e few = absurd (omega (arith, few))

@@ -1,0 +1,13 @@
+pub mod Lit
+pub mod Dues
+pub mod Around
+pub mod Order
+pub mod Unite
+pub mod Delay
+pub mod Wire
+pub mod Feed
+pub mod Rows
+pub mod Slower
+pub mod Together
+pub mod Moved
+pub mod Lone

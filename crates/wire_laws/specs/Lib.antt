@@ -1,0 +1,5 @@
+pub mod Signals
+pub mod Wires
+pub mod Rows
+pub mod Laws
+pub mod Moved

@@ -1,0 +1,58 @@
+//! Laws of signals and wires: each function does nothing, and its contract is the law.
+ghost use Rattle.ww_rule.specs.Wireworld.{Plane};
+ghost use Rattle.wire_laws.specs.Moved.{CarriesAnywhere};
+ghost use Rattle.wire_laws.specs.Laws.{SignalsKeepTime, RowsAreSignals, OrderIsFree, LoneCellsCarry, PlanesUnite, WiresFeed, WiresDelay, StretchedAreSlower, AnswersGoSlower};
+
+/// A signal is lit exactly at the generations of its cycles in which the bit is 1.
+pub fn signals_keep_time()
+    ensures { SignalsKeepTime }
+{}
+
+/// The signals of rows of bits drive a plane as the rows do.
+pub fn rows_are_signals()
+    ensures { RowsAreSignals }
+{}
+
+/// The order of ports says nothing, outputs may be left out, and an input may be read like an
+/// output.
+pub fn order_is_free()
+    ensures { OrderIsFree }
+{}
+
+/// A lone cell carries each signal from itself to itself.
+pub fn lone_cells_carry()
+    ensures { LoneCellsCarry }
+{}
+
+/// A plane that carries signals may be moved, mirrored, and turned by an exchange of x and y.
+pub fn carries_anywhere()
+    ensures { (p : Plane) → CarriesAnywhere p }
+{}
+
+/// Two planes that stand apart carry their signals side by side.
+pub fn planes_unite()
+    ensures { PlanesUnite }
+{}
+
+/// Wires from outputs to inputs take the place of the drive of these inputs, where the inputs'
+/// signals are those that the wires bring. List a fed input among the outputs first: then another
+/// wire can begin there.
+pub fn wires_feed()
+    ensures { WiresFeed }
+{}
+
+/// A wire that is m cycles long brings the bits m cycles later.
+pub fn wires_delay()
+    ensures { WiresDelay }
+{}
+
+/// A plane carries stretched signals at a period exactly if it carries the signals at a multiple of
+/// the period.
+pub fn stretched_are_slower()
+    ensures { StretchedAreSlower }
+{}
+
+/// A plane without electrons that answers row by row does so at each multiple of its period.
+pub fn answers_go_slower()
+    ensures { AnswersGoSlower }
+{}
