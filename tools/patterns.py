@@ -7,6 +7,46 @@ from urllib.parse import unquote
 TILE = 32  # a tile's columns; the generations that an electron needs for it
 LANE = 16  # a lane's rows
 LAMP = 96  # the cells along a lamp of the computer
+STEPS = {"N": (0, -1), "NE": (1, -1), "E": (1, 0), "SE": (1, 1), "S": (0, 1), "SW": (-1, 1), "W": (-1, 0), "NW": (-1, -1)}
+
+
+@dataclass
+class Part:
+    """A pattern that stands in another one: its box; its own period; the generation at which its first cycle begins; its latency."""
+
+    x: int
+    y: int
+    width: int
+    height: int
+    period: int
+    first: int
+    latency: int
+
+    def moved(self, x, y, late):
+        return Part(self.x + x, self.y + y, self.width, self.height, self.period, self.first + late, self.latency)
+
+    def line(self, x=0, y=0):
+        """Returns its line in a table, with its cells moved."""
+        return f"#C part {self.x + x} {self.y + y} {self.width} {self.height} {self.period} {self.first} {self.latency}"
+
+
+@dataclass
+class Wire:
+    """A wire between the cell of an output and that of an input: the step from the one to the wire, and in each context the bits, one for each cycle
+    that the wire is long, with which the input starts."""
+
+    start: tuple  # (x, y)
+    step: str
+    end: tuple  # (x, y)
+    starts: list
+
+    def moved(self, x, y):
+        return Wire((self.start[0] + x, self.start[1] + y), self.step, (self.end[0] + x, self.end[1] + y), self.starts)
+
+    def line(self, x=0, y=0):
+        """Returns its line in a table, with its cells moved."""
+        (a, b), (u, v) = self.start, self.end
+        return f"#C wire {a + x} {b + y} {self.step} {u + x} {v + y} {','.join(self.starts) or '-'}"
 
 
 @dataclass
@@ -22,6 +62,8 @@ class Pattern:
     inputs: dict = field(default_factory=dict)  # name: (x, y)
     outputs: dict = field(default_factory=dict)  # name: (x, y)
     nets: list = field(default_factory=list)  # (x, y, offset, name, path)
+    parts: list = field(default_factory=list)
+    wires: list = field(default_factory=list)
     has_escapes: bool = False  # whether its table is of version 2
 
     def name_in(self, word):
@@ -58,6 +100,20 @@ def add_table_line(pattern, line):
         read_table_line(pattern, line.rstrip("\r").split(" ")[2:])
     except (IndexError, ValueError):
         raise ValueError(f"this is no line of a port table: {shown(line)}") from None
+
+
+def add_wiring_line(pattern, line):
+    """Adds a line that begins `#C part ` or `#C wire ` to a pattern. Raises ValueError where it is none (docs/FORMATS.md, 'Parts and wires')."""
+    words = line.split()[1:]
+    part = re.fullmatch(r"part( \d+){7}", " ".join(words))
+    wire = re.fullmatch(rf"wire \d+ \d+ ({'|'.join(STEPS)}) \d+ \d+ (-|[01]+(,[01]+)*)", " ".join(words))
+    if part:
+        pattern.parts.append(Part(*map(int, words[1:])))
+    elif wire:
+        (x, y), (u, v) = map(int, words[1:3]), map(int, words[4:6])
+        pattern.wires.append(Wire((x, y), words[3], (u, v), [] if words[6] == "-" else words[6].split(",")))
+    else:
+        raise ValueError(f"this line names no part and no wire: {shown(line)}")
 
 
 def table_of(text):
@@ -98,6 +154,8 @@ def read_pattern(text):
     for line in lines:
         if line.startswith("#C BLIFWW "):
             add_table_line(pattern, line)
+        elif line.startswith(("#C part ", "#C wire ")):
+            add_wiring_line(pattern, line)
         elif not line.startswith("#"):
             body.append(line)
     if not body or not body[0].strip():

@@ -7,7 +7,7 @@ from lamps import BAR, lamps
 from wires import FORK, LANE, TILE, Plane, by_row, cells_of, fan, lanes, sort, steps_of
 
 sys.path.append(str(Path(__file__).resolve().parents[2] / "tools"))
-from patterns import read_pattern  # noqa: E402
+from patterns import Part, Wire, read_pattern  # noqa: E402
 
 
 def read(text):
@@ -123,6 +123,8 @@ class Drawn:
     before: int
     lit: int = 0
     lamps: list = field(default_factory=list)
+    parts: list = field(default_factory=list)  # the computer with the tiles beside it, and the display with its lamps
+    taps: list = field(default_factory=list)  # the wires to the display
 
 
 class Display:
@@ -145,10 +147,20 @@ class Display:
         n, out_x = len(self.taps), next(iter(self.core.outputs.values()))[0]
         for i in range(n):
             plane.wire(self.corners(i, begin))
+        self.begin = begin
         x = fan(plane, begin, lanes(n, 4, self.y), [self.y + self.display.inputs[it][1] for it in by_row(self.display.inputs)])
         plane.pattern(self.display, x, self.y)
         after, shown = lamps(plane, self.display, x, self.y)
-        return self.core.latency + (self.east - out_x) + steps_of(self.corners(0, begin)) + (x - begin) + self.display.latency + after, shown
+        self.inner = x - begin + self.display.latency
+        return self.core.latency + (self.east - out_x) + steps_of(self.corners(0, begin)) + self.inner + after, shown
+
+    def wiring(self, plane, first):
+        """Returns the part that it is, whose first cycle begins at that generation after the computer's last column, and the wires to it."""
+        right, bottom = max(max(it) for it in plane.rows.values()), max(plane.rows)
+        late = first + steps_of(self.corners(0, self.begin)) + 1
+        part = Part(self.begin, self.y - 1, right - self.begin + 1, bottom - self.y + 2, TILE, late, self.inner)
+        ways = [self.corners(i, self.begin) for i in range(len(self.taps))]
+        return part, [Wire((way[0][0] - 1, way[0][1]), "E", way[-1], []) for way in ways]
 
 
 def with_display(drawn, core, below):
@@ -159,7 +171,13 @@ def with_display(drawn, core, below):
         drawn.before, shift = drawn.before + core.period - shift, 0
     after, drawn.lamps = below.draw(drawn.plane, below.west + shift)
     drawn.lit = (drawn.before + after) // core.period
-    return drawn
+
+
+def main_part(core, ends, drawn):
+    """Returns the part that the computer is, with the tiles east and west of it."""
+    east, west = ends
+    out_x = next(iter(core.outputs.values()))[0]
+    return Part(west, 0, east - west, core.height + 2, core.period, drawn.before - drawn.near, drawn.near + core.latency + east - 1 - out_x)
 
 
 def whole(core, display, bundles):
@@ -176,4 +194,11 @@ def whole(core, display, bundles):
         base, number = wires.top(), number + len(bundle.outputs)
     near = next(iter(core.inputs.values()))[0] - ends[1]
     drawn = Drawn(plane, found, near, near + 64)
-    return with_display(drawn, core, Display(core, display, ends, taps, len(outs))) if display else drawn
+    below = Display(core, display, ends, taps, len(outs)) if display else None
+    if below:
+        with_display(drawn, core, below)
+    drawn.parts.append(main_part(core, ends, drawn))
+    if below:
+        part, drawn.taps = below.wiring(plane, drawn.parts[0].first + drawn.parts[0].latency)
+        drawn.parts.append(part)
+    return drawn
