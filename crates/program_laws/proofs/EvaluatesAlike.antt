@@ -82,7 +82,7 @@ pub lifted_evaluate_alike : CarriersShowRuns → StreamsMatch → TextsAreDecide
 lifted_evaluate_alike law match decided netlist text lifted compiled lifts cycles words first second h l =
     let d = h.evaluation in
     let e = l.evaluation in
-    let design : Design = lifted_design (names_of lifts.ports.ins) (names_of lifts.ports.outs) lifts.list in
+    let design : Design = lifted_design lifts.lift.ins lifts.lift.outs lifts.lift.list in
     let of_lifted : design ≡ e.design = one_design lifted design e.design lifts.netlist.design_of l.is.netlist.is.design_of in
     let of_netlist : compiled.design ≡ d.design = (decided netlist).one_design compiled.design d.design compiled.has.netlist h.is.netlist in
     h.lines
