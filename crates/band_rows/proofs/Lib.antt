@@ -6,3 +6,7 @@ pub mod NextMark
 pub mod Parts
 pub mod Same
 pub mod Zeros
+pub mod HeadPut
+pub mod PlaceCells
+pub mod FieldSteps
+pub mod HeadPlaced

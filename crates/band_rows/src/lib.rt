@@ -6,12 +6,14 @@
 
 mod band;
 mod bits;
+mod field;
 mod kept;
 mod row;
 mod row_marks;
 mod span;
 
 pub use band::step_band;
+pub use field::{Field, WordMarks};
 pub use kept::Kept;
 pub use row::Row;
 pub use row_marks::{is_clear, mark_lit, mark_row, next_marked};
