@@ -22,7 +22,7 @@ use Rattle.band_rows.proofs.PlaceCells.{head_state, put_bit}
 one_bit : (x y : ℕ) → x < 2 → y < 2 → (x == 1) ≡ (y == 1) → x ≡ y
 one_bit = by_digits (λ x y. (x == 1) ≡ (y == 1) → x ≡ y) (λ e. refl) (λ e. absurd (true≢false (sym e))) (λ e. absurd (true≢false e)) (λ e. refl)
 
-same_bits : (a b : ℕ) → ((i : ℕ) → has_bit a i ≡ has_bit b i) → a ≡ b
+pub same_bits : (a b : ℕ) → ((i : ℕ) → has_bit a i ≡ has_bit b i) → a ≡ b
 same_bits a b same = same_from_bits a b (λ i. one_bit (bit_at a i) (bit_at b i) (bit_at-lt a i) (bit_at-lt b i) (same i))
 
 both_put : (c h b : Bool) → (c && h) ≡ h → ((c || b) && (h || b)) ≡ (h || b)
@@ -55,7 +55,7 @@ on_cell c t b on =
 abbrev pub with_bit : List ℕ → ℕ → ℕ → List ℕ
 with_bit plane i b = slice_set plane i (bit_or (get_or plane i 0) b)
 
-on_placed : (cells heads : List ℕ) (i b : ℕ) → i < length cells → i < length heads → AreOn cells heads → AreOn (with_bit cells i b) (with_bit heads i b)
+pub on_placed : (cells heads : List ℕ) (i b : ℕ) → i < length cells → i < length heads → AreOn cells heads → AreOn (with_bit cells i b) (with_bit heads i b)
 on_placed cells heads i b lc lh on j =
     elim (cases_eq j i) [
       | inr ne ↦ ap₂ bit_and (get_or-set_other cells i j _ 0 ne) (get_or-set_other heads i j _ 0 ne) ∙ on j ∙ sym (get_or-set_other heads i j _ 0 ne)
@@ -65,7 +65,7 @@ on_placed cells heads i b lc lh on j =
           ap₂ bit_and c h ∙ on_both (get_or cells i 0) (get_or heads i 0) b (on i) ∙ sym h
     ]
 
-tails_placed : (cells tails : List ℕ) (i b : ℕ) → i < length cells → AreOn cells tails → AreOn (with_bit cells i b) tails
+pub tails_placed : (cells tails : List ℕ) (i b : ℕ) → i < length cells → AreOn cells tails → AreOn (with_bit cells i b) tails
 tails_placed cells tails i b lc on j =
     elim (cases_eq j i) [
       | inr ne ↦ ap (λ c. bit_and c (get_or tails j 0)) (get_or-set_other cells i j _ 0 ne) ∙ on j

@@ -10,3 +10,9 @@ pub mod HeadPut
 pub mod PlaceCells
 pub mod FieldSteps
 pub mod HeadPlaced
+pub mod ClosedFields
+pub mod GoneOn
+pub mod LitFields
+pub mod FacedFields
+pub mod PutCells
+pub mod BlankFields

@@ -16,7 +16,7 @@ use std::mem;
 use ww_rule::State;
 
 /// After so many generations with a full list the marks are made again.
-const WAIT: u32 = 64;
+pub const WAIT: u32 = 64;
 
 /// Marks of the words of a plane: a byte for each word, and the first `many` numbers of `list` are
 /// places of words with a mark. If the list is full, neither says anything.
@@ -45,15 +45,15 @@ pub struct Field {
     pub wait: u32,
 }
 
-// Words of a slice are below 2 ^ 64.
-fn all_fit(words: &[u64])
+/// Words of a slice are below 2 ^ 64.
+pub fn all_fit(words: &[u64])
     ensures { (j : ℕ) → number_at words.now j < 2 ^ 64 }
 {
     let _long = words.len();
 }
 
-// Steps the marked words of a plane by one generation; the new heads take the tails' place.
-fn step_marked(
+/// Steps the marked words of a plane by one generation; the new heads take the tails' place.
+pub fn step_marked(
     heads: &[u64],
     tails: &mut [u64],
     cells: &[u64],
@@ -115,8 +115,8 @@ fn step_plane(heads: &[u64], tails: &mut [u64], cells: &[u64], stride: usize)
     step_all(&coming, tails);
 }
 
-// Sets a bit of a word in two planes.
-fn set_bits(heads: &mut [u64], cells: &mut [u64], i: usize, b: usize)
+/// Sets a bit of a word in two planes.
+pub fn set_bits(heads: &mut [u64], cells: &mut [u64], i: usize, b: usize)
     requires heads { i < length heads.old }
     requires cells { i < length cells.old }
     requires bit { b < 64 }
@@ -219,8 +219,8 @@ fn lit_anywhere(heads: &[u64], tails: &[u64]) -> Option<usize>
     None
 }
 
-// Makes the marks of a plane from nothing.
-fn mark_again(heads: &[u64], tails: &[u64], cells: &[u64], stride: usize, marks: &mut WordMarks)
+/// Makes the marks of a plane from nothing.
+pub fn mark_again(heads: &[u64], tails: &[u64], cells: &[u64], stride: usize, marks: &mut WordMarks)
     requires heads { length heads.now ≡ length cells.now }
     requires tails { length tails.now ≡ length cells.now }
     requires marks { length marks.old.bytes.items ≡ length cells.now }
@@ -328,6 +328,8 @@ impl Field {
         ensures closed { IsClosed self.new }
         ensures size { AreOfOneSize self.old self.new }
         ensures tails { self.new.tails.items ≡ self.old.tails.items }
+        ensures full { length self.old.marks.list.items ≤ self.old.marks.many
+            → self.new.marks ≡ self.old.marks }
         ensures cells { (u j : ℕ)
             → j < self.old.rows
             → state_in self.new u j
