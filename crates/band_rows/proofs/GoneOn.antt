@@ -6,7 +6,7 @@ use Rattle.lane_kernel.specs.PlaneRows.{row_of}
 use Rattle.lane_kernel.proofs.Places.{Fit}
 use Rattle.band_rows.specs.declared.field.Field.{Field}
 use Rattle.band_rows.specs.Rows.{IsEmptyWest, ShowsHeads}
-use Rattle.band_rows.specs.Fields.{AreOfOneSize, GoOnAlone, HasGoneOn, IsClosed, IsFieldStepped, ShowsField, TailsShow, heads_of, tails_of}
+use Rattle.band_rows.specs.Fields.{AreOfOneSize, GoOnAlone, HasRunAlone, IsClosed, IsFieldStepped, ShowsField, TailsShow, heads_of, tails_of}
 use Rattle.band_rows.proofs.Bands.{heads_shown}
 use Rattle.band_rows.proofs.ClosedFields.{dark_above, dark_below, dark_sides, fit_heads, none_shown, stepped_closed}
 use Rattle.band_rows.proofs.FieldSteps.{field_shows}
@@ -23,7 +23,7 @@ tails_shown old new p y size tails shown k low =
     (heads_shown (heads_of old (k + 1)) (tails_of old (k + 1)) (row_of old.columns old.stride old.cells.items (k + 1)) p (y +ℤ pos k) (λ x. shown k x (omega (arith, low, rows))))
 
 -- one generation
-pub gone_one : (old new : Field) → Fit old.cells.items → IsClosed old → IsFieldStepped old new → HasGoneOn 1 old new
+pub gone_one : (old new : Field) → Fit old.cells.items → IsClosed old → IsFieldStepped old new → HasRunAlone 1 old new
 gone_one old new fits closed stepped =
     record {
       closed = stepped_closed old new closed stepped;
@@ -64,7 +64,7 @@ module _ (e : ℕ → Plane) (y : ℤ) (rows n m : ℕ) (alone : GoOnAlone e y r
         below = λ g lt. alone.below (n + g) (omega (arith, lt));
       }
 
-pub gone_further : (n m : ℕ) (old mid new : Field) → 0 < m → HasGoneOn n old mid → HasGoneOn m mid new → HasGoneOn (n + m) old new
+pub gone_further : (n m : ℕ) (old mid new : Field) → 0 < m → HasRunAlone n old mid → HasRunAlone m mid new → HasRunAlone (n + m) old new
 gone_further n m old mid new some a b =
     record {
       closed = b.closed;
@@ -83,7 +83,7 @@ gone_further n m old mid new some a b =
     start e y alone shown = subst (λ g. ShowsField mid (e g) y) (sym (add-zero n)) (a.shows e y (first_part e y old.rows n m alone) shown)
 
 -- as if it began in a field with the same cells
-pub gone_same : (n : ℕ) (old mid new : Field) → AreOfOneSize old mid → ((p : Plane) (y : ℤ) → ShowsField old p y → ShowsField mid p y) → HasGoneOn n mid new → HasGoneOn n old new
+pub gone_same : (n : ℕ) (old mid new : Field) → AreOfOneSize old mid → ((p : Plane) (y : ℤ) → ShowsField old p y → ShowsField mid p y) → HasRunAlone n mid new → HasRunAlone n old new
 gone_same n old mid new size same a =
     let rows = λ (e : ℕ → Plane) (y : ℤ) (alone : GoOnAlone e y old.rows n). subst (λ r. GoOnAlone e y r n) (sym size.rows) alone in
     record {

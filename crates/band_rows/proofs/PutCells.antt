@@ -11,7 +11,7 @@ use Rattle.lane_kernel.specs.PlaneRows.{place, row_of, size_of, stride_of, IsInR
 use Rattle.lane_kernel.specs.Rows.{is_set, row_state, state_of}
 use Rattle.band_rows.specs.declared.field.Field.{Field}
 use Rattle.band_rows.specs.declared.field.WordMarks.{WordMarks}
-use Rattle.band_rows.specs.Fields.{state_in, AreOfOneSize, HasCell, IsClosed, IsUnlisted}
+use Rattle.band_rows.specs.Fields.{state_in, AreOfOneSize, HasCellPut, IsClosed, IsUnlisted}
 use Rattle.band_rows.proofs.HeadPlaced.{in_rows, on_placed, tails_placed, with_bit, within}
 use Rattle.band_rows.proofs.PlaceCells.{put_bit}
 
@@ -85,7 +85,7 @@ at_places x k u j e =
 
 -- a state by the test is a state here, and the others as they were
 pub by_test : (state : State) (x k : ℕ) (old new : Field) → IsClosed new → AreOfOneSize old new → new.marks ≡ old.marks → k < old.rows
-    → ((u j : ℕ) → j < old.rows → state_in new u j ≡ cond (is_at x k u j) state (state_in old u j)) → HasCell state x k old new
+    → ((u j : ℕ) → j < old.rows → state_in new u j ≡ cond (is_at x k u j) state (state_in old u j)) → HasCellPut state x k old new
 by_test state x k old new closed size marks low cells =
     record {
       closed = closed;
@@ -116,7 +116,7 @@ module _ (old : Field) (x k : ℕ) (closed : IsClosed old) (unlisted : IsUnliste
       let s = closed.is.stride in
       put_bit old.columns old.stride plane x k west (omega (arith, low, s)) (fits plane size) u j (omega (arith, lt, s))
 
-  pub tail_put : (new : Field) → AreOfOneSize old new → new.heads.items ≡ old.heads.items → new.tails.items ≡ with_bit old.tails.items at bit → new.cells.items ≡ with_bit old.cells.items at bit → new.marks ≡ old.marks → new.spare ≡ old.spare → HasCell Tail x k old new
+  pub tail_put : (new : Field) → AreOfOneSize old new → new.heads.items ≡ old.heads.items → new.tails.items ≡ with_bit old.tails.items at bit → new.cells.items ≡ with_bit old.cells.items at bit → new.marks ≡ old.marks → new.spare ≡ old.spare → HasCellPut Tail x k old new
   tail_put new size heads tails cells marks spare =
       by_test Tail x k old new
       (closed_again old new closed unlisted size (ap length heads) (ap length tails ∙ long old.tails.items) (ap length cells ∙ long old.cells.items) marks spare
@@ -133,7 +133,7 @@ module _ (old : Field) (x k : ℕ) (closed : IsClosed old) (unlisted : IsUnliste
       ∙ ap₂ (state_of h) (bits old.tails.items closed.is.long_tails u j lt) (bits old.cells.items closed.is.long_cells u j lt)
       ∙ tail_state (is_at x k u j) h (is_set (row_of old.columns old.stride old.tails.items (j + 1)) u) (is_set (row_of old.columns old.stride old.cells.items (j + 1)) u) (empty_there u j))
 
-  pub wire_put : (new : Field) → AreOfOneSize old new → new.heads.items ≡ old.heads.items → new.tails.items ≡ old.tails.items → new.cells.items ≡ with_bit old.cells.items at bit → new.marks ≡ old.marks → new.spare ≡ old.spare → HasCell Conductor x k old new
+  pub wire_put : (new : Field) → AreOfOneSize old new → new.heads.items ≡ old.heads.items → new.tails.items ≡ old.tails.items → new.cells.items ≡ with_bit old.cells.items at bit → new.marks ≡ old.marks → new.spare ≡ old.spare → HasCellPut Conductor x k old new
   wire_put new size heads tails cells marks spare =
       by_test Conductor x k old new
       (closed_again old new closed unlisted size (ap length heads) (ap length tails) (ap length cells ∙ long old.cells.items) marks spare

@@ -22,7 +22,8 @@ pub record IsField (field : Field) : Type 0 where
   pub long_spare : length field.spare.bytes.items ≡ size_of field.columns field.rows
   pub cells_in_rows : (i : ℕ) → get_or field.cells.items i 0 ≢ 0
       → IsInRow field.columns field.rows i
-  pub listed : AreListed field.stride field.marks.bytes.items field.marks.list.items field.marks.many
+  pub listed : AreListed field.stride
+      field.marks.bytes.items field.marks.list.items field.marks.many
   pub marked : field.marks.many < length field.marks.list.items
       → IsMarked field.stride
       field.heads.items field.tails.items field.cells.items field.marks.bytes.items
@@ -92,7 +93,7 @@ pub record GoOnAlone (e : ℕ → Plane) (y : ℤ) (rows n : ℕ) : Type 0 where
   pub below : (g : ℕ) → g < n → ShowsHeads [] (e g) (y +ℤ pos rows)
 
 -- n generations have passed in a field with no heads beside it
-pub record HasGoneOn (n : ℕ) (old new : Field) : Type 0 where
+pub record HasRunAlone (n : ℕ) (old new : Field) : Type 0 where
   pub closed : IsClosed new
   pub size : AreOfOneSize old new
   pub shows : (e : ℕ → Plane) (y : ℤ) → GoOnAlone e y old.rows n → ShowsField old (e 0) y
@@ -153,7 +154,7 @@ pub record IsBlank (across down : ℕ) (field : Field) : Type 0 where
   pub empty : (x k : ℕ) → k < field.rows → state_in field x k ≡ Empty
 
 -- a field in which the cell of column x in row k got a state
-pub record HasCell (state : State) (x k : ℕ) (old new : Field) : Type 0 where
+pub record HasCellPut (state : State) (x k : ℕ) (old new : Field) : Type 0 where
   pub closed : IsClosed new
   pub size : AreOfOneSize old new
   pub marks : new.marks ≡ old.marks

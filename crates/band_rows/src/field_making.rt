@@ -60,7 +60,7 @@ fn set_bit(words: &mut [u64], i: usize, b: usize)
 }
 
 impl Field {
-    ghost use Rattle.band_rows.specs.Fields.{state_in, AreOfOneSize, HasCell, IsBlank, IsClosed, IsUnlisted};
+    ghost use Rattle.band_rows.specs.Fields.{state_in, AreOfOneSize, HasCellPut, IsBlank, IsClosed, IsUnlisted};
 
     // A field without cells, whose marks have no list.
     fn blank(alloc: Global, columns: usize, rows: usize) -> Result<Field, AllocError>
@@ -91,7 +91,7 @@ impl Field {
         requires unlisted { IsUnlisted self.old }
         requires column { x / 64 < self.old.columns }
         requires row { k < self.old.rows }
-        ensures { HasCell Head x k self.old self.new }
+        ensures { HasCellPut Head x k self.old self.new }
     {
         self.make_head(x, k);
     }
@@ -103,7 +103,7 @@ impl Field {
         requires column { x / 64 < self.old.columns }
         requires row { k < self.old.rows }
         requires empty { state_in self.old x k ≡ Empty }
-        ensures { HasCell Tail x k self.old self.new }
+        ensures { HasCellPut Tail x k self.old self.new }
     {
         let i = (x / 64 + 1) * self.stride + 1 + (k + 1);
         set_bits(&mut self.tails, &mut self.cells, i, x % 64);
@@ -116,7 +116,7 @@ impl Field {
         requires column { x / 64 < self.old.columns }
         requires row { k < self.old.rows }
         requires empty { state_in self.old x k ≡ Empty }
-        ensures { HasCell Conductor x k self.old self.new }
+        ensures { HasCellPut Conductor x k self.old self.new }
     {
         let i = (x / 64 + 1) * self.stride + 1 + (k + 1);
         set_bit(&mut self.cells, i, x % 64);
@@ -129,7 +129,7 @@ impl Field {
         requires column { x / 64 < self.old.columns }
         requires row { k < self.old.rows }
         requires empty { state_in self.old x k ≡ Empty }
-        ensures { HasCell state x k self.old self.new }
+        ensures { HasCellPut state x k self.old self.new }
     {
         match state {
             State::Empty => {}

@@ -7,7 +7,7 @@ use crate::field::{Field, all_fit, step_marked};
 use std::mem;
 
 impl Field {
-    ghost use Rattle.band_rows.specs.Fields.{crossed, AreOfOneSize, GoOnAlone, HasGoneOn, IsClosed, IsField, IsFieldStepped, ShowsField, TailsShow};
+    ghost use Rattle.band_rows.specs.Fields.{crossed, AreOfOneSize, GoOnAlone, HasRunAlone, IsClosed, IsField, IsFieldStepped, ShowsField, TailsShow};
 
     // Steps the marked words. The new heads stand in the tails' plane then, and their marks are the
     // spare ones.
@@ -56,7 +56,7 @@ impl Field {
     fn step_pair(&mut self)
         requires closed { IsClosed self.old }
         requires room { self.old.marks.many < length self.old.marks.list.items }
-        ensures { HasGoneOn 2 self.old self.new }
+        ensures { HasRunAlone 2 self.old self.new }
     {
         all_fit(&self.cells);
         self.step_over();
@@ -71,7 +71,7 @@ impl Field {
     // Goes on by one generation.
     fn step_alone(&mut self)
         requires closed { IsClosed self.old }
-        ensures { HasGoneOn 1 self.old self.new }
+        ensures { HasRunAlone 1 self.old self.new }
     {
         all_fit(&self.cells);
         self.step();
@@ -85,7 +85,7 @@ impl Field {
         requires room { self.old.marks.many < length self.old.marks.list.items }
         ensures some { 0 < result }
         ensures few { result ≤ pairs }
-        ensures gone { HasGoneOn (2 * result) self.old self.new }
+        ensures gone { HasRunAlone (2 * result) self.old self.new }
     {
         self.step_pair();
         let mut done = 1;
@@ -102,7 +102,7 @@ impl Field {
         requires some { 0 < most }
         ensures some { 0 < result }
         ensures few { result ≤ most }
-        ensures gone { HasGoneOn result self.old self.new }
+        ensures gone { HasRunAlone result self.old self.new }
     {
         if most < 2 || self.marks.many >= self.marks.list.len() {
             self.step_alone();

@@ -1,5 +1,5 @@
 use Rattle.std.proofs.Common.{◌*◌, ◌+◌, ◌≡◌, subst, arith}
-use Rattle.band_rows.specs.Fields.{HasGoneOn}
+use Rattle.band_rows.specs.Fields.{HasRunAlone}
 use Rattle.band_rows.proofs.GoneOn.{gone_further}
 use Rattle.band_rows.proofs.field.Field.run_pairs.Goals as goal
 
@@ -11,6 +11,6 @@ loop-done-preserved c =
     record {
       some = omega arith;
       few = omega arith;
-      gone = subst (λ n. HasGoneOn n c.args.self.now c.step_pair-in-loop-done.new.self) e
+      gone = subst (λ n. HasRunAlone n c.args.self.now c.step_pair-in-loop-done.new.self) e
           (gone_further (2 * c.loop-done.done) 2 c.args.self.now c.loop-done.self c.step_pair-in-loop-done.new.self (omega arith) v.gone c.step_pair-in-loop-done.ensures);
     }
