@@ -3,7 +3,7 @@ use Rattle.std.proofs.Common.{ℤ, pos, negsuc, ◌+ℤ◌, ◌-ℤ◌, ℕ, zer
 use Rattle.std.specs.Prelude.{◌⊎◌, if◌then◌else◌}
 use Rattle.std.specs.declared.option.Option.{Option}
 use Rattle.std.specs.Option.{option_or}
-use Rattle.std.proofs.lemmas.Bool.{cases_lt, eq-eqb, ne_eqb, eqb-true, or_cases, lt-ltb, le-ltb}
+use Rattle.std.proofs.lemmas.Bool.{cases_lt, eqb-true, or_cases, lt-ltb, le-ltb}
 use Rattle.std.proofs.lemmas.Int.{ints}
 use Rattle.std.proofs.lemmas.List.{get_or-map}
 use Rattle.std.proofs.Math.Nat.{suc-mul, mul_comm}
@@ -20,7 +20,7 @@ use Rattle.band_core.specs.declared.band.Band.{Band}
 use Rattle.band_core.specs.declared.error.NotReady.{NotReady}
 use Rattle.band_core.specs.Bands.{not_ready, upper_not_ready, lower_not_ready, unready_neighbour}
 use Rattle.band_core.specs.Band.{IsBand, ShowsBand, IsEvolution, AreBands, AllShow, bottom_at, top_at, generations_of}
-use Rattle.band_core.proofs.BandFields.{heads_show, long_row}
+use Rattle.band_core.proofs.BandFields.{bottom_before, bottom_now, heads_show, long_row, top_before, top_now}
 
 -- at a generation, or one before
 abbrev pub IsAtOrAfter : ℕ → ℕ → Type 0
@@ -33,22 +33,18 @@ bottom_shows e due columns y many g band is shows (inl q) =
     let high = is.high in
     let some = is.some in
     let last : n - 1 < n = omega (arith, high, some) in
-    let back : n - 1 + 1 ≡ n = omega (arith, high, some) in
-    let here : ShowsHeads (heads_of field (n - 1 + 1)) (e band.generation) (pos y +ℤ pos (n - 1)) = heads_show field (e band.generation) (pos y) (n - 1) last shows.cells in
-    subst (λ h. ShowsHeads h (e g) (pos y +ℤ pos (many - 1))) (sym (ap (λ t. if t then heads_of field n else tails_of field n) (eq-eqb band.generation g q)))
-    (subst (λ m. ShowsHeads (heads_of field n) (e g) (pos y +ℤ pos (m - 1))) high
-    (subst (λ g. ShowsHeads (heads_of field n) (e g) (pos y +ℤ pos (n - 1))) q
-    (subst (λ r. ShowsHeads (heads_of field r) (e band.generation) (pos y +ℤ pos (n - 1))) back here)))
+    let here = heads_show field (e band.generation) (pos y) (n - 1) last shows.cells in
+    subst (λ h. ShowsHeads h (e g) (pos y +ℤ pos (many - 1))) (bottom_now band g (omega (arith, high, some)) q)
+    (subst (λ m. ShowsHeads (heads_of field (n - 1 + 1)) (e g) (pos y +ℤ pos (m - 1))) high
+    (subst (λ g. ShowsHeads (heads_of field (n - 1 + 1)) (e g) (pos y +ℤ pos (n - 1))) q here))
 bottom_shows e due columns y many g band is shows (inr q) =
     let field = band.field in
     let n = field.rows in
     let high = is.high in
     let some = is.some in
     let last : n - 1 < n = omega (arith, high, some) in
-    let back : n - 1 + 1 ≡ n = omega (arith, high, some) in
-    subst (λ h. ShowsHeads h (e g) (pos y +ℤ pos (many - 1))) (sym (ap (λ t. if t then heads_of field n else tails_of field n) (ne_eqb band.generation g (λ r. omega (arith, q, r)))))
-    (subst (λ m. ShowsHeads (tails_of field n) (e g) (pos y +ℤ pos (m - 1))) high
-    (subst (λ r. ShowsHeads (tails_of field r) (e g) (pos y +ℤ pos (n - 1))) back (shows.before g q (n - 1) last)))
+    subst (λ h. ShowsHeads h (e g) (pos y +ℤ pos (many - 1))) (bottom_before band g (omega (arith, high, some)) (λ r. omega (arith, q, r)))
+    (subst (λ m. ShowsHeads (tails_of field (n - 1 + 1)) (e g) (pos y +ℤ pos (m - 1))) high (shows.before g q (n - 1) last))
 
 pub top_shows : (e : ℕ → Plane) (due : Due) (columns y many g : ℕ) (band : Band) → IsBand columns y many band → ShowsBand e due y many band → IsAtOrAfter g band.generation → ShowsHeads (top_at g band) (e g) (pos y)
 top_shows e due columns y many g band is shows (inl q) =
@@ -57,14 +53,14 @@ top_shows e due columns y many g band is shows (inl q) =
     let some = is.some in
     let here = heads_show field (e band.generation) (pos y) 0 (omega (arith, high, some)) shows.cells in
     let z : pos y +ℤ pos 0 ≡ pos y = omega (arith, ints) in
-    subst (λ h. ShowsHeads h (e g) (pos y)) (sym (ap (λ t. if t then heads_of field 1 else tails_of field 1) (eq-eqb band.generation g q)))
+    subst (λ h. ShowsHeads h (e g) (pos y)) (top_now band g q)
     (subst (ShowsHeads (heads_of field 1) (e g)) z (subst (λ g. ShowsHeads (heads_of field 1) (e g) (pos y +ℤ pos 0)) q here))
 top_shows e due columns y many g band is shows (inr q) =
     let field = band.field in
     let high = is.high in
     let some = is.some in
     let z : pos y +ℤ pos 0 ≡ pos y = omega (arith, ints) in
-    subst (λ h. ShowsHeads h (e g) (pos y)) (sym (ap (λ t. if t then heads_of field 1 else tails_of field 1) (ne_eqb band.generation g (λ r. omega (arith, q, r)))))
+    subst (λ h. ShowsHeads h (e g) (pos y)) (top_before band g (λ r. omega (arith, q, r)))
     (subst (ShowsHeads (tails_of field 1) (e g)) z (shows.before g q 0 (omega (arith, high, some))))
 
 chosen : (t : Bool) (a b : List ℕ) (n : ℕ) → length a ≡ n → length b ≡ n → length (if t then a else b) ≡ n

@@ -11,7 +11,8 @@ use Rattle.ww_rule.specs.Wireworld.{Plane, driven}
 use Rattle.ww_rule.specs.Grid.{plane_of}
 use Rattle.ww_rule.specs.Injections.{due_of_list}
 use Rattle.lane_kernel.specs.Rows.{is_set, state_of}
-use Rattle.band_rows.specs.Fields.{heads_of, state_in, tails_of}
+use Rattle.band_rows.specs.declared.field.Field.{Field}
+use Rattle.band_rows.specs.Fields.{IsDarkField, IsLitInField, heads_of, state_in, tails_of}
 use Rattle.band_core.specs.declared.band.Band.{Band}
 use Rattle.band_core.specs.declared.bands.Bands.TheInside.{Inside}
 use Rattle.band_core.specs.Bands.{AreLevel, IsCellOf, IsLit, IsUnlit, band_at, generation_of}
@@ -129,6 +130,15 @@ are_narrow columns height rows bands few are b d lt =
     let is = are.each b d lt in
     let wide = is.wide in
     record { closed = is.closed; few = omega (arith, wide, few) }
+
+-- a field with a lit cell is not dark
+pub not_dark : (field : Field) (x k : ℕ) → IsLitInField field x k → IsDarkField field → ⊥
+not_dark field x k lit dark =
+    let state = dark_state field x k lit.row dark in
+    elim lit.lit [
+      | inl e ↦ no_head_in (cell_set field x k) (sym state ∙ e)
+      | inr e ↦ no_tail_in (cell_set field x k) (sym state ∙ e)
+    ]
 
 -- new bands in the place of those that are held
 pub held_anew : (held : Inside) (new : List Band) → IsHeld held → AreBands held.columns held.height (length held.pattern.rows) new

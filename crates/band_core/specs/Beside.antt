@@ -39,6 +39,6 @@ pub record HaveRows (before after : List Band) (g columns : ℕ) : Type 0 where
 
 -- the rows of those bands that lie beside `many` rows from row y on show the heads of a plane
 pub record ShowRowsOf (before after : List Band) (g : ℕ) (p : Plane) (y : ℤ) (many : ℕ) : Type 0
-    where
-  pub above : (up : List ℕ) → IsRowAbove before g up → ShowsHeads up p (y -ℤ pos 1)
-  pub below : (down : List ℕ) → IsRowBelow after g down → ShowsHeads down p (y +ℤ pos many)
+  where
+    pub above : (up : List ℕ) → IsRowAbove before g up → ShowsHeads up p (y -ℤ pos 1)
+    pub below : (down : List ℕ) → IsRowBelow after g down → ShowsHeads down p (y +ℤ pos many)

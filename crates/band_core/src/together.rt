@@ -73,44 +73,41 @@ fn calm_generations(bands: &[Band], most: u64) -> u64
 }
 
 // Moves a band that stands alone on, by at least one generation and at most `most`, and returns by
-// how many, if no injection is due in them.
+// how many.
 fn run_alone(bands: &mut [Band], most: u64, columns: usize, height: usize, rows: usize) -> u64
     requires some { 0 < most }
     requires one { length bands.old ≡ 1 }
     requires can_move { CanMoveOn most columns height rows bands.old }
-    requires calm { All (IsCalm most) bands.old }
     ensures some { 0 < result }
     ensures few { result ≤ most }
     ensures moved { HaveMovedOn result columns height rows bands.old bands.new }
 {
-    bands[0].run(most)
+    let calm = calm_generations(bands, most);
+    if calm == 0 {
+        step_all(bands, columns, height, rows);
+        return 1;
+    }
+    bands[0].run(calm)
 }
 
 // Moves all bands on, by at least one generation and at most `most`, and returns by how many. Bands
 // without a lit cell come to the generation before the next injection at once.
-fn move_further(
-    bands: &mut [Band],
-    most: u64,
-    columns: usize,
-    height: usize,
-    rows: usize,
-) -> u64
+fn move_further(bands: &mut [Band], most: u64, columns: usize, height: usize, rows: usize) -> u64
     requires some { 0 < most }
     requires can_move { CanMoveOn most columns height rows bands.old }
     ensures some { 0 < result }
     ensures few { result ≤ most }
     ensures moved { HaveMovedOn result columns height rows bands.old bands.new }
 {
-    let rests = are_dark(bands);
-    if rests || bands.len() == 1 {
+    if are_dark(bands) {
         let calm = calm_generations(bands, most);
         if calm > 0 {
-            if !rests {
-                return run_alone(bands, calm, columns, height, rows);
-            }
             rest_all(bands, calm);
             return calm;
         }
+    }
+    if bands.len() == 1 {
+        return run_alone(bands, most, columns, height, rows);
     }
     step_all(bands, columns, height, rows);
     1

@@ -64,10 +64,10 @@ lit_cell-requires c =
     record { closed = (is k).closed; few = omega (arith, wide, few) }
 
 pub row_above-above-requires : goal.row_above-above-requires
-row_above-above-requires c = (beside (goal.at.row_above-above-requires c).After-split_at-2).some_above
+row_above-above-requires c = record { some = (beside (goal.at.row_above-above-requires c).After-split_at-2).some_above }
 
 pub row_below-below-requires : goal.row_below-below-requires
-row_below-below-requires c = (beside (goal.at.row_below-below-requires c).After-split_at-2).some_below
+row_below-below-requires c = record { some = (beside (goal.at.row_below-below-requires c).After-split_at-2).some_below }
 
 pub faced_cell-requires : goal.faced_cell-requires
 faced_cell-requires c =

@@ -23,6 +23,9 @@ within k d own now e le few =
     let all : length (take (length now - d) (drop d now)) ≡ length (drop d now) = ap length (take_all (length now - d) (drop d now) (omega (arith, l))) in
     omega (arith, l, q, le, few, all)
 
+pub step_between-requires-clause-closed : goal.step_between-requires-clause-closed
+step_between-requires-clause-closed c = c.requires.is.closed
+
 pub inject-requires-clause-inside : goal.inject-requires-clause-inside
 inject-requires-clause-inside c =
     let band = c.args.self.now in
