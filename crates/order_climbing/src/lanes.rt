@@ -3,12 +3,39 @@
 use cell_core::CellError;
 use std::alloc::Global;
 
-/// The numbers that stand on lanes: of a value, of a port or of an operand in hand, and `nothing`
-/// on a free lane. Each number but `nothing` stands on at most one lane, which `places` names.
+/// What stands on lanes: the number of a value, of a port or of an operand in hand, or `nothing`;
+/// and the column from which each lane is idle.
 #[derive(Drop)]
-pub struct Lanes {
+pub struct State {
     standing: Vec<usize>,
     clocks: Vec<usize>,
+    /// The column from which all lanes are idle, noted when the state is kept.
+    pub latest: usize,
+}
+
+impl State {
+    /// Returns a state of no lanes.
+    pub fn new(alloc: Global) -> State {
+        State {
+            standing: Vec::new(alloc),
+            clocks: Vec::new(alloc),
+            latest: 0,
+        }
+    }
+
+    fn copy(&mut self, other: &State) -> Result<(), CellError> {
+        self.standing.clear();
+        self.standing.extend_from_slice(&other.standing)?;
+        self.clocks.clear();
+        self.clocks.extend_from_slice(&other.clocks)?;
+        Ok(())
+    }
+}
+
+/// Lanes in a state. Each number but `nothing` stands on at most one lane, which `places` names.
+#[derive(Drop)]
+pub struct Lanes {
+    state: State,
     places: Vec<usize>,
     nothing: usize,
 }
@@ -50,19 +77,45 @@ impl Lanes {
     pub fn new(alloc: Global, nothing: usize) -> Result<Lanes, CellError> {
         let places = vec![in alloc; 0; nothing.saturating_add(1)]?;
         Ok(Lanes {
-            standing: Vec::new(alloc),
-            clocks: Vec::new(alloc),
+            state: State::new(alloc),
             places,
             nothing,
         })
     }
 
+    /// Keeps the state of the lanes, which are all idle from column `latest`.
+    pub fn keep(&self, kept: &mut State, latest: usize) -> Result<(), CellError> {
+        kept.latest = latest;
+        kept.copy(&self.state)
+    }
+
+    /// Returns whether the lanes are in a state that was kept.
+    pub fn are_in(&self, kept: &State) -> bool {
+        self.state.clocks == kept.clocks && self.state.standing == kept.standing
+    }
+
+    /// Puts the lanes into a state that was kept.
+    pub fn return_to(&mut self, kept: &State) -> Result<(), CellError> {
+        self.state.copy(kept)?;
+        for lane in 0..kept.standing.len() {
+            self.note(kept.standing[lane], lane);
+        }
+        Ok(())
+    }
+
+    // Notes on which lane a number stands.
+    fn note(&mut self, number: usize, lane: usize) {
+        if let Some(place) = self.places.get_mut(number) {
+            *place = lane;
+        }
+    }
+
     /// Makes all of `lanes` lanes free, and idle from the first column.
     pub fn clear(&mut self, lanes: usize) -> Result<(), CellError> {
-        self.standing.clear();
-        self.standing.resize(lanes, self.nothing)?;
-        self.clocks.clear();
-        self.clocks.resize(lanes, 0)?;
+        self.state.standing.clear();
+        self.state.standing.resize(lanes, self.nothing)?;
+        self.state.clocks.clear();
+        self.state.clocks.resize(lanes, 0)?;
         Ok(())
     }
 
@@ -72,27 +125,29 @@ impl Lanes {
     }
 
     fn standing_on(&self, lane: usize) -> usize {
-        self.standing.get(lane).copied().unwrap_or(self.nothing)
+        self.state
+            .standing
+            .get(lane)
+            .copied()
+            .unwrap_or(self.nothing)
     }
 
     fn clock(&self, lane: usize) -> usize {
-        self.clocks.get(lane).copied().unwrap_or(0)
+        self.state.clocks.get(lane).copied().unwrap_or(0)
     }
 
     fn set_clock(&mut self, lane: usize, time: usize) {
-        if let Some(clock) = self.clocks.get_mut(lane) {
+        if let Some(clock) = self.state.clocks.get_mut(lane) {
             *clock = time;
         }
     }
 
     /// Puts a number on a lane.
     pub fn put(&mut self, lane: usize, number: usize) {
-        if let Some(standing) = self.standing.get_mut(lane) {
+        if let Some(standing) = self.state.standing.get_mut(lane) {
             *standing = number;
         }
-        if let Some(place) = self.places.get_mut(number) {
-            *place = lane;
-        }
+        self.note(number, lane);
     }
 
     /// Frees a lane.
@@ -103,7 +158,7 @@ impl Lanes {
     /// Returns the column after the last instruction.
     pub fn columns(&self) -> usize {
         let mut latest = 0usize;
-        for clock in &self.clocks {
+        for clock in &self.state.clocks {
             latest = latest.max(*clock);
         }
         latest
@@ -204,7 +259,7 @@ impl Lanes {
 
     fn free_below(&self, lane: usize) -> Option<usize> {
         let first = lane.saturating_add(1);
-        for (more, number) in self.standing.get(first..)?.iter().enumerate() {
+        for (more, number) in self.state.standing.get(first..)?.iter().enumerate() {
             if *number == self.nothing {
                 return Some(first.saturating_add(more));
             }
@@ -213,11 +268,11 @@ impl Lanes {
     }
 
     fn free_above(&self, lane: usize) -> Option<usize> {
-        if lane > self.standing.len() {
+        if lane > self.state.standing.len() {
             return None;
         }
         for above in (0..lane).rev() {
-            if self.standing[above] == self.nothing {
+            if self.state.standing[above] == self.nothing {
                 return Some(above);
             }
         }
