@@ -2,6 +2,10 @@
 // which it is idle.
 use cell_core::CellError;
 use std::alloc::Global;
+use std::ops::Range;
+
+// More columns than any settling of loops takes.
+const MOST_TURNS: usize = 1 << 20;
 
 /// What stands on lanes: the number of a value, of a port or of an operand in hand, or `nothing`;
 /// and the column from which each lane is idle.
@@ -38,6 +42,8 @@ pub struct Lanes {
     state: State,
     places: Vec<usize>,
     nothing: usize,
+    // the lanes of loops' data, while these are brought to their own
+    data: Vec<usize>,
 }
 
 /// Where two lanes come side by side: the upper one of the two, and the column after that.
@@ -80,6 +86,7 @@ impl Lanes {
             state: State::new(alloc),
             places,
             nothing,
+            data: Vec::new(alloc),
         })
     }
 
@@ -315,5 +322,90 @@ impl Lanes {
         self.meet(free, lane, at);
         self.swap(at);
         at
+    }
+
+    // Which of the loops' data, whose numbers these are, stands on a lane: the greater the answer,
+    // the lower its own lane; 0 is none.
+    fn datum_on(&self, lane: usize, loops: &Range<usize>) -> usize {
+        let number = self.standing_on(lane);
+        if loops.contains(&number) {
+            loops.end.saturating_sub(number)
+        } else {
+            0
+        }
+    }
+
+    // The column from which a lane and the next one are idle, if they stand the wrong way round: a
+    // loop's datum above what is none, or above one that belongs lower.
+    fn wrong_from(&self, lane: usize, loops: &Range<usize>) -> Option<usize> {
+        let next = lane.saturating_add(1);
+        if self.datum_on(lane, loops) > self.datum_on(next, loops) {
+            Some(self.clock(lane).max(self.clock(next)))
+        } else {
+            None
+        }
+    }
+
+    // Notes the lanes on which loops' data stand, the lowest first.
+    fn find_data(&mut self, loops: &Range<usize>) -> Result<(), CellError> {
+        self.data.clear();
+        for lane in (0..self.state.standing.len()).rev() {
+            if loops.contains(&self.state.standing[lane]) {
+                self.data.push(lane)?;
+            }
+        }
+        Ok(())
+    }
+
+    // Exchanges a loop's datum and what stands on the next lane. Returns the datum's next lane, or
+    // that of the other one if this is a datum too.
+    fn settle_down(&mut self, lane: usize, loops: &Range<usize>) -> usize {
+        self.swap(lane);
+        if self.datum_on(lane, loops) > 0 {
+            lane
+        } else {
+            lane.saturating_add(1)
+        }
+    }
+
+    // From the lowest lane up, exchanges neighbours that stand the wrong way round and are idle at
+    // a column. Returns the next column at which there may be such neighbours.
+    fn settle_at(&mut self, time: usize, loops: &Range<usize>) -> Option<usize> {
+        let mut next = None;
+        for datum in 0..self.data.len() {
+            let lane = self.data[datum];
+            match self.wrong_from(lane, loops) {
+                Some(idle) if idle <= time => {
+                    self.data[datum] = self.settle_down(lane, loops);
+                    next = Some(time.saturating_add(1));
+                }
+                Some(idle) => next = Some(earlier(next, idle)),
+                None => {}
+            }
+        }
+        next
+    }
+
+    /// Brings loops' data, whose numbers these are, to the lowest lanes, the first to the lowest:
+    /// column by column, neighbours that stand the wrong way round are exchanged as soon as both
+    /// are idle.
+    pub fn settle(&mut self, loops: &Range<usize>) -> Result<(), CellError> {
+        self.find_data(loops)?;
+        let mut time = 0;
+        for _ in 0..MOST_TURNS {
+            match self.settle_at(time, loops) {
+                Some(next) => time = next,
+                None => return Ok(()),
+            }
+        }
+        Ok(())
+    }
+}
+
+// The earlier of two columns.
+fn earlier(first: Option<usize>, second: usize) -> usize {
+    match first {
+        Some(first) => first.min(second),
+        None => second,
     }
 }

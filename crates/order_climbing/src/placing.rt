@@ -329,22 +329,14 @@ impl<'a> Placer<'a> {
         Some(())
     }
 
-    // Brings the loops' data to the lowest lanes, the first to the lowest.
-    fn settle_loops(&mut self, lanes: usize) {
-        for port in 0..self.gates.loops {
-            let lane = self.lanes.place(self.port_number(port));
-            let to = lanes.saturating_sub(port).saturating_sub(1);
-            self.lanes.bring(lane, to);
-        }
-    }
-
-    // Places the ports, and settles the loops.
+    // Places the ports, and brings the loops' data to the lowest lanes, the first to the lowest.
     fn finish(&mut self, lanes: usize) -> Result<Option<usize>, CellError> {
         self.count(self.gates.loops, lanes);
         if self.place_ports(lanes).is_none() {
             return Ok(None);
         }
-        self.settle_loops(lanes);
+        let loops = self.port_number(0)..self.port_number(self.gates.loops);
+        self.lanes.settle(&loops)?;
         self.found = self.lanes.columns();
         Ok(Some(self.found))
     }
