@@ -12,13 +12,6 @@ pub struct Gate {
     pub is_and_not: bool,
 }
 
-impl Gate {
-    /// Returns whether the gate reads a value.
-    pub fn reads(self, value: usize) -> bool {
-        self.first == value || self.second == value
-    }
-}
-
 /// What a list needs of the lanes. `ports` are the values of the loops' data and then those of the
 /// outputs; `uses` says how often each value is read.
 #[derive(Drop)]
@@ -28,6 +21,10 @@ pub struct Gates {
     pub gates: Vec<Gate>,
     pub ports: Vec<usize>,
     pub uses: Vec<usize>,
+    /// The cells that read each value, each of them once.
+    pub readers: Vec<Vec<usize>>,
+    /// The last port that shows each value.
+    pub last_ports: Vec<Option<usize>>,
     /// Whether a lane stays dark, for constant 0.
     pub is_dark: bool,
 }
@@ -42,10 +39,22 @@ impl Gates {
             gates: Vec::new(alloc),
             ports: Vec::new(alloc),
             uses: Vec::new(alloc),
+            readers: Vec::new(alloc),
+            last_ports: Vec::new(alloc),
             is_dark: false,
         };
         gates.read(list)?;
+        gates.find_readers(alloc)?;
         Ok(gates)
+    }
+
+    // Notes which cells read each value, and which port shows it last.
+    fn find_readers(&mut self, alloc: Global) -> Result<(), CellError> {
+        push_empty(&mut self.readers, alloc, self.uses.len())?;
+        self.last_ports.resize(self.uses.len(), None)?;
+        note_gates(&mut self.readers, &self.gates)?;
+        note_ports(&mut self.last_ports, &self.ports);
+        Ok(())
     }
 
     // Reads the cells and ports of the list.
@@ -109,12 +118,25 @@ impl Gates {
         }
     }
 
-    /// Returns whether a cell reads a value.
-    pub fn does_read(&self, cell: usize, value: usize) -> bool {
-        match self.gates.get(cell) {
-            Some(gate) => gate.reads(value),
-            None => false,
+    /// Returns the cells that read a value.
+    pub fn readers_of(&self, value: usize) -> &[usize] {
+        match self.readers.get(value) {
+            Some(readers) => readers.as_slice(),
+            None => &[],
         }
+    }
+
+    /// Returns the last port that shows a value.
+    pub fn last_port(&self, value: usize) -> Option<usize> {
+        match self.last_ports.get(value) {
+            Some(port) => *port,
+            None => None,
+        }
+    }
+
+    /// Returns the cell that makes a value.
+    pub fn maker(&self, value: usize) -> Option<usize> {
+        value.checked_sub(self.made_by(0))
     }
 
     /// Returns how many lanes the inputs, the loops and a dark lane take.
@@ -132,10 +154,10 @@ impl Gates {
     }
 
     /// Returns the most columns of a drawing on so many lanes that has no more than `tiles` tiles.
-    pub fn most_columns(&self, tiles: u64, lanes: usize) -> u64 {
+    pub fn most_columns(&self, tiles: u64, lanes: usize) -> usize {
         let loops = self.loops as u64;
         let width = tiles / (lanes as u64).saturating_add(loops).max(1);
-        width.saturating_sub(loops).saturating_sub(loops)
+        width.saturating_sub(loops).saturating_sub(loops) as usize
     }
 
     // The number of a source, in a list of so many latches.
@@ -229,4 +251,44 @@ fn count_used(left: &[usize]) -> usize {
 
 fn names_zero(sources: &[Src]) -> bool {
     sources.contains(&Src::Zero)
+}
+
+// Adds so many empty lists.
+fn push_empty(
+    readers: &mut Vec<Vec<usize>>,
+    alloc: Global,
+    values: usize,
+) -> Result<(), CellError> {
+    for _ in 0..values {
+        readers.push(Vec::new(alloc))?;
+    }
+    Ok(())
+}
+
+// Notes that a cell reads a value.
+fn note_reader(readers: &mut [Vec<usize>], value: usize, cell: usize) -> Result<(), CellError> {
+    if let Some(cells) = readers.get_mut(value) {
+        cells.push(cell)?;
+    }
+    Ok(())
+}
+
+// Notes which cells read each value.
+fn note_gates(readers: &mut [Vec<usize>], gates: &[Gate]) -> Result<(), CellError> {
+    for (cell, gate) in gates.iter().enumerate() {
+        note_reader(readers, gate.first, cell)?;
+        if gate.second != gate.first {
+            note_reader(readers, gate.second, cell)?;
+        }
+    }
+    Ok(())
+}
+
+// Notes which port shows each value last.
+fn note_ports(last_ports: &mut [Option<usize>], ports: &[usize]) {
+    for (port, value) in ports.iter().enumerate() {
+        if let Some(last) = last_ports.get_mut(*value) {
+            *last = Some(port);
+        }
+    }
 }

@@ -2,15 +2,16 @@
 ghost use Rattle.std.specs.Prelude.{◌≡◌, ◌==◌, ◌≤◌, ◌<◌, ◌+◌, ◌-◌, ◌*◌, ◌^◌, ◌++◌, ◌∷◌, [], length, All, set, OnOk, IfSome, IfOk, None, true, false};
 ghost use Rattle.lane_core.specs.Instrs.{IsOnLanes, lane_of};
 ghost use Rattle.lane_core.specs.Places.{IsPlaceWithin};
-ghost use Rattle.row_placer.specs.declared.roles.Role.TheVariants.{Free, Kept, First, Second};
+ghost use Rattle.row_placer.specs.declared.roles.Role.TheVariants.{Free, Kept, First, Second, Port};
 ghost use Rattle.row_placer.specs.Told.{role_code, Told, MadeTold, MadeAt, PutsTags, SameTags, Exchanged, count, free_tag, tag, tag_on, taken_tag, upper_operand, lower_operand, gate_instr};
 ghost use Rattle.row_placer.specs.Uses.{uses_left};
 ghost use Rattle.row_placer.specs.Ready.{ReadyForGate, ReadyForPort, HoldAllPorts, AreSettled, IsUsable, IsRunnable, ArePortsKnown, value_count};
 ghost use Rattle.row_placer.specs.Placed.{AreOuts};
+ghost use Rattle.row_placer.specs.Settling.{AreOnLanes, Settles, came_from};
 ghost use Rattle.row_placer.specs.declared.job.CellKind.TheVariants.{AndNot};
 ghost use Rattle.channel_router.specs.Routes.{swapped, brought, distance};
 
-use crate::{CellKind, Job, NumberedCell, PlaceError, Role, Tag};
+use crate::{CellKind, Job, NumberedCell, PlaceError, Role, Tag, settled};
 use lane_core::{Instr, NetPlace};
 use std::alloc::Global;
 
@@ -68,7 +69,7 @@ impl<'a> Lanes<'a> {
         let mut lanes = Lanes::new(alloc, job)?;
         lanes.place_gates(left)?;
         lanes.place_ports(loops, left)?;
-        lanes.settle_loops(loops)?;
+        lanes.settle_loops(alloc, loops)?;
         Ok(lanes)
     }
 
@@ -593,8 +594,8 @@ impl<'a> Lanes<'a> {
         Ok(())
     }
 
-    /// Brings the first ports to the lowest lanes, the first one to the lowest.
-    fn settle_loops(&mut self, loops: u32) -> Result<(), PlaceError>
+    // Brings the first ports to the lowest lanes one after another.
+    fn bring_loops(&mut self, loops: u32) -> Result<(), PlaceError>
         requires loops { loops ≤ length self.old.job.now.ports }
         requires lanes { loops ≤ length self.old.tags.items }
         requires held { HoldAllPorts self.old.job.now self.old.tags.items }
@@ -616,6 +617,82 @@ impl<'a> Lanes<'a> {
         Ok(())
     }
 
+    // Whether so many loops stand on their lanes if the lanes have these tags.
+    fn are_settled(&self, tags: &[Tag], loops: u32) -> bool
+        requires loops { loops ≤ length self.now.job.now.ports }
+        requires lanes { loops ≤ length tags.now }
+        ensures { result ≡ true → AreSettled self.now.job.now loops tags.now }
+    {
+        let mut port = 0;
+        while port < loops {
+            let value = *self.job.ports.get(port as usize);
+            let lane = tags.len() - 1 - port as usize;
+            if !has_port(tags, lane, value, port) {
+                return false;
+            }
+            port += 1;
+        }
+        true
+    }
+
+    // Exchanges that settle so many loops, if they were found.
+    fn settling(&self, alloc: Global, loops: u32) -> Result<Option<Vec<u32>>, PlaceError>
+        requires loops { loops ≤ length self.now.job.now.ports }
+        requires lanes { loops ≤ length self.now.tags.items }
+        ensures { IfOk result (λ o. IfSome o (λ swaps.
+            Settles self.now.job.now loops self.now.tags.items swaps.items
+            )) }
+    {
+        let settling = settled(alloc, &self.tags, &self.clocks, loops)?;
+        let most = (loops as usize).saturating_mul(self.tags.len());
+        if settling.swaps.len() <= most && self.are_settled(&settling.tags, loops) {
+            Ok(Some(settling.swaps))
+        } else {
+            Ok(None)
+        }
+    }
+
+    // Exchanges neighbours, one pair after another.
+    fn swap_all(&mut self, swaps: &[u32]) -> Result<(), PlaceError>
+        requires { AreOnLanes (length self.old.tags.items) swaps.now }
+        ensures moved { OnOk result (
+            MovesTags self.old self.new (came_from swaps.now) (length swaps.now)
+            ) }
+        ensures kept { KeepsGates self.old self.new }
+    {
+        let mut next = 0;
+        while next < swaps.len() {
+            let lane = swaps[next];
+            self.swap(lane)?;
+            next += 1;
+        }
+        Ok(())
+    }
+
+    /// Brings the first ports to the lowest lanes, the first one to the lowest.
+    fn settle_loops(&mut self, alloc: Global, loops: u32) -> Result<(), PlaceError>
+        requires loops { loops ≤ length self.old.job.now.ports }
+        requires lanes { loops ≤ length self.old.tags.items }
+        requires held { HoldAllPorts self.old.job.now self.old.tags.items }
+        ensures held { OnOk result (HoldAllPorts self.old.job.now self.new.tags.items) }
+        ensures settled { OnOk result (AreSettled self.old.job.now loops self.new.tags.items) }
+        ensures adds { OnOk result (
+            AddsAtMost self.old self.new (loops * length self.old.tags.items)
+            ) }
+        ensures kept { KeepsGates self.old self.new }
+    {
+        match self.settling(alloc, loops)? {
+            Some(swaps) => {
+                self.swap_all(&swaps)?;
+                Ok(())
+            }
+            None => {
+                self.bring_loops(loops)?;
+                Ok(())
+            }
+        }
+    }
+
     /// Returns the lanes of the ports that are no loops.
     pub fn find_outs(&self, alloc: Global, loops: u32) -> Result<Vec<u32>, PlaceError>
         requires loops { loops ≤ length self.now.job.now.ports }
@@ -635,6 +712,14 @@ impl<'a> Lanes<'a> {
         }
         Ok(outs)
     }
+}
+
+// Whether a port's value stands on a lane.
+fn has_port(tags: &[Tag], lane: usize, value: u32, port: u32) -> bool
+    requires { lane < length tags.now }
+    ensures { result ≡ true → tag_on tags.now lane ≡ tag value (Port port) }
+{
+    tags[lane].is(value, Role::Port(port))
 }
 
 // Whether there is a partner, and it stands below a lane.
