@@ -350,7 +350,7 @@ impl Lanes {
     fn find_data(&mut self, loops: &Range<usize>) -> Result<(), CellError> {
         self.data.clear();
         for lane in (0..self.state.standing.len()).rev() {
-            if loops.contains(&self.state.standing[lane]) {
+            if loops.contains(&self.standing_on(lane)) {
                 self.data.push(lane)?;
             }
         }
@@ -368,15 +368,28 @@ impl Lanes {
         }
     }
 
+    // The lane of one of the loops' data, the lowest first.
+    fn datum_lane(&self, datum: usize) -> usize {
+        self.data.get(datum).copied().unwrap_or(0)
+    }
+
+    // Notes that one of the loops' data stands on a lane now.
+    fn note_datum(&mut self, datum: usize, lane: usize) {
+        if let Some(noted) = self.data.get_mut(datum) {
+            *noted = lane;
+        }
+    }
+
     // From the lowest lane up, exchanges neighbours that stand the wrong way round and are idle at
     // a column. Returns the next column at which there may be such neighbours.
     fn settle_at(&mut self, time: usize, loops: &Range<usize>) -> Option<usize> {
         let mut next = None;
         for datum in 0..self.data.len() {
-            let lane = self.data[datum];
+            let lane = self.datum_lane(datum);
             match self.wrong_from(lane, loops) {
                 Some(idle) if idle <= time => {
-                    self.data[datum] = self.settle_down(lane, loops);
+                    let lane = self.settle_down(lane, loops);
+                    self.note_datum(datum, lane);
                     next = Some(time.saturating_add(1));
                 }
                 Some(idle) => next = Some(earlier(next, idle)),

@@ -222,7 +222,10 @@ impl Layout {
     // Notes the places of the cells from one place to before another.
     fn renumber(&mut self, start: usize, end: usize) {
         for place in start..end.min(self.order.len()) {
-            if let Some(number) = self.places.get_mut(self.order[place]) {
+            let Some(cell) = self.order.get(place) else {
+                return;
+            };
+            if let Some(number) = self.places.get_mut(*cell) {
                 *number = place;
             }
         }
@@ -318,10 +321,16 @@ impl Layout {
         start..end
     }
 
+    // The gate of the cell at a place.
+    fn gate_at(&self, gates: &Gates, place: usize) -> Option<Gate> {
+        let cell = self.order.get(place)?;
+        gates.gates.get(*cell).copied()
+    }
+
     // Finds the last readers of the values that the cells at some places read.
     fn find_last_readers_in(&mut self, gates: &Gates, places: Range<usize>) {
         for place in places.start..places.end.min(self.order.len()) {
-            if let Some(gate) = gates.gates.get(self.order[place]) {
+            if let Some(gate) = self.gate_at(gates, place) {
                 self.find_last_reader(gates, gate.first);
                 self.find_last_reader(gates, gate.second);
             }
