@@ -5,7 +5,7 @@ use Rattle.channel_router.specs.Routes.{swapped}
 use Rattle.row_placer.specs.Settling.{came_from}
 use Rattle.row_placer.specs.Steps.{MovesTags}
 use Rattle.row_placer.proofs.Carry.{kept_on, moved_on}
-use Rattle.row_placer.proofs.Settling.{one_more}
+use Rattle.row_placer.proofs.Exchanges.{one_more}
 use Rattle.row_placer.proofs.lanes.Lanes.swap_all.Goals as goal
 
 pub swap-requires : goal.swap-requires

@@ -2,7 +2,7 @@ use Rattle.std.proofs.Common.{◌≡◌, refl, sym, ◌∙◌, ap, subst, ◌+�
 use Rattle.row_placer.specs.Settling.{came_from, AreOnLanes}
 use Rattle.row_placer.specs.Told.{Rearranged}
 use Rattle.row_placer.proofs.Carry.{tags_swapped}
-use Rattle.row_placer.proofs.Settling.{moved_once_more, one_more_on_lanes}
+use Rattle.row_placer.proofs.Exchanges.{moved_once_more, one_more_on_lanes}
 use Rattle.row_placer.proofs.Steps.{length-two}
 use Rattle.row_placer.proofs.settling.Settling.swap.Goals as goal
 
