@@ -9,7 +9,7 @@ use Rattle.lists.proofs.Members.{in_from}
 use Rattle.ww_rule.specs.declared.pattern.State.{State}
 use Rattle.ww_rule.specs.declared.pattern.State.TheVariants.{Empty, Head, Tail, Conductor}
 use Rattle.ww_rule.specs.Wireworld.{Plane, Due, next_plane, next_state, heads_around, driven, undriven}
-use Rattle.wire_laws.specs.Signals.{Signal, is_lit, state_in, due_of_signals, IsReady, CarriesSignals}
+use Rattle.wire_laws.specs.Signals.{Signal, is_lit, cell_state, due_of_signals, IsReady, CarriesSignals}
 use Rattle.wire_laws.proofs.Lit.{lit_in, in_lit, not_soon}
 use Rattle.wire_laws.proofs.Dues.{due_by_signal, signal_is_due, Head≢Empty}
 use Rattle.wire_laws.proofs.Rows.{port_signal, no_port, port_of_signal}
@@ -115,7 +115,7 @@ module _ (library : Kind → Drawing) (law : KeepsLaw library) (roomy : HasOpenE
   lit_ports : ShowsDrivenEdges library plan undriven all_lit
   lit_ports = plans_show_edges library law plan h undriven no_drive all_lit
 
-  entry_drawn : (lane : ℕ) → lane < first_loop_lane plan.lanes plan.latches → state_in p (entry_cell plan lane) ≢ Empty
+  entry_drawn : (lane : ℕ) → lane < first_loop_lane plan.lanes plan.latches → cell_state p (entry_cell plan lane) ≢ Empty
   entry_drawn lane low =
       let some : 0 < length plan.columns = some_columns plan h (omega (arith, low)) in
       head_is_drawn library (tiling_of plan) all_lit lit (left_of plan 0) (row_of lane) ((lit_ports.entries 0 lane some (omega (arith, low)) 0).1 (0, omega arith, refl))
@@ -141,8 +141,8 @@ module _ (library : Kind → Drawing) (law : KeepsLaw library) (roomy : HasOpenE
   input : (s : Signal) → Contains ins s → IsInput plan bits s
   input s among = input_of plan h start lit starts bits s among
 
-  ins_drawn : (s : Signal) → Contains ins s → state_in p s.cell ≢ Empty
-  ins_drawn s among = let of = input s among in subst (λ s. state_in p s.cell ≢ Empty) (sym of.is) (entry_drawn (slice_index plan.ins of.input) of.free)
+  ins_drawn : (s : Signal) → Contains ins s → cell_state p s.cell ≢ Empty
+  ins_drawn s among = let of = input s among in subst (λ s. cell_state p s.cell ≢ Empty) (sym of.is) (entry_drawn (slice_index plan.ins of.input) of.free)
 
   some : 0 < period
   some = omega (arith, long plan h start lit starts bits)
@@ -159,10 +159,10 @@ module _ (library : Kind → Drawing) (law : KeepsLaw library) (roomy : HasOpenE
             ]
       ]
 
-  shown_in : (s : Signal) → Contains ins s → (g : ℕ) → (state_in (plane g) s.cell ≡ Head) ↔ (is_lit period s g ≡ true)
+  shown_in : (s : Signal) → Contains ins s → (g : ℕ) → (cell_state (plane g) s.cell ≡ Head) ↔ (is_lit period s g ≡ true)
   shown_in s among g = (
     λ head. (let of = input s among in
-        let there : state_in (plane g) (entry_cell plan (slice_index plan.ins of.input)) ≡ Head = ap (λ s. state_in (plane g) s.cell) (sym of.is) ∙ head in
+        let there : cell_state (plane g) (entry_cell plan (slice_index plan.ins of.input)) ≡ Head = ap (λ s. cell_state (plane g) s.cell) (sym of.is) ∙ head in
         let by = due_by_signal period ins g (entry_cell plan (slice_index plan.ins of.input)) (head_is_due plan h start lit starts bits library law g (slice_index plan.ins of.input) of.free there) in
         let other = input by.0 by.1 in
         let row : pos (row_of (slice_index plan.ins other.input)) ≡ pos (row_of (slice_index plan.ins of.input)) = ap (λ s. s.cell.1) (sym other.is) ∙ ap (λ c. c.1) by.3 in
@@ -172,13 +172,13 @@ module _ (library : Kind → Drawing) (law : KeepsLaw library) (roomy : HasOpenE
         ap (λ s. is_lit period s g) (sym same) ∙ by.2),
     λ bright. (let of = input s among in
         let cell : s.cell ≡ entry_cell plan (slice_index plan.ins of.input) = ap (λ s. s.cell) of.is in
-        ap (state_in (plane g)) cell ∙ head_when_due plan h start lit starts bits library law g (slice_index plan.ins of.input) (signal_is_due period ins g (entry_cell plan (slice_index plan.ins of.input)) s among bright cell)),
+        ap (cell_state (plane g)) cell ∙ head_when_due plan h start lit starts bits library law g (slice_index plan.ins of.input) (signal_is_due period ins g (entry_cell plan (slice_index plan.ins of.input)) s among bright cell)),
   )
 
   shown : ShowsContextBits library plan lit due 1 (context_bits plan due (start ∷ []))
   shown = plans_show_contexts library law plan h due (start ∷ []) lit (drives plan h start lit starts bits) starts
 
-  shown_out : (i : ℕ) → i < length plan.outs → (g : ℕ) → (state_in (plane g) (out_signal i).cell ≡ Head) ↔ (is_lit period (out_signal i) g ≡ true)
+  shown_out : (i : ℕ) → i < length plan.outs → (g : ℕ) → (cell_state (plane g) (out_signal i).cell ≡ Head) ↔ (is_lit period (out_signal i) g ≡ true)
   shown_out i within g = (
     λ head. (let f = (shown.outs i within g).0 head in
         let zero_th : f.0 ≡ 0 = omega (arith, f.2) in
@@ -188,22 +188,22 @@ module _ (library : Kind → Drawing) (law : KeepsLaw library) (roomy : HasOpenE
         (shown.outs i within g).1 (0, c.0, omega arith, omega (arith, time), c.2)),
   )
 
-  shows : (s : Signal) → Contains (ins ++ outs) s → (g : ℕ) → (state_in (plane g) s.cell ≡ Head) ↔ (is_lit period s g ≡ true)
+  shows : (s : Signal) → Contains (ins ++ outs) s → (g : ℕ) → (cell_state (plane g) s.cell ≡ Head) ↔ (is_lit period s g ≡ true)
   shows s among g =
       elim (Contains-append_cases ins outs s among) [
         | inl a ↦ shown_in s a g
-        | inr b ↦ let of = output_of s b in subst (λ s. (state_in (plane g) s.cell ≡ Head) ↔ (is_lit period s g ≡ true)) (sym of.2) (shown_out of.0 of.1 g)
+        | inr b ↦ let of = output_of s b in subst (λ s. (cell_state (plane g) s.cell ≡ Head) ↔ (is_lit period s g ≡ true)) (sym of.2) (shown_out of.0 of.1 g)
       ]
 
-  is_drawn : (s : Signal) → Contains (ins ++ outs) s → state_in p s.cell ≢ Empty
+  is_drawn : (s : Signal) → Contains (ins ++ outs) s → cell_state p s.cell ≢ Empty
   is_drawn s among =
       elim (Contains-append_cases ins outs s among) [
         | inl a ↦ ins_drawn s a
-        | inr b ↦ let of = output_of s b in subst (λ s. state_in p s.cell ≢ Empty) (sym of.2) (exit_drawn of.0 of.1)
+        | inr b ↦ let of = output_of s b in subst (λ s. cell_state p s.cell ≢ Empty) (sym of.2) (exit_drawn of.0 of.1)
       ]
 
   -- one generation before it is lit an input's cell is no tail
-  no_tail : (s : Signal) → Contains ins s → (g : ℕ) → is_lit period s (suc g) ≡ true → state_in (plane g) s.cell ≢ Tail
+  no_tail : (s : Signal) → Contains ins s → (g : ℕ) → is_lit period s (suc g) ≡ true → cell_state (plane g) s.cell ≢ Tail
   no_tail s among zero bright tail =
       let c = lit_in period s 1 bright in
       let of = input s among in
@@ -217,7 +217,7 @@ module _ (library : Kind → Drawing) (law : KeepsLaw library) (roomy : HasOpenE
   no_tail s among (suc g) bright tail =
       let wide = long plan h start lit starts bits in
       let two : g + 2 ≡ suc (suc g) = omega arith in
-      let head : state_in (plane g) s.cell ≡ Head = was_head (due (suc g) s.cell.0 s.cell.1) (state_in (plane g) s.cell) (heads_around (plane g) s.cell.0 s.cell.1) tail in
+      let head : cell_state (plane g) s.cell ≡ Head = was_head (due (suc g) s.cell.0 s.cell.1) (cell_state (plane g) s.cell) (heads_around (plane g) s.cell.0 s.cell.1) tail in
       not_soon period s g 2 ((shown_in s among g).0 head) (ap (is_lit period s) two ∙ bright) (omega arith) (omega (arith, wide))
     where
       either : (n : ℕ) (b : Bool) → cond b Head Conductor ≡ Tail → ⊥
@@ -237,7 +237,7 @@ module _ (library : Kind → Drawing) (law : KeepsLaw library) (roomy : HasOpenE
       let cell : s.cell ≡ entry_cell plan (slice_index plan.ins of.input) = ap (λ s. s.cell) of.is in
       let next : next_plane (plane g) s.cell.0 s.cell.1 ≡ Conductor = (plans_show_edges library law plan h due (drives_inputs plan h start lit starts bits) lit).conductors g s.cell.0 s.cell.1 (signal_is_due period ins (suc g) s.cell s among bright refl) in
       let few : heads_around (plane g) s.cell.0 s.cell.1 ≤ 2 = subst (λ c. heads_around (plane g) c.0 c.1 ≤ 2) (sym cell) (few_around library roomy plan h lit period ins ins_drawn of.input of.within g) in
-      let is = none_around (state_in (plane g) s.cell) (heads_around (plane g) s.cell.0 s.cell.1) next (no_tail s among g bright) few in
+      let is = none_around (cell_state (plane g) s.cell) (heads_around (plane g) s.cell.0 s.cell.1) next (no_tail s among g bright) few in
       record { conductor = is.0; alone = is.1 }
 
   carried : CarriesSignals (period_of plan) (plane_with library plan lit) (in_signals plan bits) (out_signals plan start bits)

@@ -5,7 +5,7 @@ use Rattle.std.proofs.lemmas.List.{length-map, get_or-map}
 use Rattle.lists.proofs.Members.{in_from}
 use Rattle.ww_rule.specs.declared.pattern.State.TheVariants.{Head}
 use Rattle.ww_rule.specs.Wireworld.{Plane, Due, next_plane, driven}
-use Rattle.wire_laws.specs.Signals.{Signal, is_lit, state_in, due_of_signals}
+use Rattle.wire_laws.specs.Signals.{Signal, is_lit, cell_state, due_of_signals}
 use Rattle.wire_laws.proofs.Lit.{lit_in}
 use Rattle.wire_laws.proofs.Dues.{due_by_signal}
 use Rattle.wire_laws.proofs.Rows.{port_signal, no_port, port_of_signal}
@@ -93,7 +93,7 @@ module _ (plan : Plan) (h : IsAdmissible plan) (start : List Bool) (lit : Lit) (
     entered (suc m) lane low = inputs_enter plan h due lit m lane low
 
     -- a free entry is a head only when it is due
-    pub head_is_due : (g lane : ℕ) → lane < first_loop_lane plan.lanes plan.latches → state_in (plane g) (entry_cell plan lane) ≡ Head → at_entry g lane ≡ true
+    pub head_is_due : (g lane : ℕ) → lane < first_loop_lane plan.lanes plan.latches → cell_state (plane g) (entry_cell plan lane) ≡ Head → at_entry g lane ≡ true
     head_is_due g lane low head =
         let some : 0 < length plan.columns = some_columns plan h (omega (arith, low)) in
         let step = ((plans_show_edges library law plan h due drives_inputs lit).entries 0 lane some (omega (arith, low)) g).0 head in
@@ -101,6 +101,6 @@ module _ (plan : Plan) (h : IsAdmissible plan) (start : List Bool) (lit : Lit) (
         let first : plan.latches + 0 ≡ plan.latches = omega arith in
         ap (λ n. at_entry n lane) (sym time) ∙ sym (entered step.0 lane low) ∙ ap (λ q. driven_edges (tiling_of plan) due lit step.0 (Beside q lane)) (sym first) ∙ step.2
 
-    pub head_when_due : (g lane : ℕ) → at_entry g lane ≡ true → state_in (plane g) (entry_cell plan lane) ≡ Head
+    pub head_when_due : (g lane : ℕ) → at_entry g lane ≡ true → cell_state (plane g) (entry_cell plan lane) ≡ Head
     head_when_due zero lane e = ap (λ b. cond b Head (plane_with library plan lit (pos (left_of plan 0)) (pos (row_of lane)))) e
     head_when_due (suc g) lane e = ap (λ b. cond b Head (next_plane (plane g) (pos (left_of plan 0)) (pos (row_of lane)))) e

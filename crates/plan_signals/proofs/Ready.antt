@@ -7,7 +7,7 @@ use Rattle.lists.specs.Items.{one_if}
 use Rattle.ww_rule.specs.declared.pattern.State.{State}
 use Rattle.ww_rule.specs.declared.pattern.State.TheVariants.{Empty, Head, Tail, Conductor}
 use Rattle.ww_rule.specs.Wireworld.{Plane, next_state, heads_around, count_head, driven}
-use Rattle.wire_laws.specs.Signals.{Signal, state_in, due_of_signals}
+use Rattle.wire_laws.specs.Signals.{Signal, cell_state, due_of_signals}
 use Rattle.wire_laws.proofs.Dues.{stays_empty}
 use Rattle.tile_core.specs.declared.kind.Kind.{Kind}
 use Rattle.tile_core.specs.Drawing.{Drawing, Cell, picture, is_cell_of}
@@ -62,7 +62,7 @@ count_at_most Tail true h = omega arith
 count_at_most Conductor true h = omega arith
 count_at_most s false h = let e : count_head s ≡ 0 = ap count_head (h refl) in omega (arith, e)
 
-module _ (library : Kind → Drawing) (roomy : HasOpenEntries library) (plan : Plan) (h : IsAdmissible plan) (lit : Lit) (period : ℕ) (signals : List Signal) (all_drawn : (s : Signal) → Contains signals s → state_in (plane_with library plan lit) s.cell ≢ Empty) (i : ℕ) (within : i < length plan.ins) where
+module _ (library : Kind → Drawing) (roomy : HasOpenEntries library) (plan : Plan) (h : IsAdmissible plan) (lit : Lit) (period : ℕ) (signals : List Signal) (all_drawn : (s : Signal) → Contains signals s → cell_state (plane_with library plan lit) s.cell ≢ Empty) (i : ℕ) (within : i < length plan.ins) where
   abbrev lane : ℕ
   lane = slice_index plan.ins i
 

@@ -7,13 +7,13 @@ use Rattle.std.proofs.Math.Seq.{drop-append-add, take_at}
 use Rattle.std.proofs.lemmas.Bool.{eq-eqb, eqb-true}
 use Rattle.std.proofs.lemmas.List.{append-nil, drop-map, length-map, take-map}
 use Rattle.std.proofs.lemmas.List.FromFn.{length-map-range_with_len}
-use Rattle.std.proofs.lemmas.Option.{same_Some}
+use Rattle.std.proofs.lemmas.Option.{same_Some, get_or_from_slice_get}
 use Rattle.lists.proofs.Members.{got_from}
 use Rattle.pattern_reading.specs.declared.ports.NetLine.{NetLine}
 use Rattle.pattern_reading.specs.declared.ports.Ports.{Ports}
 use Rattle.netlist_core.specs.declared.model.Design.{Design}
 use Rattle.netlist_core.specs.Names.{Name}
-use Rattle.netlist_meaning.specs.Nets.{Net}
+use Rattle.netlist_meaning.specs.Nets.{Net, net_at}
 use Rattle.netlist_meaning.specs.Valuation.{LatchState, Valuation, IsRunFrom}
 use Rattle.netlist_meaning.proofs.Joined.{in_names_are_one}
 use Rattle.streams.specs.declared.streams.Streams.{Streams}
@@ -200,10 +200,18 @@ dumps_apart their_bits shows streams_for text design starts c = (
         reads_too = l.reads;
         variables = h.variables;
         variables_too = l.variables;
-        same = λ number cycle low early.
+        ends = h.ends;
+        ends_too = l.ends;
+        bit = λ number cycle. h.runs context cycle (get_or c.nets number (net_at [] [])).place (get_or c.nets number (net_at [] [])).name;
+        gives = λ number cycle low early.
             let (net, at) = got_within c.nets number low in
             h.bits number net at context less h.runs h.are_runs cycle early
-            ∙ sym (l.bits number net at context less runs are cycle early ∙ ap (λ (run : ℕ → Valuation). Some (run cycle net.place net.name)) (in_it context (h.runs context) l.runs));
+            ∙ ap (λ (n : Net). Some (h.runs context cycle n.place n.name)) (sym (get_or_from_slice_get c.nets number net (net_at [] []) at));
+        gives_too = λ number cycle low early.
+            let (net, at) = got_within c.nets number low in
+            l.bits number net at context less runs are cycle early
+            ∙ ap (λ (run : ℕ → Valuation). Some (run cycle net.place net.name)) (in_it context (h.runs context) l.runs)
+            ∙ ap (λ (n : Net). Some (h.runs context cycle n.place n.name)) (sym (get_or_from_slice_get c.nets number net (net_at [] []) at));
       },
 )
 

@@ -18,7 +18,7 @@ use Rattle.netlist_meaning.specs.Valuation.{Valuation, LatchState, AreInputRows,
 use Rattle.carries.specs.Contexts.{AreRunsFrom, ShowsBitsInContexts, context_drive}
 use Rattle.carries.specs.DesignContexts.{AreInputContexts, CarriesContexts, CarriesNetsInContexts}
 use Rattle.program_laws.proofs.NamedNets.{net_of_line}
-use Rattle.program_laws.specs.Onward.{ContextsGoOn, ContextsShowEachFront, NetsGoOn, NetsShowEachFront, RunOnZeros, ShowsAlike, each_then}
+use Rattle.program_laws.specs.Onward.{ContextsGoOn, ContextsShowEachFront, NetsGoOn, NetsShowEachFront, RunOnZeros, AreHeadsAlike, each_then}
 
 -- ---- rows of 0 after the given ones
 
@@ -89,7 +89,7 @@ module _ (design : Design) (starts : List LatchState) (cycles many : ℕ) (conte
 
   -- so the first rows show what the whole shows
   outputs_shown : (text : List ℕ) (k : CarriesContexts text design starts) (output : ℕ) → (cell : _) → slice_get k.ports.outs output ≡ Some cell → (g : ℕ) → g < k.ports.l + cycles * k.ports.p
-      → ShowsAlike (context_drive k.ports contexts) (context_drive k.ports front) (plane_of k.grid.rows) g cell.x cell.y
+      → AreHeadsAlike (context_drive k.ports contexts) (context_drive k.ports front) (plane_of k.grid.rows) g cell.x cell.y
   outputs_shown text k output cell e g early =
       let ran = k.shows.runs many contexts are in
       cut k.ports.l k.ports.p g cell.x cell.y (λ c t. output_bit design (ran.0 c t) output)
@@ -99,7 +99,7 @@ module _ (design : Design) (starts : List LatchState) (cycles many : ℕ) (conte
 
   net_shown : (text : List ℕ) (k : CarriesNetsInContexts text design starts) (number : ℕ) (net : Net) (line : NetLine) → slice_get k.nets number ≡ Some net → slice_get k.carried.ports.nets number ≡ Some line
       → (g : ℕ) → g < line.offset + cycles * k.carried.ports.p
-      → ShowsAlike (context_drive k.carried.ports contexts) (context_drive k.carried.ports front) (plane_of k.carried.grid.rows) g line.x line.y
+      → AreHeadsAlike (context_drive k.carried.ports contexts) (context_drive k.carried.ports front) (plane_of k.carried.grid.rows) g line.x line.y
   net_shown text k number net line is_net at g early =
       let ran = k.carried.shows.runs many contexts are in
       cut line.offset k.carried.ports.p g line.x line.y (λ c t. ran.0 c t net.place net.name)

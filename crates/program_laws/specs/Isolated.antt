@@ -1,6 +1,6 @@
 -- Contexts do not see each other: what `simulate`, `probe` and `vcd` print of a context of a text
 -- that carries a design depends on the bits that the words give this context, and on no others.
-use Rattle.std.specs.Prelude.{ℕ, ◌≡◌, ◌<◌, ◌+◌, ◌*◌, Bool, List, [], ◌∷◌, length, flat_map}
+use Rattle.std.specs.Prelude.{ℕ, ◌≡◌, ◌<◌, ◌+◌, ◌*◌, Bool, List, [], ◌∷◌, length, flat_map, Some}
 use Rattle.std.specs.List.{range_with_len}
 use Rattle.netlist_core.specs.declared.model.Design.{Design}
 use Rattle.netlist_core.specs.Names.{Name}
@@ -11,7 +11,7 @@ use Rattle.netlist_text.specs.NetlistText.{IsNetlist}
 use Rattle.carries.specs.DesignContexts.{CarriesContexts, CarriesNetsInContexts}
 use Rattle.carries.specs.Nets.{AreSeenNets}
 use Rattle.streams.specs.Streams.{bits_for}
-use Rattle.vcd_write.specs.Reading.{VcdForm, ReadsAsVcd, value_at}
+use Rattle.vcd_write.specs.Reading.{VcdForm, ReadsAsVcd, last_time, value_at}
 use Rattle.vcd_write.specs.Writing.{vcd_id}
 use Rattle.command_words.specs.Shapes.{compile, simulate, probe, vcd}
 use Rattle.blifww_tool.specs.Lines.{context_line}
@@ -61,7 +61,7 @@ ProbesApart text contexts =
     → HaveSameLines contexts cycles (name ∷ []) context shown seen
 
 -- Two outputs read as forms with the variables of these nets in each context, and in one context
--- both forms give each net the same bits.
+-- both forms give each net the same bits, in so many cycles.
 pub record HaveSameBits (contexts cycles : ℕ) (nets : List Net) (context : ℕ)
     (shown seen : List ℕ) : Type 0 where
   pub form : VcdForm
@@ -70,9 +70,13 @@ pub record HaveSameBits (contexts cycles : ℕ) (nets : List Net) (context : ℕ
   pub reads_too : ReadsAsVcd seen other
   pub variables : HasVariables form (net_references contexts nets)
   pub variables_too : HasVariables other (net_references contexts nets)
-  pub same : (number cycle : ℕ) → number < length nets → cycle < cycles
-      → value_at form (vcd_id (context * length nets + number)) cycle
-      ≡ value_at other (vcd_id (context * length nets + number)) cycle
+  pub ends : last_time form ≡ cycles
+  pub ends_too : last_time other ≡ cycles
+  pub bit : (number cycle : ℕ) → Bool
+  pub gives : (number cycle : ℕ) → number < length nets → cycle < cycles
+      → value_at form (vcd_id (context * length nets + number)) cycle ≡ Some (bit number cycle)
+  pub gives_too : (number cycle : ℕ) → number < length nets → cycle < cycles
+      → value_at other (vcd_id (context * length nets + number)) cycle ≡ Some (bit number cycle)
 
 -- so does `vcd` with the bits of all nets but the clock nets
 abbrev pub DumpsApart : (text : List ℕ) → Design → (contexts : ℕ) → Type 0

@@ -64,8 +64,8 @@ pub record HaveSameFront (design : Design) (count cycles : ℕ)
   pub same : map (take cycles) contexts ≡ map (take cycles) others
 
 -- the cell at x, y is a head at generation g under both drives or under neither
-abbrev pub ShowsAlike : (drive other : Due) → Plane → (g x y : ℕ) → Type 0
-ShowsAlike drive other plane g x y =
+abbrev pub AreHeadsAlike : (drive other : Due) → Plane → (g x y : ℕ) → Type 0
+AreHeadsAlike drive other plane g x y =
     (driven drive plane g (pos x) (pos y) ≡ Head) ↔ (driven other plane g (pos x) (pos y) ≡ Head)
 
 -- What outputs show in the first cycles does not depend on the bits of later ones: below the
@@ -78,7 +78,7 @@ ContextsShowEachFront =
     → HaveSameFront design (length starts) cycles contexts others
     → (output : ℕ) (cell : PortLine) → slice_get k.ports.outs output ≡ Some cell
     → (g : ℕ) → g < k.ports.l + cycles * k.ports.p
-    → ShowsAlike (context_drive k.ports contexts) (context_drive k.ports others)
+    → AreHeadsAlike (context_drive k.ports contexts) (context_drive k.ports others)
     (plane_of k.grid.rows) g cell.x cell.y
 
 -- So it is with nets.
@@ -90,5 +90,5 @@ NetsShowEachFront =
     → HaveSameFront design (length starts) cycles contexts others
     → (number : ℕ) (line : NetLine) → slice_get k.carried.ports.nets number ≡ Some line
     → (g : ℕ) → g < line.offset + cycles * k.carried.ports.p
-    → ShowsAlike (context_drive k.carried.ports contexts) (context_drive k.carried.ports others)
+    → AreHeadsAlike (context_drive k.carried.ports contexts) (context_drive k.carried.ports others)
     (plane_of k.carried.grid.rows) g line.x line.y

@@ -8,7 +8,7 @@ use Rattle.std.proofs.lemmas.Bool.Decides.{Decides-int_eq}
 use Rattle.ww_rule.specs.Wireworld.{Plane, heads_around, count_head}
 use Rattle.ww_rule.proofs.Cells.{sum_same, across, from_one_less, to_one_more}
 use Rattle.ww_rule.proofs.Integers.{other_int}
-use Rattle.wire_laws.specs.Signals.{state_in}
+use Rattle.wire_laws.specs.Signals.{cell_state}
 use Rattle.wire_laws.specs.Wires.{IsNear}
 use Rattle.wire_laws.proofs.Dues.{same_cell}
 
@@ -85,12 +85,12 @@ hits k Above Above e = omega arith
 sum_of_sums : (a b c d e f g h a' b' c' d' e' f' g' h' k : ℕ) → a' + b' + c' + d' + e' + f' + g' + h' ≡ k → (a + a') + (b + b') + (c + c') + (d + d') + (e + e') + (f + f') + (g + g') + (h + h') ≡ (a + b + c + d + e + f + g + h) + k
 sum_of_sums a b c d e f g h a' b' c' d' e' f' g' h' k s = omega arith
 
-module _ (p q : Plane) (cell other : ℤ × ℤ) (near : IsNear other cell) (apart : other ≢ cell) (dark : count_head (state_in q other) ≡ 0) (same : (c : ℤ × ℤ) → IsNear c cell → c ≢ other → count_head (state_in p c) ≡ count_head (state_in q c)) where
-  counted : (u v : ℤ) (a b : Bool) → IsNear (u, v) cell → int_eq u other.0 ≡ a → int_eq v other.1 ≡ b → count_head (p u v) ≡ count_head (q u v) + hit (count_head (state_in p other)) a b
+module _ (p q : Plane) (cell other : ℤ × ℤ) (near : IsNear other cell) (apart : other ≢ cell) (dark : count_head (cell_state q other) ≡ 0) (same : (c : ℤ × ℤ) → IsNear c cell → c ≢ other → count_head (cell_state p c) ≡ count_head (cell_state q c)) where
+  counted : (u v : ℤ) (a b : Bool) → IsNear (u, v) cell → int_eq u other.0 ≡ a → int_eq v other.1 ≡ b → count_head (p u v) ≡ count_head (q u v) + hit (count_head (cell_state p other)) a b
   counted u v true true around e f =
       let here : (u, v) ≡ other = same_cell (u, v) other ((Decides-int_eq u other.0).0 e) ((Decides-int_eq v other.1).0 f) in
-      let seen : count_head (p u v) ≡ count_head (state_in p other) = ap (λ c. count_head (state_in p c)) here in
-      let none : count_head (q u v) ≡ 0 = ap (λ c. count_head (state_in q c)) here ∙ dark in
+      let seen : count_head (p u v) ≡ count_head (cell_state p other) = ap (λ c. count_head (cell_state p c)) here in
+      let none : count_head (q u v) ≡ 0 = ap (λ c. count_head (cell_state q c)) here ∙ dark in
       omega (arith, seen, none)
   counted u v true false around e f =
       let agree = same (u, v) around (λ w. true≢false (sym ((Decides-int_eq v other.1).1 (ap (λ c. c.1) w)) ∙ f)) in omega (arith, agree)
@@ -109,7 +109,7 @@ module _ (p q : Plane) (cell other : ℤ × ℤ) (near : IsNear other cell) (apa
       ]
 
   -- the heads around the cell are those of the other plane, and this cell if it is one
-  pub one_more : heads_around p cell.0 cell.1 ≡ heads_around q cell.0 cell.1 + count_head (state_in p other)
+  pub one_more : heads_around p cell.0 cell.1 ≡ heads_around q cell.0 cell.1 + count_head (cell_state p other)
   one_more =
       let x = cell.0 in
       let y = cell.1 in
@@ -121,10 +121,10 @@ module _ (p q : Plane) (cell other : ℤ × ℤ) (near : IsNear other cell) (apa
       let above = y -ℤ pos 1 in
       let below = y +ℤ pos 1 in
       sum_same _ _ _ _ _ _ _ _ _ _ _ _ _ _ _ _ (west above (≤ℤ_refl _) (across y) (is_below t.side) t.last) (middle above (≤ℤ_refl _) (across y) (is_below t.side) t.last) (east above (≤ℤ_refl _) (across y) (is_below t.side) t.last) (west y (from_one_less y) (to_one_more y) (is_at t.side) t.same) (east y (from_one_less y) (to_one_more y) (is_at t.side) t.same) (west below (across y) (≤ℤ_refl _) (is_above t.side) t.next) (middle below (across y) (≤ℤ_refl _) (is_above t.side) t.next) (east below (across y) (≤ℤ_refl _) (is_above t.side) t.next)
-      ∙ sum_of_sums _ _ _ _ _ _ _ _ _ _ _ _ _ _ _ _ (count_head (state_in p other)) (hits (count_head (state_in p other)) s.side t.side (not_middle s t))
+      ∙ sum_of_sums _ _ _ _ _ _ _ _ _ _ _ _ _ _ _ _ (count_head (cell_state p other)) (hits (count_head (cell_state p other)) s.side t.side (not_middle s t))
 
 -- cells around which the same cells are heads see as many
-pub as_many : (p q : Plane) (cell : ℤ × ℤ) → ((c : ℤ × ℤ) → IsNear c cell → count_head (state_in p c) ≡ count_head (state_in q c)) → heads_around p cell.0 cell.1 ≡ heads_around q cell.0 cell.1
+pub as_many : (p q : Plane) (cell : ℤ × ℤ) → ((c : ℤ × ℤ) → IsNear c cell → count_head (cell_state p c) ≡ count_head (cell_state q c)) → heads_around p cell.0 cell.1 ≡ heads_around q cell.0 cell.1
 as_many p q cell same =
     let x = cell.0 in
     let y = cell.1 in

@@ -11,7 +11,7 @@ use Rattle.ww_rule.specs.declared.pattern.State.{State}
 use Rattle.ww_rule.specs.declared.pattern.State.TheVariants.{Empty, Head, Tail, Conductor}
 use Rattle.ww_rule.specs.Wireworld.{Plane, driven}
 use Rattle.ww_rule.proofs.Boxes.{driven_empty}
-use Rattle.wire_laws.specs.Signals.{Signal, is_lit, state_in, due_of_signals}
+use Rattle.wire_laws.specs.Signals.{Signal, is_lit, cell_state, due_of_signals}
 
 -- is this the cell x, y of the signal, and is it lit?
 abbrev pub lights : ℕ → ℕ → ℤ → ℤ → Signal → Bool
@@ -52,15 +52,15 @@ not_due period signals g c none =
     false_from_ne_true _ (λ e. let by = due_by_signal period signals g c e in none by.0 by.1 by.3)
 
 -- all signals are in cells that are drawn, so an empty cell is never due, and stays empty
-pub empty_not_due : (period : ℕ) (p : Plane) (signals : List Signal) (g : ℕ) (c : ℤ × ℤ) → ((s : Signal) → Contains signals s → state_in p s.cell ≢ Empty) → state_in p c ≡ Empty → due_of_signals period signals g c.0 c.1 ≡ false
+pub empty_not_due : (period : ℕ) (p : Plane) (signals : List Signal) (g : ℕ) (c : ℤ × ℤ) → ((s : Signal) → Contains signals s → cell_state p s.cell ≢ Empty) → cell_state p c ≡ Empty → due_of_signals period signals g c.0 c.1 ≡ false
 empty_not_due period p signals g c drawn e =
-    not_due period signals g c (λ s among same. drawn s among (ap (state_in p) same ∙ e))
+    not_due period signals g c (λ s among same. drawn s among (ap (cell_state p) same ∙ e))
 
-pub stays_empty : (period : ℕ) (p : Plane) (signals : List Signal) (c : ℤ × ℤ) → ((s : Signal) → Contains signals s → state_in p s.cell ≢ Empty) → state_in p c ≡ Empty → (g : ℕ) → state_in (driven (due_of_signals period signals) p g) c ≡ Empty
+pub stays_empty : (period : ℕ) (p : Plane) (signals : List Signal) (c : ℤ × ℤ) → ((s : Signal) → Contains signals s → cell_state p s.cell ≢ Empty) → cell_state p c ≡ Empty → (g : ℕ) → cell_state (driven (due_of_signals period signals) p g) c ≡ Empty
 stays_empty period p signals c drawn e g =
     driven_empty (due_of_signals period signals) p c.0 c.1 e (λ h. empty_not_due period p signals h c drawn e) g
 
-pub never_due : (period : ℕ) (p : Plane) (signals : List Signal) (c : ℤ × ℤ) → state_in p c ≡ Empty → ((s : Signal) → Contains signals s → s.cell ≢ c) → (g : ℕ) → state_in (driven (due_of_signals period signals) p g) c ≡ Empty
+pub never_due : (period : ℕ) (p : Plane) (signals : List Signal) (c : ℤ × ℤ) → cell_state p c ≡ Empty → ((s : Signal) → Contains signals s → s.cell ≢ c) → (g : ℕ) → cell_state (driven (due_of_signals period signals) p g) c ≡ Empty
 never_due period p signals c e none g =
     driven_empty (due_of_signals period signals) p c.0 c.1 e (λ h. not_due period signals h c none) g
 

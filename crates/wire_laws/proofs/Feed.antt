@@ -8,7 +8,7 @@ use Rattle.ww_rule.specs.declared.pattern.State.{State}
 use Rattle.ww_rule.specs.declared.pattern.State.TheVariants.{Empty, Head, Tail}
 use Rattle.ww_rule.specs.Wireworld.{Plane, next_plane, next_state, heads_around, count_head, driven}
 use Rattle.ww_rule.proofs.Cells.{not_counted}
-use Rattle.wire_laws.specs.Signals.{Signal, state_in, is_lit, due_of_signals, IsReady, CarriesSignals}
+use Rattle.wire_laws.specs.Signals.{Signal, cell_state, is_lit, due_of_signals, IsReady, CarriesSignals}
 use Rattle.wire_laws.specs.Wires.{IsNear, Wire, IsWire, IsLaid, IsAwayFrom}
 use Rattle.wire_laws.proofs.Lit.{not_soon}
 use Rattle.wire_laws.proofs.Dues.{lights, lights_at, empty_not_due, stays_empty, never_due, cases_Empty, cases_cell, Head≢Empty}
@@ -29,7 +29,7 @@ pub record IsFed (period : ℕ) (wire : Wire) (ins outs : List Signal) (before a
   pub source : Contains (ins ++ outs) wire.from
   pub is : IsWire period wire
   pub laid : IsLaid period wire before after
-  pub others : (cell : ℤ × ℤ) → IsAwayFrom wire cell → state_in after cell ≡ state_in before cell
+  pub others : (cell : ℤ × ℤ) → IsAwayFrom wire cell → cell_state after cell ≡ cell_state before cell
 
 module _ (period : ℕ) (fed : Wire) (ins outs : List Signal) (before after : Plane) (h : IsFed period fed ins outs before after) where
   abbrev n : ℕ
@@ -58,30 +58,30 @@ module _ (period : ℕ) (fed : Wire) (ins outs : List Signal) (before after : Pl
 
   -- at a generation the wire's cells are as the signal at its end says, and all others as in the plane that is driven without the wire
   record IsAt (g : ℕ) : Type 0 where
-    on : (i rest : ℕ) → i + suc rest ≡ n → state_in (new g) (wire i) ≡ state_by (lit (g + suc rest)) (lit (g + rest))
-    off : (c : ℤ × ℤ) → IsOff n wire c → state_in (new g) c ≡ state_in (old g) c
+    on : (i rest : ℕ) → i + suc rest ≡ n → cell_state (new g) (wire i) ≡ state_by (lit (g + suc rest)) (lit (g + rest))
+    off : (c : ℤ × ℤ) → IsOff n wire c → cell_state (new g) c ≡ cell_state (old g) c
 
-  all_drawn : (s : Signal) → Contains (to ∷ ins) s → state_in before s.cell ≢ Empty
+  all_drawn : (s : Signal) → Contains (to ∷ ins) s → cell_state before s.cell ≢ Empty
   all_drawn s among = h.run.drawn s (Contains-append_left (to ∷ ins) outs s among)
 
-  to_drawn : state_in before to.cell ≢ Empty
+  to_drawn : cell_state before to.cell ≢ Empty
   to_drawn = all_drawn to (contains_from (to ∷ ins) to (inl refl))
 
-  ins_drawn : (s : Signal) → Contains ins s → state_in before s.cell ≢ Empty
+  ins_drawn : (s : Signal) → Contains ins s → cell_state before s.cell ≢ Empty
   ins_drawn s among = all_drawn s (input_more to s ins among)
 
-  from_drawn : state_in before from.cell ≢ Empty
+  from_drawn : cell_state before from.cell ≢ Empty
   from_drawn = h.run.drawn from (among_more to from ins outs h.source)
 
-  from_shows : (g : ℕ) → (state_in (old g) from.cell ≡ Head) ↔ (is_lit period from g ≡ true)
+  from_shows : (g : ℕ) → (cell_state (old g) from.cell ≡ Head) ↔ (is_lit period from g ≡ true)
   from_shows g = h.run.shows from (among_more to from ins outs h.source) g
 
-  to_shows : (g : ℕ) → (state_in (old g) to.cell ≡ Head) ↔ (lit g ≡ true)
+  to_shows : (g : ℕ) → (cell_state (old g) to.cell ≡ Head) ↔ (lit g ≡ true)
   to_shows g = h.run.shows to (Contains-append_left (to ∷ ins) outs to (contains_from (to ∷ ins) to (inl refl))) g
 
   -- what is drawn is not on the wire
-  drawn_off : (c : ℤ × ℤ) → state_in before c ≢ Empty → IsOff n wire c
-  drawn_off c full i l e = full (ap (state_in before) e ∙ h.laid.free i l)
+  drawn_off : (c : ℤ × ℤ) → cell_state before c ≢ Empty → IsOff n wire c
+  drawn_off c full i l e = full (ap (cell_state before) e ∙ h.laid.free i l)
 
   -- the other ends of the path
   apart : from.cell ≢ to.cell
@@ -89,19 +89,19 @@ module _ (period : ℕ) (fed : Wire) (ins outs : List Signal) (before after : Pl
       let same : 0 ≡ suc n = h.is.along.once 0 (suc n) (omega arith) (omega arith) (h.is.begins ∙ e ∙ sym h.is.ends) in omega arith
 
   -- a cell off the wire is drawn as before
-  kept : (c : ℤ × ℤ) → IsOff n wire c → state_in before c ≢ Empty → state_in after c ≢ Empty
+  kept : (c : ℤ × ℤ) → IsOff n wire c → cell_state before c ≢ Empty → cell_state after c ≢ Empty
   kept c off full =
       elim (cases_cell c to.cell) [
-        | inl e ↦ λ w. either (lit 0) (sym (ap (state_in after) e ∙ h.laid.end) ∙ w)
+        | inl e ↦ λ w. either (lit 0) (sym (ap (cell_state after) e ∙ h.laid.end) ∙ w)
         | inr d ↦ λ w. full (sym (h.others c (record { end = d; cells = off })) ∙ w)
       ]
     where
-      either : (b : Bool) → (if b then Head else state_in before to.cell) ≡ Empty → ⊥
+      either : (b : Bool) → (if b then Head else cell_state before to.cell) ≡ Empty → ⊥
       either true w = Head≢Empty w
       either false w = to_drawn w
 
   -- only the ends of the path are near the wire: that of the output near its first cell, that of the input near its last
-  near_wire : (i : ℕ) → i < n → (c : ℤ × ℤ) → IsNear c (wire i) → IsOff n wire c → state_in before c ≢ Empty → ((c ≡ from.cell) × (i ≡ 0)) ⊎ ((c ≡ to.cell) × (suc i ≡ n))
+  near_wire : (i : ℕ) → i < n → (c : ℤ × ℤ) → IsNear c (wire i) → IsOff n wire c → cell_state before c ≢ Empty → ((c ≡ from.cell) × (i ≡ 0)) ⊎ ((c ≡ to.cell) × (suc i ≡ n))
   near_wire i l c near off full = at (h.laid.alone i l c near (kept c off full))
     where
       at : (j : ℕ) × (i ≤ j) × (j ≤ i + 2) × (c ≡ path j) → ((c ≡ from.cell) × (i ≡ 0)) ⊎ ((c ≡ to.cell) × (suc i ≡ n))
@@ -115,7 +115,7 @@ module _ (period : ℕ) (fed : Wire) (ins outs : List Signal) (before after : Pl
           ]
 
   -- no wire's cell is ever drawn or due in the old plane
-  old_empty : (i : ℕ) → i < n → (g : ℕ) → state_in (old g) (wire i) ≡ Empty
+  old_empty : (i : ℕ) → i < n → (g : ℕ) → cell_state (old g) (wire i) ≡ Empty
   old_empty i l g = stays_empty period before (to ∷ ins) (wire i) all_drawn (h.laid.free i l) g
 
   wire_not_due : (i : ℕ) → i < n → (g : ℕ) → due_of_signals period ins g (wire i).0 (wire i).1 ≡ false
@@ -140,26 +140,26 @@ module _ (period : ℕ) (fed : Wire) (ins outs : List Signal) (before after : Pl
       (k, refl, sym (h.is.comes.later k) ∙ sym (ap lit same) ∙ e)
 
   -- the wire's cell i at a generation, as a head or not
-  wire_count : (g : ℕ) → IsAt g → (i rest : ℕ) → i + suc rest ≡ n → count_head (state_in (new g) (wire i)) ≡ cond (lit (g + suc rest)) 1 0
+  wire_count : (g : ℕ) → IsAt g → (i rest : ℕ) → i + suc rest ≡ n → count_head (cell_state (new g) (wire i)) ≡ cond (lit (g + suc rest)) 1 0
   wire_count g at i rest e = ap count_head (at.on i rest e) ∙ count_by (lit (g + suc rest)) (lit (g + rest))
 
   -- a cell that is drawn, and beside which no head is on the wire, has as many heads around as before
-  module _ (g : ℕ) (at : IsAt g) (c : ℤ × ℤ) (full : state_in before c ≢ Empty) where
-    counts : (c ≡ from.cell → lit (g + n) ≡ false) → (c ≡ to.cell → lit (g + 1) ≡ false) → (d : ℤ × ℤ) → IsNear d c → count_head (state_in (new g) d) ≡ count_head (state_in (old g) d)
+  module _ (g : ℕ) (at : IsAt g) (c : ℤ × ℤ) (full : cell_state before c ≢ Empty) where
+    counts : (c ≡ from.cell → lit (g + n) ≡ false) → (c ≡ to.cell → lit (g + 1) ≡ false) → (d : ℤ × ℤ) → IsNear d c → count_head (cell_state (new g) d) ≡ count_head (cell_state (old g) d)
     counts first last d near =
         elim (on_or_off n wire d) [
           | inr off ↦ ap count_head (at.off d off)
           | inl on ↦ on_wire on.0 on.1 on.2 (near_wire on.0 on.1 c (subst (IsNear c) on.2 (near_back d c near)) (drawn_off c full) full)
         ]
       where
-        dark : (i rest : ℕ) → i < n → d ≡ wire i → i + suc rest ≡ n → lit (g + suc rest) ≡ false → count_head (state_in (new g) d) ≡ count_head (state_in (old g) d)
+        dark : (i rest : ℕ) → i < n → d ≡ wire i → i + suc rest ≡ n → lit (g + suc rest) ≡ false → count_head (cell_state (new g) d) ≡ count_head (cell_state (old g) d)
         dark i rest l e place off =
-            ap (λ c. count_head (state_in (new g) c)) e
+            ap (λ c. count_head (cell_state (new g) c)) e
             ∙ wire_count g at i rest place
             ∙ ap (λ b. cond b 1 0) off
-            ∙ sym (ap (λ c. count_head (state_in (old g) c)) e ∙ ap count_head (old_empty i l g))
+            ∙ sym (ap (λ c. count_head (cell_state (old g) c)) e ∙ ap count_head (old_empty i l g))
 
-        on_wire : (i : ℕ) → i < n → d ≡ wire i → ((c ≡ from.cell) × (i ≡ 0)) ⊎ ((c ≡ to.cell) × (suc i ≡ n)) → count_head (state_in (new g) d) ≡ count_head (state_in (old g) d)
+        on_wire : (i : ℕ) → i < n → d ≡ wire i → ((c ≡ from.cell) × (i ≡ 0)) ⊎ ((c ≡ to.cell) × (suc i ≡ n)) → count_head (cell_state (new g) d) ≡ count_head (cell_state (old g) d)
         on_wire i l e (inl (here, start)) =
             let some = h.is.some in
             let same : g + suc (n - 1) ≡ g + n = omega (arith, some) in
@@ -181,16 +181,16 @@ module _ (period : ℕ) (fed : Wire) (ins outs : List Signal) (before after : Pl
         | inl bright ↦ let f = first_lit g bright in tailed f.0 f.1 f.2
       ]
     where
-      tail_then : (k : ℕ) → is_lit period from k ≡ true → state_in (old (suc k)) from.cell ≡ Tail
+      tail_then : (k : ℕ) → is_lit period from k ≡ true → cell_state (old (suc k)) from.cell ≡ Tail
       tail_then k was =
           let long = h.long in
-          let head : state_in (old k) from.cell ≡ Head = (from_shows k).1 was in
+          let head : cell_state (old k) from.cell ≡ Head = (from_shows k).1 was in
           let not_due : due_of_signals period (to ∷ ins) (suc k) from.cell.0 from.cell.1 ≡ false = false_from_ne_true _ (λ e. (let soon : k + 1 ≡ suc k = omega arith in not_soon period from k 1 was (ap (is_lit period from) soon ∙ (from_shows (suc k)).0 (ap (λ b. cond b Head (next_plane (old k) from.cell.0 from.cell.1)) e)) (omega arith) (omega (arith, long)))) in
           ap₂ (λ b s. cond b Head s) not_due (ap (λ s. next_state s (heads_around (old k) from.cell.0 from.cell.1)) head)
 
       tailed : (k : ℕ) → g ≡ suc k → is_lit period from k ≡ true → next_plane (new g) from.cell.0 from.cell.1 ≡ next_plane (old g) from.cell.0 from.cell.1
       tailed k now was =
-          let tail : state_in (old g) from.cell ≡ Tail = ap (λ i. state_in (old i) from.cell) now ∙ tail_then k was in
+          let tail : cell_state (old g) from.cell ≡ Tail = ap (λ i. cell_state (old i) from.cell) now ∙ tail_then k was in
           ap (λ s. next_state s (heads_around (new g) from.cell.0 from.cell.1)) (at.off from.cell (drawn_off from.cell from_drawn) ∙ tail)
           ∙ sym (ap (λ s. next_state s (heads_around (old g) from.cell.0 from.cell.1)) tail)
 
@@ -205,11 +205,11 @@ module _ (period : ℕ) (fed : Wire) (ins outs : List Signal) (before after : Pl
       let l : k < n = omega (arith, some) in
       let beside : IsNear (wire k) to.cell = subst (λ i. IsNear (path i) to.cell) (sym last) (subst (IsNear (path n)) h.is.ends (h.is.along.goes_on n (omega arith))) in
       let other : wire k ≢ to.cell = λ e. drawn_off to.cell to_drawn k l (sym e) in
-      let seen : count_head (state_in (new g) (wire k)) ≡ 1 = wire_count g at k 0 place ∙ ap (λ b. cond b 1 0) (ap lit (let next : g + 1 ≡ suc g = omega arith in next) ∙ bright) in
+      let seen : count_head (cell_state (new g) (wire k)) ≡ 1 = wire_count g at k 0 place ∙ ap (λ b. cond b 1 0) (ap lit (let next : g + 1 ≡ suc g = omega arith in next) ∙ bright) in
       let around : heads_around (new g) to.cell.0 to.cell.1 ≡ 1 = one_more (new g) (old g) to.cell (wire k) beside other (ap count_head (old_empty k l g)) (λ d near away. rest d near away) ∙ ap₂ (λ a b. a + b) is.alone seen in
       ap₂ next_state (at.off to.cell (drawn_off to.cell to_drawn) ∙ is.conductor) around
     where
-      rest : (d : ℤ × ℤ) → IsNear d to.cell → d ≢ wire (n - 1) → count_head (state_in (new g) d) ≡ count_head (state_in (old g) d)
+      rest : (d : ℤ × ℤ) → IsNear d to.cell → d ≢ wire (n - 1) → count_head (cell_state (new g) d) ≡ count_head (cell_state (old g) d)
       rest d near away =
           elim (on_or_off n wire d) [
             | inr off ↦ ap count_head (at.off d off)
@@ -220,13 +220,13 @@ module _ (period : ℕ) (fed : Wire) (ins outs : List Signal) (before after : Pl
                 ]
           ]
 
-  off_drawn : (g : ℕ) → IsAt g → (c : ℤ × ℤ) → state_in before c ≢ Empty → state_in (new (suc g)) c ≡ state_in (old (suc g)) c
+  off_drawn : (g : ℕ) → IsAt g → (c : ℤ × ℤ) → cell_state before c ≢ Empty → cell_state (new (suc g)) c ≡ cell_state (old (suc g)) c
   off_drawn g at c full =
       elim (cases_cell c to.cell) [
-        | inl e ↦ subst (λ d. state_in (new (suc g)) d ≡ state_in (old (suc g)) d) (sym e) (at_to (cases_Bool (lit (suc g))))
+        | inl e ↦ subst (λ d. cell_state (new (suc g)) d ≡ cell_state (old (suc g)) d) (sym e) (at_to (cases_Bool (lit (suc g))))
         | inr d ↦
             elim (cases_cell c from.cell) [
-              | inl e ↦ subst (λ d. state_in (new (suc g)) d ≡ state_in (old (suc g)) d) (sym e) (ap₂ (λ b s. cond b Head s) (sym (due_kept from.cell apart (suc g))) (from_next g at))
+              | inl e ↦ subst (λ d. cell_state (new (suc g)) d ≡ cell_state (old (suc g)) d) (sym e) (ap₂ (λ b s. cond b Head s) (sym (due_kept from.cell apart (suc g))) (from_next g at))
               | inr f ↦ ap₂ (λ b s. cond b Head s) (sym (due_kept c d (suc g))) (same_next g at c full (λ e. absurd (f e)) (λ e. absurd (d e)))
             ]
       ]
@@ -235,7 +235,7 @@ module _ (period : ℕ) (fed : Wire) (ins outs : List Signal) (before after : Pl
       head_anyway true s e = refl
       head_anyway false s e = e
 
-      at_to : (lit (suc g) ≡ true) ⊎ (lit (suc g) ≡ false) → state_in (new (suc g)) to.cell ≡ state_in (old (suc g)) to.cell
+      at_to : (lit (suc g) ≡ true) ⊎ (lit (suc g) ≡ false) → cell_state (new (suc g)) to.cell ≡ cell_state (old (suc g)) to.cell
       at_to (inl bright) =
           head_anyway (due_of_signals period ins (suc g) to.cell.0 to.cell.1) (next_plane (new g) to.cell.0 to.cell.1) (to_lit g at bright)
           ∙ sym ((to_shows (suc g)).1 bright)
@@ -243,42 +243,42 @@ module _ (period : ℕ) (fed : Wire) (ins outs : List Signal) (before after : Pl
           let next : g + 1 ≡ suc g = omega arith in
           ap₂ (λ b s. cond b Head s) (sym (due_unlit (suc g) dark)) (same_next g at to.cell to_drawn (λ e. absurd (apart (sym e))) (λ e. ap lit next ∙ dark))
 
-  off_empty : (g : ℕ) (c : ℤ × ℤ) → IsOff n wire c → state_in before c ≡ Empty → state_in (new g) c ≡ state_in (old g) c
+  off_empty : (g : ℕ) (c : ℤ × ℤ) → IsOff n wire c → cell_state before c ≡ Empty → cell_state (new g) c ≡ cell_state (old g) c
   off_empty g c off none =
-      let d : c ≢ to.cell = λ e. to_drawn (ap (state_in before) (sym e) ∙ none) in
-      never_due period after ins c (h.others c (record { end = d; cells = off }) ∙ none) (λ s among e. ins_drawn s among (ap (state_in before) e ∙ none)) g
+      let d : c ≢ to.cell = λ e. to_drawn (ap (cell_state before) (sym e) ∙ none) in
+      never_due period after ins c (h.others c (record { end = d; cells = off }) ∙ none) (λ s among e. ins_drawn s among (ap (cell_state before) e ∙ none)) g
       ∙ sym (stays_empty period before (to ∷ ins) c all_drawn none g)
 
   -- what is empty beside the wire is never a head
-  void : (i : ℕ) → i < n → (c : ℤ × ℤ) → IsNear c (wire i) → state_in after c ≡ Empty → (g : ℕ) → state_in (new g) c ≡ Empty
+  void : (i : ℕ) → i < n → (c : ℤ × ℤ) → IsNear c (wire i) → cell_state after c ≡ Empty → (g : ℕ) → cell_state (new g) c ≡ Empty
   void i l c near none g =
-      never_due period after ins c none (λ s among e. kept c (subst (IsOff n wire) e (drawn_off s.cell (ins_drawn s among))) (subst (λ d. state_in before d ≢ Empty) e (ins_drawn s among)) none) g
+      never_due period after ins c none (λ s among e. kept c (subst (IsOff n wire) e (drawn_off s.cell (ins_drawn s among))) (subst (λ d. cell_state before d ≢ Empty) e (ins_drawn s among)) none) g
 
   -- a wire's cell that is neither a head nor a tail sees the cell before it, and no other head
   module _ (g : ℕ) (at : IsAt g) (i rest : ℕ) (place : i + suc rest ≡ n) (no_head : lit (g + suc rest) ≡ false) (no_tail : lit (g + rest) ≡ false) where
     inside : i < n
     inside = omega (arith, place)
 
-    after_it : (c : ℤ × ℤ) → c ≡ path (suc (suc i)) → (rest ≡ 0) ⊎ (rest ≢ 0) → count_head (state_in (new g) c) ≡ 0
+    after_it : (c : ℤ × ℤ) → c ≡ path (suc (suc i)) → (rest ≡ 0) ⊎ (rest ≢ 0) → count_head (cell_state (new g) c) ≡ 0
     after_it c e (inl end) =
         let last : suc (suc i) ≡ suc n = omega (arith, place, end) in
         let same : g + rest ≡ g = omega (arith, end) in
         let there : c ≡ to.cell = e ∙ ap path last ∙ h.is.ends in
-        ap (λ d. count_head (state_in (new g) d)) there
+        ap (λ d. count_head (cell_state (new g) d)) there
         ∙ ap count_head (at.off to.cell (drawn_off to.cell to_drawn))
-        ∙ not_counted (state_in (old g) to.cell) (λ w. true≢false (sym ((to_shows g).0 w) ∙ sym (ap lit same) ∙ no_tail))
+        ∙ not_counted (cell_state (old g) to.cell) (λ w. true≢false (sym ((to_shows g).0 w) ∙ sym (ap lit same) ∙ no_tail))
     after_it c e (inr more) =
         let there : suc i + suc (rest - 1) ≡ n = omega (arith, place, more) in
         let same : g + suc (rest - 1) ≡ g + rest = omega (arith, more) in
-        ap (λ d. count_head (state_in (new g) d)) e
+        ap (λ d. count_head (cell_state (new g) d)) e
         ∙ wire_count g at (suc i) (rest - 1) there
         ∙ ap (λ b. cond b 1 0) (ap lit same ∙ no_tail)
 
-    dark_at : (c : ℤ × ℤ) → c ≢ path i → (j : ℕ) → i ≤ j → j ≤ i + 2 → c ≡ path j → count_head (state_in (new g) c) ≡ 0
+    dark_at : (c : ℤ × ℤ) → c ≢ path i → (j : ℕ) → i ≤ j → j ≤ i + 2 → c ≡ path j → count_head (cell_state (new g) c) ≡ 0
     dark_at c away j low high e =
         elim (cases_eq j (suc i)) [
           | inl same ↦
-              ap (λ d. count_head (state_in (new g) d)) (e ∙ ap path same)
+              ap (λ d. count_head (cell_state (new g) d)) (e ∙ ap path same)
               ∙ wire_count g at i rest place
               ∙ ap (λ b. cond b 1 0) no_head
           | inr other ↦
@@ -288,37 +288,37 @@ module _ (period : ℕ) (fed : Wire) (ins outs : List Signal) (before after : Pl
               ]
         ]
 
-    dark : (c : ℤ × ℤ) → IsNear c (wire i) → c ≢ path i → count_head (state_in (new g) c) ≡ 0
+    dark : (c : ℤ × ℤ) → IsNear c (wire i) → c ≢ path i → count_head (cell_state (new g) c) ≡ 0
     dark c near away =
-        elim (cases_Empty (state_in after c)) [
+        elim (cases_Empty (cell_state after c)) [
           | inl none ↦ ap count_head (void i inside c near none g)
           | inr full ↦ let by = h.laid.alone i inside c near full in dark_at c away by.0 by.1 by.2 by.3
         ]
 
-    before_it : (k : ℕ) → i ≡ k → count_head (state_in (new g) (path i)) ≡ cond (lit (suc g + suc rest)) 1 0
+    before_it : (k : ℕ) → i ≡ k → count_head (cell_state (new g) (path i)) ≡ cond (lit (suc g + suc rest)) 1 0
     before_it zero e =
         let here : path i ≡ from.cell = ap path e ∙ h.is.begins in
         let time : g + suc n ≡ suc g + suc rest = omega (arith, place, e) in
-        ap (λ c. count_head (state_in (new g) c)) here
+        ap (λ c. count_head (cell_state (new g) c)) here
         ∙ ap count_head (at.off from.cell (drawn_off from.cell from_drawn))
-        ∙ count_if (state_in (old g) from.cell) (is_lit period from g) (from_shows g)
+        ∙ count_if (cell_state (old g) from.cell) (is_lit period from g) (from_shows g)
         ∙ ap (λ b. cond b 1 0) (sym (h.is.comes.later g) ∙ ap lit time)
     before_it (suc k) e =
         let there : k + suc (suc rest) ≡ n = omega (arith, place, e) in
         let time : g + suc (suc rest) ≡ suc g + suc rest = omega arith in
-        ap (λ j. count_head (state_in (new g) (path j))) e
+        ap (λ j. count_head (cell_state (new g) (path j))) e
         ∙ wire_count g at k (suc rest) there
         ∙ ap (λ b. cond b 1 0) (ap lit time)
 
     sees_one : heads_around (new g) (wire i).0 (wire i).1 ≡ cond (lit (suc g + suc rest)) 1 0
     sees_one =
         let apart : path i ≢ wire i = λ e. (let same : i ≡ suc i = h.is.along.once i (suc i) (omega (arith, inside)) (omega (arith, inside)) e in omega arith) in
-        let around : heads_around (new g) (wire i).0 (wire i).1 ≡ 0 + count_head (state_in (new g) (path i)) = one_more (new g) (λ x y. Empty) (wire i) (path i) (h.is.along.goes_on i (omega (arith, inside))) apart refl dark in
+        let around : heads_around (new g) (wire i).0 (wire i).1 ≡ 0 + count_head (cell_state (new g) (path i)) = one_more (new g) (λ x y. Empty) (wire i) (path i) (h.is.along.goes_on i (omega (arith, inside))) apart refl dark in
         let seen = before_it i refl in
-        let alone : 0 + count_head (state_in (new g) (path i)) ≡ count_head (state_in (new g) (path i)) = omega arith in
+        let alone : 0 + count_head (cell_state (new g) (path i)) ≡ count_head (cell_state (new g) (path i)) = omega arith in
         around ∙ alone ∙ seen
 
-  wire_next : (g : ℕ) → IsAt g → (i rest : ℕ) → i + suc rest ≡ n → state_in (new (suc g)) (wire i) ≡ state_by (lit (suc g + suc rest)) (lit (suc g + rest))
+  wire_next : (g : ℕ) → IsAt g → (i rest : ℕ) → i + suc rest ≡ n → cell_state (new (suc g)) (wire i) ≡ state_by (lit (suc g + suc rest)) (lit (suc g + rest))
   wire_next g at i rest place =
       let long = h.long in
       let l : i < n = omega (arith, place) in
@@ -343,17 +343,17 @@ module _ (period : ℕ) (fed : Wire) (ins outs : List Signal) (before after : Pl
       head_anyway true s e = refl
       head_anyway false s e = e
 
-      at_to : (lit 0 ≡ true) ⊎ (lit 0 ≡ false) → state_in (new 0) to.cell ≡ state_in (old 0) to.cell
+      at_to : (lit 0 ≡ true) ⊎ (lit 0 ≡ false) → cell_state (new 0) to.cell ≡ cell_state (old 0) to.cell
       at_to (inl bright) =
-          head_anyway (due_of_signals period ins 0 to.cell.0 to.cell.1) (state_in after to.cell) (h.laid.end ∙ ap (λ b. if b then Head else state_in before to.cell) bright)
+          head_anyway (due_of_signals period ins 0 to.cell.0 to.cell.1) (cell_state after to.cell) (h.laid.end ∙ ap (λ b. if b then Head else cell_state before to.cell) bright)
           ∙ sym ((to_shows 0).1 bright)
       at_to (inr dark) =
-          ap₂ (λ b s. cond b Head s) (sym (due_unlit 0 dark)) (h.laid.end ∙ ap (λ b. if b then Head else state_in before to.cell) dark)
+          ap₂ (λ b s. cond b Head s) (sym (due_unlit 0 dark)) (h.laid.end ∙ ap (λ b. if b then Head else cell_state before to.cell) dark)
 
-      off_first : (c : ℤ × ℤ) → IsOff n wire c → state_in (new 0) c ≡ state_in (old 0) c
+      off_first : (c : ℤ × ℤ) → IsOff n wire c → cell_state (new 0) c ≡ cell_state (old 0) c
       off_first c off =
           elim (cases_cell c to.cell) [
-            | inl e ↦ subst (λ d. state_in (new 0) d ≡ state_in (old 0) d) (sym e) (at_to (cases_Bool (lit 0)))
+            | inl e ↦ subst (λ d. cell_state (new 0) d ≡ cell_state (old 0) d) (sym e) (at_to (cases_Bool (lit 0)))
             | inr d ↦ ap₂ (λ b s. cond b Head s) (sym (due_kept c d 0)) (h.others c (record { end = d; cells = off }))
           ]
 
@@ -362,7 +362,7 @@ module _ (period : ℕ) (fed : Wire) (ins outs : List Signal) (before after : Pl
   is_at (suc g) =
       record {
         on = wire_next g (is_at g);
-        off = λ c off. elim (cases_Empty (state_in before c)) [
+        off = λ c off. elim (cases_Empty (cell_state before c)) [
           | inl none ↦ off_empty (suc g) c off none
           | inr full ↦ off_drawn g (is_at g) c full
         ];
@@ -381,7 +381,7 @@ module _ (period : ℕ) (fed : Wire) (ins outs : List Signal) (before after : Pl
       too_soon k now was e =
           let long = h.long in
           let time : suc g ≡ k + 2 = omega (arith, now) in
-          let head : state_in (old k) s.cell ≡ Head = ap (state_in (old k)) e ∙ (from_shows k).1 was in
+          let head : cell_state (old k) s.cell ≡ Head = ap (cell_state (old k)) e ∙ (from_shows k).1 was in
           not_soon period s k 2 ((h.run.shows s (Contains-append_left (to ∷ ins) outs s (input_more to s ins among)) k).0 head) (ap (is_lit period s) (sym time) ∙ bright) (omega arith) (omega (arith, long))
 
   pub carried : CarriesSignals period after ins outs

@@ -6,7 +6,7 @@ use Rattle.lists.proofs.Members.{In, in_from, contains_from}
 use Rattle.ww_rule.specs.declared.pattern.State.{State}
 use Rattle.ww_rule.specs.declared.pattern.State.TheVariants.{Empty, Head, Tail, Conductor}
 use Rattle.ww_rule.specs.Wireworld.{Plane, next_state, heads_around, count_head, driven}
-use Rattle.wire_laws.specs.Signals.{Signal, state_in, is_lit, due_of_signals, IsReady, CarriesSignals}
+use Rattle.wire_laws.specs.Signals.{Signal, cell_state, is_lit, due_of_signals, IsReady, CarriesSignals}
 use Rattle.wire_laws.specs.Laws.{IsLoneCell, LoneCellsCarry}
 use Rattle.wire_laws.proofs.Lit.{not_soon}
 use Rattle.wire_laws.proofs.Dues.{due_by_signal, signal_is_due, never_due, cases_cell}
@@ -39,7 +39,7 @@ module _ (period : ℕ) (long : 3 ≤ period) (p : Plane) (s : Signal) (lone : I
       at (inr i) = absurd i
 
   -- no other cell is ever drawn
-  others : (g : ℕ) (c : ℤ × ℤ) → c ≢ s.cell → state_in (plane g) c ≡ Empty
+  others : (g : ℕ) (c : ℤ × ℤ) → c ≢ s.cell → cell_state (plane g) c ≡ Empty
   others g c away = never_due period p signals c (lone.others c away) (λ t among e. away (sym e ∙ ap (λ t. t.cell) (only t among))) g
 
   due_when_lit : (g : ℕ) → due_of_signals period signals g s.cell.0 s.cell.1 ≡ lit g
@@ -53,10 +53,10 @@ module _ (period : ℕ) (long : 3 ≤ period) (p : Plane) (s : Signal) (lone : I
   just_lit zero = false
   just_lit (suc g) = lit g
 
-  dark_around : (g : ℕ) → lit g ≡ false → state_in (plane g) s.cell ≡ state_by (lit g) (just_lit g) → heads_around (plane g) s.cell.0 s.cell.1 ≡ 0
+  dark_around : (g : ℕ) → lit g ≡ false → cell_state (plane g) s.cell ≡ state_by (lit g) (just_lit g) → heads_around (plane g) s.cell.0 s.cell.1 ≡ 0
   dark_around g dark is =
       as_many (plane g) (λ x y. Empty) s.cell (λ c near. elim (cases_cell c s.cell) [
-        | inl e ↦ ap (λ d. count_head (state_in (plane g) d)) e ∙ ap count_head is ∙ count_by (lit g) (just_lit g) ∙ ap (λ b. cond b 1 0) dark
+        | inl e ↦ ap (λ d. count_head (cell_state (plane g) d)) e ∙ ap count_head is ∙ count_by (lit g) (just_lit g) ∙ ap (λ b. cond b 1 0) dark
         | inr d ↦ ap count_head (others g c d)
       ])
 
@@ -66,7 +66,7 @@ module _ (period : ℕ) (long : 3 ≤ period) (p : Plane) (s : Signal) (lone : I
   rule false false true n e = refl
   rule false false false n e = ap (λ k. cond (k == 1 || k == 2) Head Conductor) (e refl)
 
-  state_is : (g : ℕ) → state_in (plane g) s.cell ≡ state_by (lit g) (just_lit g)
+  state_is : (g : ℕ) → cell_state (plane g) s.cell ≡ state_by (lit g) (just_lit g)
   state_is zero = ap₂ (λ b t. cond b Head t) (due_when_lit 0) lone.conductor ∙ first (lit 0)
     where
       first : (b : Bool) → cond b Head Conductor ≡ state_by b false
@@ -76,7 +76,7 @@ module _ (period : ℕ) (long : 3 ≤ period) (p : Plane) (s : Signal) (lone : I
       ap₂ (λ b t. cond b Head (next_state t (heads_around (plane g) s.cell.0 s.cell.1))) (due_when_lit (suc g)) (state_is g)
       ∙ rule (lit (suc g)) (lit g) (just_lit g) (heads_around (plane g) s.cell.0 s.cell.1) (λ dark. dark_around g dark (state_is g))
 
-  shows : (g : ℕ) → (state_in (plane g) s.cell ≡ Head) ↔ (lit g ≡ true)
+  shows : (g : ℕ) → (cell_state (plane g) s.cell ≡ Head) ↔ (lit g ≡ true)
   shows g = (
     λ head. either (lit g) (just_lit g) (sym (state_is g) ∙ head),
     λ bright. state_is g ∙ ap (λ b. state_by b (just_lit g)) bright,
@@ -113,8 +113,8 @@ module _ (period : ℕ) (long : 3 ≤ period) (p : Plane) (s : Signal) (lone : I
   carried_alone : CarriesSignals period p signals signals
   carried_alone =
       record {
-        drawn = λ t among e. true≢false (ap is_conductor (sym (ap (λ t. state_in p t.cell) (both t among) ∙ lone.conductor) ∙ e));
-        shows = λ t among g. subst (λ t. (state_in (plane g) t.cell ≡ Head) ↔ (is_lit period t g ≡ true)) (sym (both t among)) (shows g);
+        drawn = λ t among e. true≢false (ap is_conductor (sym (ap (λ t. cell_state p t.cell) (both t among) ∙ lone.conductor) ∙ e));
+        shows = λ t among g. subst (λ t. (cell_state (plane g) t.cell ≡ Head) ↔ (is_lit period t g ≡ true)) (sym (both t among)) (shows g);
         ready = λ t among g bright. subst (λ t. IsReady (plane g) t.cell) (sym (only t among)) (ready g (ap (λ t. is_lit period t (suc g)) (sym (only t among)) ∙ bright));
       }
 

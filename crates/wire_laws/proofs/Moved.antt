@@ -13,7 +13,7 @@ use Rattle.ww_rule.specs.Turns.{turned, due_turned}
 use Rattle.ww_rule.proofs.Cells.{sum_same}
 use Rattle.ww_rule.proofs.DrivenPlanes.{drives_anywhere}
 use Rattle.ww_rule.proofs.Turns.{drives_turned_too}
-use Rattle.wire_laws.specs.Signals.{Signal, state_in, is_lit, due_of_signals, IsReady, CarriesSignals}
+use Rattle.wire_laws.specs.Signals.{Signal, cell_state, is_lit, due_of_signals, IsReady, CarriesSignals}
 use Rattle.wire_laws.specs.Moved.{signal_at, CarriesAnywhere}
 use Rattle.wire_laws.proofs.Dues.{due_by_signal, signal_is_due, same_cell}
 
@@ -21,7 +21,7 @@ use Rattle.wire_laws.proofs.Dues.{due_by_signal, signal_is_due, same_cell}
 record IsMove (place back : ℤ × ℤ → ℤ × ℤ) (turn : Plane → Plane) (turn_due : Due → Due) : Type 0 where
   goes_back : (c : ℤ × ℤ) → back (place c) ≡ c
   comes_again : (c : ℤ × ℤ) → place (back c) ≡ c
-  plane : (p : Plane) (c : ℤ × ℤ) → state_in (turn p) c ≡ state_in p (back c)
+  plane : (p : Plane) (c : ℤ × ℤ) → cell_state (turn p) c ≡ cell_state p (back c)
   dues : (due : Due) (g : ℕ) (c : ℤ × ℤ) → turn_due due g c.0 c.1 ≡ due g (back c).0 (back c).1
   around : (p : Plane) (c : ℤ × ℤ) → heads_around (turn p) c.0 c.1 ≡ heads_around p (back c).0 (back c).1
   drives : (due : Due) (p : Plane) (g : ℕ) → driven (turn_due due) (turn p) g ≡ turn (driven due p g)
@@ -53,11 +53,11 @@ module _ (place back : ℤ × ℤ → ℤ × ℤ) (turn : Plane → Plane) (turn
   same_run : (g : ℕ) → driven (due_of_signals period new_ins) (turn p) g ≡ turn (driven (due_of_signals period ins) p g)
   same_run g = ap (λ due. driven due (turn p) g) same_due ∙ h.drives (due_of_signals period ins) p g
 
-  seen : (g : ℕ) (c : ℤ × ℤ) → state_in (driven (due_of_signals period new_ins) (turn p) g) (place c) ≡ state_in (driven (due_of_signals period ins) p g) c
+  seen : (g : ℕ) (c : ℤ × ℤ) → cell_state (driven (due_of_signals period new_ins) (turn p) g) (place c) ≡ cell_state (driven (due_of_signals period ins) p g) c
   seen g c =
-      ap (λ q. state_in q (place c)) (same_run g)
+      ap (λ q. cell_state q (place c)) (same_run g)
       ∙ h.plane (driven (due_of_signals period ins) p g) (place c)
-      ∙ ap (state_in (driven (due_of_signals period ins) p g)) (h.goes_back c)
+      ∙ ap (cell_state (driven (due_of_signals period ins) p g)) (h.goes_back c)
 
   seen_around : (g : ℕ) (c : ℤ × ℤ) → heads_around (driven (due_of_signals period new_ins) (turn p) g) (place c).0 (place c).1 ≡ heads_around (driven (due_of_signals period ins) p g) c.0 c.1
   seen_around g c =
@@ -72,10 +72,10 @@ module _ (place back : ℤ × ℤ → ℤ × ℤ) (turn : Plane → Plane) (turn
         | inr o ↦ let r = in_mapped (signal_at place) outs s o in (r.0, contains_from (ins ++ outs) r.0 (in_right ins outs r.0 r.1), r.2)
       ]
 
-  is_drawn : (r : Signal) → Contains (ins ++ outs) r → state_in (turn p) (place r.cell) ≢ Empty
-  is_drawn r among e = run.drawn r among (sym (h.plane p (place r.cell) ∙ ap (state_in p) (h.goes_back r.cell)) ∙ e)
+  is_drawn : (r : Signal) → Contains (ins ++ outs) r → cell_state (turn p) (place r.cell) ≢ Empty
+  is_drawn r among e = run.drawn r among (sym (h.plane p (place r.cell) ∙ ap (cell_state p) (h.goes_back r.cell)) ∙ e)
 
-  shows : (r : Signal) → Contains (ins ++ outs) r → (g : ℕ) → (state_in (driven (due_of_signals period new_ins) (turn p) g) (place r.cell) ≡ Head) ↔ (is_lit period r g ≡ true)
+  shows : (r : Signal) → Contains (ins ++ outs) r → (g : ℕ) → (cell_state (driven (due_of_signals period new_ins) (turn p) g) (place r.cell) ≡ Head) ↔ (is_lit period r g ≡ true)
   shows r among g = subst (λ t. (t ≡ Head) ↔ (is_lit period r g ≡ true)) (sym (seen g r.cell)) (run.shows r among g)
 
   ready : (r : Signal) → Contains ins r → (g : ℕ) → is_lit period r (suc g) ≡ true → IsReady (driven (due_of_signals period new_ins) (turn p) g) (place r.cell)
@@ -86,8 +86,8 @@ module _ (place back : ℤ × ℤ → ℤ × ℤ) (turn : Plane → Plane) (turn
   carried_also : CarriesSignals period (turn p) new_ins new_outs
   carried_also =
       record {
-        drawn = λ s among. (let r = old_port s among in subst (λ s. state_in (turn p) s.cell ≢ Empty) (sym r.2) (is_drawn r.0 r.1));
-        shows = λ s among g. (let r = old_port s among in subst (λ s. (state_in (driven (due_of_signals period new_ins) (turn p) g) s.cell ≡ Head) ↔ (is_lit period s g ≡ true)) (sym r.2) (shows r.0 r.1 g));
+        drawn = λ s among. (let r = old_port s among in subst (λ s. cell_state (turn p) s.cell ≢ Empty) (sym r.2) (is_drawn r.0 r.1));
+        shows = λ s among g. (let r = old_port s among in subst (λ s. (cell_state (driven (due_of_signals period new_ins) (turn p) g) s.cell ≡ Head) ↔ (is_lit period s g ≡ true)) (sym r.2) (shows r.0 r.1 g));
         ready = λ s among g lit. (let r = in_mapped (signal_at place) ins s (in_from new_ins s among) in subst (λ s. IsReady (driven (due_of_signals period new_ins) (turn p) g) s.cell) (sym r.2) (ready r.0 (contains_from ins r.0 r.1) g (ap (λ s. is_lit period s (suc g)) (sym r.2) ∙ lit)));
       }
 

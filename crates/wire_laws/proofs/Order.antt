@@ -4,7 +4,7 @@ use Rattle.std.specs.Prelude.{Contains, ◌↔◌}
 use Rattle.std.proofs.lemmas.List.Elements.{Contains-append_cases, Contains-append_left}
 use Rattle.ww_rule.specs.declared.pattern.State.TheVariants.{Head}
 use Rattle.ww_rule.specs.Wireworld.{driven}
-use Rattle.wire_laws.specs.Signals.{Signal, state_in, is_lit, due_of_signals, IsReady}
+use Rattle.wire_laws.specs.Signals.{Signal, cell_state, is_lit, due_of_signals, IsReady}
 use Rattle.wire_laws.specs.Laws.{OrderIsFree}
 use Rattle.wire_laws.proofs.Dues.{same_dues}
 
@@ -12,7 +12,7 @@ pub order_is_free : OrderIsFree
 order_is_free period p ins outs inputs outputs same_ins all_outs run =
     record {
       drawn = λ s among. run.drawn s (old s among);
-      shows = λ s among g. subst (λ due. (state_in (driven due p g) s.cell ≡ Head) ↔ (is_lit period s g ≡ true)) dues (run.shows s (old s among) g);
+      shows = λ s among g. subst (λ due. (cell_state (driven due p g) s.cell ≡ Head) ↔ (is_lit period s g ≡ true)) dues (run.shows s (old s among) g);
       ready = λ s among g lit. subst (λ due. IsReady (driven due p g) s.cell) dues (run.ready s ((same_ins s).1 among) g lit);
     }
   where

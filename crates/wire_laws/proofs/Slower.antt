@@ -12,7 +12,7 @@ use Rattle.ww_rule.specs.declared.pattern.State.{State}
 use Rattle.ww_rule.specs.declared.pattern.State.TheVariants.{Empty, Head, Tail, Conductor}
 use Rattle.ww_rule.specs.Wireworld.{Plane, next_plane, next_state, heads_around, driven}
 use Rattle.ww_rule.proofs.Cells.{not_counted, sum_none}
-use Rattle.wire_laws.specs.Signals.{Signal, state_in, is_lit, due_of_signals, IsReady, CarriesSignals}
+use Rattle.wire_laws.specs.Signals.{Signal, cell_state, is_lit, due_of_signals, IsReady, CarriesSignals}
 use Rattle.wire_laws.specs.Rows.{signals_at, stretched, HasNoElectrons, AnswersEachRow}
 use Rattle.wire_laws.specs.Laws.{StretchedAreSlower, AnswersGoSlower}
 use Rattle.wire_laws.proofs.Lit.{lit_in, in_lit}
@@ -75,15 +75,15 @@ module _ (period times : ℕ) (some : 0 < period) (more : 0 < times) where
   slower p ins outs run =
       record {
         drawn = λ s among. run.drawn (stretched times s) (mapped_both ins outs s among);
-        shows = λ s among g. subst (λ due. (state_in (driven due p g) s.cell ≡ Head) ↔ (is_lit (times * period) s g ≡ true)) (dues ins) (subst (λ b. (state_in (driven (due_of_signals period (map (stretched times) ins)) p g) s.cell ≡ Head) ↔ (b ≡ true)) (lit_slower s g) (run.shows (stretched times s) (mapped_both ins outs s among) g));
+        shows = λ s among g. subst (λ due. (cell_state (driven due p g) s.cell ≡ Head) ↔ (is_lit (times * period) s g ≡ true)) (dues ins) (subst (λ b. (cell_state (driven (due_of_signals period (map (stretched times) ins)) p g) s.cell ≡ Head) ↔ (b ≡ true)) (lit_slower s g) (run.shows (stretched times s) (mapped_both ins outs s among) g));
         ready = λ s among g lit. subst (λ due. IsReady (driven due p g) s.cell) (dues ins) (run.ready (stretched times s) (mapped ins s among) g (lit_slower s (suc g) ∙ lit));
       }
 
   faster : (p : Plane) (ins outs : List Signal) → CarriesSignals (times * period) p ins outs → CarriesSignals period p (map (stretched times) ins) (map (stretched times) outs)
   faster p ins outs run =
       record {
-        drawn = λ s among. (let r = unmapped_both ins outs s among in subst (λ s. state_in p s.cell ≢ Empty) (sym r.2) (run.drawn r.0 r.1));
-        shows = λ s among g. (let r = unmapped_both ins outs s among in subst (λ s. (state_in (driven (due_of_signals period (map (stretched times) ins)) p g) s.cell ≡ Head) ↔ (is_lit period s g ≡ true)) (sym r.2) (subst (λ due. (state_in (driven due p g) r.0.cell ≡ Head) ↔ (is_lit period (stretched times r.0) g ≡ true)) (sym (dues ins)) (subst (λ b. (state_in (driven (due_of_signals (times * period) ins) p g) r.0.cell ≡ Head) ↔ (b ≡ true)) (sym (lit_slower r.0 g)) (run.shows r.0 r.1 g))));
+        drawn = λ s among. (let r = unmapped_both ins outs s among in subst (λ s. cell_state p s.cell ≢ Empty) (sym r.2) (run.drawn r.0 r.1));
+        shows = λ s among g. (let r = unmapped_both ins outs s among in subst (λ s. (cell_state (driven (due_of_signals period (map (stretched times) ins)) p g) s.cell ≡ Head) ↔ (is_lit period s g ≡ true)) (sym r.2) (subst (λ due. (cell_state (driven due p g) r.0.cell ≡ Head) ↔ (is_lit period (stretched times r.0) g ≡ true)) (sym (dues ins)) (subst (λ b. (cell_state (driven (due_of_signals (times * period) ins) p g) r.0.cell ≡ Head) ↔ (b ≡ true)) (sym (lit_slower r.0 g)) (run.shows r.0 r.1 g))));
         ready = λ s among g lit. (let r = in_mapped (stretched times) ins s (in_from (map (stretched times) ins) s among) in subst (λ s. IsReady (driven (due_of_signals period (map (stretched times) ins)) p g) s.cell) (sym r.2) (subst (λ due. IsReady (driven due p g) r.0.cell) (sym (dues ins)) (run.ready r.0 (contains_from ins r.0 r.1) g (sym (lit_slower r.0 (suc g)) ∙ ap (λ s. is_lit period s (suc g)) (sym r.2) ∙ lit))));
       }
 
@@ -133,7 +133,7 @@ module _ (period times : ℕ) (some : 0 < period) (more : 0 < times) (p : Plane)
       let among : Contains (signals_at ins (λ t. zeros) ++ signals_at outs (λ t. answer zeros)) s = contains_from _ s (in_right (signals_at ins (λ t. zeros)) (signals_at outs (λ t. answer zeros)) s (signal_of_port outs (λ t. answer zeros) i l)) in
       let time : s.first ≡ s.first + 0 * period = omega arith in
       let lit : is_lit period s s.first ≡ true = in_lit period s s.first 0 some time e in
-      none.heads s.cell.0 s.cell.1 (ap (λ q. state_in q s.cell) (sym (rests_driven period p none (signals_at ins (λ t. zeros)) undriven s.first)) ∙ ((answers (λ t. zeros)).shows s among s.first).1 lit)))
+      none.heads s.cell.0 s.cell.1 (ap (λ q. cell_state q s.cell) (sym (rests_driven period p none (signals_at ins (λ t. zeros)) undriven s.first)) ∙ ((answers (λ t. zeros)).shows s among s.first).1 lit)))
 
   abbrev slow : (ℕ → ℕ → Bool) → ℕ → ℕ → Bool
   slow bits t = cond (t % times == 0) (bits (t / times)) zeros

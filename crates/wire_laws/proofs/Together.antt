@@ -7,7 +7,7 @@ use Rattle.lists.proofs.Members.{In, in_from, contains_from, in_left, in_right, 
 use Rattle.ww_rule.specs.declared.pattern.State.{State}
 use Rattle.ww_rule.specs.declared.pattern.State.TheVariants.{Empty, Head}
 use Rattle.ww_rule.specs.Wireworld.{Plane}
-use Rattle.wire_laws.specs.Signals.{Signal, state_in, is_lit, CarriesSignals}
+use Rattle.wire_laws.specs.Signals.{Signal, cell_state, is_lit, CarriesSignals}
 use Rattle.wire_laws.specs.Wires.{Wire, IsLaid, ShareNoCell, IsAwayFrom, HasWires}
 use Rattle.wire_laws.specs.Laws.{WiresFeed}
 use Rattle.wire_laws.proofs.Dues.{cases_cell, Head≢Empty}
@@ -51,25 +51,25 @@ without wire before after x y =
     pick (before x y) (after x y) (on_or_off wire.size (wire_cells wire) (x, y)) (cases_cell (x, y) wire.to.cell)
 
 module _ (wire : Wire) (before after : Plane) (c : ℤ × ℤ) where
-  on_it : IsOn wire.size (wire_cells wire) c → state_in (without wire before after) c ≡ Empty
+  on_it : IsOn wire.size (wire_cells wire) c → cell_state (without wire before after) c ≡ Empty
   on_it on = go (on_or_off wire.size (wire_cells wire) c) (cases_cell c wire.to.cell)
     where
-      go : (d : IsOn wire.size (wire_cells wire) c ⊎ IsOff wire.size (wire_cells wire) c) (e : (c ≡ wire.to.cell) ⊎ (c ≢ wire.to.cell)) → pick (state_in before c) (state_in after c) d e ≡ Empty
+      go : (d : IsOn wire.size (wire_cells wire) c ⊎ IsOff wire.size (wire_cells wire) c) (e : (c ≡ wire.to.cell) ⊎ (c ≢ wire.to.cell)) → pick (cell_state before c) (cell_state after c) d e ≡ Empty
       go (inl also) e = refl
       go (inr off) e = absurd (off on.0 on.1 on.2)
 
-  at_end : IsOff wire.size (wire_cells wire) c → c ≡ wire.to.cell → state_in (without wire before after) c ≡ state_in before c
+  at_end : IsOff wire.size (wire_cells wire) c → c ≡ wire.to.cell → cell_state (without wire before after) c ≡ cell_state before c
   at_end off here = go (on_or_off wire.size (wire_cells wire) c) (cases_cell c wire.to.cell)
     where
-      go : (d : IsOn wire.size (wire_cells wire) c ⊎ IsOff wire.size (wire_cells wire) c) (e : (c ≡ wire.to.cell) ⊎ (c ≢ wire.to.cell)) → pick (state_in before c) (state_in after c) d e ≡ state_in before c
+      go : (d : IsOn wire.size (wire_cells wire) c ⊎ IsOff wire.size (wire_cells wire) c) (e : (c ≡ wire.to.cell) ⊎ (c ≢ wire.to.cell)) → pick (cell_state before c) (cell_state after c) d e ≡ cell_state before c
       go (inl on) e = absurd (off on.0 on.1 on.2)
       go (inr also) (inl e) = refl
       go (inr also) (inr e) = absurd (e here)
 
-  elsewhere : IsOff wire.size (wire_cells wire) c → c ≢ wire.to.cell → state_in (without wire before after) c ≡ state_in after c
+  elsewhere : IsOff wire.size (wire_cells wire) c → c ≢ wire.to.cell → cell_state (without wire before after) c ≡ cell_state after c
   elsewhere off away = go (on_or_off wire.size (wire_cells wire) c) (cases_cell c wire.to.cell)
     where
-      go : (d : IsOn wire.size (wire_cells wire) c ⊎ IsOff wire.size (wire_cells wire) c) (e : (c ≡ wire.to.cell) ⊎ (c ≢ wire.to.cell)) → pick (state_in before c) (state_in after c) d e ≡ state_in after c
+      go : (d : IsOn wire.size (wire_cells wire) c ⊎ IsOff wire.size (wire_cells wire) c) (e : (c ≡ wire.to.cell) ⊎ (c ≢ wire.to.cell)) → pick (cell_state before c) (cell_state after c) d e ≡ cell_state after c
       go (inl on) e = absurd (off on.0 on.1 on.2)
       go (inr also) (inl e) = absurd (away e)
       go (inr also) (inr e) = refl
@@ -82,29 +82,29 @@ module _ (period : ℕ) (wire : Wire) (wires : List Wire) (ins outs : List Signa
   laid w among = h.laid w among
 
   -- the inputs that are fed are drawn
-  fed_drawn : (w : Wire) → Contains (wire ∷ wires) w → state_in before w.to.cell ≢ Empty
+  fed_drawn : (w : Wire) → Contains (wire ∷ wires) w → cell_state before w.to.cell ≢ Empty
   fed_drawn w among =
       run.drawn w.to (Contains-append_left (map (λ w. w.to) (wire ∷ wires) ++ ins) outs w.to (Contains-append_left (map (λ w. w.to) (wire ∷ wires)) ins w.to (contains_from (map (λ w. w.to) (wire ∷ wires)) w.to (in_map (λ w. w.to) (wire ∷ wires) w (in_from (wire ∷ wires) w among)))))
 
   -- what is drawn is not on the wire
-  drawn_off : (c : ℤ × ℤ) → state_in before c ≢ Empty → IsOff wire.size (wire_cells wire) c
-  drawn_off c full i l e = full (ap (state_in before) e ∙ (laid wire (at_head wire wires)).free i l)
+  drawn_off : (c : ℤ × ℤ) → cell_state before c ≢ Empty → IsOff wire.size (wire_cells wire) c
+  drawn_off c full i l e = full (ap (cell_state before) e ∙ (laid wire (at_head wire wires)).free i l)
 
-  end_kept : state_in after wire.to.cell ≢ Empty
+  end_kept : cell_state after wire.to.cell ≢ Empty
   end_kept w = either (is_lit period wire.to 0) (sym (laid wire (at_head wire wires)).end ∙ w)
     where
-      either : (b : Bool) → (if b then Head else state_in before wire.to.cell) ≡ Empty → ⊥
+      either : (b : Bool) → (if b then Head else cell_state before wire.to.cell) ≡ Empty → ⊥
       either true w = Head≢Empty w
       either false w = fed_drawn wire (at_head wire wires) w
 
   -- what is drawn without the wire is drawn with it
-  drawn_after : (c : ℤ × ℤ) → state_in mid c ≢ Empty → state_in after c ≢ Empty
+  drawn_after : (c : ℤ × ℤ) → cell_state mid c ≢ Empty → cell_state after c ≢ Empty
   drawn_after c full none =
       elim (on_or_off wire.size (wire_cells wire) c) [
         | inl on ↦ full (on_it wire before after c on)
         | inr off ↦
             elim (cases_cell c wire.to.cell) [
-              | inl e ↦ end_kept (sym (ap (state_in after) e) ∙ none)
+              | inl e ↦ end_kept (sym (ap (cell_state after) e) ∙ none)
               | inr d ↦ full (elsewhere wire before after c off d ∙ none)
             ]
       ]
@@ -116,11 +116,11 @@ module _ (period : ℕ) (wire : Wire) (wires : List Wire) (ins outs : List Signa
     apart : ShareNoCell wire w
     apart = h.apart.0 w among
 
-    its_cell : (i : ℕ) → i < w.size → state_in mid (w.path (suc i)) ≡ state_in after (w.path (suc i))
+    its_cell : (i : ℕ) → i < w.size → cell_state mid (w.path (suc i)) ≡ cell_state after (w.path (suc i))
     its_cell i l =
-        elsewhere wire before after (w.path (suc i)) (λ j k e. apart.cells j i k l (sym e)) (λ e. fed_drawn wire (at_head wire wires) (ap (state_in before) (sym e) ∙ its.free i l))
+        elsewhere wire before after (w.path (suc i)) (λ j k e. apart.cells j i k l (sym e)) (λ e. fed_drawn wire (at_head wire wires) (ap (cell_state before) (sym e) ∙ its.free i l))
 
-    its_end : state_in mid w.to.cell ≡ state_in after w.to.cell
+    its_end : cell_state mid w.to.cell ≡ cell_state after w.to.cell
     its_end =
         elsewhere wire before after w.to.cell (drawn_off w.to.cell (fed_drawn w (in_tail wire wires w among))) (λ e. apart.ends (sym e))
 
@@ -133,10 +133,10 @@ module _ (period : ℕ) (wire : Wire) (wires : List Wire) (ins outs : List Signa
           end = its_end ∙ its.end;
         }
 
-  others : (c : ℤ × ℤ) → ((w : Wire) → Contains wires w → IsAwayFrom w c) → state_in mid c ≡ state_in before c
+  others : (c : ℤ × ℤ) → ((w : Wire) → Contains wires w → IsAwayFrom w c) → cell_state mid c ≡ cell_state before c
   others c away =
       elim (on_or_off wire.size (wire_cells wire) c) [
-        | inl on ↦ on_it wire before after c on ∙ sym (ap (state_in before) on.2 ∙ (laid wire (at_head wire wires)).free on.0 on.1)
+        | inl on ↦ on_it wire before after c on ∙ sym (ap (cell_state before) on.2 ∙ (laid wire (at_head wire wires)).free on.0 on.1)
         | inr off ↦
             elim (cases_cell c wire.to.cell) [
               | inl e ↦ at_end wire before after c off e

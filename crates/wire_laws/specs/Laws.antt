@@ -4,7 +4,7 @@ use Rattle.ww_rule.specs.declared.pattern.State.{State}
 use Rattle.ww_rule.specs.declared.pattern.State.TheVariants.{Empty, Conductor}
 use Rattle.ww_rule.specs.Wireworld.{Plane}
 use Rattle.ww_rule.specs.Injections.{due_of_streams}
-use Rattle.wire_laws.specs.Signals.{Signal, state_in, is_lit, due_of_signals, CarriesSignals}
+use Rattle.wire_laws.specs.Signals.{Signal, cell_state, is_lit, due_of_signals, CarriesSignals}
 use Rattle.wire_laws.specs.Wires.{IsNear, Wire, HasWires, ComesByWire, ComesCyclesLater}
 use Rattle.wire_laws.specs.Rows.{signals_of_rows, stretched, HasNoElectrons, AnswersEachRow}
 
@@ -22,8 +22,8 @@ RowsAreSignals =
 
 -- the plane has one cell, a conductor
 pub record IsLoneCell (p : Plane) (cell : ℤ × ℤ) : Type 0 where
-  pub conductor : state_in p cell ≡ Conductor
-  pub others : (other : ℤ × ℤ) → other ≢ cell → state_in p other ≡ Empty
+  pub conductor : cell_state p cell ≡ Conductor
+  pub others : (other : ℤ × ℤ) → other ≢ cell → cell_state p other ≡ Empty
 
 -- a lone cell carries each signal from itself to itself
 abbrev pub LoneCellsCarry : Type 0
@@ -43,7 +43,7 @@ OrderIsFree =
 -- the cells that are not empty in one plane lie two or more columns or rows from those of the other
 abbrev pub StandApart : Plane → Plane → Type 0
 StandApart p q =
-    (cell other : ℤ × ℤ) → state_in p cell ≢ Empty → IsNear other cell → state_in q other ≡ Empty
+    (cell other : ℤ × ℤ) → cell_state p cell ≢ Empty → IsNear other cell → cell_state q other ≡ Empty
 
 -- the cells of both planes; where one is not empty, it stands
 abbrev pub or_state : State → State → State

@@ -8,8 +8,8 @@ use Rattle.ww_rule.specs.declared.pattern.State.TheVariants.{Empty, Head, Conduc
 use Rattle.ww_rule.specs.Wireworld.{Plane, Due, heads_around, driven}
 
 -- the state of a cell, which is given by its column and its row
-abbrev pub state_in : Plane → ℤ × ℤ → State
-state_in p cell = p cell.0 cell.1
+abbrev pub cell_state : Plane → ℤ × ℤ → State
+cell_state p cell = p cell.0 cell.1
 
 -- a signal: a cell, the generation of its first cycle, and a bit for each cycle, for ever
 pub record Signal : Type 0 where
@@ -31,16 +31,16 @@ due_of_signals period signals g x y =
 -- the cell is a conductor, and none of its neighbours is a head: one neighbour that becomes a head
 -- lights it
 pub record IsReady (p : Plane) (cell : ℤ × ℤ) : Type 0 where
-  pub conductor : state_in p cell ≡ Conductor
+  pub conductor : cell_state p cell ≡ Conductor
   pub alone : heads_around p cell.0 cell.1 ≡ 0
 
 -- If the signals of the inputs drive the plane, each cell of an input or an output is a head
 -- exactly when its signal is lit. No such cell is empty. One generation before an input is lit, its
 -- cell is ready.
 pub record CarriesSignals (period : ℕ) (p : Plane) (ins outs : List Signal) : Type 0 where
-  pub drawn : (s : Signal) → Contains (ins ++ outs) s → state_in p s.cell ≢ Empty
+  pub drawn : (s : Signal) → Contains (ins ++ outs) s → cell_state p s.cell ≢ Empty
   pub shows : (s : Signal) → Contains (ins ++ outs) s → (g : ℕ)
-      → (state_in (driven (due_of_signals period ins) p g) s.cell ≡ Head)
+      → (cell_state (driven (due_of_signals period ins) p g) s.cell ≡ Head)
       ↔ (is_lit period s g ≡ true)
   pub ready : (s : Signal) → Contains ins s → (g : ℕ) → is_lit period s (suc g) ≡ true
       → IsReady (driven (due_of_signals period ins) p g) s.cell

@@ -3,7 +3,7 @@ use Rattle.std.specs.Prelude.{ℤ, pos, ◌+ℤ◌, ◌-ℤ◌, ◌≤ℤ◌, �
 use Rattle.ww_rule.specs.declared.pattern.State.{State}
 use Rattle.ww_rule.specs.declared.pattern.State.TheVariants.{Empty, Head, Tail, Conductor}
 use Rattle.ww_rule.specs.Wireworld.{Plane}
-use Rattle.wire_laws.specs.Signals.{Signal, state_in, is_lit}
+use Rattle.wire_laws.specs.Signals.{Signal, cell_state, is_lit}
 
 -- a cell lies within distance 1 of another: it is this cell or one of its eight neighbours
 pub record IsNear (cell other : ℤ × ℤ) : Type 0 where
@@ -58,14 +58,14 @@ wire_state period to after =
 -- states of a wire. Nothing is drawn near one of them but the wire's path. The input's cell is a
 -- head if its signal is lit at generation 0, else it is as it was.
 pub record IsLaid (period : ℕ) (wire : Wire) (before after : Plane) : Type 0 where
-  pub free : (i : ℕ) → i < wire.size → state_in before (wire.path (suc i)) ≡ Empty
+  pub free : (i : ℕ) → i < wire.size → cell_state before (wire.path (suc i)) ≡ Empty
   pub states : (i rest : ℕ) → i + suc rest ≡ wire.size
-      → state_in after (wire.path (suc i)) ≡ wire_state period wire.to rest
+      → cell_state after (wire.path (suc i)) ≡ wire_state period wire.to rest
   pub alone : (i : ℕ) → i < wire.size → (cell : ℤ × ℤ) → IsNear cell (wire.path (suc i))
-      → state_in after cell ≢ Empty
+      → cell_state after cell ≢ Empty
       → (j : ℕ) × (i ≤ j) × (j ≤ i + 2) × (cell ≡ wire.path j)
-  pub end : state_in after wire.to.cell
-      ≡ (if is_lit period wire.to 0 then Head else state_in before wire.to.cell)
+  pub end : cell_state after wire.to.cell
+      ≡ (if is_lit period wire.to 0 then Head else cell_state before wire.to.cell)
 
 -- no cell is on both wires, and they lead to two cells
 pub record ShareNoCell (wire other : Wire) : Type 0 where
@@ -94,4 +94,4 @@ pub record HasWires (period : ℕ) (wires : List Wire) (ins outs : List Signal)
   pub apart : AreDisjointWires wires
   pub laid : (wire : Wire) → Contains wires wire → IsLaid period wire before after
   pub others : (cell : ℤ × ℤ) → ((wire : Wire) → Contains wires wire → IsAwayFrom wire cell)
-      → state_in after cell ≡ state_in before cell
+      → cell_state after cell ≡ cell_state before cell
