@@ -68,12 +68,12 @@ chosen true a b n p q = p
 chosen false a b n p q = q
 
 pub bottom_long : (columns y many g : ℕ) (band : Band) → IsBand columns y many band → length (bottom_at g band) ≡ columns
-bottom_long columns y many g band is =
+bottom_long columns y _ g band is =
     let field = band.field in
     chosen (band.generation == g) _ _ columns (long_row field.columns field.stride field.heads.items field.rows ∙ is.wide) (long_row field.columns field.stride field.tails.items field.rows ∙ is.wide)
 
 pub top_long : (columns y many g : ℕ) (band : Band) → IsBand columns y many band → length (top_at g band) ≡ columns
-top_long columns y many g band is =
+top_long columns y _ g band is =
     let field = band.field in
     chosen (band.generation == g) _ _ columns (long_row field.columns field.stride field.heads.items 1 ∙ is.wide) (long_row field.columns field.stride field.tails.items 1 ∙ is.wide)
 

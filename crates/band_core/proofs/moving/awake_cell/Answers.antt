@@ -75,13 +75,14 @@ faced_cell-requires c =
     let i = (goal.at.faced_cell-requires c).After-index-bands-b in
     let wide = (is i).wide in
     let high = (is i).high in
+    let some = (is i).some in
     let few = c.requires.few in
     let up = narrow_row c.row_above-above.result _ ((beside k).long_above _ c.row_above-above.ensures) in
     let down = narrow_row c.row_below-below.result _ ((beside k).long_below _ c.row_below-below.ensures) in
     record {
       few_above = omega (arith, up, wide, few);
       few_below = omega (arith, down, wide, few);
-      room = omega (arith, high);
+      room = omega (arith, high, some);
     }
 
 pub returns-in-Some-clause-some : goal.returns-in-Some-clause-some

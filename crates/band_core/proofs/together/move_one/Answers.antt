@@ -1,8 +1,6 @@
-use Rattle.std.proofs.Common.{◌≡◌, refl, sym, subst, false, Some, None}
+use Rattle.std.proofs.Common.{◌≡◌, refl, false, Some, None}
 use Rattle.std.specs.Option.{is_some}
 use Rattle.std.specs.declared.option.Option.{Option}
-use Rattle.band_rows.specs.Fields.{IsClosed}
-use Rattle.band_core.specs.declared.band.Band.{Band}
 use Rattle.band_core.proofs.together.move_one.Goals as goal
 
 none : {X : Type 0} (o : Option X) → is_some o ≡ false → o ≡ None
@@ -20,4 +18,4 @@ returns-then-is_none-clause-shows c e due width evo shows =
 pub is_dark-requires : goal.is_dark-requires
 is_dark-requires c =
     let can = c.requires.can_move in
-    subst (λ (band : Band). IsClosed band.field) (sym c.index-bands-b.is) (can.are.each c.args.b c.index-bands-b.result can.inside).closed
+    record { closed = (can.are.each c.args.b c.index-bands-b.result can.inside).closed }
