@@ -12,8 +12,7 @@ use Rattle.ww_rule.specs.Wireworld.{Plane, Due}
 use Rattle.ww_rule.proofs.Cells.{not_counted}
 use Rattle.ww_rule.proofs.Due.{from_earlier}
 use Rattle.lane_kernel.specs.Rows.{state_of}
-use Rattle.band_rows.specs.Fields.{IsClosed, GoOnAlone, ShowsField, TailsShow}
-use Rattle.band_rows.specs.Rows.{ShowsHeads}
+use Rattle.band_rows.specs.Fields.{ShowsField, TailsShow}
 use Rattle.band_core.specs.declared.band.Band.{Band}
 use Rattle.band_core.specs.Bands.{not_ready, unready_neighbour, upper_not_ready}
 use Rattle.band_core.specs.Band.{AllShow, AreBands, AreDueIn, CanMove, IsBand, IsEvolution, ShowsBand, generation_at, generations_of, rows_in_band}

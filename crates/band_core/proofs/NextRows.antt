@@ -1,6 +1,6 @@
 -- A band that moves on shows the next planes.
 use Rattle.ww_rule.specs.Due.{AreLeftAt, due_count}
-use Rattle.std.proofs.Common.{pos, negsuc, ◌+ℤ◌, ℕ, ◌+◌, ◌<◌, ◌≡◌, refl, sym, ap, ◌∙◌, cond, List, take}
+use Rattle.std.proofs.Common.{pos, negsuc, ◌+ℤ◌, ℕ, ◌+◌, ◌≡◌, refl, sym, ap, ◌∙◌, cond, List, take}
 use Rattle.ww_rule.specs.declared.pattern.State.TheVariants.{Head}
 use Rattle.ww_rule.specs.declared.pattern.Injection.{Injection}
 use Rattle.ww_rule.specs.Wireworld.{Plane, Due, next_plane, injected}

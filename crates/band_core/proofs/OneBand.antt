@@ -1,5 +1,5 @@
 -- One band among others, and the rows that face it.
-use Rattle.std.proofs.Common.{pos, ◌+ℤ◌, ◌-ℤ◌, ℕ, ◌+◌, ◌-◌, ◌*◌, ◌<◌, ◌≡◌, sym, ap, subst, ◌∙◌, None, List, ◌++◌, length, get_or, slice_set, arith}
+use Rattle.std.proofs.Common.{pos, ℕ, ◌+◌, ◌-◌, ◌*◌, ◌<◌, ◌≡◌, sym, ap, subst, ◌∙◌, None, List, ◌++◌, length, get_or, slice_set, arith}
 use Rattle.std.proofs.lemmas.List.{get_or-map, length-map}
 use Rattle.ww_rule.specs.Wireworld.{Plane, Due}
 use Rattle.band_rows.proofs.Parts.{IsParted, at_own, at_before, at_after, put_together, many as parts_many}

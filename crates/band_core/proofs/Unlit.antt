@@ -1,5 +1,5 @@
 -- Cells of bands that are heads or tails, as callers see them.
-use Rattle.std.proofs.Common.{pos, ◌+ℤ◌, ℕ, ◌+◌, ◌-◌, ◌*◌, ◌<◌, ◌≤◌, ◌≡◌, ◌^◌, refl, sym, ap, ap₂, subst, ◌∙◌, inl, inr, Bool, true, false, List, length, get_or, map, arith}
+use Rattle.std.proofs.Common.{pos, ◌+ℤ◌, ℕ, ◌+◌, ◌-◌, ◌*◌, ◌<◌, ◌≤◌, ◌≡◌, ◌^◌, sym, ap, ap₂, subst, ◌∙◌, inl, inr, Bool, false, List, length, get_or, map, arith}
 use Rattle.std.specs.Prelude.{◌≢◌, ◌↔◌, All}
 use Rattle.std.specs.Vec.{with_items}
 use Rattle.std.proofs.lemmas.Bool.{cases_Bool}

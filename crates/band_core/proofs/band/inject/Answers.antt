@@ -1,4 +1,4 @@
-use Rattle.std.proofs.Common.{ℕ, pos, ◌+◌, ◌-◌, ◌/◌, ◌≡◌, ◌<◌, ◌≤◌, refl, sym, ap, subst, ◌∙◌, [], ◌∷◌, length, get_or, take, arith}
+use Rattle.std.proofs.Common.{ℕ, pos, ◌+◌, ◌-◌, ◌≡◌, ◌<◌, ◌≤◌, refl, sym, ap, subst, ◌∙◌, [], ◌∷◌, length, get_or, take, arith}
 use Rattle.std.proofs.lemmas.List.{length-map, get_or-map, take_all}
 use Rattle.ww_rule.specs.declared.pattern.Injection.{Injection}
 use Rattle.ww_rule.specs.Wireworld.{injected}

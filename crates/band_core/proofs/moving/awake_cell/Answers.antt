@@ -1,6 +1,5 @@
-use Rattle.std.proofs.Common.{pos, ◌+ℤ◌, ◌-ℤ◌, ℕ, ◌+◌, ◌-◌, ◌*◌, ◌<◌, ◌≤◌, ◌≡◌, ◌^◌, sym, ap, subst, ◌∙◌, true, None, List, length, get_or, arith}
+use Rattle.std.proofs.Common.{pos, ℕ, ◌+◌, ◌*◌, ◌≡◌, sym, ap, subst, ◌∙◌, get_or, arith}
 use Rattle.ww_rule.specs.Wireworld.{Plane, Due}
-use Rattle.std.specs.Prelude.{◌⊎◌}
 use Rattle.band_rows.specs.Facing.{words_in}
 use Rattle.band_core.specs.declared.band.Band.{Band}
 use Rattle.band_core.specs.Band.{AllShow, AreUnlit, IsBand, IsEvolution, IsQuiet, IsWaking, ShowsBand, generation_at, rows_in_band}

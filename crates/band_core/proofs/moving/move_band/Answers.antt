@@ -1,4 +1,4 @@
-use Rattle.std.proofs.Common.{pos, ◌+◌, ◌*◌, refl, sym, ap, subst, ◌∙◌, length, get_or, slice_set, arith}
+use Rattle.std.proofs.Common.{pos, ◌+◌, ◌*◌, sym, ap, subst, ◌∙◌, get_or, slice_set, arith}
 use Rattle.std.proofs.lemmas.List.{length-set, map-set}
 use Rattle.band_core.specs.declared.band.Band.{Band}
 use Rattle.band_core.specs.Band.{AllShow, AreBands, IsBand, ShowsBand, generations_of, rows_in_band}

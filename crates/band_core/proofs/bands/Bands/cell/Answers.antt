@@ -1,4 +1,4 @@
-use Rattle.std.proofs.Common.{pos, ◌+ℤ◌, ◌-◌, ◌*◌, min, ◌/◌, ◌<◌, ◌≤◌, ◌≡◌, sym, ap, subst, ◌∙◌, [], length, get_or, arith}
+use Rattle.std.proofs.Common.{pos, ◌+ℤ◌, ◌-◌, ◌*◌, min, ◌<◌, ◌≡◌, sym, ap, subst, ◌∙◌, [], length, get_or, arith}
 use Rattle.std.proofs.lemmas.Int.{ints}
 use Rattle.std.proofs.lemmas.List.{get_or-map}
 use Rattle.ww_rule.specs.Wireworld.{driven}
