@@ -220,9 +220,10 @@ module _ (above below : List ℕ) (na nb : ℕ) (old one two three four five : F
 
       off_side : (i : ℕ) → (i < s + 1) ⊎ (place s old.columns 0 ≤ i) → IsOff i
       off_side i side =
-          let t = tall in
-          (λ c lt same. not_side c 0 i (omega (arith, lt, narrow_above)) (omega (arith, t)) same side,
-          λ c lt same. not_side c (old.rows + 1) i (omega (arith, lt, narrow_below)) (omega (arith, t)) same side)
+          let t = tall in (
+            λ c lt same. not_side c 0 i (omega (arith, lt, narrow_above)) (omega (arith, t)) same side,
+            λ c lt same. not_side c (old.rows + 1) i (omega (arith, lt, narrow_below)) (omega (arith, t)) same side,
+          )
 
   -- the rows beside, before the step
   row_above : (j : ℕ) → get_or (row_of old.columns s two.heads.items 0) j 0 ≡ get_or above j 0
@@ -256,9 +257,10 @@ module _ (above below : List ℕ) (na nb : ℕ) (old one two three four five : F
               | inr past ↦ row_past old.columns s two.heads.items (old.rows + 1) j past
               | inl within ↦
                   row_word old.columns s two.heads.items (old.rows + 1) j within
-                  ∙ heads_kept (place s j (old.rows + 1))
-                  (λ c lt. apart_above j (old.rows + 1) c (omega arith) (omega (arith, t)),
-                  λ c lt same. let e = (same_place s j (old.rows + 1) c (old.rows + 1) (omega (arith, t)) (omega (arith, t)) same).0 in omega (arith, e, lt, ge))
+                  ∙ heads_kept (place s j (old.rows + 1)) (
+                    λ c lt. apart_above j (old.rows + 1) c (omega arith) (omega (arith, t)),
+                    λ c lt same. let e = (same_place s j (old.rows + 1) c (old.rows + 1) (omega (arith, t)) (omega (arith, t)) same).0 in omega (arith, e, lt, ge),
+                  )
                   ∙ dark_margin old closed j (old.rows + 1) (omega (arith, t)) (λ k low same. omega (arith, low, same))
             ]
             ∙ sym (get_or_past below j 0 (omega (arith, ge, long_below)))
@@ -266,11 +268,12 @@ module _ (above below : List ℕ) (na nb : ℕ) (old one two three four five : F
 
   -- the tails after the step lie on cells
   tails_off : (i : ℕ) → get_or five.tails.items i 0 ≢ 0 → IsOff i
-  tails_off i some =
-      (λ c lt same.
-      some (ap (λ i. get_or five.tails.items i 0) same ∙ below_gone.other (place s c 0) (λ c' lt'. apart_below c 0 c' (omega arith)) ∙ above_gone.at c lt),
-      λ c lt same.
-      some (ap (λ i. get_or five.tails.items i 0) same ∙ below_gone.at c lt))
+  tails_off i some = (
+    λ c lt same.
+        some (ap (λ i. get_or five.tails.items i 0) same ∙ below_gone.other (place s c 0) (λ c' lt'. apart_below c 0 c' (omega arith)) ∙ above_gone.at c lt),
+    λ c lt same.
+        some (ap (λ i. get_or five.tails.items i 0) same ∙ below_gone.at c lt),
+  )
 
   tails_on : AreOn old.cells.items five.tails.items
   tails_on i =

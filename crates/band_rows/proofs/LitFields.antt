@@ -44,10 +44,10 @@ lit_of false true c e = inr refl
 lit_of false false c e = absurd (true≢false (sym e))
 
 module _ (field : Field) (closed : IsClosed field) (i : ℕ) (lit : bit_or (get_or field.heads.items i 0) (get_or field.tails.items i 0) ≢ 0) where
-  abbrev s : ℕ
+  abbrev pub s : ℕ
   s = field.stride
 
-  in_row : IsInRow field.columns field.rows i
+  pub in_row : IsInRow field.columns field.rows i
   in_row =
       elim (cases_eq (get_or field.cells.items i 0) 0) [
         | inr some ↦ closed.is.cells_in_rows i some
@@ -57,10 +57,10 @@ module _ (field : Field) (closed : IsClosed field) (i : ℕ) (lit : bit_or (get_
   pub at : i ≡ place s in_row.column (in_row.row + 1)
   at = in_row.is ∙ sym (ap (λ s. place s in_row.column (in_row.row + 1)) closed.is.stride)
 
-  low : in_row.row + 1 < s
+  pub low : in_row.row + 1 < s
   low = let r = in_row in let above = r.above in let e = closed.is.stride in omega (arith, above, e)
 
-  before : i - 1 ≡ (in_row.column + 1) * s + (in_row.row + 1)
+  pub before : i - 1 ≡ (in_row.column + 1) * s + (in_row.row + 1)
   before = let e = at in omega (arith, e)
 
   pub column_at : (i - 1) / s ≡ in_row.column + 1

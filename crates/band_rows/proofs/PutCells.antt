@@ -15,6 +15,12 @@ use Rattle.band_rows.specs.Fields.{state_in, AreOfOneSize, HasCell, IsClosed, Is
 use Rattle.band_rows.proofs.HeadPlaced.{in_rows, on_placed, tails_placed, with_bit, within}
 use Rattle.band_rows.proofs.PlaceCells.{put_bit}
 
+abbrev Listed : ℕ → WordMarks → Type 0
+Listed s m = AreListed s m.bytes.items m.list.items m.many
+
+abbrev Room : WordMarks → Type 0
+Room m = m.many < length m.list.items
+
 -- with more cells, heads or tails and the same marks, which say nothing
 pub closed_again : (old new : Field) → IsClosed old → IsUnlisted old → AreOfOneSize old new
     → length new.heads.items ≡ length old.heads.items → length new.tails.items ≡ length old.tails.items → length new.cells.items ≡ length old.cells.items
@@ -33,21 +39,12 @@ closed_again old new closed unlisted size heads tails cells marks spare in_rows 
         long_spare = ap (λ (m : WordMarks). length m.bytes.items) spare ∙ is.long_spare ∙ same;
         cells_in_rows = λ i some. subst (λ c. IsInRow c new.rows i) (sym size.columns) (subst (λ r. IsInRow old.columns r i) (sym size.rows) (in_rows i some));
         listed = subst (λ s. Listed s new.marks) (sym size.stride) (subst (Listed old.stride) (sym marks) is.listed);
-        marked = λ room. absurd (full (subst Room marks room));
+        marked = λ room. let was : old.marks.many < length old.marks.list.items = subst Room marks room in absurd (omega (arith, was, unlisted));
         cleared = subst (λ (m : WordMarks). AreCleared m.bytes.items) (sym spare) is.cleared;
       };
       heads = on_heads;
       tails = on_tails;
     }
-  where
-    abbrev Listed : ℕ → WordMarks → Type 0
-    Listed s m = AreListed s m.bytes.items m.list.items m.many
-
-    abbrev Room : WordMarks → Type 0
-    Room m = m.many < length m.list.items
-
-    full : Room old.marks → ⊥
-    full room = omega (arith, room, unlisted)
 
 -- cells that get a state where there was none
 tail_state : (b h t c : Bool) → (b ≡ true → state_of h t c ≡ Empty) → state_of h (b || t) (b || c) ≡ cond b Tail (state_of h t c)

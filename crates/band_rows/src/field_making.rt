@@ -5,6 +5,7 @@ ghost use Rattle.lists.specs.Items.{number_at};
 ghost use Rattle.ww_rule.specs.declared.pattern.State.TheVariants.{Conductor, Empty, Head, Tail};
 ghost use Rattle.ww_rule.specs.Grid.{row_cell};
 ghost use Rattle.lane_kernel.specs.Marked.{AreCleared};
+ghost use Rattle.lane_kernel.specs.Spans.{AreZero};
 
 use crate::field::{Field, WAIT, WordMarks, mark_again, set_bits};
 use std::alloc::{AllocError, Global};
@@ -40,6 +41,14 @@ fn no_marks(alloc: Global, words: usize) -> Result<WordMarks, AllocError>
     })
 }
 
+// So many words without a bit.
+fn no_words(alloc: Global, count: usize) -> Result<Vec<u64>, AllocError>
+    ensures long { IfOk result (λ words. length words.items ≡ count) }
+    ensures zero { IfOk result (λ words. AreZero words.items) }
+{
+    Ok(vec![in alloc; 0; count]?)
+}
+
 // Sets a bit of a word.
 fn set_bit(words: &mut [u64], i: usize, b: usize)
     requires place { i < length words.old }
@@ -67,9 +76,9 @@ impl Field {
             columns,
             rows,
             stride,
-            heads: vec![in alloc; 0; size]?,
-            tails: vec![in alloc; 0; size]?,
-            cells: vec![in alloc; 0; size]?,
+            heads: no_words(alloc, size)?,
+            tails: no_words(alloc, size)?,
+            cells: no_words(alloc, size)?,
             marks: no_marks(alloc, size)?,
             spare: no_marks(alloc, size)?,
             wait: WAIT,
@@ -155,6 +164,7 @@ impl Field {
     fn put_rows(&mut self, cells: &CellRows, y: usize)
         requires closed { IsClosed self.old }
         requires unlisted { IsUnlisted self.old }
+        requires few { length cells.now < 2 ^ 63 }
         requires within { y + self.old.rows ≤ length cells.now }
         requires wide { All (λ row. length row ≤ 64 * self.old.columns) cells.now }
         requires empty { (u j : ℕ) → j < self.old.rows → state_in self.old u j ≡ Empty }
@@ -199,6 +209,7 @@ impl Field {
         rows: usize,
         columns: usize,
     ) -> Result<Field, AllocError>
+        requires few { length cells.now < 2 ^ 63 }
         requires within { y + rows ≤ length cells.now }
         requires wide { All (λ row. length row ≤ 64 * columns) cells.now }
         ensures closed { IfOk result (λ field. IsClosed field) }

@@ -1,4 +1,6 @@
-use Rattle.std.proofs.Common.{◌<◌, sym, ap, subst, ◌∙◌, refl, arith}
+use Rattle.std.proofs.Common.{◌<◌, sym, ap, ap₂, ◌∙◌, refl, length, arith}
+use Rattle.std.specs.Int.RustNames.{bit_or}
+use Rattle.std.proofs.lemmas.List.{get_or_default}
 use Rattle.lists.specs.Bits.{has_bit}
 use Rattle.band_rows.proofs.LitFields.{column_at, column_west, lit_at, row_at, some_place}
 use Rattle.band_rows.proofs.field.Field.cell_in_word.Goals as goal
@@ -23,7 +25,14 @@ overflow_add-result c =
 
 pub returns : goal.returns
 returns c =
-    let h = c.index.ensures in
-    let t = c.index-2.ensures in
-    let b = c.set_place-b in
-    ?
+    let self = c.args.self.now in
+    let closed = c.requires.closed in
+    let i = c.args.i in
+    let at = (some_place self closed i c.requires.lit).2 in
+    let long = closed.is.long_heads in
+    let long_tails = closed.is.long_tails in
+    let h = c.index.ensures ∙ get_or_default self.heads.items i c.index.result.now 0 at in
+    let t = c.index-2.ensures ∙ get_or_default self.tails.items i c.index-2.result.now 0 (omega (arith, at, long, long_tails)) in
+    let b = c.set_place-b.ensures in
+    lit_at self closed i c.requires.lit c.set_place-b.result _ _ b.small
+    (ap (λ w. has_bit w c.set_place-b.result) (sym (ap₂ bit_or h t)) ∙ b.set) refl refl

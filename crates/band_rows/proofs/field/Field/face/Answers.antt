@@ -1,4 +1,5 @@
 use Rattle.std.proofs.Common.{ℕ, ◌+◌, ◌*◌, ◌<◌, ◌≡◌, refl, sym, ap, subst, ◌∙◌, inl, inr, List, length, get_or, arith}
+use Rattle.std.specs.Vec.{with_items}
 use Rattle.std.proofs.lemmas.List.{with_items_is}
 use Rattle.lane_kernel.specs.Around.{IsFramed, IsInner}
 use Rattle.lane_kernel.specs.PlaneRows.{place, stride_of, size_of}
@@ -57,7 +58,7 @@ returns c =
       size = record { columns = refl; rows = refl; stride = refl };
       cells = refl;
       tails = refl;
-      heads = subst (λ n. HasRowPut self.stride c.args.r n (λ k. get_or (words_in c.args.row.now) k 0) self.heads.items _) (sym (length_row c.args.row.now.columns c.args.row.now.stride c.args.row.now.plane.now c.args.row.now.r))
+      heads = subst (λ n. HasRowPut self.stride c.args.r n (λ k. get_or (words_in c.args.row.now) k 0) self.heads.items (with_items self.heads c.take_row.new.heads).items) (sym (length_row c.args.row.now.columns c.args.row.now.stride c.args.row.now.plane.now c.args.row.now.r))
           (subst (λ l. HasRowPut self.stride c.args.r c.args.row.now.columns (λ k. get_or (words_in c.args.row.now) k 0) self.heads.items l) (sym heads)
           (subst (λ l. HasRowPut self.stride c.args.r c.args.row.now.columns (λ k. get_or (words_in c.args.row.now) k 0) l c.take_row.new.heads) c.deref_mut.ensures.value e.heads));
     }

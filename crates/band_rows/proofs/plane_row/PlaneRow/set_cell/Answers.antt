@@ -19,7 +19,7 @@ returns-then-word-ne0-clause-some c =
     let words = words_in c.args.self.now in
     let j = c.loop-c.c in
     let w = c.word-word.result in
-    let z = bit_at-trailing_zeros w64 w (some w c.if-word-ne0.true) c.word-word.type_inv.fits in
+    let z = bit_at-trailing_zeros w64 w (some w c.if-word-ne0.true) c.word-word.type_inv in
     let tz = trailing_zeros w64 w in
     let place : 64 * j + tz ≡ j * 64 + tz = omega arith in
     is_set_at words (64 * j + tz) j tz place z.0 ∙ ap (λ w. has_bit w tz) (sym c.word-word.ensures) ∙ ap (λ n. n == 1) z.1
