@@ -63,6 +63,7 @@ fn begin_band(
     injections: Vec<Injection>,
 ) -> Result<Band, AllocError>
     requires some { 0 < many }
+    requires few { length cells.now < 2 ^ 63 }
     requires within { y + many ≤ length cells.now }
     requires wide { All (λ row. length row ≤ 64 * columns) cells.now }
     requires inside { AreInRows columns y many injections.items }
