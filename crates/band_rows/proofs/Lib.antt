@@ -6,3 +6,13 @@ pub mod NextMark
 pub mod Parts
 pub mod Same
 pub mod Zeros
+pub mod HeadPut
+pub mod PlaceCells
+pub mod FieldSteps
+pub mod HeadPlaced
+pub mod ClosedFields
+pub mod GoneOn
+pub mod LitFields
+pub mod FacedFields
+pub mod PutCells
+pub mod BlankFields

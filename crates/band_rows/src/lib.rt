@@ -6,13 +6,21 @@
 
 mod band;
 mod bits;
+mod field;
+mod field_facing;
+mod field_light;
+mod field_making;
+mod field_run;
 mod kept;
+mod plane_row;
 mod row;
 mod row_marks;
 mod span;
 
 pub use band::step_band;
+pub use field::{Field, WordMarks};
 pub use kept::Kept;
+pub use plane_row::{FacingRows, PlaneRow};
 pub use row::Row;
 pub use row_marks::{is_clear, mark_lit, mark_row, next_marked};
 pub use span::{Span, first_bit};
