@@ -37,6 +37,7 @@ fn stepped_word(
 
 // Marks a word, if it has a head or a tail, and the words beside which its heads stand. Returns how
 // many words are listed.
+#[inline(always)]
 fn mark_lit(
     bytes: &mut [u8],
     list: &mut [usize],

@@ -26,6 +26,7 @@ pub struct Free<'a> {
 
 /// Marks a word, unless it has this mark or a higher one, and lists it if it had none and there is
 /// room. Returns how many words are listed.
+#[inline(always)]
 pub fn mark(
     bytes: &mut [u8],
     list: &mut [usize],
