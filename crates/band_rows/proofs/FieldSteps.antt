@@ -34,13 +34,6 @@ framed_of columns rows s cells e long in_rows i some =
     let at : i ≡ place s r.column (r.row + 1) = r.is ∙ sym (ap (λ s. place s r.column (r.row + 1)) e) in
     subst (IsInner s (length cells)) (sym at) (inner_place columns rows s r.column r.row (length cells) e r.west r.above size)
 
-pub roomy : (columns rows s many : ℕ) → s ≡ stride_of rows → many ≡ size_of columns rows → s + s + 2 ≤ many
-roomy columns rows s many e size =
-    let long : many ≡ (columns + 2) * s + 2 = size ∙ sym (ap (λ s. (columns + 2) * s + 2) e) in
-    let le : 2 ≤ columns + 2 = omega arith in
-    let most = mul-le-mul_right s le in
-    omega (arith, long, most)
-
 pub same_marked : (s : ℕ) {h h' t t' c c' b b' : List ℕ} → h' ≡ h → t' ≡ t → c' ≡ c → b' ≡ b → IsMarked s h t c b → IsMarked s h' t' c' b'
 same_marked s {h} {h'} {t} {t'} {c} {c'} {b} {b'} p q r u m =
     subst (λ b. IsMarked s h' t' c' b) (sym u) (subst (λ c. IsMarked s h' t' c b) (sym r) (subst (λ t. IsMarked s h' t c b) (sym q) (subst (λ h. IsMarked s h t c b) (sym p) m)))

@@ -1,6 +1,6 @@
 -- A word beside whose free cells no head of another word stands.
-use Rattle.std.proofs.Common.{ℕ, zero, suc, ◌+◌, ◌*◌, ◌/◌, ◌%◌, ◌^◌, ◌<◌, ◌≡◌, refl, sym, ap, ap₂, ◌∙◌, Bool, true, false, not, ◌&&◌, ◌||◌, ◌==◌, cond, inl, inr, List, get_or, arith}
-use Rattle.std.proofs.lemmas.Bool.{cases_lt, cases_Bool, or_parts, true≢false}
+use Rattle.std.proofs.Common.{ℕ, zero, suc, ◌+◌, ◌*◌, ◌/◌, ◌%◌, ◌^◌, ◌<◌, ◌≡◌, refl, sym, ap, ap₂, ◌∙◌, Bool, true, false, ◌&&◌, ◌||◌, ◌==◌, cond, inl, inr, List, get_or, arith}
+use Rattle.std.proofs.lemmas.Bool.{cases_lt, or_parts, true≢false}
 use Rattle.std.proofs.lemmas.Nat.{and_le_l, xor_lt}
 use Rattle.std.proofs.lemmas.Nat.Bits.{same_from_bits_below, bit_at_lowest, bit_at-lt}
 use Rattle.std.specs.Int.{bit_at}
@@ -8,7 +8,7 @@ use Rattle.std.specs.Int.Bits.{or_zero_r}
 use Rattle.std.specs.Int.RustNames.{bit_and, bit_or, bit_xor}
 use Rattle.lists.specs.Bits.{has_bit}
 use Rattle.lists.proofs.WordBits.{by_digits, or_bit, and_bit}
-use Rattle.lane_kernel.specs.Around.{Way, beside, near_heads, free_of, wires_of, heads_alone, next_word, IsCalm}
+use Rattle.lane_kernel.specs.Around.{Way, beside, free_of, wires_of, heads_alone, next_word, IsCalm}
 use Rattle.lane_kernel.specs.Around.Way.{north, south, west, east, north_west, north_east, south_west, south_east}
 use Rattle.lane_kernel.specs.Words.{ones_of, twos_of, from_west, from_east, fires, new_heads_of, spread_of}
 use Rattle.lane_kernel.proofs.Bits.{differ, odd, most, fire_bit, ones_bit, twos_bit, fires_bit, xor_bit, no_bit, west_bit, east_bit, west_is, east_is, not_last, low_bit, moved_high}

@@ -1,8 +1,6 @@
-pub mod Alone
 pub mod Bits
 pub mod Counting
 pub mod Four
-pub mod OneWord
 pub mod Parts
 pub mod Places
 pub mod Calm

@@ -4,13 +4,13 @@ use Rattle.std.proofs.lemmas.Bool.{cases_lt, true≢false}
 use Rattle.std.proofs.lemmas.Int.{ints}
 use Rattle.std.proofs.lemmas.List.{get_or_past}
 use Rattle.std.proofs.lemmas.Nat.{and_le_l, or_lt, xor_lt}
-use Rattle.std.specs.Int.RustNames.{bit_and, bit_or, bit_xor}
+use Rattle.std.specs.Int.RustNames.{bit_and, bit_xor}
 use Rattle.ww_rule.specs.declared.pattern.State.{State}
 use Rattle.ww_rule.specs.declared.pattern.State.TheVariants.{Empty, Head, Conductor}
 use Rattle.ww_rule.specs.Wireworld.{count_head, heads_around, next_plane, next_state}
 use Rattle.lane_kernel.specs.Rows.{is_set, state_of, row_state, plane_of_rows, AreDisjoint}
 use Rattle.lists.specs.Bits.{has_bit}
-use Rattle.lane_kernel.specs.Words.{ones_of, twos_of, from_west, from_east, before, new_heads_of, new_wires_of, heads_word, wires_word, spread_of}
+use Rattle.lane_kernel.specs.Words.{ones_of, twos_of, from_west, from_east, before, new_heads_of, new_wires_of, heads_word, wires_word}
 use Rattle.lane_kernel.proofs.Bits.{differ, odd, most, ones_bit, twos_bit, fires_bit, xor_bit, no_bit, west_bit, east_bit, west_is, east_is, not_last, fire_bit}
 use Rattle.lane_kernel.proofs.Counting.{total, counts, count_is, next_is, no_clash, clash}
 use Rattle.lists.proofs.WordBits.{or_bit, and_bit}
@@ -70,20 +70,6 @@ east_place words x j i e h =
           ap (east_bit (get_or words j 0) (get_or words (j + 1) 0)) l
           ∙ sym (is_set_at words (x + 1) (j + 1) 0 s (omega arith))
     ]
-
--- a bit and those beside it, in a word that was spread
-pub spread_bit : (words : List ℕ) → Fit words → (x : ℕ) → has_bit (spread_of (before words (x / 64)) (get_or words (x / 64) 0) (get_or words (x / 64 + 1) 0)) (x % 64) ≡ ((is_set words x || row_bit words (pos x -ℤ pos 1)) || row_bit words (pos x +ℤ pos 1))
-spread_bit words fit x =
-    let j = x / 64 in
-    let i = x % 64 in
-    let e : x ≡ j * 64 + i = omega arith in
-    let lt : i < 64 = omega arith in
-    let west = from_west (before words j) (get_or words j 0) in
-    let east = from_east (get_or words j 0) (get_or words (j + 1) 0) in
-    or_bit (bit_or (get_or words j 0) west) east i
-    ∙ ap₂ (λ p q. p || q)
-    (or_bit (get_or words j 0) west i ∙ ap (λ q. is_set words x || q) (west_is (before words j) (get_or words j 0) i (before_fits words j fit) lt ∙ west_place words x j i e lt))
-    (east_is (get_or words j 0) (get_or words (j + 1) 0) i (fit j) lt ∙ east_place words x j i e lt)
 
 -- a column beside a cell: its three bits
 pub west_column : (f : ℕ → ℕ → ℕ → ℕ) (g : Bool → Bool → Bool → Bool) → ((a b c i : ℕ) → has_bit (f a b c) i ≡ g (has_bit a i) (has_bit b i) (has_bit c i)) → (a0 a b0 b h0 h i : ℕ) → f a0 b0 h0 < 2 ^ 64 → i < 64 → has_bit (from_west (f a0 b0 h0) (f a b h)) i ≡ g (west_bit a0 a i) (west_bit b0 b i) (west_bit h0 h i)
@@ -218,17 +204,6 @@ everywhere_wires above heads below tails wires new_wires lw lt ln h j =
           get_or_past new_wires j 0 (omega (arith, ln, ge))
           ∙ sym (ap₂ (λ w t. new_wires_of w t (new_heads_of (before above j) (get_or above j 0) (get_or above (j + 1) 0) (before heads j) (get_or heads j 0) (get_or heads (j + 1) 0) (before below j) (get_or below j 0) (get_or below (j + 1) 0) w)) (get_or_past wires j 0 (omega (arith, lw, ge))) (get_or_past tails j 0 (omega (arith, lt, ge))))
     ]
-
--- a row that was stepped in place, tails and all
-pub stepped_cells : (above heads below tails wires new_heads new_tails new_wires : List ℕ) → Fit above → Fit heads → Fit below → ((j : ℕ) → get_or new_heads j 0 ≡ heads_word above heads below wires j) → ((j : ℕ) → get_or new_tails j 0 ≡ get_or heads j 0) → ((j : ℕ) → get_or new_wires j 0 ≡ wires_word above heads below tails wires j) → AreDisjoint heads tails wires → (x : ℕ) → row_state new_heads new_tails new_wires x ≡ next_plane (plane_of_rows above heads below tails wires) (pos x) (pos 1)
-stepped_cells above heads below tails wires new_heads new_tails new_wires fa fh fb eh et ew apart x =
-    ap (λ t. state_of (is_set new_heads x) (has_bit t (x % 64)) (is_set new_wires x)) (et (x / 64))
-    ∙ cells above heads below tails wires fa fh fb new_heads new_wires eh ew apart x
-
-pub stepped_apart : (above heads below tails wires new_heads new_tails new_wires : List ℕ) → Fit above → Fit heads → Fit below → ((j : ℕ) → get_or new_heads j 0 ≡ heads_word above heads below wires j) → ((j : ℕ) → get_or new_tails j 0 ≡ get_or heads j 0) → ((j : ℕ) → get_or new_wires j 0 ≡ wires_word above heads below tails wires j) → AreDisjoint heads tails wires → AreDisjoint new_heads new_tails new_wires
-stepped_apart above heads below tails wires new_heads new_tails new_wires fa fh fb eh et ew apart x =
-    ap (λ t. clash (is_set new_heads x) (has_bit t (x % 64)) (is_set new_wires x)) (et (x / 64))
-    ∙ stay_apart above heads below tails wires fa fh fb new_heads new_wires eh ew apart x
 
 -- a row of words shows the row y of a plane; its heads show the plane's heads there
 abbrev pub Shows : List ℕ → List ℕ → List ℕ → (ℤ → ℤ → State) → ℤ → Type 0

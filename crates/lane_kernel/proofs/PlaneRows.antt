@@ -1,5 +1,5 @@
 -- One generation of rows of cells in planes of words.
-use Rattle.std.proofs.Common.{ℤ, pos, negsuc, ◌-ℤ◌, ◌+ℤ◌, ℕ, zero, suc, ◌+◌, ◌-◌, ◌*◌, ◌/◌, ◌%◌, ◌^◌, ◌<◌, ◌≤◌, ◌≡◌, refl, sym, ap, ap₂, subst, ◌∙◌, Bool, true, false, ◌&&◌, ◌||◌, List, length, get_or, map, inl, inr, arith}
+use Rattle.std.proofs.Common.{ℤ, pos, ◌-ℤ◌, ◌+ℤ◌, ℕ, zero, suc, ◌+◌, ◌-◌, ◌/◌, ◌%◌, ◌<◌, ◌≤◌, ◌≡◌, refl, sym, ap, ap₂, subst, ◌∙◌, Bool, true, false, ◌&&◌, ◌||◌, List, length, get_or, map, inl, inr, arith}
 use Rattle.std.specs.List.{range_with_len}
 use Rattle.std.proofs.lemmas.Bool.{cases_lt, true≢false}
 use Rattle.std.proofs.lemmas.Int.{ints}
@@ -8,14 +8,11 @@ use Rattle.std.proofs.lemmas.List.FromFn.{get_or-map-range_with_len, length-map-
 use Rattle.std.proofs.Math.Nat.{suc-mul}
 use Rattle.std.specs.Int.RustNames.{bit_and, bit_or}
 use Rattle.lists.specs.Bits.{has_bit}
-use Rattle.lists.specs.Items.{one_if}
 use Rattle.lists.proofs.WordBits.{and_bit, or_bit}
-use Rattle.ww_rule.specs.declared.pattern.State.TheVariants.{Empty}
 use Rattle.ww_rule.specs.Wireworld.{Plane, count_head, next_plane}
 use Rattle.lane_kernel.specs.Rows.{is_set, plane_of_rows, row_state}
 use Rattle.lane_kernel.specs.Words.{before, heads_word, new_heads_of}
-use Rattle.lane_kernel.specs.Around.{Way, beside, free_of, next_word, wires_of}
-use Rattle.lane_kernel.specs.Around.Way.{north, south, west, east, north_west, north_east, south_west, south_east}
+use Rattle.lane_kernel.specs.Around.{next_word, wires_of}
 use Rattle.lane_kernel.specs.Marked.{AreOn}
 use Rattle.lane_kernel.specs.PlaneRows.{place, row_of, stride_of, HasDarkSides, PlanesShow}
 use Rattle.lane_kernel.proofs.Bits.{differ, no_bit, xor_bit}

@@ -1,17 +1,17 @@
 -- A generation of the listed words, entry by entry.
-use Rattle.std.proofs.Common.{ℕ, ◌+◌, ◌-◌, ◌*◌, ◌/◌, ◌%◌, ◌^◌, ◌<◌, ◌≤◌, ◌≡◌, refl, sym, ap, ap₂, subst, ◌∙◌, inl, inr, List, length, get_or, slice_set, arith}
-use Rattle.std.specs.Prelude.{◌≢◌, ◌⊎◌}
-use Rattle.std.proofs.lemmas.Bool.{cases_eq, cases_lt}
-use Rattle.std.proofs.lemmas.List.{get_or-set_same, get_or-set_other, length-set, get_or_past}
+use Rattle.std.proofs.Common.{ℕ, ◌+◌, ◌<◌, ◌≡◌, refl, sym, ap, subst, ◌∙◌, inl, inr, List, length, get_or, slice_set, arith}
+use Rattle.std.specs.Prelude.{◌≢◌}
+use Rattle.std.proofs.lemmas.Bool.{cases_eq}
+use Rattle.std.proofs.lemmas.List.{get_or-set_same, get_or-set_other}
 use Rattle.std.proofs.lemmas.Nat.{and_comm}
-use Rattle.std.specs.Int.RustNames.{bit_and, bit_or}
-use Rattle.lane_kernel.specs.Around.{Way, beside, near_heads, free_of, wires_of, heads_alone, next_word, IsCalm, IsFramed, IsInner}
+use Rattle.std.specs.Int.RustNames.{bit_and}
+use Rattle.lane_kernel.specs.Around.{Way, beside, near_heads, free_of, wires_of, heads_alone, next_word, IsCalm, IsFramed}
 use Rattle.lane_kernel.specs.Around.Way.{north, south, west, east, north_west, north_east, south_west, south_east}
 use Rattle.lane_kernel.specs.Words.{new_heads_of}
 use Rattle.lane_kernel.proofs.Calm.{alone, same_next}
 use Rattle.lane_kernel.proofs.Places.{Fit}
 use Rattle.lane_kernel.specs.Marked.{AreCleared, AreMore, AreOn, AreTold, IsAmong, IsMarked, IsTold, IsUnderWay, opposite}
-use Rattle.lane_kernel.proofs.Listing.{set_cases, still_told}
+use Rattle.lane_kernel.proofs.Listing.{still_told}
 use Rattle.lane_kernel.proofs.Ways.{there_and_back, back_again, near_none}
 
 -- a word without cells gets no heads

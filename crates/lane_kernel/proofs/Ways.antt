@@ -1,5 +1,5 @@
 -- The ways to the words beside a word, and back.
-use Rattle.std.proofs.Common.{ℕ, ◌+◌, ◌-◌, ◌<◌, ◌≤◌, ◌≡◌, refl, ap, List, length, get_or, arith}
+use Rattle.std.proofs.Common.{ℕ, ◌≡◌, refl, arith}
 use Rattle.lane_kernel.specs.Around.{Way, beside, near_heads, IsInner}
 use Rattle.lane_kernel.specs.Around.Way.{north, south, west, east, north_west, north_east, south_west, south_east}
 use Rattle.lane_kernel.specs.Marked.{opposite}

@@ -1,5 +1,5 @@
 -- Marks of the words of a plane that may change: a byte for each word, and a list of the marked words.
-use Rattle.std.specs.Prelude.{ℕ, ◌+◌, ◌<◌, ◌≤◌, ◌≡◌, ◌≢◌, ◌⊎◌, Bool, true, false, List, length, get_or}
+use Rattle.std.specs.Prelude.{ℕ, ◌<◌, ◌≤◌, ◌≡◌, ◌≢◌, ◌⊎◌, Bool, true, false, List, length, get_or}
 use Rattle.std.specs.Int.RustNames.{bit_and}
 use Rattle.lane_kernel.specs.Around.{Way, beside, near_heads, free_of, next_word, IsCalm, IsInner}
 use Rattle.lane_kernel.specs.Around.Way.{north, south, west, east, north_west, north_east, south_west, south_east}

@@ -1,6 +1,6 @@
 -- Rows of cells in planes of words. A column has a word above its first row and one below its last, and a plane a column
 -- more on each side, so that each word of a row has words all around it.
-use Rattle.std.specs.Prelude.{ℕ, ◌+◌, ◌*◌, ◌<◌, ◌≤◌, ◌≡◌, ◌≢◌, ◌⊎◌, ℤ, pos, ◌+ℤ◌, List, length, get_or, map}
+use Rattle.std.specs.Prelude.{ℕ, ◌+◌, ◌*◌, ◌<◌, ◌≤◌, ◌≡◌, ◌⊎◌, ℤ, pos, ◌+ℤ◌, List, get_or, map}
 use Rattle.std.specs.List.{range_with_len}
 use Rattle.ww_rule.specs.Wireworld.{Plane}
 use Rattle.lane_kernel.specs.Rows.{row_state}

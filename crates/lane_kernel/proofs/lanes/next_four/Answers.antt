@@ -1,4 +1,4 @@
-use Rattle.std.proofs.Common.{◌≡◌, ◌+◌, ◌-◌, ◌<◌, ℕ, subst, ◌∙◌, get_or, arith}
+use Rattle.std.proofs.Common.{◌≡◌, ◌+◌, ◌-◌, ◌<◌, subst, ◌∙◌, get_or, arith}
 use Rattle.lane_kernel.specs.Around.{next_word}
 use Rattle.lane_kernel.proofs.lanes.next_four.Goals as goal
 

@@ -1,4 +1,4 @@
-use Rattle.std.proofs.Common.{ℕ, ◌≡◌, ◌+◌, ◌-◌, ap, ap₂, ◌∙◌, List, get_or, arith}
+use Rattle.std.proofs.Common.{ℕ, ◌≡◌, ◌+◌, ◌-◌, ap, ap₂, ◌∙◌, get_or, arith}
 use Rattle.std.specs.Int.RustNames.{bit_and, bit_xor}
 use Rattle.lane_kernel.specs.Around.{wires_of}
 use Rattle.lane_kernel.specs.Words.{from_west, from_east, ones_of, twos_of, fires}

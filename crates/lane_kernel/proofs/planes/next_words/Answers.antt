@@ -1,4 +1,4 @@
-use Rattle.std.proofs.Common.{◌+◌, ◌≤◌, ◌≡◌, ℕ, ◌∙◌, inl, inr, List, get_or, arith}
+use Rattle.std.proofs.Common.{◌+◌, ◌≤◌, ℕ, ◌∙◌, inl, inr, List, arith}
 use Rattle.std.proofs.lemmas.Bool.{cases_lt}
 use Rattle.lane_kernel.specs.Around.{AreNextWords}
 use Rattle.lane_kernel.proofs.Calm.{same_next}

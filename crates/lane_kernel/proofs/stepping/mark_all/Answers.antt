@@ -1,4 +1,4 @@
-use Rattle.std.proofs.Common.{ℕ, ◌+◌, ◌-◌, ◌<◌, ◌≤◌, ◌≡◌, sym, ap, subst, ◌∙◌, inl, inr, List, length, get_or, arith}
+use Rattle.std.proofs.Common.{sym, ap, subst, ◌∙◌, inl, inr, get_or, arith}
 use Rattle.std.proofs.lemmas.Bool.{cases_eq}
 use Rattle.lane_kernel.specs.Around.{beside, near_heads}
 use Rattle.lane_kernel.specs.Marked.{AreTold, opposite}

@@ -1,4 +1,4 @@
-use Rattle.std.proofs.Common.{ℕ, ◌≡◌, ◌≤◌, ◌∙◌, sym, ap, get_or, arith}
+use Rattle.std.proofs.Common.{ℕ, ◌≡◌, get_or, arith}
 use Rattle.std.proofs.lemmas.Nat.{le_or_l, le_or_r}
 use Rattle.std.specs.Int.RustNames.{bit_or}
 use Rattle.lane_kernel.proofs.Listing.{more_more}

@@ -1,4 +1,4 @@
-use Rattle.std.proofs.Common.{ℕ, ◌+◌, ◌-◌, ◌<◌, ◌≤◌, ◌≡◌, sym, ◌∙◌, inl, inr, get_or, length, arith}
+use Rattle.std.proofs.Common.{◌+◌, ◌-◌, sym, ◌∙◌, inl, inr, get_or, length, arith}
 use Rattle.std.proofs.lemmas.Bool.{cases_eq, cases_lt}
 use Rattle.lane_kernel.proofs.UnderWay.{no_tails, none_without_cells}
 use Rattle.lane_kernel.proofs.stepping.step_all.Goals as goal

@@ -1,4 +1,4 @@
-use Rattle.std.proofs.Common.{◌+◌, ◌<◌, ◌≡◌, refl, get_or, length, arith}
+use Rattle.std.proofs.Common.{◌<◌, refl, get_or, length, arith}
 use Rattle.lane_kernel.proofs.UnderWay.{passed, stepped}
 use Rattle.lane_kernel.proofs.stepping.step_entry.Goals as goal
 

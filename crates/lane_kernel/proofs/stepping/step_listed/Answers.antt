@@ -1,6 +1,6 @@
-use Rattle.std.proofs.Common.{ℕ, ◌+◌, ◌<◌, ◌≤◌, ◌≡◌, refl, sym, ap, subst, ◌∙◌, List, length, get_or, arith}
+use Rattle.std.proofs.Common.{ℕ, ◌≡◌, refl, ap, subst, ◌∙◌, List, length, get_or, arith}
 use Rattle.std.specs.Int.RustNames.{bit_and}
-use Rattle.lane_kernel.specs.Around.{Way, beside, free_of, near_heads, IsCalm}
+use Rattle.lane_kernel.specs.Around.{beside, free_of, near_heads, IsCalm}
 use Rattle.lane_kernel.specs.Marked.{IsUnderWay}
 use Rattle.lane_kernel.proofs.UnderWay.{begun, ended, none_left}
 use Rattle.lane_kernel.proofs.stepping.step_listed.Goals as goal

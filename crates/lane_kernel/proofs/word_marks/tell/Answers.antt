@@ -1,4 +1,4 @@
-use Rattle.std.proofs.Common.{◌+◌, ◌<◌, ◌≤◌, sym, ap, ◌∙◌, inl, inr, arith}
+use Rattle.std.proofs.Common.{sym, ap, ◌∙◌, inr, arith}
 use Rattle.std.specs.Int.RustNames.{bit_and}
 use Rattle.lane_kernel.proofs.Listing.{has_cells}
 use Rattle.lane_kernel.proofs.word_marks.tell.Goals as goal

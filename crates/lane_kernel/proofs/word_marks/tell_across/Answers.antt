@@ -1,6 +1,5 @@
 use Rattle.std.proofs.Common.{ℕ, ◌≡◌, ◌+◌, ◌-◌, ◌*◌, ◌/◌, ◌%◌, ◌^◌, ◌≤◌, sym, subst, List, arith}
 use Rattle.std.proofs.lemmas.Bool.{true≢false}
-use Rattle.lane_kernel.specs.Around.{Way}
 use Rattle.lane_kernel.specs.Around.Way.{north, south, west, east, north_west, north_east, south_west, south_east}
 use Rattle.lane_kernel.specs.Marked.{AreMore, AreToldAcross, IsTold}
 use Rattle.lane_kernel.proofs.Listing.{more_more, still_told}

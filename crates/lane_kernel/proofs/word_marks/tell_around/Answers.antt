@@ -1,11 +1,10 @@
-use Rattle.std.proofs.Common.{ℕ, ◌≡◌, ◌+◌, ◌-◌, ◌*◌, ◌/◌, ◌%◌, ◌^◌, ◌≤◌, refl, sym, ap, ap₂, subst, ◌∙◌, inl, inr, List, get_or, arith}
-use Rattle.std.specs.Prelude.{◌≢◌}
+use Rattle.std.proofs.Common.{ℕ, ◌≡◌, ◌+◌, ◌-◌, ◌*◌, ◌/◌, ◌%◌, ◌^◌, refl, sym, ap, ap₂, subst, ◌∙◌, inr, List, get_or, arith}
 use Rattle.std.proofs.lemmas.Bool.{true≢false}
 use Rattle.std.proofs.lemmas.Nat.{le_or_l, le_or_r}
 use Rattle.std.specs.Int.RustNames.{bit_and, bit_or}
-use Rattle.lane_kernel.specs.Around.{Way, beside, free_of, near_heads}
+use Rattle.lane_kernel.specs.Around.{free_of}
 use Rattle.lane_kernel.specs.Around.Way.{north, south, west, east, north_west, north_east, south_west, south_east}
-use Rattle.lane_kernel.specs.Marked.{AreMore, AreTold, AreToldAcross, IsTold, opposite}
+use Rattle.lane_kernel.specs.Marked.{AreMore, AreTold, AreToldAcross, IsTold}
 use Rattle.lane_kernel.specs.Words.{spread_of}
 use Rattle.lane_kernel.proofs.Listing.{more_more, still_told}
 use Rattle.lane_kernel.proofs.word_marks.tell_around.Goals as goal
