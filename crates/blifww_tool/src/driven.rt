@@ -2,9 +2,7 @@
 ghost use Rattle.std.specs.Prelude.{◌≡◌, ◌++◌, map, flat_map, string_bytes, IfOk, IfErr, OnOk};
 ghost use Rattle.std.specs.List.{range_with_len};
 ghost use Rattle.ww_rule.specs.Grid.{AreInBox};
-ghost use Rattle.pattern_reading.specs.Laws.{HasCellsInside};
 ghost use Rattle.pattern_reading.specs.Ports.{cells_of};
-ghost use Rattle.pattern_reading.specs.SoundTable.{IsSoundTable};
 ghost use Rattle.drive.specs.Driving.{AreFor};
 ghost use Rattle.blifww_tool.specs.Simulation.{IsSimulation, HasStreamsCause};
 ghost use Rattle.blifww_tool.specs.Driven.{names_in_context, simulation_of};
@@ -73,8 +71,6 @@ pub fn driven_by(
     ensures streams { IfOk result (λ d. AreFor d.ports d.streams) }
     ensures in_box { IfOk result (λ d. AreInBox d.pattern.width d.pattern.height
         (cells_of d.ports.ins)) }
-    ensures sound { IfOk result (λ d. IsSoundTable d.ports) }
-    ensures inside { IfOk result (λ d. HasCellsInside d.pattern.width d.pattern.height d.ports) }
     ensures refused { IfErr result (HasStreamsCause cycles (map string_bytes words.now) text.now) }
 {
     let pattern = rle_read::read(alloc, text)?;

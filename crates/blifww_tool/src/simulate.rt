@@ -1,14 +1,14 @@
 // `simulate`: the bits that a pattern's outputs show, as lines.
 ghost use Rattle.std.specs.Prelude.{◌≡◌, ◌<◌, ℕ, List, map, flat_map, zip, string_bytes, IfOk, IfErr};
 ghost use Rattle.std.specs.List.{range_with_len};
+ghost use Rattle.ww_rule.specs.Grid.{AreInBox};
 ghost use Rattle.command_words.specs.Shapes.{simulate};
 ghost use Rattle.blifww_tool.specs.Answer.{output_text, IsWritableOutput};
 ghost use Rattle.blifww_tool.specs.Commands.{Prints, HasTextCause};
 ghost use Rattle.blifww_tool.specs.Driven.{names_in_context, simulation_in};
 ghost use Rattle.blifww_tool.specs.Simulation.{IsSimulation};
 ghost use Rattle.drive.specs.Driving.{AreFor};
-ghost use Rattle.pattern_reading.specs.Laws.{HasCellsInside};
-ghost use Rattle.pattern_reading.specs.SoundTable.{IsSoundTable};
+ghost use Rattle.pattern_reading.specs.Ports.{cells_of};
 ghost use Rattle.blifww_tool.specs.Lines.{bits_line};
 
 use crate::driven::{driven_by, names_in_contexts};
@@ -40,8 +40,7 @@ fn shown(
 ) -> Result<Output, TextError>
     requires cycles { 0 < streams.now.cycles }
     requires streams { AreFor ports.now streams.now }
-    requires sound { IsSoundTable ports.now }
-    requires inside { HasCellsInside pattern.width pattern.height ports.now }
+    requires in_box { AreInBox pattern.width pattern.height (cells_of ports.now.ins) }
     ensures printed { IfOk result (λ output. (cycles : ℕ) (words : List (List ℕ)) (text : List ℕ)
         → IsSimulation cycles words text (simulation_in pattern ports.now streams.now)
         → Prints (simulate cycles words) text (output_text output)) }
@@ -50,12 +49,14 @@ fn shown(
         → IsSimulation cycles words text (simulation_in pattern ports.now streams.now)
         → HasTextCause (simulate cycles words) text e) }
 {
-    let bits = drawn_runs::simulate(alloc, pattern, ports, streams)?;
+    let bits = drive::simulate(alloc, pattern, ports, streams)?;
     Ok(Output::Lines(shown_lines(alloc, ports, bits.as_slice())?))
 }
 
 /// Makes a line for each output of the text's pattern in each of its contexts, with the bits that
 /// the output shows. The words are the streams of the inputs. All outputs of context 0 come first.
+/// The plane is run, whatever the pattern is. For long runs: `lift`, then `eval`, which prints the
+/// same lines (`lifted_print_alike` of `program_laws`); `lift` refuses several contexts and tapes.
 pub fn simulate(
     alloc: Global,
     cycles: usize,

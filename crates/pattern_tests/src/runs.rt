@@ -1,8 +1,6 @@
 // Streams that are read from words, and patterns that they drive.
 ghost use Rattle.std.specs.Prelude.{◌≡◌, ◌*◌, ◌<◌, All, length, IfOk};
-ghost use Rattle.pattern_reading.specs.Laws.{HasCellsInside};
 ghost use Rattle.pattern_reading.specs.Ports.{cells_of};
-ghost use Rattle.pattern_reading.specs.SoundTable.{IsSoundTable};
 ghost use Rattle.ww_rule.specs.Grid.{AreInBox};
 ghost use Rattle.drive.specs.Driving.{AreFor};
 
@@ -108,12 +106,10 @@ fn streams_for(
     Streams::read(alloc, &words, &names, cycles, contexts)
 }
 
-/// What a test asks of a pattern that streams drive: what its outputs show if it is run generation
-/// by generation, or by its cells if it is a drawing; or a dump of its nets.
+/// What a test asks of a pattern that streams drive: what its outputs show, or a dump of its nets.
 #[derive(Clone, Copy)]
 pub enum Asked {
     Outputs,
-    Drawn,
     Dump,
 }
 
@@ -151,12 +147,9 @@ fn run(
     requires cycles { 0 < streams.now.cycles }
     requires streams { AreFor ports.now streams.now }
     requires in_box { AreInBox pattern.width pattern.height (cells_of ports.now.ins) }
-    requires sound { IsSoundTable ports.now }
-    requires inside { HasCellsInside pattern.width pattern.height ports.now }
 {
     match asked {
         Asked::Outputs => outputs_said(alloc, simulate(alloc, pattern, ports, streams)),
-        Asked::Drawn => outputs_said(alloc, drawn_runs::simulate(alloc, pattern, ports, streams)),
         Asked::Dump => dump_said(alloc, pattern, ports, streams),
     }
 }
@@ -210,7 +203,7 @@ pub fn expect_said(
     expect(&said_of(alloc, table, pattern, words, cycles, asked)?, want)
 }
 
-/// Fails unless the outputs show `want`, both generation by generation and by the cells.
+/// Fails unless the outputs show `want`.
 pub fn expect_shown(
     alloc: Global,
     table: &[u8],
@@ -219,8 +212,7 @@ pub fn expect_shown(
     cycles: usize,
     want: &[u8],
 ) -> Result<(), Fail> {
-    expect_said(alloc, table, pattern, words, cycles, Asked::Outputs, want)?;
-    expect_said(alloc, table, pattern, words, cycles, Asked::Drawn, want)
+    expect_said(alloc, table, pattern, words, cycles, Asked::Outputs, want)
 }
 
 // A ring on which an electron circles for ever.

@@ -1,12 +1,10 @@
-//! Tests of the public calls that run lists of cells, make plans of them and of AIGER circuits, and write these as texts.
+//! Tests of the public calls that make plans of lists of cells and of AIGER circuits, and write these as texts.
 #![tactic(auto)]
 
 #[cfg(test)]
 mod choosing;
 #[cfg(test)]
 mod circuits;
-#[cfg(test)]
-mod cycles;
 #[cfg(test)]
 mod drawing;
 #[cfg(test)]

@@ -2,7 +2,6 @@
 ghost use Rattle.cell_plans.specs.PlanOf.{IsPlannable};
 ghost use Rattle.lane_core.specs.Plans.{IsAdmissible};
 
-use crate::cycles::{expect_lines, list_said};
 use crate::running::{agrees_for_all, plays};
 use crate::written::{Written, list_of, plan_of_list};
 use cell_core::{Cell, CellList, Src};
@@ -217,16 +216,9 @@ fn check_plan(alloc: Global, case: &Case, list: &CellList, plan: &Plan) -> Resul
     )))
 }
 
-// Fails unless the list shows the case's streams at its outputs.
-fn check_outputs(alloc: Global, case: &Case, list: &CellList) -> Result<(), Fail> {
-    let said = list_said(alloc, list, case.ins, case.cycles)?;
-    expect_lines(alloc, &said, case.outs)
-}
-
 fn check_list(alloc: Global, case: &Case, list: &CellList) -> Result<(), Fail>
     requires { IsPlannable list.now }
 {
-    check_outputs(alloc, case, list)?;
     let plan = plan_of_list(alloc, list)?;
     check_plan(alloc, case, list, &plan)
 }
@@ -237,7 +229,7 @@ fn check_case(alloc: Global, case: &Case) -> Result<(), Fail> {
 }
 
 #[test]
-fn small_circuits_and_their_lists_do_what_they_say(rt: HostRuntime) -> Result<(), Fail> {
+fn small_circuits_do_what_they_say(rt: HostRuntime) -> Result<(), Fail> {
     for case in CASES {
         check_case(rt.alloc(), case)?;
     }

@@ -2,7 +2,6 @@ use Rattle.std.proofs.Common.{◌≡◌, ◌*◌, ap, sym, ◌∙◌, subst, ℕ
 use Rattle.std.proofs.lemmas.List.{length-map}
 use Rattle.pattern_reading.specs.declared.ports.PortLine.{PortLine}
 use Rattle.pattern_reading.specs.Ports.{names_of}
-use Rattle.pattern_reading.proofs.PortsInside.{ports_inside}
 use Rattle.port_table.proofs.SoundTable.{sound_table}
 use Rattle.streams.specs.Streams.{HasStreams}
 use Rattle.blifww_tool.proofs.Simulated.{ins_in_box}
@@ -33,9 +32,3 @@ returns-clause-streams c =
 
 pub returns-clause-in_box : goal.returns-clause-in_box
 returns-clause-in_box c = ins_in_box c.args.text.now c.in_ok-pattern.pattern.width c.in_ok-pattern.pattern.height c.in_ok-ports.ports c.in_ok-ports.ensures.table
-
-pub returns-clause-sound : goal.returns-clause-sound
-returns-clause-sound c = sound_table c.args.text.now c.in_ok-pattern.pattern.width c.in_ok-pattern.pattern.height c.in_ok-ports.ports c.in_ok-ports.ensures.table
-
-pub returns-clause-inside : goal.returns-clause-inside
-returns-clause-inside c = ports_inside c.args.text.now c.in_ok-pattern.pattern.width c.in_ok-pattern.pattern.height c.in_ok-ports.ports c.in_ok-ports.ensures.table

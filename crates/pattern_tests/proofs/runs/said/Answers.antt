@@ -26,9 +26,3 @@ run-said-requires-clause-in_box c =
     let ins = c.in_ok-ports.ports.ins in
     let inside = (ports_inside c.args.text.now width height c.in_ok-ports.ports c.in_ok-ports.ensures.table).ins in
     All-map (λ (cell : ℕ × ℕ). (cell.0 < width) × (cell.1 < height)) (λ (port : PortLine). (port.x, port.y)) ins (All-from_recursion (IsPortInside width height) ins inside)
-
-pub run-said-requires-clause-sound : goal.run-said-requires-clause-sound
-run-said-requires-clause-sound c = sound_table c.args.text.now c.in_ok-pattern.pattern.width c.in_ok-pattern.pattern.height c.in_ok-ports.ports c.in_ok-ports.ensures.table
-
-pub run-said-requires-clause-inside : goal.run-said-requires-clause-inside
-run-said-requires-clause-inside c = ports_inside c.args.text.now c.in_ok-pattern.pattern.width c.in_ok-pattern.pattern.height c.in_ok-ports.ports c.in_ok-ports.ensures.table

@@ -1,3 +1,0 @@
-pub mod States
-pub mod Columns
-pub mod Runs
