@@ -1,7 +1,9 @@
 -- Drawn plans carry signals.
-use Rattle.std.specs.Prelude.{ℕ, ◌*◌, ◌<◌, ◌≡◌, Bool, false, List, [], ◌∷◌}
-use Rattle.wire_laws.specs.Signals.{CarriesSignals}
-use Rattle.wire_laws.specs.Rows.{AnswersEachRow}
+use Rattle.std.specs.Prelude.{ℕ, ◌*◌, ◌<◌, ◌≡◌, ◌≢◌, Bool, false, List, [], ◌∷◌, ◌++◌, Contains}
+use Rattle.ww_rule.specs.declared.pattern.State.TheVariants.{Empty}
+use Rattle.ww_rule.specs.Wireworld.{Plane}
+use Rattle.wire_laws.specs.Signals.{cell_state, CarriesSignals}
+use Rattle.wire_laws.specs.Rows.{Port, IsPart, IsCausalMachine, AnswersEachRow}
 use Rattle.tile_core.specs.declared.kind.Kind.{Kind}
 use Rattle.tile_core.specs.Drawing.{Drawing}
 use Rattle.tile_library.specs.Drawings.{shipped_drawing}
@@ -11,11 +13,11 @@ use Rattle.lane_core.specs.declared.plan.Plan.{Plan}
 use Rattle.lane_core.specs.Plans.{IsAdmissible, period_of}
 use Rattle.plan_layout.specs.Planes.{plane_with}
 use Rattle.plan_waves.specs.Contexts.{StartsContexts}
-use Rattle.plan_signals.specs.Ports.{in_ports, out_ports, in_signals, out_signals, plan_answer, HasOpenEntries}
+use Rattle.plan_signals.specs.Ports.{in_ports, out_ports, net_ports, in_signals, out_signals, plan_answer, plan_machine, HasOpenEntries, HasClearEntries, TakesWires}
 
--- The plane of an admissible plan, drawn with any library of tiles that keep the timing law and
--- have open entries, carries the signals of its inputs to those of its outputs, from all edges that
--- start its loops.
+-- The plane of an admissible plan, drawn in one context with any library of tiles that keep the
+-- timing law and have open entries, carries the signals of its inputs to those of its outputs, from
+-- all edges that start its loops.
 abbrev pub PlansCarrySignals : Type 0
 PlansCarrySignals =
     (library : Kind → Drawing) → KeepsLaw library → HasOpenEntries library
@@ -23,6 +25,28 @@ PlansCarrySignals =
     → StartsContexts plan (start ∷ []) lit → (bits : ℕ → ℕ → Bool)
     → CarriesSignals (period_of plan) (plane_with library plan lit) (in_signals plan bits)
     (out_signals plan start bits)
+
+-- each net's cell is drawn
+abbrev pub NetsAreDrawn : Plan → Plane → Type 0
+NetsAreDrawn plan p =
+    (port : Port) → Contains (net_ports plan) port → cell_state p port.0 ≢ Empty
+
+-- The plane of an admissible plan, in one context, is a part: at its outputs and nets it shows what
+-- the columns make of the inputs' bits and of what the loops bring. This depends on no later cycle.
+abbrev pub PlansAreParts : Type 0
+PlansAreParts =
+    (library : Kind → Drawing) → KeepsLaw library → HasOpenEntries library
+    → (plan : Plan) → IsAdmissible plan → (start : List Bool) (lit : Lit)
+    → StartsContexts plan (start ∷ []) lit → NetsAreDrawn plan (plane_with library plan lit)
+    → IsPart (period_of plan) (plane_with library plan lit) (in_ports plan)
+    (out_ports plan ++ net_ports plan) (plan_machine plan start)
+    × IsCausalMachine (plan_machine plan start)
+
+-- wires may be laid to and from the ports of every admissible plan
+abbrev pub PortsTakeWires : Type 0
+PortsTakeWires =
+    (library : Kind → Drawing) → HasClearEntries library → (plan : Plan) → IsAdmissible plan
+    → (lit : Lit) → TakesWires plan (plane_with library plan lit)
 
 -- A plan without loops answers each row of bits, at every multiple of 32 generations.
 abbrev pub PlansAnswerEachRow : Type 0
@@ -32,6 +56,6 @@ PlansAnswerEachRow =
     → AnswersEachRow (times * 32) (plane_with library plan (λ edge. false)) (in_ports plan)
     (out_ports plan) (plan_answer plan)
 
--- the tiles of the kit have open entries
+-- the tiles of the kit have open and clear entries
 abbrev pub TilesAreOpen : Type 0
-TilesAreOpen = HasOpenEntries shipped_drawing
+TilesAreOpen = HasOpenEntries shipped_drawing × HasClearEntries shipped_drawing
