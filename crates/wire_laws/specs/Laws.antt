@@ -74,7 +74,7 @@ delayed d s = record { cell = s.cell; first = d + s.first; bit = s.bit }
 -- a plane without electrons carries its signals as many generations later, however many these are
 abbrev pub PlanesStartLater : Type 0
 PlanesStartLater =
-    (period d : ℕ) (p : Plane) (ins outs : List Signal) → HasNoElectrons p
+    (period d : ℕ) → 0 < period → (p : Plane) (ins outs : List Signal) → HasNoElectrons p
     → CarriesSignals period p ins outs
     → CarriesSignals period p (map (delayed d) ins) (map (delayed d) outs)
 

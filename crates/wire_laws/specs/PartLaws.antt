@@ -1,5 +1,5 @@
 -- Laws of parts: put side by side, begun later, and known by what they show.
-use Rattle.std.specs.Prelude.{ℤ, pos, ◌+ℤ◌, ◌-ℤ◌, ℕ, ◌+◌, ◌≤◌, ◌≡◌, ◌≢◌, ◌↔◌, Bool, true, false, List, ◌++◌, length, map, Contains}
+use Rattle.std.specs.Prelude.{ℤ, pos, ◌+ℤ◌, ◌-ℤ◌, ℕ, ◌+◌, ◌<◌, ◌≤◌, ◌≡◌, ◌≢◌, ◌↔◌, Bool, true, false, List, ◌++◌, length, map, Contains}
 use Rattle.lists.specs.Items.{one_if}
 use Rattle.ww_rule.specs.declared.pattern.State.{State}
 use Rattle.ww_rule.specs.declared.pattern.State.TheVariants.{Empty, Head, Tail}
@@ -26,8 +26,8 @@ PartsUnite =
 -- a part without electrons may begin so many generations later
 abbrev pub PartsStartLater : Type 0
 PartsStartLater =
-    (period d : ℕ) (p : Plane) (ins outs : List Port) (machine : Machine) → HasNoElectrons p
-    → IsPart period p ins outs machine
+    (period d : ℕ) → 0 < period → (p : Plane) (ins outs : List Port) (machine : Machine)
+    → HasNoElectrons p → IsPart period p ins outs machine
     → IsPart period p (map (λ port. (port.0, d + port.1)) ins)
     (map (λ port. (port.0, d + port.1)) outs) machine
 
