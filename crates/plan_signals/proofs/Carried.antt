@@ -13,6 +13,7 @@ use Rattle.wire_laws.specs.Signals.{Signal, is_lit, cell_state, due_of_signals, 
 use Rattle.wire_laws.proofs.Lit.{lit_in, in_lit, not_soon}
 use Rattle.wire_laws.proofs.Dues.{due_by_signal, signal_is_due, Head≢Empty}
 use Rattle.wire_laws.proofs.Rows.{port_signal, no_port, port_of_signal}
+use Rattle.wire_laws.proofs.Beside.{none_around}
 use Rattle.tile_core.specs.declared.kind.Kind.{Kind}
 use Rattle.tile_core.specs.Drawing.{Drawing}
 use Rattle.tiling.specs.Tiling.{Slot, Tiling, Lit, drawn_slot, drawn}
@@ -35,7 +36,7 @@ use Rattle.plan_waves.proofs.ShownContexts.{plans_show_contexts}
 use Rattle.plan_signals.specs.Ports.{in_signals, out_ports, out_signals, HasOpenEntries}
 use Rattle.plan_signals.specs.Laws.{PlansCarrySignals}
 use Rattle.plan_signals.proofs.Ins.{entry_cell, in_signal, IsInput, long, input_of, drives, drives_inputs, head_is_due, head_when_due}
-use Rattle.plan_signals.proofs.Ready.{slot_has, not_drawn, few_around, none_around}
+use Rattle.plan_signals.proofs.Ready.{slot_has, not_drawn, few_around}
 
 abbrev is_tail : State → Bool
 is_tail Tail = true

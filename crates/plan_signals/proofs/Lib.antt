@@ -3,3 +3,5 @@ pub mod Ins
 pub mod Ready
 pub mod Carried
 pub mod Loopless
+pub mod AsParts
+pub mod Takes

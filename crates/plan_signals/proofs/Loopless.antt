@@ -104,7 +104,7 @@ same_row lane other =
     let same : lane ≡ other = omega (arith, ints, place) in eq-eqb lane other same)) (λ e. (Decides-int_eq (pos (row_of lane)) (pos (row_of other))).1 (ap (λ n. pos (row_of n)) (eqb-true lane other e)))
 
 -- the inputs' signals are due where the row has its bits
-lane_due : (period : ℕ) → 0 < period → (x : ℕ) (lanes : List ℕ) (bits : ℕ → ℕ → Bool) (row : ℕ → Bool) (a t lane : ℕ) → ((i : ℕ) → bits t i ≡ row (a + i)) → due_of_signals period (signals_at (map (λ l. ((pos x, pos (row_of l)), 0)) lanes) bits) (t * period) (pos x) (pos (row_of lane)) ≡ lane_bit lanes (map row (range_with_len a (length lanes))) lane
+pub lane_due : (period : ℕ) → 0 < period → (x : ℕ) (lanes : List ℕ) (bits : ℕ → ℕ → Bool) (row : ℕ → Bool) (a t lane : ℕ) → ((i : ℕ) → bits t i ≡ row (a + i)) → due_of_signals period (signals_at (map (λ l. ((pos x, pos (row_of l)), 0)) lanes) bits) (t * period) (pos x) (pos (row_of lane)) ≡ lane_bit lanes (map row (range_with_len a (length lanes))) lane
 lane_due period some x [] bits row a t lane same = refl
 lane_due period some x (l ∷ lanes) bits row a t lane same =
     let s : Signal = record { cell = (pos x, pos (row_of l)); first = 0; bit = λ t. bits t 0 } in
