@@ -9,7 +9,7 @@ use Rattle.lists.proofs.Members.{in_from, contains_from}
 use Rattle.ww_rule.specs.declared.pattern.State.TheVariants.{Empty, Head}
 use Rattle.ww_rule.specs.Wireworld.{Plane, Due, driven}
 use Rattle.wire_laws.specs.Signals.{Signal, is_lit, cell_state, due_of_signals, CarriesSignals}
-use Rattle.wire_laws.specs.Rows.{Port, signals_at, IsCausalMachine, row_of_both}
+use Rattle.wire_laws.specs.Rows.{Port, signals_at, IsCausalMeaning, row_of_both}
 use Rattle.wire_laws.proofs.Lit.{lit_in, in_lit}
 use Rattle.wire_laws.proofs.Rows.{port_signal, no_port, port_of_signal}
 use Rattle.wire_laws.proofs.Early.{signals_both}
@@ -28,7 +28,7 @@ use Rattle.plan_layout.specs.Planes.{plane_with}
 use Rattle.plan_waves.specs.Contexts.{StartsContexts, injected_in, context_bits}
 use Rattle.plan_waves.specs.ShownContexts.{ShowsContextBits}
 use Rattle.plan_waves.proofs.ShownContexts.{plans_show_contexts}
-use Rattle.plan_signals.specs.Ports.{out_ports, net_ports, in_signals, out_signals, plan_entering, plan_machine, HasOpenEntries}
+use Rattle.plan_signals.specs.Ports.{out_ports, net_ports, in_signals, out_signals, plan_entering, plan_meaning, HasOpenEntries}
 use Rattle.plan_signals.specs.Laws.{NetsAreDrawn, PlansAreParts}
 use Rattle.plan_signals.proofs.Ins.{long, drives}
 use Rattle.plan_signals.proofs.Carried.{plans_carry_signals}
@@ -44,7 +44,7 @@ abbrev shown_row : Plan → ℕ → List Bool → ℕ → Bool
 shown_row plan count entering =
     row_of_both count (λ i. bit_on (after_columns plan.columns entering) (slice_index plan.outs i)) (λ i. bit_on (bits_after after_columns plan.columns (net_place plan i).after entering) (net_place plan i).lane)
 
-causal_plan : (plan : Plan) (start : List Bool) → IsCausalMachine (plan_machine plan start)
+causal_plan : (plan : Plan) (start : List Bool) → IsCausalMeaning (plan_meaning plan start)
 causal_plan plan start bits others t same =
     ap (shown_row plan (length plan.outs)) (entering_same (first_loop_lane plan.lanes plan.latches) plan.columns (row bits) (row others) start t (λ u le. ap (λ f. row_bits (first_loop_lane plan.lanes plan.latches) plan.ins (map f (range_with_len 0 (length plan.ins)))) (same u le)))
   where
@@ -159,10 +159,10 @@ module _ (library : Kind → Drawing) (law : KeepsLaw library) (roomy : HasOpenE
   enters t =
       entering_same (first_loop_lane plan.lanes plan.latches) plan.columns (injected_in plan due 0) (λ t. row_bits (first_loop_lane plan.lanes plan.latches) plan.ins (map (bits t) (range_with_len 0 (length plan.ins)))) start t (λ u le. injected u)
 
-  carried_part : CarriesSignals period p ins (signals_at (out_ports plan ++ net_ports plan) (plan_machine plan start bits))
+  carried_part : CarriesSignals period p ins (signals_at (out_ports plan ++ net_ports plan) (plan_meaning plan start bits))
   carried_part =
       let at : ℕ → Port = λ lane. ((pos (left_of plan (length plan.columns)), pos (row_of lane)), latency_of plan) in
-      let rows : (λ t. row_of_both (length (out_ports plan)) (out_bit t) (net_bit t)) ≡ plan_machine plan start bits = fun_ext (λ t. ap₂ (shown_row plan) (length-map plan.outs at) (enters t)) in
+      let rows : (λ t. row_of_both (length (out_ports plan)) (out_bit t) (net_bit t)) ≡ plan_meaning plan start bits = fun_ext (λ t. ap₂ (shown_row plan) (length-map plan.outs at) (enters t)) in
       subst (CarriesSignals period p ins) (sym (signals_both (out_ports plan) (net_ports plan) out_bit net_bit) ∙ ap (signals_at (out_ports plan ++ net_ports plan)) rows) all
 
 pub plans_are_parts : PlansAreParts

@@ -3,7 +3,7 @@ use Rattle.std.specs.Prelude.{ℕ, ◌*◌, ◌<◌, ◌≡◌, ◌≢◌, Bool,
 use Rattle.ww_rule.specs.declared.pattern.State.TheVariants.{Empty}
 use Rattle.ww_rule.specs.Wireworld.{Plane}
 use Rattle.wire_laws.specs.Signals.{cell_state, CarriesSignals}
-use Rattle.wire_laws.specs.Rows.{Port, IsPart, IsCausalMachine, AnswersEachRow}
+use Rattle.wire_laws.specs.Rows.{Port, IsPart, IsCausalMeaning, AnswersEachRow}
 use Rattle.tile_core.specs.declared.kind.Kind.{Kind}
 use Rattle.tile_core.specs.Drawing.{Drawing}
 use Rattle.tile_library.specs.Drawings.{shipped_drawing}
@@ -13,7 +13,7 @@ use Rattle.lane_core.specs.declared.plan.Plan.{Plan}
 use Rattle.lane_core.specs.Plans.{IsAdmissible, period_of}
 use Rattle.plan_layout.specs.Planes.{plane_with}
 use Rattle.plan_waves.specs.Contexts.{StartsContexts}
-use Rattle.plan_signals.specs.Ports.{in_ports, out_ports, net_ports, in_signals, out_signals, plan_answer, plan_machine, HasOpenEntries, HasClearEntries, TakesWires}
+use Rattle.plan_signals.specs.Ports.{in_ports, out_ports, net_ports, in_signals, out_signals, plan_answer, plan_meaning, HasOpenEntries, HasClearEntries, TakesWires}
 
 -- The plane of an admissible plan, drawn in one context with any library of tiles that keep the
 -- timing law and have open entries, carries the signals of its inputs to those of its outputs, from
@@ -39,8 +39,8 @@ PlansAreParts =
     → (plan : Plan) → IsAdmissible plan → (start : List Bool) (lit : Lit)
     → StartsContexts plan (start ∷ []) lit → NetsAreDrawn plan (plane_with library plan lit)
     → IsPart (period_of plan) (plane_with library plan lit) (in_ports plan)
-    (out_ports plan ++ net_ports plan) (plan_machine plan start)
-    × IsCausalMachine (plan_machine plan start)
+    (out_ports plan ++ net_ports plan) (plan_meaning plan start)
+    × IsCausalMeaning (plan_meaning plan start)
 
 -- wires may be laid to and from the ports of every admissible plan
 abbrev pub PortsTakeWires : Type 0

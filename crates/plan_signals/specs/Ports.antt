@@ -5,7 +5,7 @@ use Rattle.lists.specs.Items.{one_if}
 use Rattle.ww_rule.specs.declared.pattern.State.TheVariants.{Empty}
 use Rattle.ww_rule.specs.Wireworld.{Plane}
 use Rattle.wire_laws.specs.Signals.{Signal, cell_state, due_of_signals}
-use Rattle.wire_laws.specs.Rows.{Port, signals_at, Machine, row_of_both}
+use Rattle.wire_laws.specs.Rows.{Port, signals_at, PartMeaning, row_of_both}
 use Rattle.wire_laws.specs.Wires.{IsNear}
 use Rattle.tile_core.specs.declared.kind.Kind.{Kind}
 use Rattle.tile_core.specs.declared.kind.Kind.TheVariants.{East}
@@ -61,8 +61,8 @@ plan_entering plan start bits =
     (map (bits t) (range_with_len 0 (length plan.ins)))) start
 
 -- what a plan makes of the bits of its inputs: the bits of its outputs, and then those of its nets
-abbrev pub plan_machine : Plan → (start : List Bool) → Machine
-plan_machine plan start bits t =
+abbrev pub plan_meaning : Plan → (start : List Bool) → PartMeaning
+plan_meaning plan start bits t =
     row_of_both (length plan.outs)
     (λ i. bit_on (after_columns plan.columns (plan_entering plan start bits t))
     (slice_index plan.outs i))

@@ -8,11 +8,11 @@ use Rattle.std.proofs.lemmas.List.Elements.{Contains-append_cases, Contains-appe
 use Rattle.ww_rule.specs.declared.pattern.State.TheVariants.{Empty, Head}
 use Rattle.ww_rule.specs.Wireworld.{driven}
 use Rattle.wire_laws.specs.Signals.{Signal, cell_state, is_lit, due_of_signals, IsReady}
-use Rattle.wire_laws.specs.Laws.{HasAlike, SignalsLitAlike, DarkInputsMayGo}
+use Rattle.wire_laws.specs.Laws.{HasLitAlike, SignalsLitAlike, DarkInputsMayGo}
 use Rattle.wire_laws.proofs.Dues.{due_by_signal, signal_is_due}
 use Rattle.wire_laws.proofs.Feed.{among_more, input_more}
 
-due_alike : (period : ℕ) (ins inputs : List Signal) → ((s : Signal) → Contains ins s → HasAlike period inputs s) → (g : ℕ) (x y : ℤ) → due_of_signals period ins g x y ≡ true → due_of_signals period inputs g x y ≡ true
+due_alike : (period : ℕ) (ins inputs : List Signal) → ((s : Signal) → Contains ins s → HasLitAlike period inputs s) → (g : ℕ) (x y : ℤ) → due_of_signals period ins g x y ≡ true → due_of_signals period inputs g x y ≡ true
 due_alike period ins inputs alike g x y e =
     let by = due_by_signal period ins g (x, y) e in
     let other = alike by.0 by.1 in
@@ -31,7 +31,7 @@ signals_lit_alike period p ins outs inputs outputs there back shown run =
     dues : due_of_signals period ins ≡ due_of_signals period inputs
     dues = fun_ext (λ g. fun_ext (λ x. fun_ext (λ y. both_ways _ _ (due_alike period ins inputs there g x y) (due_alike period inputs ins back g x y))))
 
-    old : (s : Signal) → Contains (inputs ++ outputs) s → HasAlike period (ins ++ outs) s
+    old : (s : Signal) → Contains (inputs ++ outputs) s → HasLitAlike period (ins ++ outs) s
     old s among =
         elim (Contains-append_cases inputs outputs s among) [
           | inl i ↦ let r = back s i in (r.0, Contains-append_left ins outs r.0 r.1, r.2)

@@ -1,18 +1,17 @@
 -- Parts beside each other, and planes that are known to carry signals by what they show.
-use Rattle.std.proofs.Common.{ℤ, ℕ, zero, suc, ◌+◌, ◌≤◌, ◌≡◌, refl, sym, ap, ◌∙◌, subst, Bool, true, false, ◌||◌, ◌==◌, cond, List, [], ◌∷◌, ◌++◌, length, arith}
+use Rattle.std.proofs.Common.{ℤ, ℕ, zero, suc, ◌+◌, ◌≤◌, ◌≡◌, refl, sym, ap, ap₂, ◌∙◌, subst, Bool, true, false, ◌||◌, ◌==◌, cond, List, [], ◌∷◌, ◌++◌, length, arith}
 use Rattle.std.specs.Prelude.{Contains, ◌≢◌}
 use Rattle.std.proofs.Math.Path.{fun_ext}
 use Rattle.std.proofs.lemmas.Bool.{true≢false}
 use Rattle.std.proofs.lemmas.List.Elements.{Contains-append_left}
-use Rattle.lists.specs.Items.{one_if}
 use Rattle.ww_rule.specs.declared.pattern.State.{State}
 use Rattle.ww_rule.specs.declared.pattern.State.TheVariants.{Empty, Head, Tail, Conductor}
 use Rattle.ww_rule.specs.Wireworld.{Plane, next_state, heads_around, count_head, driven}
 use Rattle.ww_rule.specs.Injections.{MeetsConductors}
 use Rattle.wire_laws.specs.Signals.{Signal, cell_state, is_lit, due_of_signals, IsReady, CarriesSignals}
-use Rattle.wire_laws.specs.Rows.{Port, signal_of, signals_at}
+use Rattle.wire_laws.specs.Rows.{Port, signal_of, signals_at, row_of_both}
 use Rattle.wire_laws.specs.Laws.{side_by_side}
-use Rattle.wire_laws.specs.PartLaws.{both_machines, PartsUnite, is_drawn, cells_around, ShowsSignals, ReadyByCount}
+use Rattle.wire_laws.specs.PartLaws.{both_meanings, PartsUnite, count_full, cells_around, ShowsSignals, ReadyByCount}
 use Rattle.wire_laws.proofs.Lit.{not_soon}
 use Rattle.wire_laws.proofs.Dues.{signal_is_due, stays_empty}
 use Rattle.wire_laws.proofs.Unite.{planes_unite}
@@ -27,9 +26,11 @@ signals_after (port ∷ ports) others bits =
     ∙ ap (λ rest. signal_of port (λ t. bits t 0) ∷ signals_at ports (λ t i. bits t (suc i)) ++ signals_at others rest) (fun_ext (λ t. fun_ext (λ i. (let e : suc (length ports + i) ≡ suc (length ports) + i = omega arith in ap (bits t) e))))
 
 pub parts_unite : PartsUnite
-parts_unite period p q ins outs inputs outputs machine other apart part beside bits =
-    let rest = λ (t i : ℕ). bits t (length ins + i) in
-    subst (λ signals. CarriesSignals period (side_by_side p q) signals (signals_at (outs ++ outputs) (both_machines (length ins) (length outs) machine other bits))) (sym (signals_after ins inputs bits)) (subst (CarriesSignals period (side_by_side p q) (signals_at ins bits ++ signals_at inputs rest)) (sym (signals_both outs outputs (machine bits) (other rest))) (planes_unite period p q (signals_at ins bits) (signals_at outs (machine bits)) (signals_at inputs rest) (signals_at outputs (other rest)) apart (part bits) (beside rest)))
+parts_unite period p q ins outs inputs outputs meaning other apart part beside = (
+    λ bits. let rest = λ (t i : ℕ). bits t (length ins + i) in
+    subst (λ signals. CarriesSignals period (side_by_side p q) signals (signals_at (outs ++ outputs) (both_meanings (length ins) (length outs) meaning other bits))) (sym (signals_after ins inputs bits)) (subst (CarriesSignals period (side_by_side p q) (signals_at ins bits ++ signals_at inputs rest)) (sym (signals_both outs outputs (meaning bits) (other rest))) (planes_unite period p q (signals_at ins bits) (signals_at outs (meaning bits)) (signals_at inputs rest) (signals_at outputs (other rest)) apart (part bits) (beside rest))),
+    λ first second bits others t same. ap₂ (row_of_both (length outs)) (first bits others t same) (second (λ u i. bits u (length ins + i)) (λ u i. others u (length ins + i)) t (λ u le. ap (λ row. λ (i : ℕ). row (length ins + i)) (same u le))),
+)
 
 abbrev is_conductor : State → Bool
 is_conductor Conductor = true
@@ -76,7 +77,7 @@ was_head false Conductor n e = absurd (either (n == 1 || n == 2) e)
 eight_at_most : (a b c d e f g h a' b' c' d' e' f' g' h' : ℕ) → a ≤ a' → b ≤ b' → c ≤ c' → d ≤ d' → e ≤ e' → f ≤ f' → g ≤ g' → h ≤ h' → a + b + c + d + e + f + g + h ≤ a' + b' + c' + d' + e' + f' + g' + h'
 eight_at_most a b c d e f g h a' b' c' d' e' f' g' h' p q r s t u v w = omega arith
 
-counted : (s t : State) → (t ≡ Empty → s ≡ Empty) → count_head s ≤ one_if (is_drawn t)
+counted : (s t : State) → (t ≡ Empty → s ≡ Empty) → count_head s ≤ count_full t
 counted s Empty h = let e : count_head s ≡ 0 = ap count_head (h refl) in omega (arith, e)
 counted Empty Head h = omega arith
 counted Head Head h = omega arith
@@ -99,7 +100,7 @@ module _ (period : ℕ) (long : 3 ≤ period) (p : Plane) (ins outs : List Signa
   ins_drawn s among = shown.drawn s (Contains-append_left ins outs s among)
 
   -- heads are drawn cells
-  at_most : (g : ℕ) (x y : ℤ) → count_head (plane g x y) ≤ one_if (is_drawn (p x y))
+  at_most : (g : ℕ) (x y : ℤ) → count_head (plane g x y) ≤ count_full (p x y)
   at_most g x y = counted (plane g x y) (p x y) (λ e. stays_empty period p ins (x, y) ins_drawn e g)
 
   heads_at_most : (g : ℕ) (x y : ℤ) → heads_around (plane g) x y ≤ cells_around p x y

@@ -9,7 +9,7 @@ use Rattle.ww_rule.specs.declared.pattern.State.TheVariants.{Head}
 use Rattle.ww_rule.specs.Wireworld.{Plane, driven}
 use Rattle.ww_rule.proofs.DrivenPlanes.{is_causal}
 use Rattle.wire_laws.specs.Signals.{Signal, cell_state, is_lit, due_of_signals}
-use Rattle.wire_laws.specs.Rows.{Port, signal_of, signals_at, Machine, IsPart, row_of_both}
+use Rattle.wire_laws.specs.Rows.{Port, signal_of, signals_at, PartMeaning, IsPart, row_of_both}
 use Rattle.wire_laws.proofs.Lit.{lit_in, in_lit}
 use Rattle.wire_laws.proofs.Rows.{port_signal, no_port, signal_of_port}
 
@@ -42,17 +42,17 @@ due_same period [] bits others h x y same = refl
 due_same period (port ∷ ports) bits others h x y same =
     ap₂ (λ b c. b && int_eq port.0.0 x && int_eq port.0.1 y || c) (same 0 (omega arith)) (due_same period ports (λ t i. bits t (suc i)) (λ t i. others t (suc i)) h x y (λ i l. same (suc i) (omega arith)))
 
-module _ (period : ℕ) (some : 0 < period) (p : Plane) (ins outs : List Port) (machine : Machine) (part : IsPart period p ins outs machine) (i t : ℕ) (l : i < length outs) where
+module _ (period : ℕ) (some : 0 < period) (p : Plane) (ins outs : List Port) (meaning : PartMeaning) (part : IsPart period p ins outs meaning) (i t : ℕ) (l : i < length outs) where
   abbrev time : ℕ
   time = (get_or outs i no_port).1 + t * period
 
   abbrev shown : (ℕ → ℕ → Bool) → Signal
-  shown row = port_signal (get_or outs i no_port) (machine row) i
+  shown row = port_signal (get_or outs i no_port) (meaning row) i
 
-  among : (row : ℕ → ℕ → Bool) → Contains (signals_at ins row ++ signals_at outs (machine row)) (shown row)
-  among row = contains_from _ (shown row) (in_right (signals_at ins row) (signals_at outs (machine row)) (shown row) (signal_of_port outs (machine row) i l))
+  among : (row : ℕ → ℕ → Bool) → Contains (signals_at ins row ++ signals_at outs (meaning row)) (shown row)
+  among row = contains_from _ (shown row) (in_right (signals_at ins row) (signals_at outs (meaning row)) (shown row) (signal_of_port outs (meaning row) i l))
 
-  as_shown : (bits others : ℕ → ℕ → Bool) → ((h : ℕ) (x y : ℤ) → h ≤ time → due_of_signals period (signals_at ins bits) h x y ≡ due_of_signals period (signals_at ins others) h x y) → machine bits t i ≡ true → machine others t i ≡ true
+  as_shown : (bits others : ℕ → ℕ → Bool) → ((h : ℕ) (x y : ℤ) → h ≤ time → due_of_signals period (signals_at ins bits) h x y ≡ due_of_signals period (signals_at ins others) h x y) → meaning bits t i ≡ true → meaning others t i ≡ true
   as_shown bits others agree bit =
       let head : cell_state (driven (due_of_signals period (signals_at ins bits)) p time) (get_or outs i no_port).0 ≡ Head = ((part bits).shows (shown bits) (among bits) time).1 (in_lit period (shown bits) time t some refl bit) in
       let planes : driven (due_of_signals period (signals_at ins bits)) p time ≡ driven (due_of_signals period (signals_at ins others)) p time = is_causal (due_of_signals period (signals_at ins bits)) (due_of_signals period (signals_at ins others)) p time agree in
@@ -61,8 +61,8 @@ module _ (period : ℕ) (some : 0 < period) (p : Plane) (ins outs : List Port) (
       let at : (get_or outs i no_port).1 + t * period ≡ (get_or outs i no_port).1 + c.0 * period = c.1 in
       let product : t * period ≡ c.0 * period = omega (arith, at) in
       let cycle : t ≡ c.0 = sym (mul-div_cancel t some) ∙ ap (λ n. n / period) product ∙ mul-div_cancel c.0 some in
-      ap (λ u. machine others u i) cycle ∙ c.2
+      ap (λ u. meaning others u i) cycle ∙ c.2
 
-  pub shown_early : (bits others : ℕ → ℕ → Bool) → ((h : ℕ) (x y : ℤ) → h ≤ (get_or outs i no_port).1 + t * period → due_of_signals period (signals_at ins bits) h x y ≡ due_of_signals period (signals_at ins others) h x y) → machine bits t i ≡ machine others t i
+  pub shown_early : (bits others : ℕ → ℕ → Bool) → ((h : ℕ) (x y : ℤ) → h ≤ (get_or outs i no_port).1 + t * period → due_of_signals period (signals_at ins bits) h x y ≡ due_of_signals period (signals_at ins others) h x y) → meaning bits t i ≡ meaning others t i
   shown_early bits others same =
       both_ways _ _ (as_shown bits others same) (as_shown others bits (λ h x y le. sym (same h x y le)))

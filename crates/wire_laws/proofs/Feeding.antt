@@ -10,8 +10,8 @@ use Rattle.lists.specs.Items.{flag_at}
 use Rattle.lists.proofs.Members.{contains_from, in_got}
 use Rattle.ww_rule.specs.Wireworld.{Plane}
 use Rattle.wire_laws.specs.Signals.{due_of_signals}
-use Rattle.wire_laws.specs.Rows.{Port, signals_at, Machine, IsPart, IsCausalMachine, row_of_both}
-use Rattle.wire_laws.specs.PortWires.{PortWire, IsInTime, all_inputs, with_fed, FeedsBack}
+use Rattle.wire_laws.specs.Rows.{Port, signals_at, PartMeaning, IsPart, IsCausalMeaning, row_of_both}
+use Rattle.wire_laws.specs.PortWires.{PortWire, ComesInTime, all_inputs, with_fed, FeedsBack}
 use Rattle.wire_laws.proofs.Dues.{lights}
 use Rattle.wire_laws.proofs.Rows.{no_port}
 use Rattle.wire_laws.proofs.Early.{both_first, both_rest, signals_both, lit_same, due_same, shown_early}
@@ -40,21 +40,21 @@ signals_joined wires ins fed bits =
     ap (λ n. signals_at (all_inputs wires ins) (λ t. row_of_both n (fed t) (bits t))) (sym (length-map wires (λ wire. wire.input)))
     ∙ signals_both (inputs_of wires) ins fed bits
 
-module _ (period : ℕ) (some : 0 < period) (wires : List PortWire) (ins outs : List Port) (before : Plane) (machine : Machine) (part : IsPart period before (all_inputs wires ins) outs machine) (fits : (wire : PortWire) → Contains wires wire → IsInTime period outs wire) where
+module _ (period : ℕ) (some : 0 < period) (wires : List PortWire) (ins outs : List Port) (before : Plane) (meaning : PartMeaning) (part : IsPart period before (all_inputs wires ins) outs meaning) (fits : (wire : PortWire) → Contains wires wire → ComesInTime period outs wire) where
   -- the generation at which the bit of a cycle comes by a wire
   abbrev time : ℕ → ℕ → ℕ
   time t i = (get_or (inputs_of wires) i no_port).1 + t * period
 
   abbrev comes : Option PortWire → (bits fed : ℕ → ℕ → Bool) → ℕ → Bool
   comes None bits fed t = false
-  comes (Some wire) bits fed t = row_of_both (length wire.starts) (flag_at wire.starts) (λ s. machine (with_fed wires fed bits) s wire.output) t
+  comes (Some wire) bits fed t = row_of_both (length wire.starts) (flag_at wire.starts) (λ s. meaning (with_fed wires fed bits) s wire.output) t
 
   -- the bits that come by the wires if these were fed
   abbrev next : (bits fed : ℕ → ℕ → Bool) → ℕ → ℕ → Bool
   next bits fed t i = comes (slice_get wires i) bits fed t
 
   module _ (bits fed other : ℕ → ℕ → Bool) (t i : ℕ) (same : (u j : ℕ) → j < length wires → time u j < time t i → fed u j ≡ other u j) (wire : PortWire) (at : slice_get wires i ≡ Some wire) where
-    its : IsInTime period outs wire
+    its : ComesInTime period outs wire
     its = fits wire (contains_from wires wire (in_got wires i wire at))
 
     sooner : (s h u j : ℕ) → t ≡ length wire.starts + s → h ≤ (get_or outs wire.output no_port).1 + s * period → h ≡ time u j → time u j < time t i
@@ -78,9 +78,9 @@ module _ (period : ℕ) (some : 0 < period) (wires : List PortWire) (ins outs : 
               let s = t - length wire.starts in
               let cycle : t ≡ length wire.starts + s = omega arith in
               ap (comes (Some wire) bits fed) cycle
-              ∙ both_rest (length wire.starts) (flag_at wire.starts) (λ s. machine (with_fed wires fed bits) s wire.output) s
-              ∙ shown_early period some before (all_inputs wires ins) outs machine part wire.output s its.source (with_fed wires fed bits) (with_fed wires other bits) (due_early s cycle)
-              ∙ sym (ap (comes (Some wire) bits other) cycle ∙ both_rest (length wire.starts) (flag_at wire.starts) (λ s. machine (with_fed wires other bits) s wire.output) s)
+              ∙ both_rest (length wire.starts) (flag_at wire.starts) (λ s. meaning (with_fed wires fed bits) s wire.output) s
+              ∙ shown_early period some before (all_inputs wires ins) outs meaning part wire.output s its.source (with_fed wires fed bits) (with_fed wires other bits) (due_early s cycle)
+              ∙ sym (ap (comes (Some wire) bits other) cycle ∙ both_rest (length wire.starts) (flag_at wire.starts) (λ s. meaning (with_fed wires other bits) s wire.output) s)
         ]
 
   -- they depend on those alone that came earlier
@@ -102,35 +102,35 @@ module _ (period : ℕ) (some : 0 < period) (wires : List PortWire) (ins outs : 
   agree bits (suc n) (suc k) t i l a b =
       strict bits (approx bits n) (approx bits k) t i l (λ u j lj early. agree bits n k u j lj (omega (arith, a, early)) (omega (arith, b, early)))
 
-  abbrev pub fed_of : Machine
+  abbrev pub fed_of : PartMeaning
   fed_of bits t i = approx bits (suc (time t i)) t i
 
   is_fixed : (bits : ℕ → ℕ → Bool) (t i : ℕ) → i < length wires → fed_of bits t i ≡ next bits (fed_of bits) t i
   is_fixed bits t i l =
       strict bits (approx bits (time t i)) (fed_of bits) t i l (λ u j lj early. agree bits (time t i) (suc (time u j)) u j lj early (omega arith))
 
-  pub feeds : (bits : ℕ → ℕ → Bool) → FeedsBack wires machine bits (fed_of bits)
+  pub feeds : (bits : ℕ → ℕ → Bool) → FeedsBack wires meaning bits (fed_of bits)
   feeds bits =
       record {
-        starts = λ i wire at t lt. is_fixed bits t i (got_within wires i wire at) ∙ ap (λ found. comes found bits (fed_of bits) t) at ∙ both_first (length wire.starts) (flag_at wire.starts) (λ s. machine (with_fed wires (fed_of bits) bits) s wire.output) t lt;
-        later = λ i wire at t. is_fixed bits (length wire.starts + t) i (got_within wires i wire at) ∙ ap (λ found. comes found bits (fed_of bits) (length wire.starts + t)) at ∙ both_rest (length wire.starts) (flag_at wire.starts) (λ s. machine (with_fed wires (fed_of bits) bits) s wire.output) t;
+        starts = λ i wire at t lt. is_fixed bits t i (got_within wires i wire at) ∙ ap (λ found. comes found bits (fed_of bits) t) at ∙ both_first (length wire.starts) (flag_at wire.starts) (λ s. meaning (with_fed wires (fed_of bits) bits) s wire.output) t lt;
+        later = λ i wire at t. is_fixed bits (length wire.starts + t) i (got_within wires i wire at) ∙ ap (λ found. comes found bits (fed_of bits) (length wire.starts + t)) at ∙ both_rest (length wire.starts) (flag_at wire.starts) (λ s. meaning (with_fed wires (fed_of bits) bits) s wire.output) t;
       }
 
   -- whatever is fed back comes by the wires
-  module _ (bits other : ℕ → ℕ → Bool) (h : FeedsBack wires machine bits other) where
+  module _ (bits other : ℕ → ℕ → Bool) (h : FeedsBack wires meaning bits other) where
     also_fixed : (t i : ℕ) → i < length wires → other t i ≡ next bits other t i
     also_fixed t i l = go (slice_get wires i) refl
       where
         step : (wire : PortWire) → slice_get wires i ≡ Some wire → other t i ≡ comes (Some wire) bits other t
         step wire at =
             elim (cases_lt t (length wire.starts)) [
-              | inl lt ↦ h.starts i wire at t lt ∙ sym (both_first (length wire.starts) (flag_at wire.starts) (λ s. machine (with_fed wires other bits) s wire.output) t lt)
+              | inl lt ↦ h.starts i wire at t lt ∙ sym (both_first (length wire.starts) (flag_at wire.starts) (λ s. meaning (with_fed wires other bits) s wire.output) t lt)
               | inr ge ↦
                   let s = t - length wire.starts in
                   let cycle : t ≡ length wire.starts + s = omega arith in
                   ap (λ n. other n i) cycle
                   ∙ h.later i wire at s
-                  ∙ sym (ap (comes (Some wire) bits other) cycle ∙ both_rest (length wire.starts) (flag_at wire.starts) (λ s. machine (with_fed wires other bits) s wire.output) s)
+                  ∙ sym (ap (comes (Some wire) bits other) cycle ∙ both_rest (length wire.starts) (flag_at wire.starts) (λ s. meaning (with_fed wires other bits) s wire.output) s)
             ]
 
         go : (found : Option PortWire) → slice_get wires i ≡ found → other t i ≡ comes found bits other t
@@ -145,7 +145,7 @@ module _ (period : ℕ) (some : 0 < period) (wires : List PortWire) (ins outs : 
     pub only_these : (t i : ℕ) → i < length wires → other t i ≡ fed_of bits t i
     only_these t i l = below (suc (time t i)) t i l (omega arith)
 
-  module _ (causal : IsCausalMachine machine) (bits others : ℕ → ℕ → Bool) (t : ℕ) (same : (u : ℕ) → u ≤ t → bits u ≡ others u) where
+  module _ (causal : IsCausalMeaning meaning) (bits others : ℕ → ℕ → Bool) (t : ℕ) (same : (u : ℕ) → u ≤ t → bits u ≡ others u) where
     -- one step more of the approximation
     module _ (n u : ℕ) (le : u ≤ t) (before_same : (v j : ℕ) → v ≤ t → approx bits n v j ≡ approx others n v j) where
       rows : (v : ℕ) → v ≤ t → with_fed wires (approx bits n) bits v ≡ with_fed wires (approx others n) others v
@@ -159,9 +159,9 @@ module _ (period : ℕ) (some : 0 < period) (wires : List PortWire) (ins outs : 
                 let s = u - length wire.starts in
                 let cycle : u ≡ length wire.starts + s = omega arith in
                 ap (comes (Some wire) bits (approx bits n)) cycle
-                ∙ both_rest (length wire.starts) (flag_at wire.starts) (λ s. machine (with_fed wires (approx bits n) bits) s wire.output) s
+                ∙ both_rest (length wire.starts) (flag_at wire.starts) (λ s. meaning (with_fed wires (approx bits n) bits) s wire.output) s
                 ∙ ap (λ row. row wire.output) (causal (with_fed wires (approx bits n) bits) (with_fed wires (approx others n) others) s (λ v l. rows v (omega (arith, l, le))))
-                ∙ sym (ap (comes (Some wire) others (approx others n)) cycle ∙ both_rest (length wire.starts) (flag_at wire.starts) (λ s. machine (with_fed wires (approx others n) others) s wire.output) s)
+                ∙ sym (ap (comes (Some wire) others (approx others n)) cycle ∙ both_rest (length wire.starts) (flag_at wire.starts) (λ s. meaning (with_fed wires (approx others n) others) s wire.output) s)
           ]
 
       found_same : (found : Option PortWire) → comes found bits (approx bits n) u ≡ comes found others (approx others n) u
@@ -172,6 +172,6 @@ module _ (period : ℕ) (some : 0 < period) (wires : List PortWire) (ins outs : 
     approx_same zero u i le = refl
     approx_same (suc n) u i le = found_same n u le (λ v j l. approx_same n v j l) (slice_get wires i)
 
-    pub causal_again : machine (with_fed wires (fed_of bits) bits) t ≡ machine (with_fed wires (fed_of others) others) t
+    pub causal_again : meaning (with_fed wires (fed_of bits) bits) t ≡ meaning (with_fed wires (fed_of others) others) t
     causal_again =
         causal (with_fed wires (fed_of bits) bits) (with_fed wires (fed_of others) others) t (λ u l. ap₂ (row_of_both (length wires)) (fun_ext (λ i. approx_same (suc (time u i)) u i l)) (same u l))

@@ -11,7 +11,7 @@ use Rattle.ww_rule.specs.declared.pattern.State.TheVariants.{Empty, Head, Tail, 
 use Rattle.ww_rule.specs.Wireworld.{Plane, Due, next_plane, driven}
 use Rattle.wire_laws.specs.Signals.{Signal, cell_state, is_lit, due_of_signals, IsReady, CarriesSignals}
 use Rattle.wire_laws.specs.Rows.{Port, signals_at, HasNoElectrons}
-use Rattle.wire_laws.specs.Laws.{delayed, PlanesStartLater}
+use Rattle.wire_laws.specs.Laws.{begun_later, PlanesStartLater}
 use Rattle.wire_laws.specs.PartLaws.{PartsStartLater}
 use Rattle.wire_laws.proofs.Lit.{lit_in, in_lit}
 use Rattle.wire_laws.proofs.Slower.{none_lit, rests}
@@ -96,13 +96,13 @@ module _ (period : ℕ) (some : 0 < period) where
               subst (λ s. IsReady (driven due_later p g) s.cell) (sym r.2) (ready r.0 (contains_from ins r.0 r.1) g (ap (λ s. is_lit period s (suc g)) (sym r.2) ∙ lit)));
         }
 
-not_later : (signals : List Signal) → map (delayed 0) signals ≡ signals
+not_later : (signals : List Signal) → map (begun_later 0) signals ≡ signals
 not_later [] = refl
 not_later (s ∷ signals) =
     let e : 0 + s.first ≡ s.first = omega arith in
     ap₂ (λ n rest. record { cell = s.cell; first = n; bit = s.bit } ∷ rest) e (not_later signals)
 
-next_later : (d : ℕ) (signals : List Signal) → map (delayed (suc d)) signals ≡ map next_of (map (delayed d) signals)
+next_later : (d : ℕ) (signals : List Signal) → map (begun_later (suc d)) signals ≡ map next_of (map (begun_later d) signals)
 next_later d [] = refl
 next_later d (s ∷ signals) =
     let e : suc d + s.first ≡ suc (d + s.first) = omega arith in
@@ -110,17 +110,17 @@ next_later d (s ∷ signals) =
 
 pub planes_start_later : PlanesStartLater
 planes_start_later period zero some p ins outs none run =
-    subst (λ signals. CarriesSignals period p signals (map (delayed 0) outs)) (sym (not_later ins)) (subst (CarriesSignals period p ins) (sym (not_later outs)) run)
+    subst (λ signals. CarriesSignals period p signals (map (begun_later 0) outs)) (sym (not_later ins)) (subst (CarriesSignals period p ins) (sym (not_later outs)) run)
 planes_start_later period (suc d) some p ins outs none run =
-    subst (λ signals. CarriesSignals period p signals (map (delayed (suc d)) outs)) (sym (next_later d ins)) (subst (CarriesSignals period p (map next_of (map (delayed d) ins))) (sym (next_later d outs)) (one_later period some p none (map (delayed d) ins) (map (delayed d) outs) (planes_start_later period d some p ins outs none run)))
+    subst (λ signals. CarriesSignals period p signals (map (begun_later (suc d)) outs)) (sym (next_later d ins)) (subst (CarriesSignals period p (map next_of (map (begun_later d) ins))) (sym (next_later d outs)) (one_later period some p none (map (begun_later d) ins) (map (begun_later d) outs) (planes_start_later period d some p ins outs none run)))
 
 abbrev later_port : ℕ → Port → Port
 later_port d port = (port.0, d + port.1)
 
-ports_later : (d : ℕ) (ports : List Port) (bits : ℕ → ℕ → Bool) → signals_at (map (later_port d) ports) bits ≡ map (delayed d) (signals_at ports bits)
+ports_later : (d : ℕ) (ports : List Port) (bits : ℕ → ℕ → Bool) → signals_at (map (later_port d) ports) bits ≡ map (begun_later d) (signals_at ports bits)
 ports_later d [] bits = refl
-ports_later d (port ∷ ports) bits = ap (λ rest. delayed d (record { cell = port.0; first = port.1; bit = λ t. bits t 0 }) ∷ rest) (ports_later d ports (λ t i. bits t (suc i)))
+ports_later d (port ∷ ports) bits = ap (λ rest. begun_later d (record { cell = port.0; first = port.1; bit = λ t. bits t 0 }) ∷ rest) (ports_later d ports (λ t i. bits t (suc i)))
 
 pub parts_start_later : PartsStartLater
-parts_start_later period d some p ins outs machine none part bits =
-    subst (λ signals. CarriesSignals period p signals (signals_at (map (later_port d) outs) (machine bits))) (sym (ports_later d ins bits)) (subst (CarriesSignals period p (map (delayed d) (signals_at ins bits))) (sym (ports_later d outs (machine bits))) (planes_start_later period d some p (signals_at ins bits) (signals_at outs (machine bits)) none (part bits)))
+parts_start_later period d some p ins outs meaning none part bits =
+    subst (λ signals. CarriesSignals period p signals (signals_at (map (later_port d) outs) (meaning bits))) (sym (ports_later d ins bits)) (subst (CarriesSignals period p (map (begun_later d) (signals_at ins bits))) (sym (ports_later d outs (meaning bits))) (planes_start_later period d some p (signals_at ins bits) (signals_at outs (meaning bits)) none (part bits)))

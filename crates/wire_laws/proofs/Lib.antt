@@ -17,3 +17,4 @@ pub mod PartWires
 pub mod Alike
 pub mod Later
 pub mod Beside
+pub mod Ordered

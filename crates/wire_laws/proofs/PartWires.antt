@@ -10,8 +10,8 @@ use Rattle.ww_rule.specs.declared.pattern.State.TheVariants.{Head, Tail, Conduct
 use Rattle.ww_rule.specs.Wireworld.{Plane}
 use Rattle.wire_laws.specs.Signals.{Signal, cell_state, is_lit, CarriesSignals}
 use Rattle.wire_laws.specs.Wires.{Wire, ComesByWire, IsWireDrawn, IsLaid, ShareNoCell, AreDisjointWires, IsAwayFrom, HasWires}
-use Rattle.wire_laws.specs.Rows.{Port, signal_of, signals_at, Machine, IsPart}
-use Rattle.wire_laws.specs.PortWires.{PortWire, drawn_wire, IsInTime, HasPortWires, all_inputs, with_fed, FeedsBack, PartsFeed}
+use Rattle.wire_laws.specs.Rows.{Port, signal_of, signals_at, PartMeaning, IsPart}
+use Rattle.wire_laws.specs.PortWires.{PortWire, drawn_wire, ComesInTime, HasPortWires, all_inputs, with_fed, FeedsBack, PartsFeed}
 use Rattle.wire_laws.proofs.Delay.{wires_delay}
 use Rattle.wire_laws.proofs.Rows.{port_signal, no_port, port_of_signal, signal_of_port}
 use Rattle.wire_laws.proofs.Together.{wires_feed}
@@ -57,9 +57,9 @@ module _ (outs : List Port) (shown : ℕ → ℕ → Bool) where
     disjoint wires (λ t i. fed t (suc i)) h.1,
   )
 
-module _ (period : ℕ) (long : 3 ≤ period) (wires : List PortWire) (ins outs : List Port) (before after : Plane) (machine : Machine) (h : HasPortWires period wires ins outs before after) (part : IsPart period before (all_inputs wires ins) outs machine) (bits fed : ℕ → ℕ → Bool) (back : FeedsBack wires machine bits fed) where
+module _ (period : ℕ) (long : 3 ≤ period) (wires : List PortWire) (ins outs : List Port) (before after : Plane) (meaning : PartMeaning) (h : HasPortWires period wires ins outs before after) (part : IsPart period before (all_inputs wires ins) outs meaning) (bits fed : ℕ → ℕ → Bool) (back : FeedsBack wires meaning bits fed) where
   abbrev shown : ℕ → ℕ → Bool
-  shown = machine (with_fed wires fed bits)
+  shown = meaning (with_fed wires fed bits)
 
   abbrev all : List Wire
   all = wires_with outs shown wires fed
@@ -71,7 +71,7 @@ module _ (period : ℕ) (long : 3 ≤ period) (wires : List PortWire) (ins outs 
     abbrev its_wire : Wire
     its_wire = wire_with outs shown wire (λ t. fed t i)
 
-    its : IsInTime period outs wire
+    its : ComesInTime period outs wire
     its = h.in_time wire (contains_from wires wire (in_got wires i wire at))
 
     drawn_among : Contains (map (drawn_wire outs) wires) (drawn_wire outs wire)
@@ -150,12 +150,12 @@ module _ (period : ℕ) (long : 3 ≤ period) (wires : List PortWire) (ins outs 
       wires_feed period long all (signals_at ins bits) (signals_at outs shown) before after has_wires (subst (λ signals. CarriesSignals period before signals (signals_at outs shown)) inputs (part (with_fed wires fed bits)))
 
 pub parts_feed : PartsFeed
-parts_feed period long wires ins outs before after machine h part =
+parts_feed period long wires ins outs before after meaning h part =
     let some : 0 < period = omega (arith, long) in
     record {
-      fed = fed_of period some wires ins outs before machine part h.in_time;
-      feeds = feeds period some wires ins outs before machine part h.in_time;
-      only = λ bits other back. only_these period some wires ins outs before machine part h.in_time bits other back;
-      part = λ bits. carried_by period long wires ins outs before after machine h part bits (fed_of period some wires ins outs before machine part h.in_time bits) (feeds period some wires ins outs before machine part h.in_time bits);
-      causal = λ causal bits others t same. causal_again period some wires ins outs before machine part h.in_time causal bits others t same;
+      fed = fed_of period some wires ins outs before meaning part h.in_time;
+      feeds = feeds period some wires ins outs before meaning part h.in_time;
+      only = λ bits other back. only_these period some wires ins outs before meaning part h.in_time bits other back;
+      part = λ bits. carried_by period long wires ins outs before after meaning h part bits (fed_of period some wires ins outs before meaning part h.in_time bits) (feeds period some wires ins outs before meaning part h.in_time bits);
+      causal = λ causal bits others t same. causal_again period some wires ins outs before meaning part h.in_time causal bits others t same;
     }

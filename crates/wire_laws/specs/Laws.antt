@@ -42,22 +42,22 @@ OrderIsFree =
     → CarriesSignals period p ins outs → CarriesSignals period p inputs outputs
 
 -- two signals of one cell that are lit at the same generations
-pub record AreAlike (period : ℕ) (s other : Signal) : Type 0 where
+pub record AreLitAlike (period : ℕ) (s other : Signal) : Type 0 where
   pub cell : s.cell ≡ other.cell
   pub lit : (g : ℕ) → is_lit period s g ≡ is_lit period other g
 
 -- one of these signals is like that one
-abbrev pub HasAlike : (period : ℕ) → List Signal → Signal → Type 0
-HasAlike period signals s = (other : Signal) × Contains signals other × AreAlike period s other
+abbrev pub HasLitAlike : (period : ℕ) → List Signal → Signal → Type 0
+HasLitAlike period signals s = (other : Signal) × Contains signals other × AreLitAlike period s other
 
 -- Signals that are lit alike may stand for each other, whatever their first cycles and bits are. So
--- a signal whose bits come a cycle later may be said to begin a period later.
+-- a signal whose first bit is 0 may be said to begin a period later, with the bits that follow.
 abbrev pub SignalsLitAlike : Type 0
 SignalsLitAlike =
     (period : ℕ) (p : Plane) (ins outs inputs outputs : List Signal)
-    → ((s : Signal) → Contains ins s → HasAlike period inputs s)
-    → ((s : Signal) → Contains inputs s → HasAlike period ins s)
-    → ((s : Signal) → Contains outputs s → HasAlike period (ins ++ outs) s)
+    → ((s : Signal) → Contains ins s → HasLitAlike period inputs s)
+    → ((s : Signal) → Contains inputs s → HasLitAlike period ins s)
+    → ((s : Signal) → Contains outputs s → HasLitAlike period (ins ++ outs) s)
     → CarriesSignals period p ins outs → CarriesSignals period p inputs outputs
 
 -- an input that is never lit may be left without a drive
@@ -68,15 +68,15 @@ DarkInputsMayGo =
     → CarriesSignals period p (s ∷ ins) outs → CarriesSignals period p ins outs
 
 -- the signal so many generations later
-abbrev pub delayed : ℕ → Signal → Signal
-delayed d s = record { cell = s.cell; first = d + s.first; bit = s.bit }
+abbrev pub begun_later : ℕ → Signal → Signal
+begun_later d s = record { cell = s.cell; first = d + s.first; bit = s.bit }
 
 -- a plane without electrons carries its signals as many generations later, however many these are
 abbrev pub PlanesStartLater : Type 0
 PlanesStartLater =
     (period d : ℕ) → 0 < period → (p : Plane) (ins outs : List Signal) → HasNoElectrons p
     → CarriesSignals period p ins outs
-    → CarriesSignals period p (map (delayed d) ins) (map (delayed d) outs)
+    → CarriesSignals period p (map (begun_later d) ins) (map (begun_later d) outs)
 
 -- the cells that are not empty in one plane lie two or more columns or rows from those of the other
 abbrev pub StandApart : Plane → Plane → Type 0

@@ -34,23 +34,24 @@ pub record HasNoElectrons (p : Plane) : Type 0 where
   pub heads : (x y : ℤ) → p x y ≢ Head
   pub tails : (x y : ℤ) → p x y ≢ Tail
 
--- What a part makes of bits: bits by cycle and by the number of the output, from bits by cycle and
--- by the number of the input.
-abbrev pub Machine : Type 0
-Machine = (ℕ → ℕ → Bool) → ℕ → ℕ → Bool
+-- What a part makes of bits, which are given by cycle and by the number of the input: bits by cycle
+-- and by the number of the output.
+abbrev pub PartMeaning : Type 0
+PartMeaning = (ℕ → ℕ → Bool) → ℕ → ℕ → Bool
 
--- The plane is a part: whatever the bits are, it carries them, from its inputs, to those that the
--- machine makes of them, at its outputs. A net is an output whose first cycle is at its offset.
-abbrev pub IsPart : (period : ℕ) → Plane → (ins outs : List Port) → Machine → Type 0
-IsPart period p ins outs machine =
+-- The plane is a part with this meaning: whatever the bits at its inputs are, it carries them to
+-- what the meaning makes of them, at its outputs. Nets stand among the outputs: each port has a
+-- time of its own.
+abbrev pub IsPart : (period : ℕ) → Plane → (ins outs : List Port) → PartMeaning → Type 0
+IsPart period p ins outs meaning =
     (bits : ℕ → ℕ → Bool) → CarriesSignals period p (signals_at ins bits)
-    (signals_at outs (machine bits))
+    (signals_at outs (meaning bits))
 
--- what the machine makes of a cycle depends on no later cycle
-abbrev pub IsCausalMachine : Machine → Type 0
-IsCausalMachine machine =
+-- what is made of the bits in a cycle depends on no later cycle
+abbrev pub IsCausalMeaning : PartMeaning → Type 0
+IsCausalMeaning meaning =
     (bits others : ℕ → ℕ → Bool) (t : ℕ) → ((u : ℕ) → u ≤ t → bits u ≡ others u)
-    → machine bits t ≡ machine others t
+    → meaning bits t ≡ meaning others t
 
 -- The plane answers each row of input bits by one row of output bits, which depends on no other
 -- row.

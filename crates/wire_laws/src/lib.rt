@@ -12,4 +12,7 @@ pub use laws::{
     planes_start_later, planes_unite, rows_are_signals, signals_keep_time, signals_lit_alike,
     stretched_are_slower, wires_delay, wires_feed,
 };
-pub use parts::{parts_feed, parts_start_later, parts_unite, ready_by_count};
+pub use parts::{
+    parts_feed, parts_move, parts_start_later, parts_take_order, parts_unite, ready_by_count,
+    unused_inputs_go,
+};

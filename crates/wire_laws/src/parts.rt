@@ -1,5 +1,5 @@
 //! Laws of parts: each function does nothing, and its contract is the law.
-ghost use Rattle.wire_laws.specs.PartLaws.{PartsUnite, PartsStartLater, ReadyByCount};
+ghost use Rattle.wire_laws.specs.PartLaws.{PartsUnite, PartsMove, PartsTakeOrder, UnusedInputsGo, PartsStartLater, ReadyByCount};
 ghost use Rattle.wire_laws.specs.PortWires.{PartsFeed};
 
 /// Wires from outputs of a part to inputs of it make another part, without these inputs. Each wire
@@ -12,9 +12,25 @@ pub fn parts_feed()
     ensures { PartsFeed }
 {}
 
-/// Two parts that stand apart are one part, with the machines of both beside each other.
+/// Two parts that stand apart are one part, which makes what both make.
 pub fn parts_unite()
     ensures { PartsUnite }
+{}
+
+/// A part that is moved, mirrored or turned is a part.
+pub fn parts_move()
+    ensures { PartsMove }
+{}
+
+/// The inputs of a part may stand in any order, and its outputs too; outputs may be left out, and
+/// an input may be read like an output.
+pub fn parts_take_order()
+    ensures { PartsTakeOrder }
+{}
+
+/// An input of a part may be left without a drive, with bits that are 0.
+pub fn unused_inputs_go()
+    ensures { UnusedInputsGo }
 {}
 
 /// A part without electrons is also a part if all its ports begin as many generations later.
