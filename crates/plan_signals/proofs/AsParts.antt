@@ -1,11 +1,11 @@
 -- The plane of a plan is a part: its outputs and its nets.
-use Rattle.std.proofs.Common.{ℤ, pos, ℕ, zero, suc, ◌+◌, ◌*◌, ◌<◌, ◌≤◌, ◌≡◌, ◌≢◌, refl, sym, ap, ap₂, ◌∙◌, subst, inl, inr, Bool, true, List, [], ◌∷◌, ◌++◌, length, map, get_or, arith}
+use Rattle.std.proofs.Common.{pos, ℕ, zero, suc, ◌+◌, ◌*◌, ◌<◌, ◌≤◌, ◌≡◌, ◌≢◌, sym, ap, ap₂, ◌∙◌, subst, inl, inr, Bool, true, List, [], ◌∷◌, ◌++◌, length, map, get_or, arith}
 use Rattle.std.specs.Prelude.{Contains, ◌⊎◌, ◌↔◌, slice_index, None}
 use Rattle.std.specs.List.{range_with_len}
 use Rattle.std.proofs.Math.Path.{fun_ext}
 use Rattle.std.proofs.lemmas.List.{length-map, get_or-map, get_or_default}
 use Rattle.std.proofs.lemmas.List.Elements.{Contains-append_cases, Contains-append_left, Contains-append_right}
-use Rattle.lists.proofs.Members.{in_from, contains_from}
+use Rattle.lists.proofs.Members.{in_from}
 use Rattle.ww_rule.specs.declared.pattern.State.TheVariants.{Empty, Head}
 use Rattle.ww_rule.specs.Wireworld.{Plane, Due, driven}
 use Rattle.wire_laws.specs.Signals.{Signal, is_lit, cell_state, due_of_signals, CarriesSignals}
@@ -28,11 +28,12 @@ use Rattle.plan_layout.specs.Planes.{plane_with}
 use Rattle.plan_waves.specs.Contexts.{StartsContexts, injected_in, context_bits}
 use Rattle.plan_waves.specs.ShownContexts.{ShowsContextBits}
 use Rattle.plan_waves.proofs.ShownContexts.{plans_show_contexts}
-use Rattle.plan_signals.specs.Ports.{out_ports, net_ports, in_signals, out_signals, plan_entering, plan_meaning, HasOpenEntries}
-use Rattle.plan_signals.specs.Laws.{NetsAreDrawn, PlansAreParts}
+use Rattle.plan_signals.specs.Ports.{out_ports, net_ports, in_signals, out_signals, plan_entering, shown_bits, plan_meaning, HasOpenEntries}
+use Rattle.plan_signals.specs.Laws.{PlansAreParts}
 use Rattle.plan_signals.proofs.Ins.{long, drives}
 use Rattle.plan_signals.proofs.Carried.{plans_carry_signals}
-use Rattle.plan_signals.proofs.Loopless.{lane_due}
+use Rattle.plan_signals.proofs.LaneDue.{lane_due}
+use Rattle.plan_signals.proofs.NetCells.{nets_drawn}
 
 -- what enters the columns depends on no later cycle
 entering_same : (free : ℕ) (columns : List Column) (inputs others : ℕ → List Bool) (start : List Bool) (t : ℕ) → ((u : ℕ) → u ≤ t → inputs u ≡ others u) → entering_bits free columns inputs start t ≡ entering_bits free columns others start t
@@ -40,18 +41,14 @@ entering_same free columns inputs others start zero same = ap (λ bits. bits ++ 
 entering_same free columns inputs others start (suc t) same =
     ap₂ (λ bits before. bits ++ leaving free (after_columns columns before)) (same (suc t) (omega arith)) (entering_same free columns inputs others start t (λ u le. same u (omega (arith, le))))
 
-abbrev shown_row : Plan → ℕ → List Bool → ℕ → Bool
-shown_row plan count entering =
-    row_of_both count (λ i. bit_on (after_columns plan.columns entering) (slice_index plan.outs i)) (λ i. bit_on (bits_after after_columns plan.columns (net_place plan i).after entering) (net_place plan i).lane)
-
 causal_plan : (plan : Plan) (start : List Bool) → IsCausalMeaning (plan_meaning plan start)
 causal_plan plan start bits others t same =
-    ap (shown_row plan (length plan.outs)) (entering_same (first_loop_lane plan.lanes plan.latches) plan.columns (row bits) (row others) start t (λ u le. ap (λ f. row_bits (first_loop_lane plan.lanes plan.latches) plan.ins (map f (range_with_len 0 (length plan.ins)))) (same u le)))
+    ap (shown_bits plan) (entering_same (first_loop_lane plan.lanes plan.latches) plan.columns (row bits) (row others) start t (λ u le. ap (λ f. row_bits (first_loop_lane plan.lanes plan.latches) plan.ins (map f (range_with_len 0 (length plan.ins)))) (same u le)))
   where
     row : (ℕ → ℕ → Bool) → ℕ → List Bool
     row bits t = row_bits (first_loop_lane plan.lanes plan.latches) plan.ins (map (bits t) (range_with_len 0 (length plan.ins)))
 
-module _ (library : Kind → Drawing) (law : KeepsLaw library) (roomy : HasOpenEntries library) (plan : Plan) (h : IsAdmissible plan) (start : List Bool) (lit : Lit) (starts : StartsContexts plan (start ∷ []) lit) (nets_drawn : NetsAreDrawn plan (plane_with library plan lit)) (bits : ℕ → ℕ → Bool) where
+module _ (library : Kind → Drawing) (law : KeepsLaw library) (roomy : HasOpenEntries library) (plan : Plan) (h : IsAdmissible plan) (start : List Bool) (lit : Lit) (starts : StartsContexts plan (start ∷ []) lit) (bits : ℕ → ℕ → Bool) where
   abbrev p : Plane
   p = plane_with library plan lit
 
@@ -147,7 +144,7 @@ module _ (library : Kind → Drawing) (law : KeepsLaw library) (roomy : HasOpenE
       net_drawn : (s : Signal) → Contains nets s → cell_state p s.cell ≢ Empty
       net_drawn s among =
           let of = port_of_signal (net_ports plan) net_bit s (in_from nets s among) in
-          subst (λ s. cell_state p s.cell ≢ Empty) (sym of.is) (nets_drawn (get_or (net_ports plan) of.port no_port) (of.port, of.within, get_or_default (net_ports plan) of.port _ no_port of.within))
+          subst (λ s. cell_state p s.cell ≢ Empty) (sym of.is) (nets_drawn library law plan h lit (get_or (net_ports plan) of.port no_port) (of.port, of.within, get_or_default (net_ports plan) of.port _ no_port of.within))
 
   -- what enters the columns is made of the rows of bits
   injected : (t : ℕ) → injected_in plan due 0 t ≡ row_bits (first_loop_lane plan.lanes plan.latches) plan.ins (map (bits t) (range_with_len 0 (length plan.ins)))
@@ -162,9 +159,9 @@ module _ (library : Kind → Drawing) (law : KeepsLaw library) (roomy : HasOpenE
   carried_part : CarriesSignals period p ins (signals_at (out_ports plan ++ net_ports plan) (plan_meaning plan start bits))
   carried_part =
       let at : ℕ → Port = λ lane. ((pos (left_of plan (length plan.columns)), pos (row_of lane)), latency_of plan) in
-      let rows : (λ t. row_of_both (length (out_ports plan)) (out_bit t) (net_bit t)) ≡ plan_meaning plan start bits = fun_ext (λ t. ap₂ (shown_row plan) (length-map plan.outs at) (enters t)) in
+      let rows : (λ t. row_of_both (length (out_ports plan)) (out_bit t) (net_bit t)) ≡ plan_meaning plan start bits = fun_ext (λ t. ap (λ n. row_of_both n (out_bit t) (net_bit t)) (length-map plan.outs at) ∙ ap (shown_bits plan) (enters t)) in
       subst (CarriesSignals period p ins) (sym (signals_both (out_ports plan) (net_ports plan) out_bit net_bit) ∙ ap (signals_at (out_ports plan ++ net_ports plan)) rows) all
 
 pub plans_are_parts : PlansAreParts
-plans_are_parts library law roomy plan h start lit starts nets_drawn =
-    ((λ bits. carried_part library law roomy plan h start lit starts nets_drawn bits), causal_plan plan start)
+plans_are_parts library law roomy plan h start lit starts =
+    ((λ bits. carried_part library law roomy plan h start lit starts bits), causal_plan plan start)

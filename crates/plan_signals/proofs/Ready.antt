@@ -1,12 +1,11 @@
 -- The cells beside a free entry: few of them are drawn, and none is a head just before the entry is due.
-use Rattle.std.proofs.Common.{ℤ, pos, negsuc, ◌+ℤ◌, ◌-ℤ◌, ℕ, zero, suc, ◌+◌, ◌-◌, ◌*◌, ◌/◌, ◌%◌, ◌<◌, ◌≤◌, ◌≡◌, ◌≢◌, refl, sym, ap, ap₂, ◌∙◌, Bool, true, false, ◌||◌, ◌==◌, cond, List, length, arith}
+use Rattle.std.proofs.Common.{ℤ, pos, negsuc, ◌+ℤ◌, ◌-ℤ◌, ℕ, ◌+◌, ◌-◌, ◌*◌, ◌/◌, ◌%◌, ◌<◌, ◌≤◌, ◌≡◌, ◌≢◌, refl, ap, ap₂, ◌∙◌, Bool, true, false, cond, List, length, arith}
 use Rattle.std.specs.Prelude.{Contains, slice_index}
 use Rattle.std.proofs.lemmas.Int.{ints}
-use Rattle.std.proofs.lemmas.Bool.{true≢false}
 use Rattle.lists.specs.Items.{one_if}
 use Rattle.ww_rule.specs.declared.pattern.State.{State}
 use Rattle.ww_rule.specs.declared.pattern.State.TheVariants.{Empty, Head, Tail, Conductor}
-use Rattle.ww_rule.specs.Wireworld.{Plane, next_state, heads_around, count_head, driven}
+use Rattle.ww_rule.specs.Wireworld.{Plane, heads_around, count_head, driven}
 use Rattle.wire_laws.specs.Signals.{Signal, cell_state, due_of_signals}
 use Rattle.wire_laws.proofs.Dues.{stays_empty}
 use Rattle.tile_core.specs.declared.kind.Kind.{Kind}

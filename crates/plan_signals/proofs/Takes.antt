@@ -1,17 +1,15 @@
 -- Wires may come to the inputs of a plan and leave its outputs: nothing else is near.
-use Rattle.std.proofs.Common.{ℤ, pos, negsuc, ◌+ℤ◌, ◌-ℤ◌, ◌≤ℤ◌, ℕ, ◌+◌, ◌-◌, ◌*◌, ◌/◌, ◌%◌, ◌<◌, ◌≤◌, ◌≡◌, ◌≢◌, refl, sym, ap, ap₂, ◌∙◌, inl, inr, Bool, true, false, ◌&&◌, ◌==◌, cond, length, arith}
+use Rattle.std.proofs.Common.{ℤ, pos, negsuc, ◌+ℤ◌, ◌-ℤ◌, ◌≤ℤ◌, ℕ, ◌+◌, ◌-◌, ◌*◌, ◌/◌, ◌%◌, ◌<◌, ◌≤◌, ◌≡◌, ◌≢◌, refl, ap, ap₂, ◌∙◌, inl, inr, Bool, true, false, ◌&&◌, ◌==◌, cond, length, arith}
 use Rattle.std.specs.Prelude.{◌⊎◌, slice_index}
 use Rattle.std.specs.List.{list_any}
 use Rattle.std.proofs.lemmas.Int.{ints}
 use Rattle.std.proofs.lemmas.Bool.{cases_lt, cases_eq}
 use Rattle.ww_rule.specs.declared.pattern.State.TheVariants.{Empty}
-use Rattle.wire_laws.specs.Signals.{cell_state}
 use Rattle.wire_laws.specs.Wires.{IsNear}
-use Rattle.wire_laws.proofs.Dues.{same_cell}
 use Rattle.tile_core.specs.declared.kind.Kind.{Kind}
 use Rattle.tile_core.specs.declared.kind.Kind.TheVariants as kind
 use Rattle.tile_core.specs.Drawing.{Drawing}
-use Rattle.tiling.specs.Tiling.{Slot, Lit, drawn_slot}
+use Rattle.tiling.specs.Tiling.{Slot, Lit}
 use Rattle.tiling.specs.Tiling.Piece.{Output}
 use Rattle.tiling.specs.Tiling.Slot.{Nothing, Whole}
 use Rattle.lane_core.specs.declared.plan.Plan.{Plan}
@@ -24,7 +22,7 @@ use Rattle.plan_layout.proofs.Columns.{by_column-right}
 use Rattle.plan_layout.proofs.Parts.{some_columns, body_at, turn_beyond}
 use Rattle.plan_layout.proofs.Sides.{in_body_has}
 use Rattle.plan_waves.proofs.FreePorts.{ports_stand_free}
-use Rattle.plan_signals.specs.Ports.{HasClearEntries, IsFreeBeside}
+use Rattle.plan_signals.specs.Ports.{HasClearEntries}
 use Rattle.plan_signals.specs.Laws.{PortsTakeWires}
 use Rattle.plan_signals.proofs.Ready.{slot_has, not_drawn}
 

@@ -1,9 +1,7 @@
 -- Drawn plans carry signals.
-use Rattle.std.specs.Prelude.{ℕ, ◌*◌, ◌<◌, ◌≡◌, ◌≢◌, Bool, false, List, [], ◌∷◌, ◌++◌, Contains}
-use Rattle.ww_rule.specs.declared.pattern.State.TheVariants.{Empty}
-use Rattle.ww_rule.specs.Wireworld.{Plane}
-use Rattle.wire_laws.specs.Signals.{cell_state, CarriesSignals}
-use Rattle.wire_laws.specs.Rows.{Port, IsPart, IsCausalMeaning, AnswersEachRow}
+use Rattle.std.specs.Prelude.{ℕ, ◌*◌, ◌<◌, ◌≡◌, Bool, List, [], ◌∷◌, ◌++◌}
+use Rattle.wire_laws.specs.Signals.{CarriesSignals}
+use Rattle.wire_laws.specs.Rows.{IsPart, IsCausalMeaning, HasNoElectrons, AnswersEachRow}
 use Rattle.tile_core.specs.declared.kind.Kind.{Kind}
 use Rattle.tile_core.specs.Drawing.{Drawing}
 use Rattle.tile_library.specs.Drawings.{shipped_drawing}
@@ -26,35 +24,34 @@ PlansCarrySignals =
     → CarriesSignals (period_of plan) (plane_with library plan lit) (in_signals plan bits)
     (out_signals plan start bits)
 
--- each net's cell is drawn
-abbrev pub NetsAreDrawn : Plan → Plane → Type 0
-NetsAreDrawn plan p =
-    (port : Port) → Contains (net_ports plan) port → cell_state p port.0 ≢ Empty
-
 -- The plane of an admissible plan, in one context, is a part: at its outputs and nets it shows what
 -- the columns make of the inputs' bits and of what the loops bring. This depends on no later cycle.
 abbrev pub PlansAreParts : Type 0
 PlansAreParts =
     (library : Kind → Drawing) → KeepsLaw library → HasOpenEntries library
     → (plan : Plan) → IsAdmissible plan → (start : List Bool) (lit : Lit)
-    → StartsContexts plan (start ∷ []) lit → NetsAreDrawn plan (plane_with library plan lit)
+    → StartsContexts plan (start ∷ []) lit
     → IsPart (period_of plan) (plane_with library plan lit) (in_ports plan)
     (out_ports plan ++ net_ports plan) (plan_meaning plan start)
     × IsCausalMeaning (plan_meaning plan start)
 
--- wires may be laid to and from the ports of every admissible plan
+-- A wire may end in the cell west of an input of a plan, and begin in the one east of an output. The
+-- rest of their rows is free by `PortsStandFree`.
 abbrev pub PortsTakeWires : Type 0
 PortsTakeWires =
     (library : Kind → Drawing) → HasClearEntries library → (plan : Plan) → IsAdmissible plan
     → (lit : Lit) → TakesWires plan (plane_with library plan lit)
 
--- A plan without loops answers each row of bits, at every multiple of 32 generations.
+-- The plane of a plan without loops has no electrons, and it answers each row of bits, at its
+-- outputs and nets, at every multiple of 32 generations.
 abbrev pub PlansAnswerEachRow : Type 0
 PlansAnswerEachRow =
     (library : Kind → Drawing) → KeepsLaw library → HasOpenEntries library
-    → (plan : Plan) → IsAdmissible plan → plan.latches ≡ 0 → (times : ℕ) → 0 < times
-    → AnswersEachRow (times * 32) (plane_with library plan (λ edge. false)) (in_ports plan)
-    (out_ports plan) (plan_answer plan)
+    → (plan : Plan) → IsAdmissible plan → plan.latches ≡ 0
+    → (lit : Lit) → StartsContexts plan ([] ∷ []) lit
+    → HasNoElectrons (plane_with library plan lit) × ((times : ℕ) → 0 < times
+    → AnswersEachRow (times * 32) (plane_with library plan lit) (in_ports plan)
+    (out_ports plan ++ net_ports plan) (plan_answer plan))
 
 -- the tiles of the kit have open and clear entries
 abbrev pub TilesAreOpen : Type 0

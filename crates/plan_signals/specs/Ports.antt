@@ -41,13 +41,6 @@ out_signals plan start bits =
     (context_bits plan (due_of_signals (period_of plan) (in_signals plan bits)) (start ∷ []) 0 t))
     (slice_index plan.outs i))
 
--- what the columns of a plan without loops make of a row of bits: the bits of its outputs
-abbrev pub plan_answer : Plan → (row : ℕ → Bool) → (output : ℕ) → Bool
-plan_answer plan row i =
-    bit_on (after_columns plan.columns
-    (row_bits plan.lanes plan.ins (map row (range_with_len 0 (length plan.ins)))))
-    (slice_index plan.outs i)
-
 -- the cells of a plan's nets, each with its offset
 abbrev pub net_ports : Plan → List Port
 net_ports plan = map (λ cell. ((pos cell.0, pos cell.1), cell.2)) (net_cells plan)
@@ -60,14 +53,22 @@ plan_entering plan start bits =
     (λ t. row_bits (first_loop_lane plan.lanes plan.latches) plan.ins
     (map (bits t) (range_with_len 0 (length plan.ins)))) start
 
--- what a plan makes of the bits of its inputs: the bits of its outputs, and then those of its nets
-abbrev pub plan_meaning : Plan → (start : List Bool) → PartMeaning
-plan_meaning plan start bits t =
+-- the bits of a plan's outputs, and then those of its nets, when these bits enter the columns
+abbrev pub shown_bits : Plan → (entering : List Bool) → ℕ → Bool
+shown_bits plan entering =
     row_of_both (length plan.outs)
-    (λ i. bit_on (after_columns plan.columns (plan_entering plan start bits t))
-    (slice_index plan.outs i))
-    (λ i. bit_on (bits_after after_columns plan.columns (net_place plan i).after
-    (plan_entering plan start bits t)) (net_place plan i).lane)
+    (λ i. bit_on (after_columns plan.columns entering) (slice_index plan.outs i))
+    (λ i. bit_on (bits_after after_columns plan.columns (net_place plan i).after entering)
+    (net_place plan i).lane)
+
+-- what a plan makes of the bits of its inputs, if its loops start with these bits
+abbrev pub plan_meaning : Plan → (start : List Bool) → PartMeaning
+plan_meaning plan start bits t = shown_bits plan (plan_entering plan start bits t)
+
+-- what a plan without loops makes of a row of bits
+abbrev pub plan_answer : Plan → (row : ℕ → Bool) → ℕ → Bool
+plan_answer plan row =
+    shown_bits plan (row_bits plan.lanes plan.ins (map row (range_with_len 0 (length plan.ins))))
 
 -- how many cells of a tile's drawing are beside the cell at its west side that is in the row after
 -- this
