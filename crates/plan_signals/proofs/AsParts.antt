@@ -28,7 +28,7 @@ use Rattle.plan_layout.specs.Planes.{plane_with}
 use Rattle.plan_waves.specs.Contexts.{StartsContexts, injected_in, context_bits}
 use Rattle.plan_waves.specs.ShownContexts.{ShowsContextBits}
 use Rattle.plan_waves.proofs.ShownContexts.{plans_show_contexts}
-use Rattle.plan_signals.specs.Ports.{out_ports, net_ports, in_signals, out_signals, plan_entering, shown_bits, plan_meaning, HasOpenEntries}
+use Rattle.plan_signals.specs.Ports.{out_ports, net_ports, in_signals, out_signals, plan_entering, plan_bits, plan_meaning, HasOpenEntries}
 use Rattle.plan_signals.specs.Laws.{PlansAreParts}
 use Rattle.plan_signals.proofs.Ins.{long, drives}
 use Rattle.plan_signals.proofs.Carried.{plans_carry_signals}
@@ -43,7 +43,7 @@ entering_same free columns inputs others start (suc t) same =
 
 causal_plan : (plan : Plan) (start : List Bool) → IsCausalMeaning (plan_meaning plan start)
 causal_plan plan start bits others t same =
-    ap (shown_bits plan) (entering_same (first_loop_lane plan.lanes plan.latches) plan.columns (row bits) (row others) start t (λ u le. ap (λ f. row_bits (first_loop_lane plan.lanes plan.latches) plan.ins (map f (range_with_len 0 (length plan.ins)))) (same u le)))
+    ap (plan_bits plan) (entering_same (first_loop_lane plan.lanes plan.latches) plan.columns (row bits) (row others) start t (λ u le. ap (λ f. row_bits (first_loop_lane plan.lanes plan.latches) plan.ins (map f (range_with_len 0 (length plan.ins)))) (same u le)))
   where
     row : (ℕ → ℕ → Bool) → ℕ → List Bool
     row bits t = row_bits (first_loop_lane plan.lanes plan.latches) plan.ins (map (bits t) (range_with_len 0 (length plan.ins)))
@@ -159,7 +159,7 @@ module _ (library : Kind → Drawing) (law : KeepsLaw library) (roomy : HasOpenE
   carried_part : CarriesSignals period p ins (signals_at (out_ports plan ++ net_ports plan) (plan_meaning plan start bits))
   carried_part =
       let at : ℕ → Port = λ lane. ((pos (left_of plan (length plan.columns)), pos (row_of lane)), latency_of plan) in
-      let rows : (λ t. row_of_both (length (out_ports plan)) (out_bit t) (net_bit t)) ≡ plan_meaning plan start bits = fun_ext (λ t. ap (λ n. row_of_both n (out_bit t) (net_bit t)) (length-map plan.outs at) ∙ ap (shown_bits plan) (enters t)) in
+      let rows : (λ t. row_of_both (length (out_ports plan)) (out_bit t) (net_bit t)) ≡ plan_meaning plan start bits = fun_ext (λ t. ap (λ n. row_of_both n (out_bit t) (net_bit t)) (length-map plan.outs at) ∙ ap (plan_bits plan) (enters t)) in
       subst (CarriesSignals period p ins) (sym (signals_both (out_ports plan) (net_ports plan) out_bit net_bit) ∙ ap (signals_at (out_ports plan ++ net_ports plan)) rows) all
 
 pub plans_are_parts : PlansAreParts

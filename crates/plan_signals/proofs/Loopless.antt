@@ -27,7 +27,7 @@ use Rattle.lane_core.proofs.Lengths.{length-after_instrs}
 use Rattle.plan_layout.specs.Layout.{tiling_of}
 use Rattle.plan_layout.specs.Planes.{plane_with}
 use Rattle.plan_waves.specs.Contexts.{StartsContexts}
-use Rattle.plan_signals.specs.Ports.{in_ports, out_ports, net_ports, in_signals, plan_entering, shown_bits, plan_meaning, plan_answer, HasOpenEntries}
+use Rattle.plan_signals.specs.Ports.{in_ports, out_ports, net_ports, in_signals, plan_entering, plan_bits, plan_meaning, plan_answer, HasOpenEntries}
 use Rattle.plan_signals.specs.Laws.{PlansAnswerEachRow}
 use Rattle.plan_signals.proofs.AsParts.{plans_are_parts}
 
@@ -113,7 +113,7 @@ module _ (plan : Plan) (none : plan.latches ≡ 0) (lit : Lit) (starts : StartsC
   module _ (library : Kind → Drawing) (law : KeepsLaw library) (roomy : HasOpenEntries library) (h : IsAdmissible plan) where
     answers_rows : AnswersEachRow 32 (plane_with library plan lit) (in_ports plan) (out_ports plan ++ net_ports plan) (plan_answer plan)
     answers_rows bits =
-        let rows : plan_meaning plan [] bits ≡ (λ t. plan_answer plan (bits t)) = fun_ext (λ t. ap (shown_bits plan) (enters_alone bits t)) in
+        let rows : plan_meaning plan [] bits ≡ (λ t. plan_answer plan (bits t)) = fun_ext (λ t. ap (plan_bits plan) (enters_alone bits t)) in
         subst (λ period. CarriesSignals period (plane_with library plan lit) (in_signals plan bits) (signals_at (out_ports plan ++ net_ports plan) (λ t. plan_answer plan (bits t)))) period_32 (subst (λ shown. CarriesSignals (period_of plan) (plane_with library plan lit) (in_signals plan bits) (signals_at (out_ports plan ++ net_ports plan) shown)) rows ((plans_are_parts library law roomy plan h [] lit starts).0 bits))
 
     bare : HasNoElectrons (plane_with library plan lit)

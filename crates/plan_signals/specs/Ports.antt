@@ -54,8 +54,8 @@ plan_entering plan start bits =
     (map (bits t) (range_with_len 0 (length plan.ins)))) start
 
 -- the bits of a plan's outputs, and then those of its nets, when these bits enter the columns
-abbrev pub shown_bits : Plan → (entering : List Bool) → ℕ → Bool
-shown_bits plan entering =
+abbrev pub plan_bits : Plan → (entering : List Bool) → ℕ → Bool
+plan_bits plan entering =
     row_of_both (length plan.outs)
     (λ i. bit_on (after_columns plan.columns entering) (slice_index plan.outs i))
     (λ i. bit_on (bits_after after_columns plan.columns (net_place plan i).after entering)
@@ -63,12 +63,12 @@ shown_bits plan entering =
 
 -- what a plan makes of the bits of its inputs, if its loops start with these bits
 abbrev pub plan_meaning : Plan → (start : List Bool) → PartMeaning
-plan_meaning plan start bits t = shown_bits plan (plan_entering plan start bits t)
+plan_meaning plan start bits t = plan_bits plan (plan_entering plan start bits t)
 
 -- what a plan without loops makes of a row of bits
 abbrev pub plan_answer : Plan → (row : ℕ → Bool) → ℕ → Bool
 plan_answer plan row =
-    shown_bits plan (row_bits plan.lanes plan.ins (map row (range_with_len 0 (length plan.ins))))
+    plan_bits plan (row_bits plan.lanes plan.ins (map row (range_with_len 0 (length plan.ins))))
 
 -- how many cells of a tile's drawing are beside the cell at its west side that is in the row after
 -- this

@@ -1,6 +1,6 @@
 //! Drawn plans carry signals, and are parts, so that wires may join them.
 //!
-//! Theorem: `plans_are_parts`, `plans_answer_each_row`, `ports_take_wires`, `plans_carry_signals`.
+//! Theorem: `plans_are_parts`, `plans_answer_each_row`.
 #![tactic(auto)]
 
 mod laws;

@@ -27,9 +27,9 @@ signals_after (port ∷ ports) others bits =
 
 pub parts_unite : PartsUnite
 parts_unite period p q ins outs inputs outputs meaning other apart part beside = (
-    λ bits. let rest = λ (t i : ℕ). bits t (length ins + i) in
-    subst (λ signals. CarriesSignals period (side_by_side p q) signals (signals_at (outs ++ outputs) (both_meanings (length ins) (length outs) meaning other bits))) (sym (signals_after ins inputs bits)) (subst (CarriesSignals period (side_by_side p q) (signals_at ins bits ++ signals_at inputs rest)) (sym (signals_both outs outputs (meaning bits) (other rest))) (planes_unite period p q (signals_at ins bits) (signals_at outs (meaning bits)) (signals_at inputs rest) (signals_at outputs (other rest)) apart (part bits) (beside rest))),
-    λ first second bits others t same. ap₂ (row_of_both (length outs)) (first bits others t same) (second (λ u i. bits u (length ins + i)) (λ u i. others u (length ins + i)) t (λ u le. ap (λ row. λ (i : ℕ). row (length ins + i)) (same u le))),
+  λ bits. let rest = λ (t i : ℕ). bits t (length ins + i) in
+      subst (λ signals. CarriesSignals period (side_by_side p q) signals (signals_at (outs ++ outputs) (both_meanings (length ins) (length outs) meaning other bits))) (sym (signals_after ins inputs bits)) (subst (CarriesSignals period (side_by_side p q) (signals_at ins bits ++ signals_at inputs rest)) (sym (signals_both outs outputs (meaning bits) (other rest))) (planes_unite period p q (signals_at ins bits) (signals_at outs (meaning bits)) (signals_at inputs rest) (signals_at outputs (other rest)) apart (part bits) (beside rest))),
+  λ first second bits others t same. ap₂ (row_of_both (length outs)) (first bits others t same) (second (λ u i. bits u (length ins + i)) (λ u i. others u (length ins + i)) t (λ u le. ap (λ row. λ (i : ℕ). row (length ins + i)) (same u le))),
 )
 
 abbrev is_conductor : State → Bool
