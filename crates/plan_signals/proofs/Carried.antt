@@ -13,6 +13,7 @@ use Rattle.wire_laws.specs.Signals.{Signal, is_lit, cell_state, due_of_signals, 
 use Rattle.wire_laws.proofs.Lit.{lit_in, in_lit, not_soon}
 use Rattle.wire_laws.proofs.Dues.{due_by_signal, signal_is_due, Head≢Empty}
 use Rattle.wire_laws.proofs.Rows.{port_signal, no_port, port_of_signal}
+use Rattle.wire_laws.proofs.Beside.{none_around}
 use Rattle.tile_core.specs.declared.kind.Kind.{Kind}
 use Rattle.tile_core.specs.Drawing.{Drawing}
 use Rattle.tiling.specs.Tiling.{Slot, Tiling, Lit, drawn_slot, drawn}
@@ -35,7 +36,7 @@ use Rattle.plan_waves.proofs.ShownContexts.{plans_show_contexts}
 use Rattle.plan_signals.specs.Ports.{in_signals, out_ports, out_signals, HasOpenEntries}
 use Rattle.plan_signals.specs.Laws.{PlansCarrySignals}
 use Rattle.plan_signals.proofs.Ins.{entry_cell, in_signal, IsInput, long, input_of, drives, drives_inputs, head_is_due, head_when_due}
-use Rattle.plan_signals.proofs.Ready.{slot_has, not_drawn, few_around, none_around}
+use Rattle.plan_signals.proofs.Ready.{slot_has, not_drawn, few_around}
 
 abbrev is_tail : State → Bool
 is_tail Tail = true
@@ -60,28 +61,28 @@ Conductor≢Tail e = true≢false (sym (ap is_tail e))
 Empty≢Tail : Empty ≢ Tail
 Empty≢Tail e = true≢false (sym (ap is_tail e))
 
--- whichever edges are lit, the same cells are drawn
+full : (b c : Bool) → cond true (cond b Head (cond c Tail Conductor)) Empty ≢ Empty
+full true c e = Head≢Empty e
+full false true e = Tail≢Empty e
+full false false e = Conductor≢Empty e
+
+pictured : (a b c : Bool) → a ≡ true → cond a (cond b Head (cond c Tail Conductor)) Empty ≢ Empty
+pictured true b c e = full b c
+pictured false b c e = absurd (true≢false (sym e))
+
+-- a cell of a block is drawn, whichever edges are lit
+pub full_slot : (library : Kind → Drawing) (lit : Lit) (q l : ℕ) (slot : Slot) (x y : ℕ) → slot_has library slot x y ≡ true → drawn_slot library lit q l slot x y ≢ Empty
+full_slot library lit q l Nothing x y e = absurd (true≢false (sym e))
+full_slot library lit q l (Whole piece) x y e = pictured _ _ _ e
+full_slot library lit q l (Upper piece) x y e = pictured _ _ _ e
+full_slot library lit q l (Lower piece) x y e = pictured _ _ _ e
+
 has_or_not : (library : Kind → Drawing) (lit other : Lit) (q l : ℕ) (slot : Slot) (x y : ℕ) → drawn_slot library lit q l slot x y ≡ Head → drawn_slot library other q l slot x y ≢ Empty
 has_or_not library lit other q l slot x y head =
     elim (cases_Bool (slot_has library slot x y)) [
-      | inl has ↦ drawn_there slot has
+      | inl has ↦ full_slot library other q l slot x y has
       | inr none ↦ absurd (Head≢Empty (sym head ∙ not_drawn library lit q l slot x y none))
     ]
-  where
-    full : (b c : Bool) → cond true (cond b Head (cond c Tail Conductor)) Empty ≢ Empty
-    full true c e = Head≢Empty e
-    full false true e = Tail≢Empty e
-    full false false e = Conductor≢Empty e
-
-    pictured : (a b c : Bool) → a ≡ true → cond a (cond b Head (cond c Tail Conductor)) Empty ≢ Empty
-    pictured true b c e = full b c
-    pictured false b c e = absurd (true≢false (sym e))
-
-    drawn_there : (slot : Slot) → slot_has library slot x y ≡ true → drawn_slot library other q l slot x y ≢ Empty
-    drawn_there Nothing e = absurd (true≢false (sym e))
-    drawn_there (Whole piece) e = pictured _ _ _ e
-    drawn_there (Upper piece) e = pictured _ _ _ e
-    drawn_there (Lower piece) e = pictured _ _ _ e
 
 head_is_drawn : (library : Kind → Drawing) (tiling : Tiling) (lit other : Lit) (x y : ℕ) → drawn library tiling lit (pos x) (pos y) ≡ Head → drawn library tiling other (pos x) (pos y) ≢ Empty
 head_is_drawn library tiling lit other x y head = has_or_not library lit other (x / 32) (y / 16) (tiling (x / 32) (y / 16)) (x % 32) (y % 16) head

@@ -2,4 +2,8 @@ pub mod Open
 pub mod Ins
 pub mod Ready
 pub mod Carried
+pub mod LaneDue
+pub mod NetCells
+pub mod AsParts
 pub mod Loopless
+pub mod Takes

@@ -1,12 +1,11 @@
 -- The cells beside a free entry: few of them are drawn, and none is a head just before the entry is due.
-use Rattle.std.proofs.Common.{ℤ, pos, negsuc, ◌+ℤ◌, ◌-ℤ◌, ℕ, zero, suc, ◌+◌, ◌-◌, ◌*◌, ◌/◌, ◌%◌, ◌<◌, ◌≤◌, ◌≡◌, ◌≢◌, refl, sym, ap, ap₂, ◌∙◌, Bool, true, false, ◌||◌, ◌==◌, cond, List, length, arith}
+use Rattle.std.proofs.Common.{ℤ, pos, negsuc, ◌+ℤ◌, ◌-ℤ◌, ℕ, ◌+◌, ◌-◌, ◌*◌, ◌/◌, ◌%◌, ◌<◌, ◌≤◌, ◌≡◌, ◌≢◌, refl, ap, ap₂, ◌∙◌, Bool, true, false, cond, List, length, arith}
 use Rattle.std.specs.Prelude.{Contains, slice_index}
 use Rattle.std.proofs.lemmas.Int.{ints}
-use Rattle.std.proofs.lemmas.Bool.{true≢false}
 use Rattle.lists.specs.Items.{one_if}
 use Rattle.ww_rule.specs.declared.pattern.State.{State}
 use Rattle.ww_rule.specs.declared.pattern.State.TheVariants.{Empty, Head, Tail, Conductor}
-use Rattle.ww_rule.specs.Wireworld.{Plane, next_state, heads_around, count_head, driven}
+use Rattle.ww_rule.specs.Wireworld.{Plane, heads_around, count_head, driven}
 use Rattle.wire_laws.specs.Signals.{Signal, cell_state, due_of_signals}
 use Rattle.wire_laws.proofs.Dues.{stays_empty}
 use Rattle.tile_core.specs.declared.kind.Kind.{Kind}
@@ -109,20 +108,3 @@ module _ (library : Kind → Drawing) (roomy : HasOpenEntries library) (plan : P
       let above : pos (row_of lane) -ℤ pos 1 ≡ pos (16 * lane + 7) = omega (arith, ints) in
       let below : pos (row_of lane) +ℤ pos 1 ≡ pos (16 * lane + 9) = omega (arith, ints) in
       few_of_eight _ _ _ _ _ _ _ _ _ _ _ _ _ (west g _ (16 * lane + 7) above (omega arith) (omega arith)) (west g _ (16 * lane + 8) refl (omega arith) (omega arith)) (west g _ (16 * lane + 9) below (omega arith) (omega arith)) (in_block g _ _ 0 7 (omega arith) (omega arith) here above) (in_block g _ _ 1 7 (omega arith) (omega arith) east above) (in_block g _ _ 1 8 (omega arith) (omega arith) east refl) (in_block g _ _ 0 9 (omega arith) (omega arith) here below) (in_block g _ _ 1 9 (omega arith) (omega arith) east below) (few_in_body library roomy plan plan.latches lane)
-
-abbrev is_conductor : State → Bool
-is_conductor Conductor = true
-is_conductor _ = false
-
--- a cell that becomes a conductor, and was no tail, was a conductor with no head around it, or with three and more
-pub none_around : (s : State) (n : ℕ) → next_state s n ≡ Conductor → s ≢ Tail → n ≤ 2 → (s ≡ Conductor) × (n ≡ 0)
-none_around Empty n e t few = absurd (true≢false (sym (ap is_conductor e)))
-none_around Head n e t few = absurd (true≢false (sym (ap is_conductor e)))
-none_around Tail n e t few = absurd (t refl)
-none_around Conductor n e t few = (refl, count n e few)
-  where
-    count : (n : ℕ) → cond (n == 1 || n == 2) Head Conductor ≡ Conductor → n ≤ 2 → n ≡ 0
-    count zero e few = refl
-    count (suc zero) e few = absurd (true≢false (sym (ap is_conductor e)))
-    count (suc (suc zero)) e few = absurd (true≢false (sym (ap is_conductor e)))
-    count (suc (suc (suc n))) e few = absurd (omega (arith, few))

@@ -1,5 +1,5 @@
 //! Laws of plans that carry signals: each function does nothing, and its contract is the law.
-ghost use Rattle.plan_signals.specs.Laws.{PlansCarrySignals, PlansAnswerEachRow, TilesAreOpen};
+ghost use Rattle.plan_signals.specs.Laws.{PlansCarrySignals, PlansAreParts, PlansAnswerEachRow, PortsTakeWires, TilesAreOpen};
 
 /// The plane of an admissible plan, in one context, carries the signals of its inputs to those of
 /// its outputs.
@@ -7,13 +7,25 @@ pub fn plans_carry_signals()
     ensures { PlansCarrySignals }
 {}
 
-/// The plane of an admissible plan without loops answers each row of bits, at every multiple of 32
-/// generations.
+/// The plane of an admissible plan, in one context, is a part: whatever bits come to its inputs, its
+/// outputs and nets show what the columns make of these and of what the loops bring.
+pub fn plans_are_parts()
+    ensures { PlansAreParts }
+{}
+
+/// The plane of an admissible plan without loops has no electrons, and it answers each row of bits,
+/// at its outputs and nets, at every multiple of 32 generations.
 pub fn plans_answer_each_row()
     ensures { PlansAnswerEachRow }
 {}
 
-/// At most two cells are beside each entry of the kit's tiles.
+/// A wire may end in the cell west of each input of an admissible plan, and begin in the one east of
+/// each output: nothing else is near.
+pub fn ports_take_wires()
+    ensures { PortsTakeWires }
+{}
+
+/// At most two cells are beside each entry of the kit's tiles, and none is above or below it.
 pub fn tiles_are_open()
     ensures { TilesAreOpen }
 {}

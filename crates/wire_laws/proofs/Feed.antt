@@ -9,7 +9,7 @@ use Rattle.ww_rule.specs.declared.pattern.State.TheVariants.{Empty, Head, Tail}
 use Rattle.ww_rule.specs.Wireworld.{Plane, next_plane, next_state, heads_around, count_head, driven}
 use Rattle.ww_rule.proofs.Cells.{not_counted}
 use Rattle.wire_laws.specs.Signals.{Signal, cell_state, is_lit, due_of_signals, IsReady, CarriesSignals}
-use Rattle.wire_laws.specs.Wires.{IsNear, Wire, IsWire, IsLaid, IsAwayFrom}
+use Rattle.wire_laws.specs.Wires.{IsNear, Wire, ComesByWire, IsWireDrawn, IsLaid, IsAwayFrom}
 use Rattle.wire_laws.proofs.Lit.{not_soon}
 use Rattle.wire_laws.proofs.Dues.{lights, lights_at, empty_not_due, stays_empty, never_due, cases_Empty, cases_cell, Head≢Empty}
 use Rattle.wire_laws.proofs.Around.{near_back, as_many, one_more}
@@ -27,7 +27,8 @@ pub record IsFed (period : ℕ) (wire : Wire) (ins outs : List Signal) (before a
   pub run : CarriesSignals period before (wire.to ∷ ins) outs
   pub own : (s : Signal) → Contains ins s → s.cell ≢ wire.to.cell
   pub source : Contains (ins ++ outs) wire.from
-  pub is : IsWire period wire
+  pub is : IsWireDrawn wire
+  pub comes : ComesByWire period wire.size wire.from wire.to
   pub laid : IsLaid period wire before after
   pub others : (cell : ℤ × ℤ) → IsAwayFrom wire cell → cell_state after cell ≡ cell_state before cell
 
@@ -134,10 +135,10 @@ module _ (period : ℕ) (fed : Wire) (ins outs : List Signal) (before after : Pl
   -- if the wire's first cell is a head, the output's was one just before
   first_lit : (g : ℕ) → lit (g + n) ≡ true → (k : ℕ) × (g ≡ suc k) × (is_lit period from k ≡ true)
   first_lit zero e =
-      let same : zero + n ≡ n = omega arith in absurd (true≢false (sym e ∙ ap lit same ∙ h.is.comes.clear))
+      let same : zero + n ≡ n = omega arith in absurd (true≢false (sym e ∙ ap lit same ∙ h.comes.clear))
   first_lit (suc k) e =
       let same : suc k + n ≡ k + suc n = omega arith in
-      (k, refl, sym (h.is.comes.later k) ∙ sym (ap lit same) ∙ e)
+      (k, refl, sym (h.comes.later k) ∙ sym (ap lit same) ∙ e)
 
   -- the wire's cell i at a generation, as a head or not
   wire_count : (g : ℕ) → IsAt g → (i rest : ℕ) → i + suc rest ≡ n → count_head (cell_state (new g) (wire i)) ≡ cond (lit (g + suc rest)) 1 0
@@ -302,7 +303,7 @@ module _ (period : ℕ) (fed : Wire) (ins outs : List Signal) (before after : Pl
         ap (λ c. count_head (cell_state (new g) c)) here
         ∙ ap count_head (at.off from.cell (drawn_off from.cell from_drawn))
         ∙ count_if (cell_state (old g) from.cell) (is_lit period from g) (from_shows g)
-        ∙ ap (λ b. cond b 1 0) (sym (h.is.comes.later g) ∙ ap lit time)
+        ∙ ap (λ b. cond b 1 0) (sym (h.comes.later g) ∙ ap lit time)
     before_it (suc k) e =
         let there : k + suc (suc rest) ≡ n = omega (arith, place, e) in
         let time : g + suc (suc rest) ≡ suc g + suc rest = omega arith in

@@ -11,3 +11,10 @@ pub mod Slower
 pub mod Together
 pub mod Moved
 pub mod Lone
+pub mod Early
+pub mod Feeding
+pub mod PartWires
+pub mod Alike
+pub mod Later
+pub mod Beside
+pub mod Ordered

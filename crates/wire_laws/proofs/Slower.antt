@@ -97,13 +97,14 @@ stretched_bits times [] bits = refl
 stretched_bits times (port ∷ ports) bits =
     ap (λ rest. stretched times (port_signal port bits 0) ∷ rest) (stretched_bits times ports (λ t i. bits t (suc i)))
 
--- nothing moves in a plane without electrons that is not driven
-rests : (p : Plane) → HasNoElectrons p → next_plane p ≡ p
-rests p none = fun_ext (λ x. fun_ext (λ y. stays (p x y) (heads_around p x y) (none.heads x y) (none.tails x y) (dark x y)))
-  where
-    dark : (x y : ℤ) → heads_around p x y ≡ 0
-    dark x y = sum_none _ _ _ _ _ _ _ _ (not_counted _ (none.heads _ _)) (not_counted _ (none.heads _ _)) (not_counted _ (none.heads _ _)) (not_counted _ (none.heads _ _)) (not_counted _ (none.heads _ _)) (not_counted _ (none.heads _ _)) (not_counted _ (none.heads _ _)) (not_counted _ (none.heads _ _))
+-- in a plane without electrons no cell sees a head
+pub none_lit : (p : Plane) → HasNoElectrons p → (x y : ℤ) → heads_around p x y ≡ 0
+none_lit p none x y = sum_none _ _ _ _ _ _ _ _ (not_counted _ (none.heads _ _)) (not_counted _ (none.heads _ _)) (not_counted _ (none.heads _ _)) (not_counted _ (none.heads _ _)) (not_counted _ (none.heads _ _)) (not_counted _ (none.heads _ _)) (not_counted _ (none.heads _ _)) (not_counted _ (none.heads _ _))
 
+-- nothing moves in a plane without electrons that is not driven
+pub rests : (p : Plane) → HasNoElectrons p → next_plane p ≡ p
+rests p none = fun_ext (λ x. fun_ext (λ y. stays (p x y) (heads_around p x y) (none.heads x y) (none.tails x y) (none_lit p none x y)))
+  where
     stays : (s : State) (n : ℕ) → s ≢ Head → s ≢ Tail → n ≡ 0 → next_state s n ≡ s
     stays Empty n a b e = refl
     stays Head n a b e = absurd (a refl)

@@ -79,7 +79,7 @@ module _ (period : ℕ) (wire : Wire) (wires : List Wire) (ins outs : List Signa
   mid = without wire before after
 
   laid : (w : Wire) → Contains (wire ∷ wires) w → IsLaid period w before after
-  laid w among = h.laid w among
+  laid w among = h.drawn.laid w among
 
   -- the inputs that are fed are drawn
   fed_drawn : (w : Wire) → Contains (wire ∷ wires) w → cell_state before w.to.cell ≢ Empty
@@ -114,7 +114,7 @@ module _ (period : ℕ) (wire : Wire) (wires : List Wire) (ins outs : List Signa
     its = laid w (in_tail wire wires w among)
 
     apart : ShareNoCell wire w
-    apart = h.apart.0 w among
+    apart = h.drawn.apart.0 w among
 
     its_cell : (i : ℕ) → i < w.size → cell_state mid (w.path (suc i)) ≡ cell_state after (w.path (suc i))
     its_cell i l =
@@ -140,7 +140,7 @@ module _ (period : ℕ) (wire : Wire) (wires : List Wire) (ins outs : List Signa
         | inr off ↦
             elim (cases_cell c wire.to.cell) [
               | inl e ↦ at_end wire before after c off e
-              | inr d ↦ elsewhere wire before after c off d ∙ h.others c (λ w among. from_all w (in_from (wire ∷ wires) w among) off d)
+              | inr d ↦ elsewhere wire before after c off d ∙ h.drawn.others c (λ w among. from_all w (in_from (wire ∷ wires) w among) off d)
             ]
       ]
     where
@@ -149,18 +149,21 @@ module _ (period : ℕ) (wire : Wire) (wires : List Wire) (ins outs : List Signa
       from_all w (inr i) off d = away w (contains_from wires w i)
 
   owned : (w : Wire) (s : Signal) → Contains wires w → In s (wire.to ∷ ins) → s.cell ≢ w.to.cell
-  owned w s among (inl e) = λ same. (h.apart.0 w among).ends (ap (λ s. s.cell) (sym e) ∙ same)
-  owned w s among (inr i) = h.own w s (in_tail wire wires w among) (contains_from ins s i)
+  owned w s among (inl e) = λ same. (h.drawn.apart.0 w among).ends (ap (λ s. s.cell) (sym e) ∙ same)
+  owned w s among (inr i) = h.drawn.own w s (in_tail wire wires w among) (contains_from ins s i)
 
   rest : HasWires period wires (wire.to ∷ ins) outs before mid
   rest =
       record {
-        each = λ w among. h.each w (in_tail wire wires w among);
+        drawn = record {
+          each = λ w among. h.drawn.each w (in_tail wire wires w among);
+          own = λ w s among is. owned w s among (in_from (wire.to ∷ ins) s is);
+          apart = h.drawn.apart.1;
+          laid = still_laid;
+          others = others;
+        };
         sources = λ w among. among_more wire.to w.from ins outs (h.sources w (in_tail wire wires w among));
-        own = λ w s among is. owned w s among (in_from (wire.to ∷ ins) s is);
-        apart = h.apart.1;
-        laid = still_laid;
-        others = others;
+        come = λ w among. h.come w (in_tail wire wires w among);
       }
 
   abbrev all_ins : List Signal
@@ -187,9 +190,10 @@ module _ (period : ℕ) (wire : Wire) (wires : List Wire) (ins outs : List Signa
       record {
         long = long;
         run = carries;
-        own = λ s among. h.own wire s (at_head wire wires) among;
+        own = λ s among. h.drawn.own wire s (at_head wire wires) among;
         source = h.sources wire (at_head wire wires);
-        is = h.each wire (at_head wire wires);
+        is = h.drawn.each wire (at_head wire wires);
+        comes = h.come wire (at_head wire wires);
         laid = record {
           free = λ i l. on_it wire before after (wire.path (suc i)) (i, l, refl);
           states = (laid wire (at_head wire wires)).states;
@@ -201,7 +205,7 @@ module _ (period : ℕ) (wire : Wire) (wires : List Wire) (ins outs : List Signa
 
 pub wires_feed : WiresFeed
 wires_feed period long [] ins outs before after h run =
-    let same : before ≡ after = fun_ext (λ x. fun_ext (λ y. sym (h.others (x, y) (λ w among. absurd (in_from [] w among))))) in
+    let same : before ≡ after = fun_ext (λ x. fun_ext (λ y. sym (h.drawn.others (x, y) (λ w among. absurd (in_from [] w among))))) in
     subst (λ p. CarriesSignals period p ins outs) same run
 wires_feed period long (wire ∷ wires) ins outs before after h run =
     carried period wire ins outs (without wire before after) after (one period wire wires ins outs before after h run long (wires_feed period long wires (wire.to ∷ ins) outs before (without wire before after) (rest period wire wires ins outs before after h run) (reordered period wire wires ins outs before after h run)))

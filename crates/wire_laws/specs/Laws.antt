@@ -1,12 +1,13 @@
--- Laws of planes that carry signals: put side by side, joined by wires, and run more slowly.
-use Rattle.std.specs.Prelude.{ℤ, ℕ, ◌+◌, ◌*◌, ◌<◌, ◌≤◌, ◌≡◌, ◌≢◌, ◌↔◌, Bool, true, List, [], ◌∷◌, ◌++◌, map, Contains}
+-- Laws of planes that carry signals: put side by side, joined by wires, and run later or more
+-- slowly.
+use Rattle.std.specs.Prelude.{ℤ, ℕ, ◌+◌, ◌*◌, ◌<◌, ◌≤◌, ◌≡◌, ◌≢◌, ◌↔◌, Bool, true, false, List, [], ◌∷◌, ◌++◌, map, Contains}
 use Rattle.ww_rule.specs.declared.pattern.State.{State}
 use Rattle.ww_rule.specs.declared.pattern.State.TheVariants.{Empty, Conductor}
 use Rattle.ww_rule.specs.Wireworld.{Plane}
 use Rattle.ww_rule.specs.Injections.{due_of_streams}
 use Rattle.wire_laws.specs.Signals.{Signal, cell_state, is_lit, due_of_signals, CarriesSignals}
 use Rattle.wire_laws.specs.Wires.{IsNear, Wire, HasWires, ComesByWire, ComesCyclesLater}
-use Rattle.wire_laws.specs.Rows.{signals_of_rows, stretched, HasNoElectrons, AnswersEachRow}
+use Rattle.wire_laws.specs.Rows.{Port, signals_of_rows, stretched, HasNoElectrons, AnswersEachRow}
 
 -- a signal is lit exactly at the generations of its cycles in which the bit is 1
 abbrev pub SignalsKeepTime : Type 0
@@ -39,6 +40,43 @@ OrderIsFree =
     → ((s : Signal) → Contains ins s ↔ Contains inputs s)
     → ((s : Signal) → Contains outputs s → Contains (ins ++ outs) s)
     → CarriesSignals period p ins outs → CarriesSignals period p inputs outputs
+
+-- two signals of one cell that are lit at the same generations
+pub record AreLitAlike (period : ℕ) (s other : Signal) : Type 0 where
+  pub cell : s.cell ≡ other.cell
+  pub lit : (g : ℕ) → is_lit period s g ≡ is_lit period other g
+
+-- one of these signals is like that one
+abbrev pub HasLitAlike : (period : ℕ) → List Signal → Signal → Type 0
+HasLitAlike period signals s = (other : Signal) × Contains signals other × AreLitAlike period s other
+
+-- Signals that are lit alike may stand for each other, whatever their first cycles and bits are. So
+-- a signal whose first bit is 0 may be said to begin a period later, with the bits that follow.
+abbrev pub SignalsLitAlike : Type 0
+SignalsLitAlike =
+    (period : ℕ) (p : Plane) (ins outs inputs outputs : List Signal)
+    → ((s : Signal) → Contains ins s → HasLitAlike period inputs s)
+    → ((s : Signal) → Contains inputs s → HasLitAlike period ins s)
+    → ((s : Signal) → Contains outputs s → HasLitAlike period (ins ++ outs) s)
+    → CarriesSignals period p ins outs → CarriesSignals period p inputs outputs
+
+-- an input that is never lit may be left without a drive
+abbrev pub DarkInputsMayGo : Type 0
+DarkInputsMayGo =
+    (period : ℕ) (p : Plane) (s : Signal) (ins outs : List Signal)
+    → ((g : ℕ) → is_lit period s g ≡ false)
+    → CarriesSignals period p (s ∷ ins) outs → CarriesSignals period p ins outs
+
+-- the signal so many generations later
+abbrev pub begun_later : ℕ → Signal → Signal
+begun_later d s = record { cell = s.cell; first = d + s.first; bit = s.bit }
+
+-- a plane without electrons carries its signals as many generations later, however many these are
+abbrev pub PlanesStartLater : Type 0
+PlanesStartLater =
+    (period d : ℕ) → 0 < period → (p : Plane) (ins outs : List Signal) → HasNoElectrons p
+    → CarriesSignals period p ins outs
+    → CarriesSignals period p (map (begun_later d) ins) (map (begun_later d) outs)
 
 -- the cells that are not empty in one plane lie two or more columns or rows from those of the other
 abbrev pub StandApart : Plane → Plane → Type 0
@@ -83,9 +121,11 @@ StretchedAreSlower =
     → CarriesSignals period p (map (stretched times) ins) (map (stretched times) outs)
     ↔ CarriesSignals (times * period) p ins outs
 
--- a plane without electrons that answers row by row does so at each multiple of its period
+-- A part without electrons that answers row by row does so at each multiple of its period. A part
+-- with electrons has its one period, and one whose rows are not independent is another part at a
+-- multiple.
 abbrev pub AnswersGoSlower : Type 0
 AnswersGoSlower =
     (period times : ℕ) → 0 < period → 0 < times → (p : Plane) → HasNoElectrons p
-    → (ins outs : List ((ℤ × ℤ) × ℕ)) (answer : (ℕ → Bool) → ℕ → Bool)
+    → (ins outs : List Port) (answer : (ℕ → Bool) → ℕ → Bool)
     → AnswersEachRow period p ins outs answer → AnswersEachRow (times * period) p ins outs answer

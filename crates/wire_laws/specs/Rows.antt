@@ -1,17 +1,22 @@
--- Signals of rows of bits, and planes that answer row by row.
-use Rattle.std.specs.Prelude.{ℤ, pos, ℕ, suc, ◌/◌, ◌%◌, ◌==◌, ◌≢◌, Bool, ◌&&◌, List, [], ◌∷◌, map}
+-- Signals of rows of bits, parts, and planes that answer row by row.
+use Rattle.std.specs.Prelude.{ℤ, pos, ℕ, zero, suc, ◌/◌, ◌%◌, ◌≤◌, ◌==◌, ◌≡◌, ◌≢◌, Bool, ◌&&◌, List, [], ◌∷◌, map}
 use Rattle.lists.specs.Items.{flag_at, list_at}
 use Rattle.ww_rule.specs.declared.pattern.State.TheVariants.{Head, Tail}
 use Rattle.ww_rule.specs.Wireworld.{Plane}
 use Rattle.wire_laws.specs.Signals.{Signal, CarriesSignals}
 
--- the signals of ports, each of which has a cell and the generation of its first cycle; the bits
--- are given by cycle and by the number of the port
-abbrev pub signals_at : List ((ℤ × ℤ) × ℕ) → (cycle_bit : ℕ → ℕ → Bool) → List Signal
+-- a port: a cell, and the generation of its first cycle
+abbrev pub Port : Type 0
+Port = (ℤ × ℤ) × ℕ
+
+abbrev pub signal_of : Port → (ℕ → Bool) → Signal
+signal_of port bit = record { cell = port.0; first = port.1; bit = bit }
+
+-- the signals of ports, whose bits are given by cycle and by the number of the port
+abbrev pub signals_at : List Port → (cycle_bit : ℕ → ℕ → Bool) → List Signal
 signals_at [] bits = []
 signals_at (port ∷ ports) bits =
-    record { cell = port.0; first = port.1; bit = λ t. bits t 0 }
-    ∷ signals_at ports (λ t i. bits t (suc i))
+    signal_of port (λ t. bits t 0) ∷ signals_at ports (λ t i. bits t (suc i))
 
 -- the signals of rows of bits, one row a cycle; after the rows all bits are 0
 abbrev pub signals_of_rows : List (ℕ × ℕ) → List (List Bool) → List Signal
@@ -29,10 +34,33 @@ pub record HasNoElectrons (p : Plane) : Type 0 where
   pub heads : (x y : ℤ) → p x y ≢ Head
   pub tails : (x y : ℤ) → p x y ≢ Tail
 
--- The plane answers each row of input bits by one row of output bits, which depends on no other
--- row: whatever the rows are, it carries the bits of the inputs to those of the outputs.
-abbrev pub AnswersEachRow : (period : ℕ) → Plane → (ins outs : List ((ℤ × ℤ) × ℕ))
-    → (answer : (ℕ → Bool) → ℕ → Bool) → Type 0
-AnswersEachRow period p ins outs answer =
+-- What a part makes of bits, which are given by cycle and by the number of the input: bits by cycle
+-- and by the number of the output.
+abbrev pub PartMeaning : Type 0
+PartMeaning = (ℕ → ℕ → Bool) → ℕ → ℕ → Bool
+
+-- The plane is a part with this meaning: whatever the bits at its inputs are, it carries them to
+-- what the meaning makes of them, at its outputs. Nets stand among the outputs: each port has a
+-- time of its own.
+abbrev pub IsPart : (period : ℕ) → Plane → (ins outs : List Port) → PartMeaning → Type 0
+IsPart period p ins outs meaning =
     (bits : ℕ → ℕ → Bool) → CarriesSignals period p (signals_at ins bits)
-    (signals_at outs (λ t. answer (bits t)))
+    (signals_at outs (meaning bits))
+
+-- what is made of the bits in a cycle depends on no later cycle
+abbrev pub IsCausalMeaning : PartMeaning → Type 0
+IsCausalMeaning meaning =
+    (bits others : ℕ → ℕ → Bool) (t : ℕ) → ((u : ℕ) → u ≤ t → bits u ≡ others u)
+    → meaning bits t ≡ meaning others t
+
+-- The plane answers each row of input bits by one row of output bits, which depends on no other
+-- row.
+abbrev pub AnswersEachRow : (period : ℕ) → Plane → (ins outs : List Port)
+    → (answer : (ℕ → Bool) → ℕ → Bool) → Type 0
+AnswersEachRow period p ins outs answer = IsPart period p ins outs (λ bits t. answer (bits t))
+
+-- a row of bits: these for the first ports, and those for the ports after them
+abbrev pub row_of_both : (count : ℕ) → (first rest : ℕ → Bool) → ℕ → Bool
+row_of_both zero first rest i = rest i
+row_of_both (suc count) first rest zero = first 0
+row_of_both (suc count) first rest (suc i) = row_of_both count (λ j. first (suc j)) rest i

@@ -40,12 +40,12 @@ pub record ComesCyclesLater (period size m : ℕ) (from to : Signal) : Type 0 wh
   pub bits : (t : ℕ) → to.bit (m + t) ≡ from.bit t
   pub starts : (t : ℕ) → t < m → size ≤ to.first + t * period → to.bit t ≡ false
 
-pub record IsWire (period : ℕ) (wire : Wire) : Type 0 where
+-- the wire has a cell, and its path leads from the cell of the one signal to that of the other
+pub record IsWireDrawn (wire : Wire) : Type 0 where
   pub some : 0 < wire.size
   pub along : IsWirePath wire.size wire.path
   pub begins : wire.path 0 ≡ wire.from.cell
   pub ends : wire.path (suc wire.size) ≡ wire.to.cell
-  pub comes : ComesByWire period wire.size wire.from wire.to
 
 -- The state at generation 0 of a cell of a wire, where so many cells of the wire come after it. The
 -- signal is the one at the wire's end: what will light the input's cell later is on its way.
@@ -83,15 +83,24 @@ pub record IsAwayFrom (wire : Wire) (cell : ℤ × ℤ) : Type 0 where
   pub end : cell ≢ wire.to.cell
   pub cells : (i : ℕ) → i < wire.size → cell ≢ wire.path (suc i)
 
--- One plane is the other with wires between its ports. Each wire begins at a port that is left, and
--- ends at an input of its own. The inputs and outputs here are those that are left.
-pub record HasWires (period : ℕ) (wires : List Wire) (ins outs : List Signal)
+-- One plane is the other with wires, each of which ends at an input of its own. The inputs here are
+-- those that are left. Of the signals, these premises ask for the cells, and for what is on the
+-- wires at generation 0.
+pub record AreWiresDrawn (period : ℕ) (wires : List Wire) (ins : List Signal)
     (before after : Plane) : Type 0 where
-  pub each : (wire : Wire) → Contains wires wire → IsWire period wire
-  pub sources : (wire : Wire) → Contains wires wire → Contains (ins ++ outs) wire.from
+  pub each : (wire : Wire) → Contains wires wire → IsWireDrawn wire
   pub own : (wire : Wire) (s : Signal) → Contains wires wire → Contains ins s
       → s.cell ≢ wire.to.cell
   pub apart : AreDisjointWires wires
   pub laid : (wire : Wire) → Contains wires wire → IsLaid period wire before after
   pub others : (cell : ℤ × ℤ) → ((wire : Wire) → Contains wires wire → IsAwayFrom wire cell)
       → cell_state after cell ≡ cell_state before cell
+
+-- The wires of the second plane lead from ports that are left, and each brings its signal. The
+-- inputs and outputs here are those that are left.
+pub record HasWires (period : ℕ) (wires : List Wire) (ins outs : List Signal)
+    (before after : Plane) : Type 0 where
+  pub drawn : AreWiresDrawn period wires ins before after
+  pub sources : (wire : Wire) → Contains wires wire → Contains (ins ++ outs) wire.from
+  pub come : (wire : Wire) → Contains wires wire
+      → ComesByWire period wire.size wire.from wire.to

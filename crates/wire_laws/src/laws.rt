@@ -1,7 +1,7 @@
 //! Laws of signals and wires: each function does nothing, and its contract is the law.
 ghost use Rattle.ww_rule.specs.Wireworld.{Plane};
 ghost use Rattle.wire_laws.specs.Moved.{CarriesAnywhere};
-ghost use Rattle.wire_laws.specs.Laws.{SignalsKeepTime, RowsAreSignals, OrderIsFree, LoneCellsCarry, PlanesUnite, WiresFeed, WiresDelay, StretchedAreSlower, AnswersGoSlower};
+ghost use Rattle.wire_laws.specs.Laws.{SignalsKeepTime, RowsAreSignals, OrderIsFree, SignalsLitAlike, DarkInputsMayGo, PlanesStartLater, LoneCellsCarry, PlanesUnite, WiresFeed, WiresDelay, StretchedAreSlower, AnswersGoSlower};
 
 /// A signal is lit exactly at the generations of its cycles in which the bit is 1.
 pub fn signals_keep_time()
@@ -17,6 +17,22 @@ pub fn rows_are_signals()
 /// output.
 pub fn order_is_free()
     ensures { OrderIsFree }
+{}
+
+/// Signals of one cell that are lit at the same generations may stand for each other: a signal whose
+/// bits come some cycles later may be said to begin as many periods later.
+pub fn signals_lit_alike()
+    ensures { SignalsLitAlike }
+{}
+
+/// An input that is never lit need not be an input.
+pub fn dark_inputs_may_go()
+    ensures { DarkInputsMayGo }
+{}
+
+/// A plane without electrons carries its signals any number of generations later.
+pub fn planes_start_later()
+    ensures { PlanesStartLater }
 {}
 
 /// A lone cell carries each signal from itself to itself.
@@ -35,13 +51,15 @@ pub fn planes_unite()
 {}
 
 /// Wires from outputs to inputs take the place of the drive of these inputs, where the inputs'
-/// signals are those that the wires bring. List a fed input among the outputs first: then another
-/// wire can begin there.
+/// signals are those that the wires bring. This speaks of one run, and that there is such a run is
+/// what `parts_feed` says. List a fed input among the outputs first: then another wire can begin
+/// there.
 pub fn wires_feed()
     ensures { WiresFeed }
 {}
 
-/// A wire that is m cycles long brings the bits m cycles later.
+/// A wire that is m cycles long brings the bits of its beginning m cycles later, if what it brings in
+/// the first m cycles would not be in its first cell, nor before it, at generation 0.
 pub fn wires_delay()
     ensures { WiresDelay }
 {}

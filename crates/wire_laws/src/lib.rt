@@ -1,11 +1,18 @@
-//! Laws of planes that carry signals: side by side, joined by wires, run more slowly.
+//! Laws of planes that carry signals, and of parts, which carry whatever bits come to their inputs:
+//! side by side, joined by wires, begun later, run more slowly.
 //!
-//! Theorem: `planes_unite`, `wires_feed`, `wires_delay`, `answers_go_slower`.
+//! Theorem: `parts_feed`, `parts_unite`, `parts_start_later`, `answers_go_slower`.
 #![tactic(auto)]
 
 mod laws;
+mod parts;
 
 pub use laws::{
-    answers_go_slower, carries_anywhere, lone_cells_carry, order_is_free, planes_unite,
-    rows_are_signals, signals_keep_time, stretched_are_slower, wires_delay, wires_feed,
+    answers_go_slower, carries_anywhere, dark_inputs_may_go, lone_cells_carry, order_is_free,
+    planes_start_later, planes_unite, rows_are_signals, signals_keep_time, signals_lit_alike,
+    stretched_are_slower, wires_delay, wires_feed,
+};
+pub use parts::{
+    parts_feed, parts_move, parts_start_later, parts_take_order, parts_unite, ready_by_count,
+    unused_inputs_go,
 };
