@@ -1,0 +1,13 @@
+//! The pattern of a text that carries a design is a part, so that wires may join it.
+//!
+//! Theorem: `carriers_are_parts`.
+#![tactic(auto)]
+
+ghost use Rattle.carried_parts.specs.CarriedParts.{CarriersAreParts};
+
+/// The pattern of a text that carries a design and its nets, whoever wrote it, is a part, and what
+/// it makes of its inputs' bits are the bits of the design's runs, if the period is 3 at least and
+/// some tests of the cells at its IN, OUT and NET lines hold, as they do of what `compile` writes.
+pub fn carriers_are_parts()
+    ensures { CarriersAreParts }
+{}
