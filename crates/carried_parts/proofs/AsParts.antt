@@ -52,34 +52,34 @@ shown_as_lit period first n g bit other cell s some enough same shown = (
 abbrev line_port : ℕ → PortLine → Port
 line_port first line = ((pos line.x, pos line.y), first)
 
-no_line : PortLine
+pub no_line : PortLine
 no_line = record { x = 0; y = 0; name = [] }
 
-no_net_line : NetLine
+pub no_net_line : NetLine
 no_net_line = record { x = 0; y = 0; offset = 0; name = []; path = [] }
 
-abbrev net_bit : Option Net → Valuation → Bool
+abbrev pub net_bit : Option Net → Valuation → Bool
 net_bit None bits = false
 net_bit (Some net) bits = bits net.place net.name
 
 module _ (text : List ℕ) (design : Design) (c : CarriesNets text design) (long_enough : 3 ≤ c.carried.ports.p) (open_lines : HasOpenLines c.carried.ports c.nets (plane_of c.carried.grid.rows)) where
-  abbrev ports : Ports
+  abbrev pub ports : Ports
   ports = c.carried.ports
 
-  abbrev plane : Plane
+  abbrev pub plane : Plane
   plane = plane_of c.carried.grid.rows
 
-  abbrev period : ℕ
+  abbrev pub period : ℕ
   period = c.carried.ports.p
 
-  abbrev k : ℕ
+  abbrev pub k : ℕ
   k = length c.carried.ports.ins
 
   some : 0 < period
   some = omega (arith, long_enough)
 
   -- the first rows are input rows, and there is a run on them
-  fits : (n : ℕ) (bits : ℕ → ℕ → Bool) → AreInputRows design (rows_of k n bits)
+  pub fits : (n : ℕ) (bits : ℕ → ℕ → Bool) → AreInputRows design (rows_of k n bits)
   fits n bits = (names_of ports.ins, c.carried.names.ins, λ u d l. row_long u d l)
     where
       row_long : (u : ℕ) (d : List Bool) → u < length (rows_of k n bits) → length (get_or (rows_of k n bits) u d) ≡ length (names_of ports.ins)
@@ -89,17 +89,17 @@ module _ (text : List ℕ) (design : Design) (c : CarriesNets text design) (long
           ∙ length-map-range_with_len (bits u) 0 k
           ∙ sym (length-map ports.ins (λ line. line.name))
 
-  abbrev run_on : ℕ → (ℕ → ℕ → Bool) → ℕ → Valuation
+  abbrev pub run_on : ℕ → (ℕ → ℕ → Bool) → ℕ → Valuation
   run_on n bits = (c.carried.shows.runs (rows_of k n bits) (fits n bits)).0
 
-  is_run : (n : ℕ) (bits : ℕ → ℕ → Bool) → IsRun design (rows_of k n bits) (run_on n bits)
+  pub is_run : (n : ℕ) (bits : ℕ → ℕ → Bool) → IsRun design (rows_of k n bits) (run_on n bits)
   is_run n bits = (c.carried.shows.runs (rows_of k n bits) (fits n bits)).1
 
   -- the valuation of a cycle, from the bits up to it
-  abbrev valuation : (ℕ → ℕ → Bool) → ℕ → Valuation
+  abbrev pub valuation : (ℕ → ℕ → Bool) → ℕ → Valuation
   valuation bits t = run_on (suc t) (cut t bits) t
 
-  abbrev meant : (ℕ → ℕ → Bool) → ℕ → ℕ → Bool
+  abbrev pub meant : (ℕ → ℕ → Bool) → ℕ → ℕ → Bool
   meant bits t = row_of_both (length c.carried.ports.outs) (λ o. output_bit design (valuation bits t) o) (λ i. net_bit (slice_get c.nets i) (valuation bits t))
 
   -- a run on rows whose first ones are these is a run on these
@@ -115,13 +115,13 @@ module _ (text : List ℕ) (design : Design) (c : CarriesNets text design) (long
     within : t < length (rows_of k (suc t) (cut t bits))
     within = omega (arith, long k (suc t) (cut t bits))
 
-    same_out : (o : ℕ) (line : PortLine) → slice_get ports.outs o ≡ Some line → output_bit design (valuation bits t) o ≡ output_bit design (run t) o
+    pub same_out : (o : ℕ) (line : PortLine) → slice_get ports.outs o ≡ Some line → output_bit design (valuation bits t) o ≡ output_bit design (run t) o
     same_out o line at =
         let here = (carries_cycles text design c.carried (rows_of k (suc t) (cut t bits)) (fits (suc t) (cut t bits)) (run_on (suc t) (cut t bits)) (is_run (suc t) (cut t bits))).bits o line at t within in
         let there = (carries_cycles text design c.carried (rows_of k (suc t) (cut t bits)) (fits (suc t) (cut t bits)) run is).bits o line at t within in
         both_ways _ _ (λ e. there.0 (here.1 e)) (λ e. here.0 (there.1 e))
 
-    same_net : (i : ℕ) (net : Net) (line : NetLine) → slice_get c.nets i ≡ Some net → slice_get ports.nets i ≡ Some line → valuation bits t net.place net.name ≡ run t net.place net.name
+    pub same_net : (i : ℕ) (net : Net) (line : NetLine) → slice_get c.nets i ≡ Some net → slice_get ports.nets i ≡ Some line → valuation bits t net.place net.name ≡ run t net.place net.name
     same_net i net line is_net at =
         let here = carries_net_cycles text design c (rows_of k (suc t) (cut t bits)) (fits (suc t) (cut t bits)) (run_on (suc t) (cut t bits)) (is_run (suc t) (cut t bits)) i net line is_net at t within in
         let there = carries_net_cycles text design c (rows_of k (suc t) (cut t bits)) (fits (suc t) (cut t bits)) run is i net line is_net at t within in
@@ -130,7 +130,7 @@ module _ (text : List ℕ) (design : Design) (c : CarriesNets text design) (long
   outs_long : length ports.outs ≡ length (main_outputs design)
   outs_long = sym (length-map ports.outs (λ line. line.name)) ∙ ap length c.carried.names.outs
 
-  nets_long : length ports.nets ≡ length c.nets
+  pub nets_long : length ports.nets ≡ length c.nets
   nets_long =
       sym (length-map ports.nets (λ line. (line.name, line.path))) ∙ ap length c.names ∙ length-map c.nets (λ net. name_and_path net.place net.name)
 
@@ -141,7 +141,7 @@ module _ (text : List ℕ) (design : Design) (c : CarriesNets text design) (long
       let wide : length row ≡ k = rows_fit_ports ports design rows c.carried.names are u [] l in
       sym (row_again row) ∙ ap (λ n. map (flag_at row) (range_with_len 0 n)) wide
 
-  is_meaning : IsMeaningOf design c.nets meant
+  pub is_meaning : IsMeaningOf design c.nets meant
   is_meaning =
       record {
         causal = λ bits others t same. ap (λ first. row_of_both (length c.carried.ports.outs) (λ o. output_bit design (run_on (suc t) first t) o) (λ i. net_bit (slice_get c.nets i) (run_on (suc t) first t))) (cut_same t bits others same);
@@ -311,7 +311,7 @@ module _ (text : List ℕ) (design : Design) (c : CarriesNets text design) (long
         subst (λ s. cell_state plane s.cell ≢ Tail) (sym of.3) (open_lines.ins of.1 (contains_from ports.ins of.1 (in_got ports.ins of.0 of.1 of.2))).no_tail)) (λ s among. (let of = in_line s among in
         subst (λ s. cells_around plane s.cell.0 s.cell.1 ≤ 2) (sym of.3) (open_lines.ins of.1 (contains_from ports.ins of.1 (in_got ports.ins of.0 of.1 of.2))).few))
 
-    part_carried : CarriesSignals period plane ins (signals_at (line_ports ports.l ports.outs ++ net_line_ports ports.nets) (meant bits))
+    pub part_carried : CarriesSignals period plane ins (signals_at (line_ports ports.l ports.outs ++ net_line_ports ports.nets) (meant bits))
     part_carried =
         let count : length (line_ports ports.l ports.outs) ≡ length ports.outs = length-map ports.outs (line_port ports.l) in
         subst (CarriesSignals period plane ins) (sym (signals_both (line_ports ports.l ports.outs) (net_line_ports ports.nets) out_bit seen_bit) ∙ ap (λ n. signals_at (line_ports ports.l ports.outs ++ net_line_ports ports.nets) (λ t. row_of_both n (out_bit t) (seen_bit t))) count) carried

@@ -1,17 +1,17 @@
 -- A text that carries a design and its nets is a part, whoever wrote it.
-use Rattle.std.specs.Prelude.{pos, ℕ, ◌+◌, ◌<◌, ◌≤◌, ◌≡◌, ◌≢◌, Bool, List, [], ◌++◌, length, map, Contains, Some, slice_get}
+use Rattle.std.specs.Prelude.{pos, ℕ, ◌+◌, ◌<◌, ◌≤◌, ◌≡◌, ◌≢◌, Bool, List, [], ◌∷◌, ◌++◌, length, map, Contains, Some, None, slice_get}
 use Rattle.lists.specs.Items.{flag_at, list_at}
 use Rattle.ww_rule.specs.declared.pattern.State.TheVariants.{Empty, Tail}
 use Rattle.ww_rule.specs.Wireworld.{Plane}
 use Rattle.ww_rule.specs.Grid.{plane_of}
-use Rattle.wire_laws.specs.Rows.{Port, PartMeaning, IsPart, IsCausalMeaning}
+use Rattle.wire_laws.specs.Rows.{Port, PartMeaning, IsPart, IsCausalMeaning, AnswersEachRow}
 use Rattle.wire_laws.specs.PartLaws.{cells_around}
 use Rattle.pattern_reading.specs.declared.ports.Ports.{Ports}
 use Rattle.pattern_reading.specs.declared.ports.PortLine.{PortLine}
 use Rattle.pattern_reading.specs.declared.ports.NetLine.{NetLine}
 use Rattle.netlist_core.specs.declared.model.Design.{Design}
 use Rattle.netlist_meaning.specs.Nets.{Net}
-use Rattle.netlist_meaning.specs.Places.{main_outputs}
+use Rattle.netlist_meaning.specs.Places.{Place, latch_at, main_outputs}
 use Rattle.netlist_meaning.specs.Valuation.{Valuation, AreInputRows, IsRun, output_bit}
 use Rattle.carries.specs.Nets.{CarriesNets}
 
@@ -73,3 +73,29 @@ CarriersAreParts =
     × IsPart c.carried.ports.p (plane_of c.carried.grid.rows) (line_ports 0 c.carried.ports.ins)
     (line_ports c.carried.ports.l c.carried.ports.outs ++ net_line_ports c.carried.ports.nets)
     meaning
+
+-- no place of the design has a latch
+abbrev pub HasNoLatches : Design → Type 0
+HasNoLatches design = (place : Place) (number : ℕ) → latch_at design place number ≡ None
+
+-- in each run on one row, this is what the answer to the row is: the bits of the design's outputs,
+-- and then those of these nets
+pub record IsAnswerOf (design : Design) (seen : List Net) (answer : (ℕ → Bool) → ℕ → Bool) : Type 0 where
+  pub outs : (row : List Bool) → AreInputRows design (row ∷ []) → (run : ℕ → Valuation)
+      → IsRun design (row ∷ []) run → (i : ℕ) → i < length (main_outputs design)
+      → answer (flag_at row) i ≡ output_bit design (run 0) i
+  pub nets : (row : List Bool) → AreInputRows design (row ∷ []) → (run : ℕ → Valuation)
+      → IsRun design (row ∷ []) run → (k : ℕ) (net : Net) → slice_get seen k ≡ Some net
+      → answer (flag_at row) (length (main_outputs design) + k) ≡ run 0 net.place net.name
+
+-- Without latches the part answers row by row. So if it has no electrons, it also answers at each
+-- multiple of its period (`AnswersGoSlower`), and later (`PartsStartLater`).
+abbrev pub CarriersAnswerEachRow : Type 0
+CarriersAnswerEachRow =
+    (text : List ℕ) (design : Design) (c : CarriesNets text design) → 3 ≤ c.carried.ports.p
+    → HasOpenLines c.carried.ports c.nets (plane_of c.carried.grid.rows) → HasNoLatches design
+    → (answer : (ℕ → Bool) → ℕ → Bool) × IsAnswerOf design c.nets answer
+    × AnswersEachRow c.carried.ports.p (plane_of c.carried.grid.rows)
+    (line_ports 0 c.carried.ports.ins)
+    (line_ports c.carried.ports.l c.carried.ports.outs ++ net_line_ports c.carried.ports.nets)
+    answer
