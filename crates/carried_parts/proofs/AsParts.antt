@@ -49,8 +49,12 @@ shown_as_lit period first n g bit other cell s some enough same shown = (
       shown.1 (c.0, low, c.1, same c.0 low ∙ c.2)),
 )
 
-abbrev line_port : ℕ → PortLine → Port
+abbrev pub line_port : ℕ → PortLine → Port
 line_port first line = ((pos line.x, pos line.y), first)
+
+pub cell_ports : (lines : List PortLine) → map (λ cell. ((pos cell.0, pos cell.1), 0)) (cells_of lines) ≡ line_ports 0 lines
+cell_ports [] = refl
+cell_ports (line ∷ lines) = ap (λ rest. ((pos line.x, pos line.y), 0) ∷ rest) (cell_ports lines)
 
 pub no_line : PortLine
 no_line = record { x = 0; y = 0; name = [] }
@@ -166,10 +170,6 @@ module _ (text : List ℕ) (design : Design) (c : CarriesNets text design) (long
 
     abbrev rows : ℕ → List (List Bool)
     rows n = rows_of k n bits
-
-    cell_ports : (lines : List PortLine) → map (λ cell. ((pos cell.0, pos cell.1), 0)) (cells_of lines) ≡ line_ports 0 lines
-    cell_ports [] = refl
-    cell_ports (line ∷ lines) = ap (λ rest. ((pos line.x, pos line.y), 0) ∷ rest) (cell_ports lines)
 
     -- until a generation the first rows drive the pattern as the endless bits do
     due_is : (n h : ℕ) (x y : ℤ) → h < n → due h x y ≡ drive ports (rows n) h x y

@@ -1,9 +1,10 @@
--- A text that carries a design and its nets is a part, whoever wrote it.
+-- A text that carries a design and its nets is a part, whoever wrote it, and a part whose meaning is
+-- a design's carries it.
 use Rattle.std.specs.Prelude.{pos, ℕ, ◌+◌, ◌<◌, ◌≤◌, ◌≡◌, ◌≢◌, Bool, List, [], ◌∷◌, ◌++◌, length, map, Contains, Some, None, slice_get}
 use Rattle.lists.specs.Items.{flag_at, list_at}
-use Rattle.ww_rule.specs.declared.pattern.State.TheVariants.{Empty, Tail}
+use Rattle.ww_rule.specs.declared.pattern.State.TheVariants.{Empty, Tail, Conductor}
 use Rattle.ww_rule.specs.Wireworld.{Plane}
-use Rattle.ww_rule.specs.Grid.{plane_of}
+use Rattle.ww_rule.specs.Grid.{Grid, plane_of}
 use Rattle.wire_laws.specs.Rows.{Port, PartMeaning, IsPart, IsCausalMeaning, AnswersEachRow}
 use Rattle.wire_laws.specs.PartLaws.{cells_around}
 use Rattle.pattern_reading.specs.declared.ports.Ports.{Ports}
@@ -13,7 +14,9 @@ use Rattle.netlist_core.specs.declared.model.Design.{Design}
 use Rattle.netlist_meaning.specs.Nets.{Net}
 use Rattle.netlist_meaning.specs.Places.{Place, latch_at, main_outputs}
 use Rattle.netlist_meaning.specs.Valuation.{Valuation, AreInputRows, IsRun, output_bit}
-use Rattle.carries.specs.Nets.{CarriesNets}
+use Rattle.carries.specs.Cells.{Spells}
+use Rattle.carries.specs.Carries.{NamesPorts}
+use Rattle.carries.specs.Nets.{AreSeenNets, NamesNets, CarriesNets}
 
 -- the ports of IN lines, whose first cycle is at generation 0, or of OUT lines, with the latency
 abbrev pub line_ports : (first : ℕ) → List PortLine → List Port
@@ -99,3 +102,18 @@ CarriersAnswerEachRow =
     (line_ports 0 c.carried.ports.ins)
     (line_ports c.carried.ports.l c.carried.ports.outs ++ net_line_ports c.carried.ports.nets)
     answer
+
+-- A text carries a design and its nets if its pattern is a part whose meaning is the design's, as a
+-- pattern may be that is joined of several: if its table names the ports and the nets, and the cells
+-- of IN lines are conductors.
+abbrev pub PartsCarry : Type 0
+PartsCarry =
+    (text : List ℕ) (design : Design) (grid : Grid) (ports : Ports) (seen : List Net)
+    (meaning : PartMeaning) → Spells text grid ports → ports.c ≡ 1 → NamesPorts ports design
+    → AreSeenNets design seen → NamesNets ports seen
+    → ((line : PortLine) → Contains ports.ins line
+    → plane_of grid.rows (pos line.x) (pos line.y) ≡ Conductor)
+    → IsMeaningOf design seen meaning
+    → IsPart ports.p (plane_of grid.rows) (line_ports 0 ports.ins)
+    (line_ports ports.l ports.outs ++ net_line_ports ports.nets) meaning
+    → CarriesNets text design
