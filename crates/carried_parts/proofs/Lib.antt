@@ -1,0 +1,4 @@
+pub mod Rows
+pub mod AsParts
+pub mod EachRow
+pub mod Carriers
