@@ -4,7 +4,7 @@ use Rattle.std.proofs.lemmas.Option.{get_or_from_slice_get}
 use Rattle.row_placer.specs.declared.job.Job.{Job}
 use Rattle.row_placer.proofs.Carry.{kept_on, adds_one}
 use Rattle.row_placer.proofs.Ports.{port_has, settled_more, same_held}
-use Rattle.row_placer.proofs.lanes.Lanes.settle_loops.Goals as goal
+use Rattle.row_placer.proofs.lanes.Lanes.bring_loops.Goals as goal
 
 pub find-lane-requires : goal.find-lane-requires
 find-lane-requires c =
