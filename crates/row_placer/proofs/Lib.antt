@@ -3,6 +3,7 @@ pub mod Carry
 pub mod Uses
 pub mod Gates
 pub mod Ports
+pub mod Exchanges
 pub mod Counts
 pub mod Values
 pub mod Whole

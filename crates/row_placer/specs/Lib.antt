@@ -2,6 +2,7 @@ pub mod Told
 pub mod Uses
 pub mod Ready
 pub mod Steps
+pub mod Settling
 pub mod Numbers
 pub mod Programs
 pub mod Placed

@@ -7,10 +7,11 @@ ghost use Rattle.row_placer.specs.Told.{role_code, Told, MadeTold, MadeAt, PutsT
 ghost use Rattle.row_placer.specs.Uses.{uses_left};
 ghost use Rattle.row_placer.specs.Ready.{ReadyForGate, ReadyForPort, HoldAllPorts, AreSettled, IsUsable, IsRunnable, ArePortsKnown, value_count};
 ghost use Rattle.row_placer.specs.Placed.{AreOuts};
+ghost use Rattle.row_placer.specs.Settling.{AreOnLanes, came_from};
 ghost use Rattle.row_placer.specs.declared.job.CellKind.TheVariants.{AndNot};
 ghost use Rattle.channel_router.specs.Routes.{swapped, brought, distance};
 
-use crate::{CellKind, Job, NumberedCell, PlaceError, Role, Tag};
+use crate::{CellKind, Job, NumberedCell, PlaceError, Role, Tag, settles, settling_swaps};
 use lane_core::{Instr, NetPlace};
 use std::alloc::Global;
 
@@ -68,7 +69,7 @@ impl<'a> Lanes<'a> {
         let mut lanes = Lanes::new(alloc, job)?;
         lanes.place_gates(left)?;
         lanes.place_ports(loops, left)?;
-        lanes.settle_loops(loops)?;
+        lanes.settle_loops(alloc, loops)?;
         Ok(lanes)
     }
 
@@ -593,8 +594,8 @@ impl<'a> Lanes<'a> {
         Ok(())
     }
 
-    /// Brings the first ports to the lowest lanes, the first one to the lowest.
-    fn settle_loops(&mut self, loops: u32) -> Result<(), PlaceError>
+    // Brings the first ports to the lowest lanes one after another.
+    fn bring_loops(&mut self, loops: u32) -> Result<(), PlaceError>
         requires loops { loops ≤ length self.old.job.now.ports }
         requires lanes { loops ≤ length self.old.tags.items }
         requires held { HoldAllPorts self.old.job.now self.old.tags.items }
@@ -614,6 +615,45 @@ impl<'a> Lanes<'a> {
             port += 1;
         }
         Ok(())
+    }
+
+    // Exchanges neighbours, one pair after another.
+    fn swap_all(&mut self, swaps: &[u32]) -> Result<(), PlaceError>
+        requires { AreOnLanes (length self.old.tags.items) swaps.now }
+        ensures moved { OnOk result (
+            MovesTags self.old self.new (came_from swaps.now) (length swaps.now)
+            ) }
+        ensures kept { KeepsGates self.old self.new }
+    {
+        let mut next = 0;
+        while next < swaps.len() {
+            let lane = swaps[next];
+            self.swap(lane)?;
+            next += 1;
+        }
+        Ok(())
+    }
+
+    /// Brings the first ports to the lowest lanes, the first one to the lowest.
+    fn settle_loops(&mut self, alloc: Global, loops: u32) -> Result<(), PlaceError>
+        requires loops { loops ≤ length self.old.job.now.ports }
+        requires lanes { loops ≤ length self.old.tags.items }
+        requires held { HoldAllPorts self.old.job.now self.old.tags.items }
+        ensures held { OnOk result (HoldAllPorts self.old.job.now self.new.tags.items) }
+        ensures settled { OnOk result (AreSettled self.old.job.now loops self.new.tags.items) }
+        ensures adds { OnOk result (
+            AddsAtMost self.old self.new (loops * length self.old.tags.items)
+            ) }
+        ensures kept { KeepsGates self.old self.new }
+    {
+        let swaps = settling_swaps(alloc, &self.tags, &self.clocks, loops)?;
+        if settles(alloc, self.job, loops, &self.tags, &swaps)? {
+            self.swap_all(&swaps)?;
+            Ok(())
+        } else {
+            self.bring_loops(loops)?;
+            Ok(())
+        }
     }
 
     /// Returns the lanes of the ports that are no loops.

@@ -9,6 +9,7 @@ mod lanes;
 mod placing;
 mod reading;
 mod roles;
+mod settling;
 mod start;
 
 use job::{CellKind, Job, NumberedCell};
@@ -17,3 +18,4 @@ use lanes::Lanes;
 pub use lists::OutOfMemory as PlaceError;
 pub use placing::{place, place_at};
 use roles::{Role, Tag};
+use settling::{settles, settling_swaps};

@@ -1,7 +1,7 @@
 use Rattle.std.proofs.Common.{◌≤◌, ◌*◌, ◌-◌, length}
 use Rattle.row_placer.specs.Ready.{AreSettled, HoldAllPorts}
 use Rattle.row_placer.specs.Steps.{KeepsGates, AddsAtMost}
-use Rattle.row_placer.proofs.lanes.Lanes.settle_loops.Given as goal
+use Rattle.row_placer.proofs.lanes.Lanes.bring_loops.Given as goal
 
 abbrev pub invariant-loop-port : goal.invariant-loop-port
 invariant-loop-port l = record {
