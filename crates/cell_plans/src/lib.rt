@@ -8,5 +8,6 @@ mod choosing;
 mod planning;
 
 pub use choosing::{Chosen, best_plan, plan_of};
+pub use planning::climbed_plan;
 // The answer of `best_plan` and `plan_of` when memory runs out.
 pub use lists::OutOfMemory as PlanError;

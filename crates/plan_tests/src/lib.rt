@@ -6,6 +6,8 @@ mod choosing;
 #[cfg(test)]
 mod circuits;
 #[cfg(test)]
+mod climbing;
+#[cfg(test)]
 mod cycles;
 #[cfg(test)]
 mod drawing;
