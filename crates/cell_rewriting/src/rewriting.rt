@@ -185,8 +185,8 @@ fn add_wandered(
 // How many lists are made by chance, and in how many rounds each: the longer the list, the fewer.
 fn how_many(cells: usize) -> (u64, u32) {
     match cells {
-        0..=150 => (3, 20),
-        151..=1500 => (1, 10),
+        0..=200 => (7, 20),
+        201..=1500 => (1, 10),
         _ => (1, 4),
     }
 }

@@ -1,10 +1,24 @@
-// Climbing: small changes are kept if they do not make the drawing larger.
+// Climbing: small changes are kept if they do not make the drawing much larger, and less and less
+// so as it goes on; the best layout is kept besides.
+use crate::cooling::{Cooling, loss};
 use crate::gates::Gates;
 use crate::layout::{Homes, Layout};
-use crate::placing::Placer;
+use crate::placing::{Change, Placer};
 use cell_core::{CellError, Draws};
 use std::alloc::Global;
 use std::mem;
+use std::ops::Range;
+
+// Of 100 changes so many are of the number of lanes, and of inputs' lanes at most. The fewer inputs
+// there are for each cell, the fewer changes are of inputs.
+const OF_LANES: usize = 2;
+
+const OF_INPUTS: usize = 15;
+
+// Of 100 changes of the order so many move neighbours together, and how many of these at most.
+const OF_BLOCKS: usize = 40;
+
+const LONGEST_BLOCK: usize = 13;
 
 /// A layout of a list, the list's number, and how many tiles the layout's drawing has.
 #[derive(Drop)]
@@ -14,102 +28,196 @@ pub struct Camp {
     pub tiles: u64,
 }
 
-/// A climber: it changes camps and keeps the changes that bring no larger drawing.
+impl Camp {
+    // Makes this camp one of another layout of its list.
+    fn move_to(&mut self, layout: &Layout, tiles: u64) -> Result<(), CellError> {
+        self.tiles = tiles;
+        self.layout.copy(layout)
+    }
+}
+
+/// A climber: it changes a layout, keeps the changes that bring no much larger drawing, and leaves
+/// the best layout at a camp.
 #[derive(Drop)]
 pub struct Climber<'a> {
+    alloc: Global,
     gates: &'a Gates,
     placer: Placer<'a>,
     draws: Draws,
+    layout: Layout,
+    tiles: u64,
+    // the most tiles that the next change may bring
+    most: u64,
     // the homes of the layout before a change, or after it
     other: Homes,
 }
 
 impl<'a> Climber<'a> {
-    /// Returns a climber for camps of these gates.
-    pub fn new(alloc: Global, gates: &'a Gates, seed: u64) -> Result<Climber<'a>, CellError> {
+    /// Returns a climber that starts at a camp of these gates.
+    pub fn new(
+        alloc: Global,
+        gates: &'a Gates,
+        camp: &Camp,
+        seed: u64,
+    ) -> Result<Climber<'a>, CellError> {
         Ok(Climber {
+            alloc,
             gates,
             placer: Placer::new(alloc, gates)?,
             draws: Draws::new(seed),
+            layout: camp.layout.copied(alloc)?,
+            tiles: camp.tiles,
+            most: u64::MAX,
             other: Homes::new(alloc),
         })
     }
 
-    /// Tries changes of a camp, until they have placed about `work` gates.
-    pub fn climb(&mut self, camp: &mut Camp, work: usize) -> Result<(), CellError> {
-        for _ in 0..work / self.gates.gates.len().saturating_add(4) {
-            match self.draws.below(10) {
-                0..=5 => self.try_cell(camp)?,
-                6..=8 => self.try_input(camp)?,
-                _ => self.try_lanes(camp)?,
+    /// Tries changes until so many lanes were passed, and moves the camp to the best layout.
+    pub fn climb(
+        &mut self,
+        camp: &mut Camp,
+        work: usize,
+        cooling: Cooling,
+    ) -> Result<(), CellError> {
+        self.accept_if_small(Change::Lanes)?;
+        for _ in 0..work {
+            if self.placer.work >= work {
+                break;
+            }
+            self.most = self.most_tiles(cooling.heat(self.placer.work, work));
+            self.placer.count(1, self.layout.homes.lanes);
+            self.change()?;
+            if self.tiles < camp.tiles && self.has_room()? {
+                camp.move_to(&self.layout, self.tiles)?;
             }
         }
         Ok(())
     }
 
-    // Whether the changed layout's drawing is no larger; if so, its size is the camp's.
-    fn accepts(&mut self, camp: &mut Camp) -> Result<bool, CellError> {
-        match self.placer.tiles(&camp.layout, camp.tiles)? {
+    // Whether the placer takes as many lanes as the layout has.
+    fn has_room(&self) -> Result<bool, CellError> {
+        let fewest = self.gates.fewest_lanes(self.alloc, &self.layout.order)?;
+        let most = fewest.saturating_add(self.gates.most_spare());
+        Ok(self.layout.homes.lanes <= most)
+    }
+
+    // The most tiles that a change may bring if the temperature is so many 256ths of a column.
+    fn most_tiles(&mut self, heat: u64) -> u64 {
+        let rows = self.layout.homes.lanes.saturating_add(self.gates.loops) as u64;
+        let more = heat
+            .saturating_mul(loss(&mut self.draws))
+            .saturating_mul(rows);
+        self.tiles.saturating_add(more >> 16)
+    }
+
+    // Tries a change.
+    fn change(&mut self) -> Result<(), CellError> {
+        let drawn = self.draws.below(100);
+        if drawn < OF_LANES {
+            self.try_lanes()
+        } else if drawn < OF_LANES.saturating_add(self.of_inputs()) {
+            self.try_input()
+        } else {
+            self.try_order()
+        }
+    }
+
+    // How many of 100 changes are of inputs' lanes.
+    fn of_inputs(&self) -> usize {
+        let inputs = OF_INPUTS
+            .saturating_mul(8)
+            .saturating_mul(self.gates.read.len());
+        let share = inputs / self.layout.order.len().max(1);
+        share.saturating_add(1).min(OF_INPUTS)
+    }
+
+    // Whether the changed layout's drawing is small enough; if so, it is accepted.
+    fn accept_if_small(&mut self, change: Change) -> Result<bool, CellError> {
+        match self.placer.tiles(&self.layout, change, self.most)? {
             Some(tiles) => {
-                camp.tiles = tiles;
+                self.tiles = tiles;
+                self.placer.accept();
                 Ok(true)
             }
             None => Ok(false),
         }
     }
 
-    // A place to which the cell at place `from` may go.
-    fn other_place(&mut self, layout: &Layout, from: usize) -> Option<usize> {
-        let range = layout.range(self.gates, from)?;
-        let more = self.draws.below(range.end.saturating_sub(range.start));
-        Some(range.start.saturating_add(more))
-    }
-
-    // Tries a cell at another place of the order.
-    fn try_cell(&mut self, camp: &mut Camp) -> Result<(), CellError> {
-        let from = self.draws.below(camp.layout.order.len());
-        match self.other_place(&camp.layout, from) {
-            Some(to) if to != from => self.try_shift(camp, from, to),
-            _ => Ok(()),
+    // The cell at a random place of the order, or a block of cells that ends there.
+    fn random_block(&mut self) -> Range<usize> {
+        let last = self.draws.below(self.layout.order.len());
+        let mut count = 1;
+        if self.draws.below(100) < OF_BLOCKS {
+            count = self.draws.below(LONGEST_BLOCK - 1).saturating_add(2);
         }
+        let end = last.saturating_add(1);
+        end.saturating_sub(count)..end
     }
 
-    // Tries the cell at place `from` at place `to`.
-    fn try_shift(&mut self, camp: &mut Camp, from: usize, to: usize) -> Result<(), CellError> {
-        camp.layout.shift(from, to);
-        if !self.accepts(camp)? {
-            camp.layout.shift(to, from);
+    // Tries a block of cells at another place of the order.
+    fn try_order(&mut self) -> Result<(), CellError> {
+        let block = self.random_block();
+        let range = self.layout.range(self.gates, &block);
+        let places = range.end.saturating_sub(range.start);
+        let to = range.start.saturating_add(self.draws.below(places));
+        if places == 0 || to == block.start {
+            return Ok(());
+        }
+        self.try_shift(&block, to)
+    }
+
+    // Tries a block of cells with its first cell at place `to`.
+    fn try_shift(&mut self, block: &Range<usize>, to: usize) -> Result<(), CellError> {
+        let count = block.end.saturating_sub(block.start);
+        let changed = self.layout.shift(self.gates, block, to);
+        let last = changed.end.saturating_sub(1);
+        if !self.accept_if_small(Change::Order(changed.start, last))? {
+            let moved = to..to.saturating_add(count);
+            self.layout.shift(self.gates, &moved, block.start);
         }
         Ok(())
     }
 
-    // A random lane above the loops, or that of a random input.
-    fn other_lane(&mut self, homes: &Homes) -> Option<usize> {
+    // A random input that is read.
+    fn random_input(&mut self) -> Option<usize> {
+        let number = self.draws.below(self.gates.read.len());
+        self.gates.read.get(number).copied()
+    }
+
+    // The lane of a random input, or a random one above the loops, but for as many at the top as
+    // there are inputs that nothing reads.
+    fn other_lane(&mut self) -> Option<usize> {
         if self.draws.coin() {
-            let other = self.draws.below(homes.ins.len());
-            return homes.ins.get(other).copied();
+            let other = self.random_input()?;
+            return self.layout.homes.ins.get(other).copied();
         }
-        let above = homes.lanes.saturating_sub(self.gates.loops);
-        Some(self.draws.below(above))
+        let above = self.layout.homes.lanes.saturating_sub(self.gates.loops);
+        let first = self.gates.unread();
+        let lane = self.draws.below(above.saturating_sub(first));
+        Some(first.saturating_add(lane))
     }
 
     // Tries an input on another lane, or on that of another input.
-    fn try_input(&mut self, camp: &mut Camp) -> Result<(), CellError> {
-        let input = self.draws.below(camp.layout.homes.ins.len());
-        let Some(lane) = self.other_lane(&camp.layout.homes) else {
+    fn try_input(&mut self) -> Result<(), CellError> {
+        let Some(input) = self.random_input() else {
             return Ok(());
         };
-        if camp.layout.homes.is_home(input, lane) {
-            return Ok(());
+        match self.other_lane() {
+            Some(lane) if !self.layout.homes.is_home(input, lane) => self.try_place(input, lane),
+            _ => Ok(()),
         }
-        self.other.copy(&camp.layout.homes)?;
+    }
+
+    // Tries an input on a lane.
+    fn try_place(&mut self, input: usize, lane: usize) -> Result<(), CellError> {
+        self.other.copy(&self.layout.homes)?;
         self.other.place(input, lane);
-        self.try_other(camp)
+        self.try_other(Change::Inputs)
     }
 
     // Tries one or two lanes more, or one less.
-    fn try_lanes(&mut self, camp: &mut Camp) -> Result<(), CellError> {
-        let old = camp.layout.homes.lanes;
+    fn try_lanes(&mut self) -> Result<(), CellError> {
+        let old = self.layout.homes.lanes;
         let lanes = match self.draws.below(4) {
             0 => old.saturating_add(1),
             1 | 2 => old.saturating_sub(1),
@@ -118,19 +226,19 @@ impl<'a> Climber<'a> {
         if lanes < self.gates.fewest_homes() {
             return Ok(());
         }
-        self.other.copy(&camp.layout.homes)?;
+        self.other.copy(&self.layout.homes)?;
         let above = lanes.saturating_sub(self.gates.loops);
         if !self.other.resize(lanes, above)? {
             return Ok(());
         }
-        self.try_other(camp)
+        self.try_other(Change::Lanes)
     }
 
     // Tries the other homes.
-    fn try_other(&mut self, camp: &mut Camp) -> Result<(), CellError> {
-        mem::swap(&mut camp.layout.homes, &mut self.other);
-        if !self.accepts(camp)? {
-            mem::swap(&mut camp.layout.homes, &mut self.other);
+    fn try_other(&mut self, change: Change) -> Result<(), CellError> {
+        mem::swap(&mut self.layout.homes, &mut self.other);
+        if !self.accept_if_small(change)? {
+            mem::swap(&mut self.layout.homes, &mut self.other);
         }
         Ok(())
     }

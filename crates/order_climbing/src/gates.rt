@@ -12,22 +12,21 @@ pub struct Gate {
     pub is_and_not: bool,
 }
 
-impl Gate {
-    /// Returns whether the gate reads a value.
-    pub fn reads(self, value: usize) -> bool {
-        self.first == value || self.second == value
-    }
-}
-
 /// What a list needs of the lanes. `ports` are the values of the loops' data and then those of the
 /// outputs; `uses` says how often each value is read.
 #[derive(Drop)]
 pub struct Gates {
     pub inputs: usize,
+    /// The inputs that are read.
+    pub read: Vec<usize>,
     pub loops: usize,
     pub gates: Vec<Gate>,
     pub ports: Vec<usize>,
     pub uses: Vec<usize>,
+    /// The cells that read each value, each of them once.
+    pub readers: Vec<Vec<usize>>,
+    /// The last port that shows each value.
+    pub last_ports: Vec<Option<usize>>,
     /// Whether a lane stays dark, for constant 0.
     pub is_dark: bool,
 }
@@ -38,18 +37,42 @@ impl Gates {
         let one = if list.names_one() { 1 } else { 0 };
         let mut gates = Gates {
             inputs: list.inputs as usize,
+            read: Vec::new(alloc),
             loops: list.starts.len().saturating_add(one),
             gates: Vec::new(alloc),
             ports: Vec::new(alloc),
             uses: Vec::new(alloc),
+            readers: Vec::new(alloc),
+            last_ports: Vec::new(alloc),
             is_dark: false,
         };
-        gates.read(list)?;
+        gates.fill(list)?;
+        gates.find_read()?;
+        gates.find_readers(alloc)?;
         Ok(gates)
     }
 
+    // Notes which inputs are read.
+    fn find_read(&mut self) -> Result<(), CellError> {
+        for input in 0..self.inputs {
+            if self.uses_of(input) > 0 {
+                self.read.push(input)?;
+            }
+        }
+        Ok(())
+    }
+
+    // Notes which cells read each value, and which port shows it last.
+    fn find_readers(&mut self, alloc: Global) -> Result<(), CellError> {
+        push_empty(&mut self.readers, alloc, self.uses.len())?;
+        self.last_ports.resize(self.uses.len(), None)?;
+        note_gates(&mut self.readers, &self.gates)?;
+        note_ports(&mut self.last_ports, &self.ports);
+        Ok(())
+    }
+
     // Reads the cells and ports of the list.
-    fn read(&mut self, list: &CellList) -> Result<(), CellError> {
+    fn fill(&mut self, list: &CellList) -> Result<(), CellError> {
         let values = self.made_by(list.cells.len());
         self.uses.resize(values, 0)?;
         self.gates.reserve(list.cells.len())?;
@@ -76,18 +99,18 @@ impl Gates {
 
     /// Returns the fewest lanes on which the cells can be placed in an order: one for each value
     /// that is still read, and for the copies in hand.
-    pub fn fewest_lanes(&self, alloc: Global, order: &[u32]) -> Result<usize, CellError> {
+    pub fn fewest_lanes(&self, alloc: Global, order: &[usize]) -> Result<usize, CellError> {
         let mut left = self.uses.as_slice().to_vec(alloc)?;
         let most = self.most_live(&mut left, order);
         Ok(most.max(self.fewest_homes()).max(self.ports.len()))
     }
 
     // The most lanes in use at a time, if the values have `left` uses.
-    fn most_live(&self, left: &mut [usize], order: &[u32]) -> usize {
+    fn most_live(&self, left: &mut [usize], order: &[usize]) -> usize {
         let mut live = count_used(left.get(..self.made_by(0)).unwrap_or(&[]));
         let mut most = live;
         for cell in order {
-            let cell = *cell as usize;
+            let cell = *cell;
             if let Some(gate) = self.gates.get(cell) {
                 let ended = end_operands(left, *gate);
                 most = most.max(live.saturating_add(2).saturating_sub(ended));
@@ -109,18 +132,41 @@ impl Gates {
         }
     }
 
-    /// Returns whether a cell reads a value.
-    pub fn does_read(&self, cell: usize, value: usize) -> bool {
-        match self.gates.get(cell) {
-            Some(gate) => gate.reads(value),
-            None => false,
+    /// Returns the cells that read a value.
+    pub fn readers_of(&self, value: usize) -> &[usize] {
+        match self.readers.get(value) {
+            Some(readers) => readers.as_slice(),
+            None => &[],
         }
+    }
+
+    /// Returns the last port that shows a value.
+    pub fn last_port(&self, value: usize) -> Option<usize> {
+        match self.last_ports.get(value) {
+            Some(port) => *port,
+            None => None,
+        }
+    }
+
+    /// Returns the cell that makes a value.
+    pub fn maker(&self, value: usize) -> Option<usize> {
+        value.checked_sub(self.made_by(0))
+    }
+
+    /// Returns how many inputs nothing reads.
+    pub fn unread(&self) -> usize {
+        self.inputs.saturating_sub(self.read.len())
     }
 
     /// Returns how many lanes the inputs, the loops and a dark lane take.
     pub fn fewest_homes(&self) -> usize {
         let dark = if self.is_dark { 1 } else { 0 };
         self.zero().saturating_add(dark)
+    }
+
+    /// Returns how many lanes more than the fewest the placer takes at most.
+    pub fn most_spare(&self) -> usize {
+        self.inputs.max(self.ports.len().saturating_sub(self.loops))
     }
 
     /// Returns how many tiles the drawing of so many columns and lanes has.
@@ -132,10 +178,10 @@ impl Gates {
     }
 
     /// Returns the most columns of a drawing on so many lanes that has no more than `tiles` tiles.
-    pub fn most_columns(&self, tiles: u64, lanes: usize) -> u64 {
+    pub fn most_columns(&self, tiles: u64, lanes: usize) -> usize {
         let loops = self.loops as u64;
         let width = tiles / (lanes as u64).saturating_add(loops).max(1);
-        width.saturating_sub(loops).saturating_sub(loops)
+        width.saturating_sub(loops).saturating_sub(loops) as usize
     }
 
     // The number of a source, in a list of so many latches.
@@ -229,4 +275,44 @@ fn count_used(left: &[usize]) -> usize {
 
 fn names_zero(sources: &[Src]) -> bool {
     sources.contains(&Src::Zero)
+}
+
+// Adds so many empty lists.
+fn push_empty(
+    readers: &mut Vec<Vec<usize>>,
+    alloc: Global,
+    values: usize,
+) -> Result<(), CellError> {
+    for _ in 0..values {
+        readers.push(Vec::new(alloc))?;
+    }
+    Ok(())
+}
+
+// Notes that a cell reads a value.
+fn note_reader(readers: &mut [Vec<usize>], value: usize, cell: usize) -> Result<(), CellError> {
+    if let Some(cells) = readers.get_mut(value) {
+        cells.push(cell)?;
+    }
+    Ok(())
+}
+
+// Notes which cells read each value.
+fn note_gates(readers: &mut [Vec<usize>], gates: &[Gate]) -> Result<(), CellError> {
+    for (cell, gate) in gates.iter().enumerate() {
+        note_reader(readers, gate.first, cell)?;
+        if gate.second != gate.first {
+            note_reader(readers, gate.second, cell)?;
+        }
+    }
+    Ok(())
+}
+
+// Notes which port shows each value last.
+fn note_ports(last_ports: &mut [Option<usize>], ports: &[usize]) {
+    for (port, value) in ports.iter().enumerate() {
+        if let Some(last) = last_ports.get_mut(*value) {
+            *last = Some(port);
+        }
+    }
 }

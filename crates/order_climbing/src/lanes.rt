@@ -2,15 +2,53 @@
 // which it is idle.
 use cell_core::CellError;
 use std::alloc::Global;
+use std::ops::Range;
 
-/// The numbers that stand on lanes: of a value, of a port or of an operand in hand, and `nothing`
-/// on a free lane. Each number but `nothing` stands on at most one lane, which `places` names.
+// More columns than any settling of loops takes.
+const MOST_TURNS: usize = 1 << 20;
+
+/// Returns a number in 32 bits, or the greatest of these.
+pub fn as_small(number: usize) -> u32 {
+    u32::try_from(number).unwrap_or(u32::MAX)
+}
+
+/// What stands on lanes: the number of a value, of a port or of an operand in hand, or `nothing`;
+/// and the column from which each lane is idle.
+#[derive(Drop)]
+pub struct State {
+    standing: Vec<u32>,
+    clocks: Vec<u32>,
+    /// The column from which all lanes are idle, noted when the state is kept.
+    pub latest: usize,
+}
+
+impl State {
+    /// Returns a state of no lanes.
+    pub fn new(alloc: Global) -> State {
+        State {
+            standing: Vec::new(alloc),
+            clocks: Vec::new(alloc),
+            latest: 0,
+        }
+    }
+
+    fn copy(&mut self, other: &State) -> Result<(), CellError> {
+        self.standing.clear();
+        self.standing.extend_from_slice(&other.standing)?;
+        self.clocks.clear();
+        self.clocks.extend_from_slice(&other.clocks)?;
+        Ok(())
+    }
+}
+
+/// Lanes in a state. Each number but `nothing` stands on at most one lane, which `places` names.
 #[derive(Drop)]
 pub struct Lanes {
-    standing: Vec<usize>,
-    clocks: Vec<usize>,
+    state: State,
     places: Vec<usize>,
     nothing: usize,
+    // the lanes of loops' data, while these are brought to their own
+    data: Vec<usize>,
 }
 
 /// Where two lanes come side by side: the upper one of the two, and the column after that.
@@ -50,19 +88,46 @@ impl Lanes {
     pub fn new(alloc: Global, nothing: usize) -> Result<Lanes, CellError> {
         let places = vec![in alloc; 0; nothing.saturating_add(1)]?;
         Ok(Lanes {
-            standing: Vec::new(alloc),
-            clocks: Vec::new(alloc),
+            state: State::new(alloc),
             places,
             nothing,
+            data: Vec::new(alloc),
         })
+    }
+
+    /// Keeps the state of the lanes, which are all idle from column `latest`.
+    pub fn keep(&self, kept: &mut State, latest: usize) -> Result<(), CellError> {
+        kept.latest = latest;
+        kept.copy(&self.state)
+    }
+
+    /// Returns whether the lanes are in a state that was kept.
+    pub fn are_in(&self, kept: &State) -> bool {
+        self.state.clocks == kept.clocks && self.state.standing == kept.standing
+    }
+
+    /// Puts the lanes into a state that was kept.
+    pub fn return_to(&mut self, kept: &State) -> Result<(), CellError> {
+        self.state.copy(kept)?;
+        for lane in 0..kept.standing.len() {
+            self.note(kept.standing[lane] as usize, lane);
+        }
+        Ok(())
+    }
+
+    // Notes on which lane a number stands.
+    fn note(&mut self, number: usize, lane: usize) {
+        if let Some(place) = self.places.get_mut(number) {
+            *place = lane;
+        }
     }
 
     /// Makes all of `lanes` lanes free, and idle from the first column.
     pub fn clear(&mut self, lanes: usize) -> Result<(), CellError> {
-        self.standing.clear();
-        self.standing.resize(lanes, self.nothing)?;
-        self.clocks.clear();
-        self.clocks.resize(lanes, 0)?;
+        self.state.standing.clear();
+        self.state.standing.resize(lanes, as_small(self.nothing))?;
+        self.state.clocks.clear();
+        self.state.clocks.resize(lanes, 0)?;
         Ok(())
     }
 
@@ -72,27 +137,28 @@ impl Lanes {
     }
 
     fn standing_on(&self, lane: usize) -> usize {
-        self.standing.get(lane).copied().unwrap_or(self.nothing)
+        match self.state.standing.get(lane) {
+            Some(number) => *number as usize,
+            None => self.nothing,
+        }
     }
 
     fn clock(&self, lane: usize) -> usize {
-        self.clocks.get(lane).copied().unwrap_or(0)
+        self.state.clocks.get(lane).copied().unwrap_or(0) as usize
     }
 
     fn set_clock(&mut self, lane: usize, time: usize) {
-        if let Some(clock) = self.clocks.get_mut(lane) {
-            *clock = time;
+        if let Some(clock) = self.state.clocks.get_mut(lane) {
+            *clock = as_small(time);
         }
     }
 
     /// Puts a number on a lane.
     pub fn put(&mut self, lane: usize, number: usize) {
-        if let Some(standing) = self.standing.get_mut(lane) {
-            *standing = number;
+        if let Some(standing) = self.state.standing.get_mut(lane) {
+            *standing = as_small(number);
         }
-        if let Some(place) = self.places.get_mut(number) {
-            *place = lane;
-        }
+        self.note(number, lane);
     }
 
     /// Frees a lane.
@@ -102,11 +168,11 @@ impl Lanes {
 
     /// Returns the column after the last instruction.
     pub fn columns(&self) -> usize {
-        let mut latest = 0usize;
-        for clock in &self.clocks {
+        let mut latest = 0u32;
+        for clock in &self.state.clocks {
             latest = latest.max(*clock);
         }
-        latest
+        latest as usize
     }
 
     /// Places an instruction on a lane and the next one, and returns the column after it.
@@ -204,8 +270,8 @@ impl Lanes {
 
     fn free_below(&self, lane: usize) -> Option<usize> {
         let first = lane.saturating_add(1);
-        for (more, number) in self.standing.get(first..)?.iter().enumerate() {
-            if *number == self.nothing {
+        for (more, number) in self.state.standing.get(first..)?.iter().enumerate() {
+            if *number as usize == self.nothing {
                 return Some(first.saturating_add(more));
             }
         }
@@ -213,11 +279,11 @@ impl Lanes {
     }
 
     fn free_above(&self, lane: usize) -> Option<usize> {
-        if lane > self.standing.len() {
+        if lane > self.state.standing.len() {
             return None;
         }
         for above in (0..lane).rev() {
-            if self.standing[above] == self.nothing {
+            if self.state.standing[above] as usize == self.nothing {
                 return Some(above);
             }
         }
@@ -260,5 +326,105 @@ impl Lanes {
         self.meet(free, lane, at);
         self.swap(at);
         at
+    }
+
+    // Which of the loops' data, whose numbers these are, stands on a lane: the greater the answer,
+    // the lower its own lane; 0 is none.
+    fn datum_on(&self, lane: usize, loops: &Range<usize>) -> usize {
+        let number = self.standing_on(lane);
+        if loops.contains(&number) {
+            loops.end.saturating_sub(number)
+        } else {
+            0
+        }
+    }
+
+    // The column from which a lane and the next one are idle, if they stand the wrong way round: a
+    // loop's datum above what is none, or above one that belongs lower.
+    fn wrong_from(&self, lane: usize, loops: &Range<usize>) -> Option<usize> {
+        let next = lane.saturating_add(1);
+        if next < self.state.standing.len()
+            && self.datum_on(lane, loops) > self.datum_on(next, loops)
+        {
+            Some(self.clock(lane).max(self.clock(next)))
+        } else {
+            None
+        }
+    }
+
+    // Notes the lanes on which loops' data stand, the lowest first.
+    fn find_data(&mut self, loops: &Range<usize>) -> Result<(), CellError> {
+        self.data.clear();
+        for lane in (0..self.state.standing.len()).rev() {
+            if loops.contains(&self.standing_on(lane)) {
+                self.data.push(lane)?;
+            }
+        }
+        Ok(())
+    }
+
+    // Exchanges a loop's datum and what stands on the next lane. Returns the datum's next lane, or
+    // that of the other one if this is a datum too.
+    fn settle_down(&mut self, lane: usize, loops: &Range<usize>) -> usize {
+        self.swap(lane);
+        if self.datum_on(lane, loops) > 0 {
+            lane
+        } else {
+            lane.saturating_add(1)
+        }
+    }
+
+    // The lane of one of the loops' data, the lowest first.
+    fn datum_lane(&self, datum: usize) -> usize {
+        self.data.get(datum).copied().unwrap_or(0)
+    }
+
+    // Notes that one of the loops' data stands on a lane now.
+    fn note_datum(&mut self, datum: usize, lane: usize) {
+        if let Some(noted) = self.data.get_mut(datum) {
+            *noted = lane;
+        }
+    }
+
+    // From the lowest lane up, exchanges neighbours that stand the wrong way round and are idle at
+    // a column. Returns the next column at which there may be such neighbours.
+    fn settle_at(&mut self, time: usize, loops: &Range<usize>) -> Option<usize> {
+        let mut next = None;
+        for datum in 0..self.data.len() {
+            let lane = self.datum_lane(datum);
+            match self.wrong_from(lane, loops) {
+                Some(idle) if idle <= time => {
+                    let lane = self.settle_down(lane, loops);
+                    self.note_datum(datum, lane);
+                    next = Some(time.saturating_add(1));
+                }
+                Some(idle) => next = Some(earlier(next, idle)),
+                None => {}
+            }
+        }
+        next
+    }
+
+    /// Brings loops' data, whose numbers these are, to the lowest lanes, the first to the lowest:
+    /// column by column, neighbours that stand the wrong way round are exchanged as soon as both
+    /// are idle.
+    pub fn settle(&mut self, loops: &Range<usize>) -> Result<(), CellError> {
+        self.find_data(loops)?;
+        let mut time = 0;
+        for _ in 0..MOST_TURNS {
+            match self.settle_at(time, loops) {
+                Some(next) => time = next,
+                None => return Ok(()),
+            }
+        }
+        Ok(())
+    }
+}
+
+// The earlier of two columns.
+fn earlier(first: Option<usize>, second: usize) -> usize {
+    match first {
+        Some(first) => first.min(second),
+        None => second,
     }
 }

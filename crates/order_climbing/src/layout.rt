@@ -139,10 +139,24 @@ impl Homes {
 #[derive(Drop)]
 pub struct Layout {
     pub order: Vec<usize>,
+    // the place of each cell in the order
+    places: Vec<usize>,
+    // the last cell that reads each value, if no port shows the value
+    last_readers: Vec<Option<usize>>,
     pub homes: Homes,
 }
 
 impl Layout {
+    // Returns a layout of nothing.
+    fn new(alloc: Global) -> Layout {
+        Layout {
+            order: Vec::new(alloc),
+            places: Vec::new(alloc),
+            last_readers: Vec::new(alloc),
+            homes: Homes::new(alloc),
+        }
+    }
+
     /// Returns a layout of an order. Its inputs are spread over the lanes above the loops, those
     /// whose first reader comes latest at the top.
     pub fn spread(
@@ -151,13 +165,30 @@ impl Layout {
         order: &[u32],
         lanes: usize,
     ) -> Result<Layout, CellError> {
-        let mut layout = Layout {
-            order: Vec::new(alloc),
-            homes: Homes::new(alloc),
-        };
+        let mut layout = Layout::new(alloc);
         layout.fill(gates, order, lanes)?;
+        layout.renumber(0, order.len());
+        layout.find_last_readers(gates);
         let ranked = by_first_reader(alloc, gates, &layout.order)?;
         layout.homes.spread(&ranked);
+        Ok(layout)
+    }
+
+    /// Makes this layout equal to another one.
+    pub fn copy(&mut self, other: &Layout) -> Result<(), CellError> {
+        self.order.clear();
+        self.order.extend_from_slice(&other.order)?;
+        self.places.clear();
+        self.places.extend_from_slice(&other.places)?;
+        self.last_readers.clear();
+        self.last_readers.extend_from_slice(&other.last_readers)?;
+        self.homes.copy(&other.homes)
+    }
+
+    /// Returns a copy of this layout.
+    pub fn copied(&self, alloc: Global) -> Result<Layout, CellError> {
+        let mut layout = Layout::new(alloc);
+        layout.copy(self)?;
         Ok(layout)
     }
 
@@ -167,6 +198,8 @@ impl Layout {
         for cell in order {
             self.order.push(*cell as usize)?;
         }
+        self.places.resize(order.len(), 0)?;
+        self.last_readers.resize(gates.uses.len(), None)?;
         self.homes.ins.resize(gates.inputs, 0)?;
         let above = lanes.saturating_sub(gates.loops);
         self.homes.standing.resize(above, None)?;
@@ -174,44 +207,132 @@ impl Layout {
         Ok(())
     }
 
-    /// Returns the places to which the cell at a place may go: after the cells that it reads, and
-    /// before those that read it.
-    pub fn range(&self, gates: &Gates, place: usize) -> Option<Range<usize>> {
-        let cell = *self.order.get(place)?;
-        let gate = *gates.gates.get(cell)?;
-        let first = self.after_read(gates, gate, place);
-        let end = self.before_reader(gates, gates.made_by(cell), place);
-        Some(first..end)
+    fn place_of(&self, cell: usize) -> usize {
+        self.places.get(cell).copied().unwrap_or(0)
     }
 
-    // The place after the last earlier cell that a gate reads.
-    fn after_read(&self, gates: &Gates, gate: Gate, place: usize) -> usize {
-        for earlier in (0..place.min(self.order.len())).rev() {
-            if gate.reads(gates.made_by(self.order[earlier])) {
-                return earlier.saturating_add(1);
+    /// Returns whether a cell is the last to read a value, and no port shows the value.
+    pub fn reads_last(&self, cell: usize, value: usize) -> bool {
+        match self.last_readers.get(value) {
+            Some(Some(last)) => *last == cell,
+            _ => false,
+        }
+    }
+
+    // Notes the places of the cells from one place to before another.
+    fn renumber(&mut self, start: usize, end: usize) {
+        for place in start..end.min(self.order.len()) {
+            let Some(cell) = self.order.get(place) else {
+                return;
+            };
+            if let Some(number) = self.places.get_mut(*cell) {
+                *number = place;
             }
         }
-        0
     }
 
-    // The place of the first cell from `place` on that reads a value, or the end.
-    fn before_reader(&self, gates: &Gates, value: usize, place: usize) -> usize {
-        for later in place..self.order.len() {
-            if gates.does_read(self.order[later], value) {
-                return later;
+    fn find_last_readers(&mut self, gates: &Gates) {
+        for value in 0..gates.uses.len() {
+            self.find_last_reader(gates, value);
+        }
+    }
+
+    fn find_last_reader(&mut self, gates: &Gates, value: usize) {
+        let mut last = None;
+        if gates.last_port(value).is_none() {
+            last = self.last_of(gates.readers_of(value));
+        }
+        if let Some(reader) = self.last_readers.get_mut(value) {
+            *reader = last;
+        }
+    }
+
+    // The cell that comes last in the order.
+    fn last_of(&self, cells: &[usize]) -> Option<usize> {
+        let mut last = None;
+        let mut latest = 0;
+        for cell in cells {
+            let place = self.place_of(*cell);
+            if place >= latest {
+                latest = place;
+                last = Some(*cell);
             }
         }
-        self.order.len()
+        last
     }
 
-    /// Moves the cell at place `from` to place `to`.
-    pub fn shift(&mut self, from: usize, to: usize) {
-        let order = self.order.as_mut_slice();
-        if from < order.len() && to < order.len() {
-            if from < to {
-                order[from..to + 1].rotate_left(1);
+    /// Returns the places to which the first of the cells of a block may go, all of them together:
+    /// after the cells outside it that they read, and before those outside it that read them.
+    pub fn range(&self, gates: &Gates, block: &Range<usize>) -> Range<usize> {
+        let mut first = 0usize;
+        let mut end = self.order.len();
+        for place in block.start..block.end.min(self.order.len()) {
+            let cell = self.order[place];
+            if let Some(gate) = gates.gates.get(cell) {
+                first = first.max(self.after_read(gates, *gate, block.start));
+                end = end.min(self.before_reader(gates, cell, block.end));
+            }
+        }
+        let count = block.end.saturating_sub(block.start);
+        first..end.saturating_add(1).saturating_sub(count)
+    }
+
+    // The place after the later of the cells before `start` that a gate reads.
+    fn after_read(&self, gates: &Gates, gate: Gate, start: usize) -> usize {
+        let first = self.after_maker(gates, gate.first, start);
+        first.max(self.after_maker(gates, gate.second, start))
+    }
+
+    // The place after the cell that makes a value, if that comes before `start`.
+    fn after_maker(&self, gates: &Gates, value: usize, start: usize) -> usize {
+        match gates.maker(value) {
+            Some(cell) if self.place_of(cell) < start => self.place_of(cell).saturating_add(1),
+            _ => 0,
+        }
+    }
+
+    // The place of the first cell from `end` on that reads the value of a cell, or the order's end.
+    fn before_reader(&self, gates: &Gates, cell: usize, end: usize) -> usize {
+        let mut first = self.order.len();
+        for reader in gates.readers_of(gates.made_by(cell)) {
+            let place = self.place_of(*reader);
+            if place >= end {
+                first = first.min(place);
+            }
+        }
+        first
+    }
+
+    /// Moves the cells of a block so that the first of them comes to place `to`. Returns the places
+    /// that have changed.
+    pub fn shift(&mut self, gates: &Gates, block: &Range<usize>, to: usize) -> Range<usize> {
+        let count = block.end.saturating_sub(block.start);
+        let start = block.start.min(to);
+        let end = block.end.max(to.saturating_add(count));
+        if let Some(order) = self.order.as_mut_slice().get_mut(start..end) {
+            if block.start < to {
+                order.rotate_left(count);
             } else {
-                order[to..from + 1].rotate_right(1);
+                order.rotate_right(count);
+            }
+        }
+        self.renumber(start, end);
+        self.find_last_readers_in(gates, to..to.saturating_add(count));
+        start..end
+    }
+
+    // The gate of the cell at a place.
+    fn gate_at(&self, gates: &Gates, place: usize) -> Option<Gate> {
+        let cell = self.order.get(place)?;
+        gates.gates.get(*cell).copied()
+    }
+
+    // Finds the last readers of the values that the cells at some places read.
+    fn find_last_readers_in(&mut self, gates: &Gates, places: Range<usize>) {
+        for place in places.start..places.end.min(self.order.len()) {
+            if let Some(gate) = self.gate_at(gates, place) {
+                self.find_last_reader(gates, gate.first);
+                self.find_last_reader(gates, gate.second);
             }
         }
     }
@@ -225,21 +346,23 @@ fn by_first_reader(
     order: &[usize],
 ) -> Result<Vec<(usize, usize)>, CellError> {
     let mut ranked = Vec::new(alloc);
-    push_inputs(&mut ranked, gates.inputs, order.len())?;
+    push_inputs(&mut ranked, gates, order.len().max(1))?;
     note_readers(&mut ranked, gates, order);
     ranked.as_mut_slice().sort_unstable();
     Ok(ranked)
 }
 
-// Adds the inputs, each as if it were first read at the start.
+// Adds the inputs, each as if it were first read at the start, and those that nothing reads as if
+// they were at the end.
 fn push_inputs(
     ranked: &mut Vec<(usize, usize)>,
-    inputs: usize,
+    gates: &Gates,
     start: usize,
 ) -> Result<(), CellError> {
-    ranked.reserve(inputs)?;
-    for input in 0..inputs {
-        ranked.push((start, input))?;
+    ranked.reserve(gates.inputs)?;
+    for input in 0..gates.inputs {
+        let before_end = if gates.uses_of(input) > 0 { start } else { 0 };
+        ranked.push((before_end, input))?;
     }
     Ok(())
 }

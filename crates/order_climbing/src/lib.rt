@@ -5,6 +5,7 @@
 #![tactic(auto)]
 
 mod climbing;
+mod cooling;
 mod gates;
 mod lanes;
 mod layout;

@@ -1,10 +1,48 @@
 // How many columns the placer takes for an order of the cells: the placer's own steps, without
-// their instructions.
+// their instructions. States of the accepted layout are kept, so that a changed layout is placed
+// from its first change on alone.
 use crate::gates::{Gate, Gates};
-use crate::lanes::Lanes;
+use crate::lanes::{Lanes, State};
 use crate::layout::{Homes, Layout};
 use cell_core::CellError;
 use std::alloc::Global;
+use std::mem;
+use std::ops::Range;
+
+// About how many states are kept for a list, and between how few and how many gates.
+const STATES: usize = 40;
+
+const FEWEST_BETWEEN: usize = 2;
+
+const MOST_BETWEEN: usize = 16;
+
+// How many columns a layout may fall behind the accepted one's pace before it is given up, besides
+// those that it may have more.
+const SLACK: usize = 2;
+
+// What a gate costs besides the lanes that it passes, in lanes.
+const GATE: usize = 24;
+
+/// What a layout has changed of the accepted one.
+#[derive(Clone, Copy)]
+pub enum Change {
+    /// The number of lanes, or all.
+    Lanes,
+    /// The lanes of inputs.
+    Inputs,
+    /// The order, up to a place.
+    Order(usize, usize),
+}
+
+// What a kept place tells of a layout.
+#[derive(Clone, Copy)]
+enum Outlook {
+    Open,
+    // from here on the layout is the accepted one
+    Same,
+    // it is too far behind
+    Hopeless,
+}
 
 /// A placer of some gates, which takes memory once. The numbers on its `Lanes` are those of the
 /// values, then of the ports, then of the two operands.
@@ -12,9 +50,20 @@ use std::alloc::Global;
 pub struct Placer<'a> {
     gates: &'a Gates,
     lanes: Lanes,
-    left: Vec<usize>,
     first: usize,
     second: usize,
+    // so many gates stand between kept states
+    between: usize,
+    // the states of the accepted layout
+    kept: Vec<State>,
+    // those of the layout that was placed last, and which of them it has
+    tried: Vec<State>,
+    own: Range<usize>,
+    // the columns of the accepted layout, and of the one that was placed last
+    columns: usize,
+    found: usize,
+    /// What was placed so far, in lanes passed.
+    pub work: usize,
 }
 
 impl<'a> Placer<'a> {
@@ -22,21 +71,33 @@ impl<'a> Placer<'a> {
     pub fn new(alloc: Global, gates: &'a Gates) -> Result<Placer<'a>, CellError> {
         let first = gates.uses.len().saturating_add(gates.ports.len());
         let second = first.saturating_add(1);
+        let between = (gates.gates.len() / STATES).clamp(FEWEST_BETWEEN, MOST_BETWEEN);
+        let states = gates.gates.len().div_ceil(between.max(1));
         Ok(Placer {
             gates,
             lanes: Lanes::new(alloc, second.saturating_add(1))?,
-            left: Vec::new(alloc),
             first,
             second,
+            between,
+            kept: no_states(alloc, states)?,
+            tried: no_states(alloc, states)?,
+            own: 0..0,
+            columns: 0,
+            found: 0,
+            work: 0,
         })
     }
 
     /// Returns how many tiles the drawing of a layout has, or `None` if these are more than `most`
-    /// or the lanes are not enough.
-    pub fn tiles(&mut self, layout: &Layout, most: u64) -> Result<Option<u64>, CellError> {
-        self.begin(layout)?;
+    /// or the lanes are not enough. It gives up if the layout falls behind the accepted one's pace.
+    pub fn tiles(
+        &mut self,
+        layout: &Layout,
+        change: Change,
+        most: u64,
+    ) -> Result<Option<u64>, CellError> {
         let lanes = layout.homes.lanes;
-        let Some(columns) = self.place_all(layout, self.gates.most_columns(most, lanes)) else {
+        let Some(columns) = self.place(layout, change, self.gates.most_columns(most, lanes))? else {
             return Ok(None);
         };
         let tiles = self.gates.tiles(columns, lanes);
@@ -46,11 +107,105 @@ impl<'a> Placer<'a> {
         Ok(Some(tiles))
     }
 
+    /// Accepts the layout that was placed last.
+    pub fn accept(&mut self) {
+        for number in self.own.start..self.own.end {
+            exchange(&mut self.kept, &mut self.tried, number);
+        }
+        self.own = 0..0;
+        self.columns = self.found;
+    }
+
+    /// Counts so many gates as placed on so many lanes.
+    pub fn count(&mut self, gates: usize, lanes: usize) {
+        let cost = gates.saturating_mul(lanes.saturating_add(GATE));
+        self.work = self.work.saturating_add(cost);
+    }
+
+    // Places a layout; how many columns it takes, or `None` if it is given up.
+    fn place(
+        &mut self,
+        layout: &Layout,
+        change: Change,
+        most: usize,
+    ) -> Result<Option<usize>, CellError> {
+        let start = self.begin(layout, change)?;
+        self.own = start..start;
+        for number in start..self.tried.len() {
+            let latest = self.lanes.columns();
+            match self.outlook(number, latest, change, most) {
+                Outlook::Open => {}
+                Outlook::Same => return Ok(Some(self.same())),
+                Outlook::Hopeless => return Ok(None),
+            }
+            self.keep(number, latest)?;
+            if self.place_gates(layout, number).is_none() {
+                return Ok(None);
+            }
+        }
+        self.finish(layout.homes.lanes)
+    }
+
+    // The columns of the accepted layout, which are found again.
+    fn same(&mut self) -> usize {
+        self.found = self.columns;
+        self.found
+    }
+
+    // Puts the lanes into the last kept state before a change. Returns its number.
+    fn begin(&mut self, layout: &Layout, change: Change) -> Result<usize, CellError> {
+        if let Change::Order(first, _) = change {
+            let number = first / self.between.max(1);
+            if let Some(kept) = self.kept.get(number) {
+                self.lanes.return_to(kept)?;
+                return Ok(number);
+            }
+        }
+        self.start_all(layout)?;
+        Ok(0)
+    }
+
+    // Whether placing goes on at a place where states are kept, from which on the lanes are idle at
+    // column `latest`.
+    fn outlook(&self, number: usize, latest: usize, change: Change, most: usize) -> Outlook {
+        if latest > most {
+            return Outlook::Hopeless;
+        }
+        let (Some(kept), Some(changed)) = (self.kept.get(number), last_change(change)) else {
+            return Outlook::Open;
+        };
+        if number.saturating_mul(self.between) <= changed {
+            return Outlook::Open;
+        }
+        if self.lanes.are_in(kept) {
+            return Outlook::Same;
+        }
+        self.pace(latest, kept.latest, most)
+    }
+
+    // Whether the lanes, which are idle from column `latest`, are too far behind those of the
+    // accepted layout, which were so from column `before`.
+    fn pace(&self, latest: usize, before: usize, most: usize) -> Outlook {
+        let behind = latest.saturating_add(self.columns);
+        if behind > most.saturating_add(SLACK).saturating_add(before) {
+            Outlook::Hopeless
+        } else {
+            Outlook::Open
+        }
+    }
+
+    // Keeps a state of the layout that is placed.
+    fn keep(&mut self, number: usize, latest: usize) -> Result<(), CellError> {
+        if let Some(tried) = self.tried.get_mut(number) {
+            self.lanes.keep(tried, latest)?;
+        }
+        self.own.end = number.saturating_add(1);
+        Ok(())
+    }
+
     // Sets the lanes as they are at the start.
-    fn begin(&mut self, layout: &Layout) -> Result<(), CellError> {
+    fn start_all(&mut self, layout: &Layout) -> Result<(), CellError> {
         self.lanes.clear(layout.homes.lanes)?;
-        self.left.clear();
-        self.left.extend_from_slice(&self.gates.uses)?;
         self.start_inputs(&layout.homes.ins);
         self.start_loops(layout.homes.lanes);
         self.start_zero(&layout.homes);
@@ -89,47 +244,55 @@ impl<'a> Placer<'a> {
         }
     }
 
-    // Places all gates, ports and loops; how many columns they take, or `None` if a gate ends past
-    // column `most` or the lanes are not enough.
-    fn place_all(&mut self, layout: &Layout, most: u64) -> Option<usize> {
-        for cell in &layout.order {
-            let gate = *self.gates.gates.get(*cell)?;
-            if self.place_gate(gate, self.gates.made_by(*cell))? as u64 > most {
-                return None;
-            }
+    // Places the gates from a kept state to the next.
+    fn place_gates(&mut self, layout: &Layout, number: usize) -> Option<()> {
+        let start = number.saturating_mul(self.between);
+        let end = start.saturating_add(self.between).min(layout.order.len());
+        for place in start..end {
+            self.place_gate(layout, layout.order[place])?;
         }
-        self.place_ports(layout.homes.lanes)?;
-        self.settle_loops(layout.homes.lanes);
-        Some(self.lanes.columns())
+        self.count(end.saturating_sub(start), layout.homes.lanes);
+        Some(())
     }
 
-    // Places a gate; the column after it.
-    fn place_gate(&mut self, gate: Gate, made: usize) -> Option<usize> {
+    // Places a cell.
+    fn place_gate(&mut self, layout: &Layout, cell: usize) -> Option<()> {
+        let gate = *self.gates.gates.get(cell)?;
         let partner = self.lanes.place(gate.second);
-        self.fetch(gate.first, self.first, Some(partner))?;
+        let is_last = gate.first != gate.second && layout.reads_last(cell, gate.first);
+        self.fetch(gate.first, self.first, is_last, Some(partner))?;
         let partner = self.lanes.place(self.first);
-        self.fetch(gate.second, self.second, Some(partner))?;
+        let is_last = layout.reads_last(cell, gate.second);
+        self.fetch(gate.second, self.second, is_last, Some(partner))?;
+        self.make(gate, self.gates.made_by(cell));
+        Some(())
+    }
+
+    // Makes a value from the two operands.
+    fn make(&mut self, gate: Gate, made: usize) {
         let (x, y) = (self.lanes.place(self.first), self.lanes.place(self.second));
         let at = self.lanes.join(x.min(y), x.max(y));
         if gate.is_and_not && y < x {
             self.lanes.swap(at);
         }
-        let time = self.lanes.tick(at);
+        self.lanes.tick(at);
         if self.gates.uses_of(made) > 0 {
             self.lanes.put(at, made);
         } else {
             self.lanes.free(at);
         }
         self.lanes.free(at.saturating_add(1));
-        Some(time)
     }
 
     // Uses a value once: `number` takes its place on its lane at the last use, and else on a copy:
     // the one on the side of the partner's lane, and the upper one if there is no partner.
-    fn fetch(&mut self, value: usize, number: usize, partner: Option<usize>) -> Option<()> {
-        let left = self.left.get_mut(value)?;
-        *left = left.saturating_sub(1);
-        let is_last = *left == 0;
+    fn fetch(
+        &mut self,
+        value: usize,
+        number: usize,
+        is_last: bool,
+        partner: Option<usize>,
+    ) -> Option<()> {
         let lane = self.lanes.place(value);
         if is_last {
             self.lanes.put(lane, number);
@@ -160,17 +323,46 @@ impl<'a> Placer<'a> {
             } else {
                 None
             };
-            self.fetch(value, self.port_number(port), partner)?;
+            let is_last = self.gates.last_port(value) == Some(port);
+            self.fetch(value, self.port_number(port), is_last, partner)?;
         }
         Some(())
     }
 
-    // Brings the loops' data to the lowest lanes, the first to the lowest.
-    fn settle_loops(&mut self, lanes: usize) {
-        for port in 0..self.gates.loops {
-            let lane = self.lanes.place(self.port_number(port));
-            let to = lanes.saturating_sub(port).saturating_sub(1);
-            self.lanes.bring(lane, to);
+    // Places the ports, and brings the loops' data to the lowest lanes, the first to the lowest.
+    fn finish(&mut self, lanes: usize) -> Result<Option<usize>, CellError> {
+        self.count(self.gates.loops, lanes);
+        if self.place_ports(lanes).is_none() {
+            return Ok(None);
         }
+        let loops = self.port_number(0)..self.port_number(self.gates.loops);
+        self.lanes.settle(&loops)?;
+        self.found = self.lanes.columns();
+        Ok(Some(self.found))
+    }
+}
+
+// The last place of the order that a change reaches, unless it may reach all of them.
+fn last_change(change: Change) -> Option<usize> {
+    match change {
+        Change::Lanes => None,
+        Change::Inputs => Some(0),
+        Change::Order(_, last) => Some(last),
+    }
+}
+
+// So many states of no lanes.
+fn no_states(alloc: Global, count: usize) -> Result<Vec<State>, CellError> {
+    let mut states = Vec::new(alloc);
+    for _ in 0..count {
+        states.push(State::new(alloc))?;
+    }
+    Ok(states)
+}
+
+// Exchanges the states with a number.
+fn exchange(kept: &mut [State], tried: &mut [State], number: usize) {
+    if let (Some(kept), Some(tried)) = (kept.get_mut(number), tried.get_mut(number)) {
+        mem::swap(kept, tried);
     }
 }

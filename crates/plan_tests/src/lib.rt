@@ -6,6 +6,8 @@ mod choosing;
 #[cfg(test)]
 mod circuits;
 #[cfg(test)]
+mod climbing;
+#[cfg(test)]
 mod drawing;
 #[cfg(test)]
 mod lifting;
