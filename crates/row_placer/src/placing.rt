@@ -9,11 +9,10 @@ ghost use Rattle.cell_core.specs.declared.cells.Src.TheVariants.{One};
 
 use crate::counting::{count_idle, count_uses};
 use crate::reading::{count_loops, gates_of, names_zero, places_of, push_numbers};
-use crate::start::start_tags;
+use crate::start::{homes_for, start_tags};
 use crate::{Job, Lanes, PlaceError};
 use cell_core::CellList;
 use lane_core::{NetPlace, Program};
-use lane_homes::homes_of;
 use lists::List;
 use std::alloc::Global;
 
@@ -79,7 +78,7 @@ pub fn prepare(
     let idle = count_idle(&left, inner + dark);
     let least = first_home(owed, idle, dark);
     let above = least + spare + list.inputs;
-    let homes = homes_of(alloc, above, list.inputs, loops, zero, wanted)?;
+    let homes = homes_for(alloc, above, list.inputs, loops, zero, &left, wanted)?;
     let start = start_tags(alloc, &homes, &left, above + loops)?;
     let job = Job {
         gates: List::of(gates),

@@ -27,7 +27,7 @@ few_owed c =
 
 few_above : (c : After-first_home-least) → c.first_home-least.result + c.args.spare ≤ 2097152
 few_above c =
-    let few = few_owed (goal.at.homes_of-requires c).After-count_idle-idle in
+    let few = few_owed (goal.at.overflow_add-above c).After-count_idle-idle in
     omega (arith, c.first_home-least.ensures.most, few, c.requires.spare)
 
 pub gates_of-requires : goal.gates_of-requires
@@ -67,9 +67,9 @@ overflow_add-above c = let few = few_above c in omega (arith, few)
 pub overflow_add-above-2 : goal.overflow_add-above-2
 overflow_add-above-2 c = let few = few_above c in omega (arith, few, c.requires.small)
 
-pub homes_of-requires : goal.homes_of-requires
-homes_of-requires c =
-    let few = few_above c in
+pub homes_for-requires : goal.homes_for-requires
+homes_for-requires c =
+    let few = few_above (goal.at.homes_for-requires c).After-first_home-least in
     record {
       room = omega (arith, c.first_home-least.ensures.dark, c.one_if-dark.ensures);
       few = omega (arith, few, c.requires.small, c.requires.loops);
