@@ -1,5 +1,5 @@
--- A text that carries a design and its nets is a part, whoever wrote it, and a part whose meaning is
--- a design's carries it.
+-- A text that carries a design and its nets is a part, whoever wrote it, and a part whose meaning
+-- is a design's carries it.
 use Rattle.std.specs.Prelude.{pos, ℕ, ◌+◌, ◌<◌, ◌≤◌, ◌≡◌, ◌≢◌, Bool, List, [], ◌∷◌, ◌++◌, length, map, Contains, Some, None, slice_get}
 use Rattle.lists.specs.Items.{flag_at, list_at}
 use Rattle.ww_rule.specs.declared.pattern.State.TheVariants.{Empty, Tail, Conductor}
@@ -30,8 +30,8 @@ net_line_ports lines = map (λ line. ((pos line.x, pos line.y), line.offset)) li
 abbrev pub bits_of_rows : List (List Bool) → ℕ → ℕ → Bool
 bits_of_rows rows t i = flag_at (list_at rows t) i
 
--- In each run of the design on rows of input bits, this is what the meaning makes of the bits: those
--- of the design's outputs, and then those of these nets. It depends on no later cycle.
+-- In each run of the design on rows of input bits, this is what the meaning makes of the bits:
+-- those of the design's outputs, and then those of these nets. It depends on no later cycle.
 pub record IsMeaningOf (design : Design) (seen : List Net) (meaning : PartMeaning) : Type 0 where
   pub causal : IsCausalMeaning meaning
   pub runs : (rows : List (List Bool)) → AreInputRows design rows
@@ -46,7 +46,8 @@ pub record IsMeaningOf (design : Design) (seen : List Net) (meaning : PartMeanin
 
 -- The cell of an IN line is no tail, and at most two cells are beside it. The input's own net has a
 -- NET line, with the same cell and offset 0.
-pub record IsOpenInput (ports : Ports) (seen : List Net) (p : Plane) (line : PortLine) : Type 0 where
+pub record IsOpenInput (ports : Ports) (seen : List Net) (p : Plane)
+    (line : PortLine) : Type 0 where
   pub no_tail : p (pos line.x) (pos line.y) ≢ Tail
   pub few : cells_around p (pos line.x) (pos line.y) ≤ 2
   pub number : ℕ
@@ -83,7 +84,8 @@ HasNoLatches design = (place : Place) (number : ℕ) → latch_at design place n
 
 -- in each run on one row, this is what the answer to the row is: the bits of the design's outputs,
 -- and then those of these nets
-pub record IsAnswerOf (design : Design) (seen : List Net) (answer : (ℕ → Bool) → ℕ → Bool) : Type 0 where
+pub record IsAnswerOf (design : Design) (seen : List Net)
+    (answer : (ℕ → Bool) → ℕ → Bool) : Type 0 where
   pub outs : (row : List Bool) → AreInputRows design (row ∷ []) → (run : ℕ → Valuation)
       → IsRun design (row ∷ []) run → (i : ℕ) → i < length (main_outputs design)
       → answer (flag_at row) i ≡ output_bit design (run 0) i
@@ -103,9 +105,9 @@ CarriersAnswerEachRow =
     (line_ports c.carried.ports.l c.carried.ports.outs ++ net_line_ports c.carried.ports.nets)
     answer
 
--- A text carries a design and its nets if its pattern is a part whose meaning is the design's, as a
--- pattern may be that is joined of several: if its table names the ports and the nets, and the cells
--- of IN lines are conductors.
+-- A text carries a design and its nets if its pattern is a part whose meaning is the design's, its
+-- table names the ports and the nets, and the cells of its IN lines are conductors. The pattern may
+-- be joined of several.
 abbrev pub PartsCarry : Type 0
 PartsCarry =
     (text : List ℕ) (design : Design) (grid : Grid) (ports : Ports) (seen : List Net)

@@ -1,5 +1,5 @@
-//! The pattern of a text that carries a design is a part, so that wires may join it, and a part with
-//! the meaning of a design carries the design.
+//! The pattern of a text that carries a design is a part, so that wires may join it, and a part
+//! with the meaning of a design carries the design.
 //!
 //! Theorem: `carriers_are_parts`, `carriers_answer_each_row`, `parts_carry`.
 #![tactic(auto)]
@@ -19,8 +19,9 @@ pub fn carriers_answer_each_row()
     ensures { CarriersAnswerEachRow }
 {}
 
-/// A text carries a design and its nets if its pattern is a part that makes the bits of the design's
-/// runs, its table names the design's ports and nets, and the cells of its IN lines are conductors.
+/// A text carries a design and its nets if its pattern is a part that makes the bits of the
+/// design's runs, its table names the design's ports and nets, and the cells of its IN lines are
+/// conductors.
 pub fn parts_carry()
     ensures { PartsCarry }
 {}

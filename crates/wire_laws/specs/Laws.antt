@@ -48,7 +48,8 @@ pub record AreLitAlike (period : ℕ) (s other : Signal) : Type 0 where
 
 -- one of these signals is like that one
 abbrev pub HasLitAlike : (period : ℕ) → List Signal → Signal → Type 0
-HasLitAlike period signals s = (other : Signal) × Contains signals other × AreLitAlike period s other
+HasLitAlike period signals s =
+    (other : Signal) × Contains signals other × AreLitAlike period s other
 
 -- Signals that are lit alike may stand for each other, whatever their first cycles and bits are. So
 -- a signal whose first bit is 0 may be said to begin a period later, with the bits that follow.

@@ -60,7 +60,8 @@ PartsTakeOrder =
     → IsPart period p ins outs meaning
     → IsPart period p (map (nth_port ins) inputs) (map (nth_port (outs ++ ins)) outputs)
     (meaning_in_order (length outs) home outputs meaning)
-    × (IsCausalMeaning meaning → IsCausalMeaning (meaning_in_order (length outs) home outputs meaning))
+    × (IsCausalMeaning meaning
+    → IsCausalMeaning (meaning_in_order (length outs) home outputs meaning))
 
 -- the first input of a part may be left without a drive; its bits are then 0
 abbrev pub UnusedInputsGo : Type 0

@@ -19,8 +19,8 @@ pub fn order_is_free()
     ensures { OrderIsFree }
 {}
 
-/// Signals of one cell that are lit at the same generations may stand for each other: a signal whose
-/// bits come some cycles later may be said to begin as many periods later.
+/// Signals of one cell that are lit at the same generations may stand for each other: a signal
+/// whose first bit is 0 may be said to begin a period later.
 pub fn signals_lit_alike()
     ensures { SignalsLitAlike }
 {}
@@ -58,8 +58,8 @@ pub fn wires_feed()
     ensures { WiresFeed }
 {}
 
-/// A wire that is m cycles long brings the bits of its beginning m cycles later, if what it brings in
-/// the first m cycles would not be in its first cell, nor before it, at generation 0.
+/// A wire that is m cycles long brings the bits of its beginning m cycles later. In the first m
+/// cycles it brings no bit that would be in its first cell, or before it, at generation 0.
 pub fn wires_delay()
     ensures { WiresDelay }
 {}
