@@ -25,8 +25,8 @@ fn tiles_of(plan: &Plan) -> u64 {
 // The order in which the cells of a list stand, as a start.
 fn own_start(alloc: Global, list: &CellList) -> Result<Start, Fail> {
     let mut order = Vec::new(alloc);
-    for cell in 0..list.cells.len() as u32 {
-        order.push(cell)?;
+    for cell in 0..list.cells.len() {
+        order.push(u32::try_from(cell).unwrap_or(u32::MAX))?;
     }
     Ok(Start { list: 0, order })
 }
