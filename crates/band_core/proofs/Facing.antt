@@ -1,9 +1,9 @@
 -- Rows that face a band, and the neighbours to which they belong.
-use Rattle.std.proofs.Common.{ℤ, pos, negsuc, ◌+ℤ◌, ◌-ℤ◌, ℕ, zero, suc, ◌+◌, ◌-◌, ◌*◌, ◌/◌, ◌%◌, min, ◌<◌, ◌≡◌, refl, sym, ap, subst, ◌∙◌, inl, inr, Bool, true, false, ◌||◌, ◌&&◌, ◌==◌, nat_lt, Some, None, List, length, get_or, arith}
+use Rattle.std.proofs.Common.{ℤ, pos, negsuc, ◌+ℤ◌, ◌-ℤ◌, ℕ, zero, suc, ◌+◌, ◌-◌, ◌*◌, ◌/◌, ◌%◌, min, ◌<◌, ◌≤◌, ◌≡◌, refl, sym, ap, subst, ◌∙◌, inl, inr, Bool, true, false, ◌||◌, ◌&&◌, ◌==◌, nat_lt, Some, None, List, [], length, get_or, arith}
 use Rattle.std.specs.Prelude.{◌⊎◌, if◌then◌else◌}
 use Rattle.std.specs.declared.option.Option.{Option}
 use Rattle.std.specs.Option.{option_or}
-use Rattle.std.proofs.lemmas.Bool.{cases_lt, eq-eqb, ne_eqb, eqb-true, or_cases, lt-ltb, le-ltb}
+use Rattle.std.proofs.lemmas.Bool.{cases_lt, eqb-true, or_cases, lt-ltb, le-ltb}
 use Rattle.std.proofs.lemmas.Int.{ints}
 use Rattle.std.proofs.lemmas.List.{get_or-map}
 use Rattle.std.proofs.Math.Nat.{suc-mul, mul_comm}
@@ -12,64 +12,70 @@ use Rattle.std.proofs.lemmas.Option.{none-some}
 use Rattle.ww_rule.specs.declared.pattern.State.TheVariants.{Empty}
 use Rattle.ww_rule.specs.Wireworld.{Plane, Due, count_head}
 use Rattle.lane_kernel.specs.Rows.{state_of}
-use Rattle.band_rows.specs.Rows.{ShowsHeads, row_heads, row_tails, row_wires}
-use Rattle.band_rows.proofs.Bands.{heads_shown}
+use Rattle.band_rows.specs.Fields.{heads_of, tails_of}
+use Rattle.band_rows.specs.Rows.{ShowsHeads}
 use Rattle.band_rows.proofs.Parts.{IsParted, many, at_before, at_after}
 use Rattle.band_rows.proofs.Marks.{none_set}
 use Rattle.band_core.specs.declared.band.Band.{Band}
 use Rattle.band_core.specs.declared.error.NotReady.{NotReady}
 use Rattle.band_core.specs.Bands.{not_ready, upper_not_ready, lower_not_ready, unready_neighbour}
 use Rattle.band_core.specs.Band.{IsBand, ShowsBand, IsEvolution, AreBands, AllShow, bottom_at, top_at, generations_of}
+use Rattle.band_core.proofs.BandFields.{bottom_before, bottom_now, heads_show, long_row, top_before, top_now}
 
 -- at a generation, or one before
 abbrev pub IsAtOrAfter : ℕ → ℕ → Type 0
 IsAtOrAfter g h = (h ≡ g) ⊎ (h ≡ g + 1)
 
-pub bottom_shows : (e : ℕ → Plane) (due : Due) (words y many g : ℕ) (band : Band) → IsBand words y many band → ShowsBand e due y many band → IsAtOrAfter g band.generation → ShowsHeads (bottom_at g band) (e g) (pos y +ℤ pos (many - 1))
-bottom_shows e due words y many g band is shows (inl q) =
-    let n = length band.rows.items in
+pub bottom_shows : (e : ℕ → Plane) (due : Due) (columns y many g : ℕ) (band : Band) → IsBand columns y many band → ShowsBand e due y many band → IsAtOrAfter g band.generation → ShowsHeads (bottom_at g band) (e g) (pos y +ℤ pos (many - 1))
+bottom_shows e due columns y many g band is shows (inl q) =
+    let field = band.field in
+    let n = field.rows in
     let high = is.high in
     let some = is.some in
     let last : n - 1 < n = omega (arith, high, some) in
-    let rows = band.rows.items in
-    let heads = row_heads rows (n - 1) in
-    let here : ShowsHeads heads (e band.generation) (pos y +ℤ pos (n - 1)) = heads_shown heads (row_tails rows (n - 1)) (row_wires rows (n - 1)) (e band.generation) (pos y +ℤ pos (n - 1)) (shows.rows (n - 1) last) in
-    subst (λ h. ShowsHeads h (e g) (pos y +ℤ pos (many - 1))) (sym (ap (λ t. if t then heads else band.bottom.heads.items) (eq-eqb band.generation g q)))
-    (subst (λ m. ShowsHeads heads (e g) (pos y +ℤ pos (m - 1))) high (subst (λ g. ShowsHeads heads (e g) (pos y +ℤ pos (n - 1))) q here))
-bottom_shows e due words y many g band is shows (inr q) =
-    subst (λ h. ShowsHeads h (e g) (pos y +ℤ pos (many - 1))) (sym (ap (λ t. if t then row_heads band.rows.items (length band.rows.items - 1) else band.bottom.heads.items) (ne_eqb band.generation g (λ r. omega (arith, q, r)))))
-    (shows.bottom g q)
-
-pub top_shows : (e : ℕ → Plane) (due : Due) (words y many g : ℕ) (band : Band) → IsBand words y many band → ShowsBand e due y many band → IsAtOrAfter g band.generation → ShowsHeads (top_at g band) (e g) (pos y)
-top_shows e due words y many g band is shows (inl q) =
+    let here = heads_show field (e band.generation) (pos y) (n - 1) last shows.cells in
+    subst (λ h. ShowsHeads h (e g) (pos y +ℤ pos (many - 1))) (bottom_now band g (omega (arith, high, some)) q)
+    (subst (λ m. ShowsHeads (heads_of field (n - 1 + 1)) (e g) (pos y +ℤ pos (m - 1))) high
+    (subst (λ g. ShowsHeads (heads_of field (n - 1 + 1)) (e g) (pos y +ℤ pos (n - 1))) q here))
+bottom_shows e due columns y many g band is shows (inr q) =
+    let field = band.field in
+    let n = field.rows in
     let high = is.high in
     let some = is.some in
-    let first : 0 < length band.rows.items = omega (arith, high, some) in
-    let rows = band.rows.items in
-    let heads = row_heads rows 0 in
-    let here : ShowsHeads heads (e band.generation) (pos y +ℤ pos 0) = heads_shown heads (row_tails rows 0) (row_wires rows 0) (e band.generation) (pos y +ℤ pos 0) (shows.rows 0 first) in
+    let last : n - 1 < n = omega (arith, high, some) in
+    subst (λ h. ShowsHeads h (e g) (pos y +ℤ pos (many - 1))) (bottom_before band g (omega (arith, high, some)) (λ r. omega (arith, q, r)))
+    (subst (λ m. ShowsHeads (tails_of field (n - 1 + 1)) (e g) (pos y +ℤ pos (m - 1))) high (shows.before g q (n - 1) last))
+
+pub top_shows : (e : ℕ → Plane) (due : Due) (columns y many g : ℕ) (band : Band) → IsBand columns y many band → ShowsBand e due y many band → IsAtOrAfter g band.generation → ShowsHeads (top_at g band) (e g) (pos y)
+top_shows e due columns y many g band is shows (inl q) =
+    let field = band.field in
+    let high = is.high in
+    let some = is.some in
+    let here = heads_show field (e band.generation) (pos y) 0 (omega (arith, high, some)) shows.cells in
     let z : pos y +ℤ pos 0 ≡ pos y = omega (arith, ints) in
-    subst (λ h. ShowsHeads h (e g) (pos y)) (sym (ap (λ t. if t then heads else band.top.heads.items) (eq-eqb band.generation g q)))
-    (subst (ShowsHeads heads (e g)) z (subst (λ g. ShowsHeads heads (e g) (pos y +ℤ pos 0)) q here))
-top_shows e due words y many g band is shows (inr q) =
-    subst (λ h. ShowsHeads h (e g) (pos y)) (sym (ap (λ t. if t then row_heads band.rows.items 0 else band.top.heads.items) (ne_eqb band.generation g (λ r. omega (arith, q, r)))))
-    (shows.top g q)
+    subst (λ h. ShowsHeads h (e g) (pos y)) (top_now band g q)
+    (subst (ShowsHeads (heads_of field 1) (e g)) z (subst (λ g. ShowsHeads (heads_of field 1) (e g) (pos y +ℤ pos 0)) q here))
+top_shows e due columns y many g band is shows (inr q) =
+    let field = band.field in
+    let high = is.high in
+    let some = is.some in
+    let z : pos y +ℤ pos 0 ≡ pos y = omega (arith, ints) in
+    subst (λ h. ShowsHeads h (e g) (pos y)) (top_before band g (λ r. omega (arith, q, r)))
+    (subst (ShowsHeads (tails_of field 1) (e g)) z (shows.before g q 0 (omega (arith, high, some))))
 
 chosen : (t : Bool) (a b : List ℕ) (n : ℕ) → length a ≡ n → length b ≡ n → length (if t then a else b) ≡ n
 chosen true a b n p q = p
 chosen false a b n p q = q
 
-pub bottom_long : (words y many g : ℕ) (band : Band) → IsBand words y many band → length (bottom_at g band) ≡ words
-bottom_long words y many g band is =
-    let high = is.high in
-    let some = is.some in
-    chosen (band.generation == g) _ _ words (is.long (length band.rows.items - 1) (omega (arith, high, some))) is.bottom
+pub bottom_long : (columns y many g : ℕ) (band : Band) → IsBand columns y many band → length (bottom_at g band) ≡ columns
+bottom_long columns y _ g band is =
+    let field = band.field in
+    chosen (band.generation == g) _ _ columns (long_row field.columns field.stride field.heads.items field.rows ∙ is.wide) (long_row field.columns field.stride field.tails.items field.rows ∙ is.wide)
 
-pub top_long : (words y many g : ℕ) (band : Band) → IsBand words y many band → length (top_at g band) ≡ words
-top_long words y many g band is =
-    let high = is.high in
-    let some = is.some in
-    chosen (band.generation == g) _ _ words (is.long 0 (omega (arith, high, some))) is.top
+pub top_long : (columns y many g : ℕ) (band : Band) → IsBand columns y many band → length (top_at g band) ≡ columns
+top_long columns y _ g band is =
+    let field = band.field in
+    chosen (band.generation == g) _ _ columns (long_row field.columns field.stride field.heads.items 1 ∙ is.wide) (long_row field.columns field.stride field.tails.items 1 ∙ is.wide)
 
 -- ---- neighbours that are ready
 
@@ -109,25 +115,25 @@ pub after : (b h : ℕ) → (b + 1) * h ≡ b * h + h
 after b h = let s : b + 1 ≡ suc b = omega arith in ap (λ n. n * h) s ∙ suc-mul b h
 
 -- a band that another one follows has the whole height
-pub whole : (words height rows : ℕ) (bands : List Band) (b : ℕ) (d : Band) → AreBands words height rows bands → b + 1 < length bands → min height (rows - b * height) ≡ height
-whole words height rows bands b d are lt =
+pub whole : (columns height rows : ℕ) (bands : List Band) (b : ℕ) (d : Band) → AreBands columns height rows bands → b + 1 < length bands → min height (rows - b * height) ≡ height
+whole columns height rows bands b d are lt =
     let some = (are.each (b + 1) d lt).some in
     let m = after b height in
     omega (arith, some, m)
 
-pub begins : (words height rows : ℕ) (bands : List Band) (b : ℕ) (d : Band) → AreBands words height rows bands → b < length bands → b * height < rows
-begins words height rows bands b d are lt = let some = (are.each b d lt).some in omega (arith, some)
+pub begins : (columns height rows : ℕ) (bands : List Band) (b : ℕ) (d : Band) → AreBands columns height rows bands → b < length bands → b * height < rows
+begins columns height rows bands b d are lt = let some = (are.each b d lt).some in omega (arith, some)
 
 -- the last band reaches to the last row
-pub ends : (words height rows : ℕ) (bands : List Band) (b : ℕ) (d : Band) → 0 < height → AreBands words height rows bands → b + 1 ≡ length bands → b * height + min height (rows - b * height) ≡ rows
-ends words height rows bands b d some are e =
+pub ends : (columns height rows : ℕ) (bands : List Band) (b : ℕ) (d : Band) → 0 < height → AreBands columns height rows bands → b + 1 ≡ length bands → b * height + min height (rows - b * height) ≡ rows
+ends columns height rows bands b d some are e =
     let n = rows + (height - 1) in
     let q : n / height ≡ b + 1 = sym (e ∙ are.many) in
     let r : n % height < height = omega (arith, some) in
     let parts : height * (n / height) + n % height ≡ n = omega (arith, some) in
     let turned : height * (n / height) ≡ (b + 1) * height = ap (λ k. height * k) q ∙ mul_comm height (b + 1) in
     let m = after b height in
-    let first = begins words height rows bands b d are (omega (arith, e)) in
+    let first = begins columns height rows bands b d are (omega (arith, e)) in
     omega (arith, r, parts, turned, m, first, some)
 
 -- what is said of the bands before and after a band, said of all bands
@@ -148,37 +154,38 @@ module _ (bands before own after : List Band) (b : ℕ) (p : IsParted bands b be
   earlier_of down g earlier d lt = let m = many bands before own after b p in earlier d (omega (arith, m, lt)) ∙ ap (top_at g) (at_after bands before own after b p d)
 
 -- the rows beside a band, of its neighbours and at the outer edges
-module _ (words height rows : ℕ) (bands : List Band) (are : AreBands words height rows bands) (b : ℕ) (d : Band) (inside : b < length bands) (dark : List ℕ) (long : length dark ≡ words) (g : ℕ) where
-  pub above_long : (up : List ℕ) → (b ≡ 0 → up ≡ dark) → ((d : Band) → 0 < b → up ≡ bottom_at g (get_or bands (b - 1) d)) → length up ≡ words
+module _ (columns height rows : ℕ) (bands : List Band) (are : AreBands columns height rows bands) (b : ℕ) (d : Band) (inside : b < length bands) (g : ℕ) where
+  pub above_long : (up : List ℕ) → (b ≡ 0 → up ≡ []) → ((d : Band) → 0 < b → up ≡ bottom_at g (get_or bands (b - 1) d)) → length up ≤ columns
   above_long up first later =
       elim (cases_lt 0 b) [
-        | inl lt ↦ ap length (later d lt) ∙ bottom_long words ((b - 1) * height) (min height (rows - (b - 1) * height)) g (get_or bands (b - 1) d) (are.each (b - 1) d (omega (arith, inside)))
-        | inr ge ↦ ap length (first (omega (arith, ge))) ∙ long
+        | inl lt ↦ let e = ap length (later d lt) ∙ bottom_long columns ((b - 1) * height) (min height (rows - (b - 1) * height)) g (get_or bands (b - 1) d) (are.each (b - 1) d (omega (arith, inside))) in omega (arith, e)
+        | inr ge ↦ let e : length up ≡ 0 = ap length (first (omega (arith, ge))) in omega (arith, e)
       ]
 
-  pub below_long : (down : List ℕ) → (b + 1 ≡ length bands → down ≡ dark) → ((d : Band) → b + 1 < length bands → down ≡ top_at g (get_or bands (b + 1) d)) → length down ≡ words
+  pub below_long : (down : List ℕ) → (b + 1 ≡ length bands → down ≡ []) → ((d : Band) → b + 1 < length bands → down ≡ top_at g (get_or bands (b + 1) d)) → length down ≤ columns
   below_long down last earlier =
       elim (cases_lt (b + 1) (length bands)) [
-        | inl lt ↦ ap length (earlier d lt) ∙ top_long words ((b + 1) * height) (min height (rows - (b + 1) * height)) g (get_or bands (b + 1) d) (are.each (b + 1) d lt)
-        | inr ge ↦ ap length (last (omega (arith, ge, inside))) ∙ long
+        | inl lt ↦ let e = ap length (earlier d lt) ∙ top_long columns ((b + 1) * height) (min height (rows - (b + 1) * height)) g (get_or bands (b + 1) d) (are.each (b + 1) d lt) in omega (arith, e)
+        | inr ge ↦ let e : length down ≡ 0 = ap length (last (omega (arith, ge, inside))) in omega (arith, e)
       ]
 
-module _ (e : ℕ → Plane) (due : Due) (words height rows width : ℕ) (some : 0 < height) (evo : IsEvolution e due width rows) (bands : List Band) (are : AreBands words height rows bands) (b : ℕ) (d : Band) (inside : b < length bands) (dark : List ℕ) (none : (j : ℕ) → get_or dark j 0 ≡ 0) (g : ℕ) where
-  nothing : (p : Plane) (y : ℤ) → ((x : ℕ) → p (pos x) y ≡ Empty) → ShowsHeads dark p y
-  nothing p y empty x = ap (λ h. count_head (state_of h false false)) (none_set 0 dark none x) ∙ sym (ap count_head (empty x))
+-- a row without cells has no heads
+pub nothing : (p : Plane) (y : ℤ) → ((x : ℕ) → p (pos x) y ≡ Empty) → ShowsHeads [] p y
+nothing p y empty x = ap (λ h. count_head (state_of h false false)) (none_set 0 [] (λ j. refl) x) ∙ sym (ap count_head (empty x))
 
+module _ (e : ℕ → Plane) (due : Due) (columns height rows width : ℕ) (some : 0 < height) (evo : IsEvolution e due width rows) (bands : List Band) (are : AreBands columns height rows bands) (b : ℕ) (d : Band) (inside : b < length bands) (g : ℕ) where
   module _ (shows : AllShow e due height rows bands) where
     generation_is : (k : ℕ) → k < length bands → get_or (generations_of bands) k 0 ≡ (get_or bands k d).generation
     generation_is k lt = get_or-map (λ (band : Band). band.generation) bands k d 0 lt
 
-    pub above_shows : (up : List ℕ) → (b ≡ 0 → up ≡ dark) → ((d : Band) → 0 < b → up ≡ bottom_at g (get_or bands (b - 1) d)) → (0 < b → IsAtOrAfter g (get_or (generations_of bands) (b - 1) 0)) → ShowsHeads up (e g) (pos (b * height) -ℤ pos 1)
+    pub above_shows : (up : List ℕ) → (b ≡ 0 → up ≡ []) → ((d : Band) → 0 < b → up ≡ bottom_at g (get_or bands (b - 1) d)) → (0 < b → IsAtOrAfter g (get_or (generations_of bands) (b - 1) 0)) → ShowsHeads up (e g) (pos (b * height) -ℤ pos 1)
     above_shows up first later ready =
         elim (cases_lt 0 b) [
           | inr ge ↦
               let q : b ≡ 0 = omega (arith, ge) in
               let place : pos (b * height) -ℤ pos 1 ≡ negsuc 0 = let t = ap (λ b. b * height) q in omega (arith, ints, t) in
               subst (λ up. ShowsHeads up (e g) (pos (b * height) -ℤ pos 1)) (sym (first q))
-              (subst (ShowsHeads dark (e g)) (sym place) (nothing (e g) (negsuc 0) (λ x. evo.empty g (pos x) (negsuc 0) refl)))
+              (subst (ShowsHeads [] (e g)) (sym place) (nothing (e g) (negsuc 0) (λ x. evo.empty g (pos x) (negsuc 0) refl)))
           | inl lt ↦
               let k = b - 1 in
               let lk : k < length bands = omega (arith, inside) in
@@ -186,30 +193,30 @@ module _ (e : ℕ → Plane) (due : Due) (words height rows width : ℕ) (some :
               let n : k + 1 ≡ b = omega (arith, lt) in
               let m = after k height in
               let t : (k + 1) * height ≡ b * height = ap (λ k. k * height) n in
-              let w : min height (rows - k * height) ≡ height = whole words height rows bands k d are (omega (arith, n, inside)) in
+              let w : min height (rows - k * height) ≡ height = whole columns height rows bands k d are (omega (arith, n, inside)) in
               let place : pos (k * height) +ℤ pos (min height (rows - k * height) - 1) ≡ pos (b * height) -ℤ pos 1 = omega (arith, ints, m, t, w, some) in
               let at : IsAtOrAfter g upper.generation = subst (IsAtOrAfter g) (generation_is k lk) (ready lt) in
-              let here = bottom_shows e due words (k * height) (min height (rows - k * height)) g upper (are.each k d lk) (shows k d lk) at in
+              let here = bottom_shows e due columns (k * height) (min height (rows - k * height)) g upper (are.each k d lk) (shows k d lk) at in
               subst (λ up. ShowsHeads up (e g) (pos (b * height) -ℤ pos 1)) (sym (later d lt))
               (subst (ShowsHeads (bottom_at g upper) (e g)) place here)
         ]
 
-    pub below_shows : (down : List ℕ) → (b + 1 ≡ length bands → down ≡ dark) → ((d : Band) → b + 1 < length bands → down ≡ top_at g (get_or bands (b + 1) d)) → (b + 1 < length bands → IsAtOrAfter g (get_or (generations_of bands) (b + 1) 0)) → ShowsHeads down (e g) (pos (b * height) +ℤ pos (min height (rows - b * height)))
+    pub below_shows : (down : List ℕ) → (b + 1 ≡ length bands → down ≡ []) → ((d : Band) → b + 1 < length bands → down ≡ top_at g (get_or bands (b + 1) d)) → (b + 1 < length bands → IsAtOrAfter g (get_or (generations_of bands) (b + 1) 0)) → ShowsHeads down (e g) (pos (b * height) +ℤ pos (min height (rows - b * height)))
     below_shows down last earlier ready =
         elim (cases_lt (b + 1) (length bands)) [
           | inr ge ↦
               let q : b + 1 ≡ length bands = omega (arith, ge, inside) in
-              let t = ends words height rows bands b d some are q in
+              let t = ends columns height rows bands b d some are q in
               let place : pos (b * height) +ℤ pos (min height (rows - b * height)) ≡ pos rows = omega (arith, ints, t) in
               subst (λ down. ShowsHeads down (e g) (pos (b * height) +ℤ pos (min height (rows - b * height)))) (sym (last q))
-              (subst (ShowsHeads dark (e g)) (sym place) (nothing (e g) (pos rows) (λ x. evo.empty g (pos x) (pos rows) (past x))))
+              (subst (ShowsHeads [] (e g)) (sym place) (nothing (e g) (pos rows) (λ x. evo.empty g (pos x) (pos rows) (past x))))
           | inl lt ↦
               let lower = get_or bands (b + 1) d in
               let m = after b height in
-              let w = whole words height rows bands b d are lt in
+              let w = whole columns height rows bands b d are lt in
               let place : pos ((b + 1) * height) ≡ pos (b * height) +ℤ pos (min height (rows - b * height)) = omega (arith, ints, m, w) in
               let at : IsAtOrAfter g lower.generation = subst (IsAtOrAfter g) (generation_is (b + 1) lt) (ready lt) in
-              let here = top_shows e due words ((b + 1) * height) (min height (rows - (b + 1) * height)) g lower (are.each (b + 1) d lt) (shows (b + 1) d lt) at in
+              let here = top_shows e due columns ((b + 1) * height) (min height (rows - (b + 1) * height)) g lower (are.each (b + 1) d lt) (shows (b + 1) d lt) at in
               subst (λ down. ShowsHeads down (e g) (pos (b * height) +ℤ pos (min height (rows - b * height)))) (sym (earlier d lt))
               (subst (ShowsHeads (top_at g lower) (e g)) place here)
         ]

@@ -5,12 +5,12 @@ pub mod Facing
 pub mod Injecting
 pub mod NextRows
 pub mod Options
-pub mod Pushing
 pub mod Putting
 pub mod Resting
 pub mod Waking
-pub mod Lit
+pub mod BandFields
 pub mod OneBand
 pub mod Dark
 pub mod MovedOn
+pub mod Alone
 pub mod Unlit

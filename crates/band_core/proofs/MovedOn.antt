@@ -11,17 +11,16 @@ use Rattle.ww_rule.specs.declared.pattern.State.TheVariants.{Empty, Head, Tail}
 use Rattle.ww_rule.specs.Wireworld.{Plane, Due}
 use Rattle.ww_rule.proofs.Cells.{not_counted}
 use Rattle.ww_rule.proofs.Due.{from_earlier}
-use Rattle.lane_kernel.specs.Rows.{is_set, state_of}
-use Rattle.band_rows.specs.Rows.{ShowRows, ShowsHeads, row_wires}
-use Rattle.band_rows.proofs.Marks.{none_set}
+use Rattle.lane_kernel.specs.Rows.{state_of}
+use Rattle.band_rows.specs.Fields.{ShowsField, TailsShow}
 use Rattle.band_core.specs.declared.band.Band.{Band}
 use Rattle.band_core.specs.Bands.{not_ready, unready_neighbour, upper_not_ready}
 use Rattle.band_core.specs.Band.{AllShow, AreBands, AreDueIn, CanMove, IsBand, IsEvolution, ShowsBand, generation_at, generations_of, rows_in_band}
 use Rattle.band_core.specs.Together.{AreBandsAt, CanMoveOn, HasNoneLit, HasRested, HaveMovedOn, HaveRested, IsCalm}
 use Rattle.band_core.proofs.Dark.{IsDark, below, none_due, stays_dark}
 use Rattle.band_core.proofs.Evolution.{in_bands}
-use Rattle.band_core.proofs.Lit.{no_head, no_tail}
-use Rattle.band_core.proofs.Resting.{nothing_kept, rests}
+use Rattle.band_core.proofs.BandFields.{cell_set, dark_state}
+use Rattle.band_core.proofs.Resting.{nothing_shown, rests}
 
 pub own_generation : (bands : List Band) (b : ℕ) (d : Band) → b < length bands → (get_or bands b d).generation ≡ generation_at bands b
 own_generation bands b d lt = sym (get_or-map (λ (band : Band). band.generation) bands b d 0 lt)
@@ -29,16 +28,16 @@ own_generation bands b d lt = sym (get_or-map (λ (band : Band). band.generation
 -- ---- one after the other
 
 -- the first b of them have moved on by one generation
-pub record HaveFirstMovedOn (b words height rows : ℕ) (old new : List Band) : Type 0 where
-  pub are : AreBands words height rows new
+pub record HaveFirstMovedOn (b columns height rows : ℕ) (old new : List Band) : Type 0 where
+  pub are : AreBands columns height rows new
   pub moved : (g : ℕ) → AreBandsAt g old → (k : ℕ) → k < b → generation_at new k ≡ g + 1
   pub left : (g : ℕ) → AreBandsAt g old → (k : ℕ) → b ≤ k → k < length old
       → generation_at new k ≡ g
   pub shows : (e : ℕ → Plane) (due : Due) (width : ℕ) → IsEvolution e due width rows
       → AllShow e due height rows old → AllShow e due height rows new
 
-module _ (words height rows : ℕ) where
-  pub none_moved_on : (bands : List Band) → AreBands words height rows bands → HaveMovedOn 0 words height rows bands bands
+module _ (columns height rows : ℕ) where
+  pub none_moved_on : (bands : List Band) → AreBands columns height rows bands → HaveMovedOn 0 columns height rows bands bands
   none_moved_on bands are =
       record {
         are = are;
@@ -46,7 +45,7 @@ module _ (words height rows : ℕ) where
         shows = λ e due width evo shows. shows;
       }
 
-  pub moved_on_further : (m n k : ℕ) (old now new : List Band) → k ≡ m + n → HaveMovedOn m words height rows old now → HaveMovedOn n words height rows now new → HaveMovedOn k words height rows old new
+  pub moved_on_further : (m n k : ℕ) (old now new : List Band) → k ≡ m + n → HaveMovedOn m columns height rows old now → HaveMovedOn n columns height rows now new → HaveMovedOn k columns height rows old new
   moved_on_further m n k old now new e first second =
       record {
         are = second.are;
@@ -54,7 +53,7 @@ module _ (words height rows : ℕ) where
         shows = λ f due width evo shows. second.shows f due width evo (first.shows f due width evo shows);
       }
 
-  pub none_first_moved_on : (bands : List Band) → AreBands words height rows bands → HaveFirstMovedOn 0 words height rows bands bands
+  pub none_first_moved_on : (bands : List Band) → AreBands columns height rows bands → HaveFirstMovedOn 0 columns height rows bands bands
   none_first_moved_on bands are =
       record {
         are = are;
@@ -63,7 +62,7 @@ module _ (words height rows : ℕ) where
         shows = λ e due width evo shows. shows;
       }
 
-  pub all_first_moved_on : (b : ℕ) (old new : List Band) → AreBands words height rows old → length old ≤ b → HaveFirstMovedOn b words height rows old new → HaveMovedOn 1 words height rows old new
+  pub all_first_moved_on : (b : ℕ) (old new : List Band) → AreBands columns height rows old → length old ≤ b → HaveFirstMovedOn b columns height rows old new → HaveMovedOn 1 columns height rows old new
   all_first_moved_on b old new were le moved =
       let many = moved.are.many ∙ sym were.many in
       record {
@@ -100,8 +99,8 @@ next_ready g b many generations all lt moved left = ap₂ option_or (upper b (le
         let l : b + 1 < length generations = search (arith, e) in
         is_ready generations b (b + 1) (inl (left (b + 1) (omega arith) (omega (arith, l, all)) ∙ sym (left b (omega arith) lt)))
 
-pub next_can_move : (height rows b : ℕ) (dark : List ℕ) (old now : List Band) → CanMoveOn 1 height rows dark old → HaveFirstMovedOn b (length dark) height rows old now → b < length now → CanMove height rows dark now b
-next_can_move height rows b dark old now can moved lt =
+pub next_can_move : (columns height rows b : ℕ) (old now : List Band) → CanMoveOn 1 columns height rows old → HaveFirstMovedOn b columns height rows old now → b < length now → CanMove columns height rows now b
+next_can_move columns height rows b old now can moved lt =
     let g = can.generation in
     let many = moved.are.many ∙ sym can.are.many in
     let left = moved.left g can.at in
@@ -112,13 +111,12 @@ next_can_move height rows b dark old now can moved lt =
       room = omega (arith, own, room);
       ready = next_ready g b (length old) (generations_of now) (length-map now (λ (band : Band). band.generation) ∙ many) (omega (arith, lt, many)) (moved.moved g can.at) left;
       are = moved.are;
-      unlit = can.unlit;
     }
 
 -- and then one more has moved
-pub one_moved_on : (words height rows b : ℕ) (old now new : List Band) → HaveFirstMovedOn b words height rows old now → AreBands words height rows old → b < length now → AreBands words height rows new → generations_of new ≡ slice_set (generations_of now) b (generation_at now b + 1)
-    → ((e : ℕ → Plane) (due : Due) (width : ℕ) → IsEvolution e due width rows → AllShow e due height rows now → AllShow e due height rows new) → HaveFirstMovedOn (b + 1) words height rows old new
-one_moved_on words height rows b old now new moved were lt are generations shows =
+pub one_moved_on : (columns height rows b : ℕ) (old now new : List Band) → HaveFirstMovedOn b columns height rows old now → AreBands columns height rows old → b < length now → AreBands columns height rows new → generations_of new ≡ slice_set (generations_of now) b (generation_at now b + 1)
+    → ((e : ℕ → Plane) (due : Due) (width : ℕ) → IsEvolution e due width rows → AllShow e due height rows now → AllShow e due height rows new) → HaveFirstMovedOn (b + 1) columns height rows old new
+one_moved_on columns height rows b old now new moved were lt are generations shows =
     let many = moved.are.many ∙ sym were.many in
     let there : b < length (generations_of now) = let l = length-map now (λ (band : Band). band.generation) in omega (arith, l, lt) in
     let at = λ (k : ℕ). ap (λ (gs : List ℕ). get_or gs k 0) generations in
@@ -156,16 +154,7 @@ empty_head e = cc
 empty_tail : Empty ≢ Tail
 empty_tail e = cc
 
--- a band whose rows are not marked
-pub dark_band : (words y many : ℕ) (band : Band) → IsBand words y many band → band.is_dark ≡ true → HasNoneLit band
-dark_band words y many band is dark =
-    let clear = λ (k : ℕ). none_set 0 band.lit.items (is.dark dark) k in
-    record {
-      heads = λ k x lt. no_head band.lit.items band.rows.items is.lit k x lt (clear k);
-      tails = λ k x lt. no_tail band.lit.items band.rows.items is.lit k x lt (clear k);
-    }
-
-module _ (e : ℕ → Plane) (due : Due) (width words height rows g : ℕ) (bands : List Band) (some : 0 < height) (evo : IsEvolution e due width rows) (are : AreBands words height rows bands) (at : AreBandsAt g bands) (shows : AllShow e due height rows bands) where
+module _ (e : ℕ → Plane) (due : Due) (width columns height rows g : ℕ) (bands : List Band) (some : 0 < height) (evo : IsEvolution e due width rows) (are : AreBands columns height rows bands) (at : AreBandsAt g bands) (shows : AllShow e due height rows bands) where
   -- the band of a row, and the row's number in it
   module _ (y : ℕ) (lt : y < rows) where
     abbrev b : ℕ
@@ -193,7 +182,7 @@ module _ (e : ℕ → Plane) (due : Due) (width words height rows g : ℕ) (band
     shown : ShowsBand e due (b * height) (rows_in_band height rows b) band
     shown = shows b _ inside
 
-    is : IsBand words (b * height) (rows_in_band height rows b) band
+    is : IsBand columns (b * height) (rows_in_band height rows b) band
     is = are.each b _ inside
 
     its_generation : band.generation ≡ g
@@ -205,13 +194,11 @@ module _ (e : ℕ → Plane) (due : Due) (width words height rows g : ℕ) (band
     cell_there : HasNoneLit band → (x : ℕ) → (w : Bool) × (e g (pos x) (pos y) ≡ state_of false false w)
     cell_there none x =
         let k = y - b * height in
-        let rows = band.rows.items in
         let high = is.high in
         let i = in_row in
-        let l : k < length rows = omega (arith, high, i) in (
-          is_set (row_wires rows k) x,
-          ap (λ g. e g (pos x) (pos y)) (sym its_generation) ∙ ap (e band.generation (pos x)) (sym place) ∙ sym (shown.rows k l x)
-              ∙ ap₂ (λ h t. state_of h t (is_set (row_wires rows k) x)) (none.heads k x l) (none.tails k x l),
+        let l : k < band.field.rows = omega (arith, high, i) in (
+          cell_set band.field x k,
+          ap (λ g. e g (pos x) (pos y)) (sym its_generation) ∙ ap (e band.generation (pos x)) (sym place) ∙ sym (shown.cells k x l) ∙ dark_state band.field x k l none,
         )
 
     none_due_there : (n : ℕ) → IsCalm n band → (h x : ℕ) → g < h → h ≤ g + n → due h (pos x) (pos y) ≡ false
@@ -242,35 +229,38 @@ module _ (e : ℕ → Plane) (due : Due) (width words height rows g : ℕ) (band
 
 -- ---- bands that rest
 
-rested_shows : (e : ℕ → Plane) (due : Due) (y many n : ℕ) (old new : Band) → 0 < n → ShowsBand e due y many old → HasRested n old new → IsDark (e old.generation) → ((k : ℕ) → k ≤ n → e (old.generation + k) ≡ e old.generation) → IsCalm n old → ShowsBand e due y many new
-rested_shows e due y many n old new some shows r dark stays calm =
-    let g = old.generation in
-    let gen = r.generation in
-    let now : e new.generation ≡ e g = ap e gen ∙ stays n (omega arith) in
+-- what a band knows of its own injections stays, if it comes n calm generations further
+pub still_left : (n : ℕ) (old new : Band) → new.generation ≡ old.generation + n → new.injections ≡ old.injections → new.done ≡ old.done → IsCalm n old → AreLeftAt (old.generation + 1) old.injections.items (drop old.done old.injections.items) → AreLeftAt (new.generation + 1) new.injections.items (drop new.done new.injections.items)
+still_left n old new gen injections done calm left =
     let own = old.injections.items in
-    let left = shows.left in
-    let none = λ (x : ℕ) (z : ℤ). not_counted (e g (pos x) z) (dark (pos x) z).0 in
-    let before = λ (h : ℕ) (q : new.generation ≡ h + 1). ap e (let s : h ≡ g + (n - 1) = omega (arith, q, gen, some) in s) ∙ stays (n - 1) (omega arith) in
     let after : AreLeftAt (new.generation + 1) own (drop old.done own) = record {
       used = left.used;
       parts = left.parts;
       earlier = λ j d l. let i = left.earlier j d l in omega (arith, i, gen);
       in_order = subst (λ g. AreInOrderFrom (g + 1) (drop old.done own)) (sym gen) (calm left.in_order);
     } in
+    subst (λ v. AreLeftAt (new.generation + 1) v.items (drop new.done v.items)) (sym injections) (subst (λ d. AreLeftAt (new.generation + 1) own (drop d own)) (sym done) after)
+
+rested_shows : (e : ℕ → Plane) (due : Due) (y many n : ℕ) (old new : Band) → 0 < n → ShowsBand e due y many old → HasRested n old new → HasNoneLit old → IsDark (e old.generation) → ((k : ℕ) → k ≤ n → e (old.generation + k) ≡ e old.generation) → IsCalm n old → ShowsBand e due y many new
+rested_shows e due y many n old new some shows r unlit dark stays calm =
+    let g = old.generation in
+    let gen = r.generation in
+    let now : e new.generation ≡ e g = ap e gen ∙ stays n (omega arith) in
+    let none = λ (x : ℕ) (z : ℤ). not_counted (e g (pos x) z) (dark (pos x) z).0 in
     record {
-      rows = subst (λ v. ShowRows v.items (e new.generation) (pos y)) (sym r.rows) (subst (λ p. ShowRows old.rows.items p (pos y)) (sym now) shows.rows);
-      top = λ h q. subst (λ p. ShowsHeads new.top.heads.items p (pos y)) (sym (before h q)) (nothing_kept new.top.heads.items (e g) (pos y) r.top (λ x. none x (pos y)));
-      bottom = λ h q.
-          let z = pos y +ℤ pos (many - 1) in
-          subst (λ p. ShowsHeads new.bottom.heads.items p z) (sym (before h q)) (nothing_kept new.bottom.heads.items (e g) z r.bottom (λ x. none x z));
+      cells = subst (λ field. ShowsField field (e new.generation) (pos y)) (sym r.field) (subst (λ p. ShowsField old.field p (pos y)) (sym now) shows.cells);
+      before = λ h q.
+          let back = ap e (let s : h ≡ g + (n - 1) = omega (arith, q, gen, some) in s) ∙ stays (n - 1) (omega arith) in
+          subst (λ field. TailsShow field (e h) (pos y)) (sym r.field)
+          (subst (λ p. TailsShow old.field p (pos y)) (sym back) (nothing_shown old.field (e g) (pos y) unlit.tails (λ x k lt. none x (pos y +ℤ pos k))));
       own = subst (λ v. AreDueIn v.items due y many) (sym r.injections) shows.own;
-      left = subst (λ v. AreLeftAt (new.generation + 1) v.items (drop new.done v.items)) (sym r.injections) (subst (λ d. AreLeftAt (new.generation + 1) own (drop d own)) (sym r.done) after);
+      left = still_left n old new gen r.injections r.done calm shows.left;
     }
 
-rested_is : (words y many n : ℕ) (old new : Band) → HasRested n old new → IsBand words y many old → IsBand words y many new
-rested_is words y many n old new r is = rests words y many old new r.rows r.lit r.near r.is_dark r.injections r.done (r.long_top ∙ is.top) (r.long_bottom ∙ is.bottom) is
+rested_is : (columns y many n : ℕ) (old new : Band) → HasRested n old new → IsBand columns y many old → IsBand columns y many new
+rested_is columns y many n old new r is = rests columns y many old new r.field r.injections r.done is
 
-module _ (n words height rows : ℕ) (old new : List Band) (some : 0 < n) (rested : HaveRested n old new) (are : AreBands words height rows old) where
+module _ (n columns height rows : ℕ) (old new : List Band) (some : 0 < n) (rested : HaveRested n old new) (are : AreBands columns height rows old) where
   there : (b : ℕ) → b < length new → b < length old
   there b lt = let many = rested.many in omega (arith, lt, many)
 
@@ -281,32 +271,31 @@ module _ (n words height rows : ℕ) (old new : List Band) (some : 0 < n) (reste
       sym (own_generation new b d lt) ∙ (rested.each b d l).generation ∙ ap (λ h. h + n) (own_generation old b d l ∙ at b l)
 
   -- where none is lit and none is due, they have moved on
-  pub rested_moved_on : (g : ℕ) → AreBandsAt g old → 0 < height → All HasNoneLit old → All (IsCalm n) old → HaveMovedOn n words height rows old new
+  pub rested_moved_on : (g : ℕ) → AreBandsAt g old → 0 < height → All HasNoneLit old → All (IsCalm n) old → HaveMovedOn n columns height rows old new
   rested_moved_on g at high none calm =
       record {
         are = record {
           many = rested.many ∙ are.many;
-          each = λ b d lt. rested_is words (b * height) (rows_in_band height rows b) n (get_or old b d) (get_or new b d) (rested.each b d (there b lt)) (are.each b d (there b lt));
+          each = λ b d lt. rested_is columns (b * height) (rows_in_band height rows b) n (get_or old b d) (get_or new b d) (rested.each b d (there b lt)) (are.each b d (there b lt));
         };
         at = rested_at;
         shows = λ e due width evo shows b d lt.
             let l = there b lt in
             let gen = own_generation old b d l ∙ at b l in
-            let stays = plane_stays e due width words height rows g old high evo are at shows n none calm in
-            rested_shows e due (b * height) (rows_in_band height rows b) n (get_or old b d) (get_or new b d) some (shows b d l) (rested.each b d l)
-            (subst (λ h. IsDark (e h)) (sym gen) (is_dark e due width words height rows g old high evo are at shows none))
+            let stays = plane_stays e due width columns height rows g old high evo are at shows n none calm in
+            rested_shows e due (b * height) (rows_in_band height rows b) n (get_or old b d) (get_or new b d) some (shows b d l) (rested.each b d l) (none b d l)
+            (subst (λ h. IsDark (e h)) (sym gen) (is_dark e due width columns height rows g old high evo are at shows none))
             (subst (λ h. (k : ℕ) → k ≤ n → e (h + k) ≡ e h) (sym gen) stays) (calm b d l);
       }
 
--- where all bands can move on, and none of their rows is marked
-pub dark_moved_on : (n most height rows : ℕ) (dark : List ℕ) (old new : List Band) → 0 < n → CanMoveOn most height rows dark old → All (λ band. band.is_dark ≡ true) old → All (IsCalm n) old → HaveRested n old new → HaveMovedOn n (length dark) height rows old new
-dark_moved_on n most height rows dark old new some can marks calm rested =
-    let none : All HasNoneLit old = λ b d lt. dark_band (length dark) (b * height) (rows_in_band height rows b) (get_or old b d) (can.are.each b d lt) (marks b d lt) in
-    rested_moved_on n (length dark) height rows old new some rested can.are can.generation can.at can.high none calm
+-- where all bands can move on, and none is lit
+pub dark_moved_on : (n most columns height rows : ℕ) (old new : List Band) → 0 < n → CanMoveOn most columns height rows old → All HasNoneLit old → All (IsCalm n) old → HaveRested n old new → HaveMovedOn n columns height rows old new
+dark_moved_on n most columns height rows old new some can none calm rested =
+    rested_moved_on n columns height rows old new some rested can.are can.generation can.at can.high none calm
 
 -- bands that have moved on can move on by what is left
-pub can_still_move : (n m height rows : ℕ) (dark : List ℕ) (old new : List Band) → m ≤ n → CanMoveOn n height rows dark old → HaveMovedOn m (length dark) height rows old new → CanMoveOn (n - m) height rows dark new
-can_still_move n m height rows dark old new le can moved =
+pub can_still_move : (n m columns height rows : ℕ) (old new : List Band) → m ≤ n → CanMoveOn n columns height rows old → HaveMovedOn m columns height rows old new → CanMoveOn (n - m) columns height rows new
+can_still_move n m columns height rows old new le can moved =
     let room = can.room in
     record {
       generation = can.generation + m;
@@ -314,12 +303,11 @@ can_still_move n m height rows dark old new le can moved =
       room = omega (arith, room, le);
       high = can.high;
       few = can.few;
-      unlit = can.unlit;
       are = moved.are;
     }
 
-pub can_move_by : (n m height rows : ℕ) (dark : List ℕ) (bands : List Band) → m ≤ n → CanMoveOn n height rows dark bands → CanMoveOn m height rows dark bands
-can_move_by n m height rows dark bands le can =
+pub can_move_by : (n m columns height rows : ℕ) (bands : List Band) → m ≤ n → CanMoveOn n columns height rows bands → CanMoveOn m columns height rows bands
+can_move_by n m columns height rows bands le can =
     let room = can.room in
     record {
       generation = can.generation;
@@ -327,13 +315,12 @@ can_move_by n m height rows dark bands le can =
       room = omega (arith, room, le);
       high = can.high;
       few = can.few;
-      unlit = can.unlit;
       are = can.are;
     }
 
 -- each band has room for them
-pub has_room : (n m height rows : ℕ) (dark : List ℕ) (bands : List Band) → m ≤ n → CanMoveOn n height rows dark bands → All (λ band. band.generation + m < 2 ^ 64) bands
-has_room n m height rows dark bands le can b d lt =
+pub has_room : (n m columns height rows : ℕ) (bands : List Band) → m ≤ n → CanMoveOn n columns height rows bands → All (λ band. band.generation + m < 2 ^ 64) bands
+has_room n m columns height rows bands le can b d lt =
     let own = own_generation bands b d lt in
     let at = can.at b lt in
     let room = can.room in

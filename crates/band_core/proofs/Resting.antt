@@ -1,6 +1,6 @@
 -- A band in which nothing can change shows the next plane as it is.
 use Rattle.ww_rule.specs.Due.{AreLeftAt}
-use Rattle.std.proofs.Common.{ℤ, pos, negsuc, ◌+ℤ◌, ◌-ℤ◌, ℕ, zero, suc, ◌+◌, ◌-◌, ◌<◌, ◌≡◌, refl, sym, ap, ap₂, subst, ◌∙◌, inl, inr, Bool, true, false, cond, List, length, get_or, drop, arith}
+use Rattle.std.proofs.Common.{ℤ, pos, negsuc, ◌+ℤ◌, ◌-ℤ◌, ℕ, zero, suc, ◌+◌, ◌-◌, ◌<◌, ◌≡◌, refl, sym, ap, subst, ◌∙◌, inl, inr, Bool, true, false, cond, List, length, drop, arith}
 use Rattle.std.specs.Prelude.{◌≢◌}
 use Rattle.std.proofs.lemmas.Int.{ints}
 use Rattle.std.proofs.lemmas.Bool.{cases_lt}
@@ -10,56 +10,69 @@ use Rattle.ww_rule.specs.Wireworld.{Plane, Due, count_head, heads_around, next_p
 use Rattle.ww_rule.specs.Grid.{in_box}
 use Rattle.lane_kernel.specs.Rows.{is_set, state_of}
 use Rattle.lane_kernel.proofs.Counting.{count_is}
-use Rattle.band_rows.specs.Rows.{AreLong, AreMarked, ShowRows, ShowsHeads, row_wires}
-use Rattle.band_rows.proofs.Marks.{none_set}
+use Rattle.band_rows.specs.declared.field.Field.{Field}
+use Rattle.band_rows.specs.Fields.{IsClosed, ShowsField, TailsShow, heads_of, tails_of}
+use Rattle.band_rows.specs.Rows.{ShowsHeads}
 use Rattle.band_core.specs.declared.band.Band.{Band}
 use Rattle.band_core.specs.Band.{AreUnlit, AreDueIn, AreInRows, HasNoneDue, IsBand, IsEvolution, IsQuiet, ShowsBand}
+use Rattle.band_core.proofs.BandFields.{cell_set, dark_state}
 use Rattle.ww_rule.proofs.Due.{left_after}
 
-pub rests : (words y many : ℕ) (band next : Band) → next.rows ≡ band.rows → next.lit ≡ band.lit → next.near ≡ band.near → next.is_dark ≡ band.is_dark → next.injections ≡ band.injections → next.done ≡ band.done → length next.top.heads.items ≡ words → length next.bottom.heads.items ≡ words → IsBand words y many band → IsBand words y many next
-rests words y many band next er el en edark ei ed lt lb is =
+pub rests : (columns y many : ℕ) (band next : Band) → next.field ≡ band.field → next.injections ≡ band.injections → next.done ≡ band.done → IsBand columns y many band → IsBand columns y many next
+rests columns y many band next ef ei ed is =
     let done = is.done in
     let li = ap (λ v. length v.items) ei in
     record {
-      high = ap (λ v. length v.items) er ∙ is.high;
+      closed = subst IsClosed (sym ef) is.closed;
+      wide = ap (λ (field : Field). field.columns) ef ∙ is.wide;
+      high = ap (λ (field : Field). field.rows) ef ∙ is.high;
       some = is.some;
-      long = subst (λ v. AreLong words v.items) (sym er) is.long;
-      lit = subst (λ v. AreMarked next.lit.items v.items) (sym er) (subst (λ v. AreMarked v.items band.rows.items) (sym el) is.lit);
-      near = ap (λ v. length v.items) en ∙ is.near ∙ sym (ap (λ v. length v.items) el);
-      dark = λ none j. ap (λ v. get_or v.items j 0) el ∙ is.dark (sym edark ∙ none) j;
-      top = lt;
-      bottom = lb;
-      inside = subst (λ v. AreInRows words y many v.items) (sym ei) is.inside;
+      inside = subst (λ v. AreInRows columns y many v.items) (sym ei) is.inside;
       done = omega (arith, done, li, ed);
     }
 
-pub nothing_kept : (kept : List ℕ) (p : Plane) (z : ℤ) → ((j : ℕ) → get_or kept j 0 ≡ 0) → ((x : ℕ) → count_head (p (pos x) z) ≡ 0) → ShowsHeads kept p z
-nothing_kept kept p z none dark x = ap (λ h. count_head (state_of h false false)) (none_set 0 kept none x) ∙ sym (dark x)
+-- the tails of a dark field show a plane that has no heads there
+pub nothing_shown : (field : Field) (p : Plane) (y : ℤ) → ((k x : ℕ) → k < field.rows → is_set (tails_of field (k + 1)) x ≡ false) → ((x k : ℕ) → k < field.rows → count_head (p (pos x) (y +ℤ pos k)) ≡ 0) → TailsShow field p y
+nothing_shown field p y none dark k lt x = ap (λ h. count_head (state_of h false false)) (none k x lt) ∙ sym (dark x k lt)
 
-pub rest_shows : (e : ℕ → Plane) (due : Due) (width height words y many : ℕ) (band next : Band) → IsEvolution e due width height → IsBand words y many band → ShowsBand e due y many band → IsQuiet e due band.generation y many → HasNoneDue band → next.generation ≡ band.generation + 1 → next.rows ≡ band.rows → next.injections ≡ band.injections → next.done ≡ band.done → ((j : ℕ) → get_or next.top.heads.items j 0 ≡ 0) → ((j : ℕ) → get_or next.bottom.heads.items j 0 ≡ 0) → ShowsBand e due y many next
-rest_shows e due width height words y many band next evo is shows quiet none eg er ei ed top bottom =
-    let g = band.generation in
-    let some = is.some in
-    let high = is.high in
-    let stay : ShowRows band.rows.items (e (g + 1)) (pos y) = λ k lt x.
+-- a cell that is no head and stays as it is has no tail
+no_tail_stays : (h t w : Bool) (n : ℕ) → count_head (state_of h t w) ≡ 0 → next_state (state_of h t w) n ≡ state_of h t w → t ≡ false
+no_tail_stays true t w n c e = absurd (omega (arith, c))
+no_tail_stays false true w n c e = absurd (tail_moves n e)
+  where
+    tail_moves : (n : ℕ) → next_state Tail n ≡ Tail → ⊥
+    tail_moves n e = cc
+no_tail_stays false false w n c e = refl
+
+quiet_tails : (e : ℕ → Plane) (due : Due) (g y : ℕ) (field : Field) → ShowsField field (e g) (pos y) → IsQuiet e due g y field.rows → (k x : ℕ) → k < field.rows → is_set (tails_of field (k + 1)) x ≡ false
+quiet_tails e due g y field shows quiet k x lt =
     let z = pos y +ℤ pos k in
-    let l : k < many = omega (arith, lt, high) in
-    shows.rows k lt x
-    ∙ sym (quiet.still x k l)
-    ∙ sym (ap (λ t. cond t Head (next_plane (e g) (pos x) z)) (quiet.none x k l))
+    let here = sym (shows k x lt) in
+    no_tail_stays (is_set (heads_of field (k + 1)) x) (is_set (tails_of field (k + 1)) x) (cell_set field x k) (heads_around (e g) (pos x) z)
+    (sym (ap count_head here) ∙ quiet.dark x k lt)
+    (sym (ap (λ s. next_state s (heads_around (e g) (pos x) z)) here) ∙ quiet.still x k lt ∙ here)
+
+pub rest_shows : (e : ℕ → Plane) (due : Due) (width height columns y many : ℕ) (band next : Band) → IsEvolution e due width height → IsBand columns y many band → ShowsBand e due y many band → IsQuiet e due band.generation y many → HasNoneDue band → next.generation ≡ band.generation + 1 → next.field ≡ band.field → next.injections ≡ band.injections → next.done ≡ band.done → ShowsBand e due y many next
+rest_shows e due width height columns y many band next evo is shows quiet none eg ef ei ed =
+    let g = band.generation in
+    let field = band.field in
+    let high = is.high in
+    let calm : IsQuiet e due g y field.rows = subst (IsQuiet e due g y) (sym high) quiet in
+    let stay : ShowsField field (e (g + 1)) (pos y) = λ k x lt.
+    let z = pos y +ℤ pos k in
+    shows.cells k x lt
+    ∙ sym (calm.still x k lt)
+    ∙ sym (ap (λ t. cond t Head (next_plane (e g) (pos x) z)) (calm.none x k lt))
     ∙ sym (ap (λ p. p (pos x) z) (evo.next g)) in
     let own = band.injections.items in
     let left = drop band.done own in
     let after : AreLeftAt (g + 1 + 1) own left = left_after (g + 1) own left shows.left left (sym (ap (λ n. drop n left) none)) in
     record {
-      rows = subst (λ v. ShowRows v.items (e next.generation) (pos y)) (sym er) (subst (λ g. ShowRows band.rows.items (e g) (pos y)) (sym eg) stay);
-      top = λ h q.
+      cells = subst (λ field. ShowsField field (e next.generation) (pos y)) (sym ef) (subst (λ g. ShowsField field (e g) (pos y)) (sym eg) stay);
+      before = λ h q.
           let r : g ≡ h = omega (arith, q, eg) in
-          let z : pos y +ℤ pos 0 ≡ pos y = omega (arith, ints) in
-          subst (λ g. ShowsHeads next.top.heads.items (e g) (pos y)) r (subst (ShowsHeads next.top.heads.items (e g)) z (nothing_kept next.top.heads.items (e g) (pos y +ℤ pos 0) top (λ x. quiet.dark x 0 some)));
-      bottom = λ h q.
-          let r : g ≡ h = omega (arith, q, eg) in
-          subst (λ g. ShowsHeads next.bottom.heads.items (e g) (pos y +ℤ pos (many - 1))) r (nothing_kept next.bottom.heads.items (e g) (pos y +ℤ pos (many - 1)) bottom (λ x. quiet.dark x (many - 1) (omega (arith, some))));
+          subst (λ field. TailsShow field (e h) (pos y)) (sym ef)
+          (subst (λ g. TailsShow field (e g) (pos y)) r (nothing_shown field (e g) (pos y) (quiet_tails e due g y field shows.cells calm) calm.dark));
       own = subst (λ v. AreDueIn v.items due y many) (sym ei) shows.own;
       left = subst (λ v. AreLeftAt (next.generation + 1) v.items (drop next.done v.items)) (sym ei)
           (subst (λ d. AreLeftAt (next.generation + 1) own (drop d own)) (sym ed) (subst (λ g. AreLeftAt (g + 1) own left) (sym eg) after));
@@ -99,16 +112,16 @@ unlit : (w : Bool) → (state_of false false w ≡ Tail → ⊥)
 unlit true e = cc
 unlit false e = cc
 
-pub is_quiet : (e : ℕ → Plane) (due : Due) (width height words y many : ℕ) (band : Band) (up down : List ℕ) → IsEvolution e due width height → IsBand words y many band → ShowsBand e due y many band → ShowsHeads up (e band.generation) (pos y -ℤ pos 1) → ShowsHeads down (e band.generation) (pos y +ℤ pos many) → AreUnlit band.rows.items y up down → ((x k : ℕ) → k < many → due (band.generation + 1) (pos x) (pos y +ℤ pos k) ≡ false) → IsQuiet e due band.generation y many
-is_quiet e due width height words y many band up down evo is shows above below dark none =
+pub is_quiet : (e : ℕ → Plane) (due : Due) (width height columns y many : ℕ) (band : Band) (up down : List ℕ) → IsEvolution e due width height → IsBand columns y many band → ShowsBand e due y many band → ShowsHeads up (e band.generation) (pos y -ℤ pos 1) → ShowsHeads down (e band.generation) (pos y +ℤ pos many) → AreUnlit band.field y up down → ((x k : ℕ) → k < many → due (band.generation + 1) (pos x) (pos y +ℤ pos k) ≡ false) → IsQuiet e due band.generation y many
+is_quiet e due width height columns y many band up down evo is shows above below dark none =
     let g = band.generation in
     let p = e g in
-    let rows = band.rows.items in
+    let field = band.field in
     let high = is.high in
-    let state : (x k : ℕ) → k < many → p (pos x) (pos y +ℤ pos k) ≡ state_of false false (is_set (row_wires rows k) x) = λ x k lt.
-    let l : k < length rows = omega (arith, lt, high) in
-    sym (shows.rows k l x) ∙ ap₂ (λ h t. state_of h t (is_set (row_wires rows k) x)) (dark.heads k x l) (dark.tails k x l) in
-    let heads : (x k : ℕ) → k < many → count_head (p (pos x) (pos y +ℤ pos k)) ≡ 0 = λ x k lt. ap count_head (state x k lt) ∙ count_is false false (is_set (row_wires rows k) x) in
+    let state : (x k : ℕ) → k < many → p (pos x) (pos y +ℤ pos k) ≡ state_of false false (cell_set field x k) = λ x k lt.
+    let l : k < field.rows = omega (arith, lt, high) in
+    sym (shows.cells k x l) ∙ dark_state field x k l dark.cells in
+    let heads : (x k : ℕ) → k < many → count_head (p (pos x) (pos y +ℤ pos k)) ≡ 0 = λ x k lt. ap count_head (state x k lt) ∙ count_is false false (cell_set field x k) in
     let over : (x : ℕ) → count_head (p (pos x) (pos y -ℤ pos 1)) ≡ 0 = λ x. upper y refl p x above dark.above (λ z. evo.empty g (pos x) z) in
     let under : (x : ℕ) → count_head (p (pos x) (pos y +ℤ pos many)) ≡ 0 = λ x. sym (below x) ∙ ap (λ h. count_head (state_of h false false)) (dark.below x) in
     let west = λ (z : ℤ) (x : ℕ). evo.empty g (negsuc x) z refl in
@@ -128,7 +141,7 @@ is_quiet e due width height words y many band up down evo is shows above below d
             | inl l ↦ let q : pos y +ℤ pos (k + 1) ≡ z +ℤ pos 1 = omega (arith, ints) in subst (HasNoHead p) q (row (k + 1) l)
             | inr ge ↦ let q : pos y +ℤ pos many ≡ z +ℤ pos 1 = omega (arith, ints, ge, lt) in subst (HasNoHead p) q row_under
           ] in
-          settled (p (pos x) z) (heads x k lt) (λ q. unlit (is_set (row_wires rows k) x) (sym (state x k lt) ∙ q)) (heads_around p (pos x) z) (alone p (pos x) z before (row k lt) after);
+          settled (p (pos x) z) (heads x k lt) (λ q. unlit (cell_set field x k) (sym (state x k lt) ∙ q)) (heads_around p (pos x) z) (alone p (pos x) z before (row k lt) after);
       dark = heads;
       above = over;
       below = under;

@@ -1,5 +1,5 @@
 -- Cells of bands that are heads or tails, as callers see them.
-use Rattle.std.proofs.Common.{pos, ◌+ℤ◌, ℕ, ◌+◌, ◌-◌, ◌*◌, ◌<◌, ◌≤◌, ◌≡◌, ◌^◌, refl, sym, ap, ap₂, subst, ◌∙◌, inl, inr, Bool, true, false, List, length, get_or, map, arith}
+use Rattle.std.proofs.Common.{pos, ◌+ℤ◌, ℕ, ◌+◌, ◌-◌, ◌*◌, ◌<◌, ◌≤◌, ◌≡◌, ◌^◌, sym, ap, ap₂, subst, ◌∙◌, inl, inr, Bool, false, List, length, get_or, map, arith}
 use Rattle.std.specs.Prelude.{◌≢◌, ◌↔◌, All}
 use Rattle.std.specs.Vec.{with_items}
 use Rattle.std.proofs.lemmas.Bool.{cases_Bool}
@@ -11,15 +11,17 @@ use Rattle.ww_rule.specs.Wireworld.{Plane, driven}
 use Rattle.ww_rule.specs.Grid.{plane_of}
 use Rattle.ww_rule.specs.Injections.{due_of_list}
 use Rattle.lane_kernel.specs.Rows.{is_set, state_of}
-use Rattle.band_rows.specs.Rows.{row_heads, row_tails, row_wires}
+use Rattle.band_rows.specs.declared.field.Field.{Field}
+use Rattle.band_rows.specs.Fields.{IsDarkField, IsLitInField, heads_of, state_in, tails_of}
 use Rattle.band_core.specs.declared.band.Band.{Band}
 use Rattle.band_core.specs.declared.bands.Bands.TheInside.{Inside}
 use Rattle.band_core.specs.Bands.{AreLevel, IsCellOf, IsLit, IsUnlit, band_at, generation_of}
 use Rattle.band_core.specs.Bands.IsLit.{head, tail}
 use Rattle.band_core.specs.Band.{AllShow, AreBands, IsBand, ShowsBand, generations_of, rows_in_band}
 use Rattle.band_core.specs.Held.{IsHeld, held_pattern}
-use Rattle.band_core.specs.Together.{AreBandsAt, CanMoveOn, HasNoneLit, IsMarkedBand}
+use Rattle.band_core.specs.Together.{AreBandsAt, CanMoveOn, HasNoneLit, IsNarrowBand}
 use Rattle.band_core.proofs.Asleep.{lit_column}
+use Rattle.band_core.proofs.BandFields.{cell_set, dark_state}
 use Rattle.band_core.proofs.Evolution.{in_bands}
 use Rattle.band_core.proofs.MovedOn.{first_band, no_head_in, no_tail_in, own_generation}
 
@@ -43,21 +45,20 @@ module _ (held : Inside) (is_held : IsHeld held) where
     abbrev band : Band
     band = get_or held.bands.items b d
 
-    is : IsBand (length held.dark.items) y (rows_in_band held.height total b) band
+    is : IsBand held.columns y (rows_in_band held.height total b) band
     is = is_held.bands.each b d lt
 
     shown : ShowsBand plane (due_of_list held.injections.items) y (rows_in_band held.height total b) band
     shown = is_held.shows b d lt
 
-    state_is : (k x : ℕ) → k < length band.rows.items → (h t : Bool) → is_set (row_heads band.rows.items k) x ≡ h → is_set (row_tails band.rows.items k) x ≡ t → band_at (held_pattern held) b x (y + k) ≡ state_of h t (is_set (row_wires band.rows.items k) x)
-    state_is k x l h t eh et =
+    state_is : (k x : ℕ) → k < band.field.rows → band_at (held_pattern held) b x (y + k) ≡ state_in band.field x k
+    state_is k x l =
         let place : pos (y + k) ≡ pos y +ℤ pos k = omega (arith, ints) in
         ap (λ g. plane g (pos x) (pos (y + k))) (sym (own_generation held.bands.items b d lt))
         ∙ ap (plane band.generation (pos x)) place
-        ∙ sym (shown.rows k l x)
-        ∙ ap₂ (λ h t. state_of h t (is_set (row_wires band.rows.items k) x)) eh et
+        ∙ sym (shown.cells k x l)
 
-    cell_is : (k x : ℕ) (s : State) → k < length band.rows.items → s ≢ Empty → band_at (held_pattern held) b x (y + k) ≡ s → IsCellOf (held_pattern held) b x (y + k)
+    cell_is : (k x : ℕ) (s : State) → k < band.field.rows → s ≢ Empty → band_at (held_pattern held) b x (y + k) ≡ s → IsCellOf (held_pattern held) b x (y + k)
     cell_is k x s l there e =
         let high = is.high in
         record {
@@ -68,17 +69,21 @@ module _ (held : Inside) (is_held : IsHeld held) where
         }
 
     module _ (unlit : IsUnlit (held_pattern held)) where
-      no_head_here : (k x : ℕ) → k < length band.rows.items → is_set (row_heads band.rows.items k) x ≡ false
+      no_head_here : (k x : ℕ) → k < band.field.rows → is_set (heads_of band.field (k + 1)) x ≡ false
       no_head_here k x l =
-          elim (cases_Bool (is_set (row_heads band.rows.items k) x)) [
-            | inl e ↦ let at = state_is k x l true (is_set (row_tails band.rows.items k) x) e refl in absurd (unlit b x (y + k) (head (cell_is k x Head l head_there at) at))
+          elim (cases_Bool (is_set (heads_of band.field (k + 1)) x)) [
+            | inl e ↦
+                let at = state_is k x l ∙ ap (λ h. state_of h (is_set (tails_of band.field (k + 1)) x) (cell_set band.field x k)) e in
+                absurd (unlit b x (y + k) (head (cell_is k x Head l head_there at) at))
             | inr e ↦ e
           ]
 
-      no_tail_here : (k x : ℕ) → k < length band.rows.items → is_set (row_tails band.rows.items k) x ≡ false
+      no_tail_here : (k x : ℕ) → k < band.field.rows → is_set (tails_of band.field (k + 1)) x ≡ false
       no_tail_here k x l =
-          elim (cases_Bool (is_set (row_tails band.rows.items k) x)) [
-            | inl e ↦ let at = state_is k x l false true (no_head_here k x l) e in absurd (unlit b x (y + k) (tail (cell_is k x Tail l tail_there at) at))
+          elim (cases_Bool (is_set (tails_of band.field (k + 1)) x)) [
+            | inl e ↦
+                let at = state_is k x l ∙ ap₂ (λ h t. state_of h t (cell_set band.field x k)) (no_head_here k x l) e in
+                absurd (unlit b x (y + k) (tail (cell_is k x Tail l tail_there at) at))
             | inr e ↦ e
           ]
 
@@ -95,11 +100,11 @@ module _ (held : Inside) (is_held : IsHeld held) where
       let lt : b < length held.bands.items = omega (arith, i, many) in
       let d = first_band held.bands.items (omega (arith, lt)) in
       let k = z - b * held.height in
-      let rows = (get_or held.bands.items b d).rows.items in
+      let field = (get_or held.bands.items b d).field in
       let high = (is b d lt).high in
-      let l : k < length rows = omega (arith, high, from, below, within) in
+      let l : k < field.rows = omega (arith, high, from, below, within) in
       let q : z ≡ b * held.height + k = omega (arith, from) in
-      (is_set (row_wires rows k) x, ap (band_at (held_pattern held) b x) q ∙ state_is b d lt k x l false false ((none b d lt).heads k x l) ((none b d lt).tails k x l))
+      (cell_set field x k, ap (band_at (held_pattern held) b x) q ∙ state_is b d lt k x l ∙ dark_state field x k l (none b d lt))
 
   none_is_lit : (b x z : ℕ) → All HasNoneLit held.bands.items → IsLit (held_pattern held) b x z → ⊥
   none_is_lit b x z none (head cell e) = let it = dark_cell b x z none cell in no_head_in it.0 (sym it.1 ∙ e)
@@ -109,7 +114,7 @@ module _ (held : Inside) (is_held : IsHeld held) where
   is_unlit = (λ none b x z lit. none_is_lit b x z none lit, λ unlit b d lt. none_lit_here b d lt unlit)
 
   -- what is held can move on, if all bands are at one generation
-  pub held_can_move : (n : ℕ) → AreLevel (held_pattern held) → generation_of (held_pattern held) 0 + n < 2 ^ 64 → CanMoveOn n held.height total held.dark.items held.bands.items
+  pub held_can_move : (n : ℕ) → AreLevel (held_pattern held) → generation_of (held_pattern held) 0 + n < 2 ^ 64 → CanMoveOn n held.columns held.height total held.bands.items
   held_can_move n level room =
       record {
         generation = generation_of (held_pattern held) 0;
@@ -117,32 +122,37 @@ module _ (held : Inside) (is_held : IsHeld held) where
         room = room;
         high = is_held.height;
         few = is_held.few;
-        unlit = is_held.dark;
         are = is_held.bands;
       }
 
-pub are_marked : (words height rows : ℕ) (bands : List Band) → words ≤ 2 ^ 58 → AreBands words height rows bands → All IsMarkedBand bands
-are_marked words height rows bands few are b d lt =
+pub are_narrow : (columns height rows : ℕ) (bands : List Band) → columns ≤ 2 ^ 58 → AreBands columns height rows bands → All IsNarrowBand bands
+are_narrow columns height rows bands few are b d lt =
     let is = are.each b d lt in
-    record {
-      few = λ k l. let long = is.long k l in omega (arith, long, few);
-      lit = is.lit;
-      dark = is.dark;
-    }
+    let wide = is.wide in
+    record { closed = is.closed; few = omega (arith, wide, few) }
+
+-- a field with a lit cell is not dark
+pub not_dark : (field : Field) (x k : ℕ) → IsLitInField field x k → IsDarkField field → ⊥
+not_dark field x k lit dark =
+    let state = dark_state field x k lit.row dark in
+    elim lit.lit [
+      | inl e ↦ no_head_in (cell_set field x k) (sym state ∙ e)
+      | inr e ↦ no_tail_in (cell_set field x k) (sym state ∙ e)
+    ]
 
 -- new bands in the place of those that are held
-pub held_anew : (held : Inside) (new : List Band) → IsHeld held → AreBands (length held.dark.items) held.height (length held.pattern.rows) new
+pub held_anew : (held : Inside) (new : List Band) → IsHeld held → AreBands held.columns held.height (length held.pattern.rows) new
     → AllShow (driven (due_of_list held.injections.items) (plane_of held.pattern.rows)) (due_of_list held.injections.items) held.height (length held.pattern.rows) new
     → (with_items held.bands new).items ≡ new
-    → IsHeld (record { pattern = held.pattern; injections = held.injections; height = held.height; bands = with_items held.bands new; dark = held.dark })
+    → IsHeld (record { pattern = held.pattern; injections = held.injections; height = held.height; columns = held.columns; bands = with_items held.bands new })
 held_anew held new v are shows same =
     record {
       inside = v.inside;
       in_order = v.in_order;
       height = v.height;
       few = v.few;
-      dark = v.dark;
-      bands = subst (AreBands (length held.dark.items) held.height (length held.pattern.rows)) (sym same) are;
+      wide = v.wide;
+      bands = subst (AreBands held.columns held.height (length held.pattern.rows)) (sym same) are;
       shows = subst (AllShow (driven (due_of_list held.injections.items) (plane_of held.pattern.rows)) (due_of_list held.injections.items) held.height (length held.pattern.rows)) (sym same) shows;
     }
 

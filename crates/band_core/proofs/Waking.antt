@@ -1,7 +1,6 @@
 -- Cells that keep a band awake.
-use Rattle.std.proofs.Common.{pos, ◌+ℤ◌, ◌-ℤ◌, ℕ, ◌+◌, ◌-◌, ◌/◌, ◌<◌, ◌≤◌, ◌≡◌, refl, sym, ap, ap₂, subst, ◌∙◌, inl, inr, Bool, true, false, List, [], ◌∷◌, ◌++◌, length, take, drop, arith}
+use Rattle.std.proofs.Common.{pos, ◌+ℤ◌, ◌-ℤ◌, ℕ, ◌+◌, ◌-◌, ◌/◌, ◌<◌, ◌≤◌, ◌≡◌, refl, sym, ap, subst, ◌∙◌, inl, inr, true, false, List, [], ◌∷◌, ◌++◌, length, take, drop, arith}
 use Rattle.std.specs.Prelude.{◌⊎◌}
-use Rattle.std.proofs.lemmas.Bool.{cases_Bool}
 use Rattle.std.proofs.lemmas.Int.{ints}
 use Rattle.std.proofs.lemmas.List.{take-append-drop}
 use Rattle.std.proofs.lemmas.List.Elements.{All-contains, Contains-get_or, Contains-append_right}
@@ -13,10 +12,10 @@ use Rattle.ww_rule.specs.Wireworld.{Plane, Due, count_head}
 use Rattle.ww_rule.specs.Injections.{has_cell, due_of_list}
 use Rattle.ww_rule.proofs.Lists.{lists_are_injected}
 use Rattle.lane_kernel.specs.Rows.{is_set, state_of}
-use Rattle.band_rows.specs.Rows.{ShowsHeads, row_heads, row_tails, row_wires}
+use Rattle.band_rows.specs.Fields.{IsLitInField}
+use Rattle.band_rows.specs.Rows.{ShowsHeads}
 use Rattle.band_core.specs.declared.band.Band.{Band}
-use Rattle.band_core.specs.Band.{HasNoneDue, IsBand, IsLitIn, IsNextDue, IsWaking, ShowsBand}
-use Rattle.band_core.specs.Band.IsLitIn.{head as lit_head, tail as lit_tail}
+use Rattle.band_core.specs.Band.{HasNoneDue, IsBand, IsNextDue, IsWaking, ShowsBand}
 use Rattle.band_core.specs.Band.IsWaking.{head, tail, above, below, due}
 use Rattle.ww_rule.proofs.Due.{front_cells}
 
@@ -26,28 +25,19 @@ one_is_head Head e = refl
 one_is_head Tail e = absurd (omega (arith, e))
 one_is_head Conductor e = absurd (omega (arith, e))
 
-module _ (e : ℕ → Plane) (test : Due) (words y many : ℕ) (band : Band) (is : IsBand words y many band) (shows : ShowsBand e test y many band) where
-  lit_row : (x z k : ℕ) → k < length band.rows.items → z ≡ y + k → (h t : Bool) → is_set (row_heads band.rows.items k) x ≡ h → is_set (row_tails band.rows.items k) x ≡ t → e band.generation (pos x) (pos z) ≡ state_of h t (is_set (row_wires band.rows.items k) x)
-  lit_row x z k lt q h t eh et =
-      let place : pos z ≡ pos y +ℤ pos k = omega (arith, ints, q) in
-      ap (e band.generation (pos x)) place ∙ sym (shows.rows k lt x) ∙ ap₂ (λ h t. state_of h t (is_set (row_wires band.rows.items k) x)) eh et
-
-  row_wakes : (x z k : ℕ) → k < length band.rows.items → z ≡ y + k → (is_set (row_heads band.rows.items k) x ≡ true) ⊎ (is_set (row_tails band.rows.items k) x ≡ true) → IsWaking e test band.generation y many x z
-  row_wakes x z k lt q (inl h) =
+module _ (e : ℕ → Plane) (test : Due) (columns y many : ℕ) (band : Band) (is : IsBand columns y many band) (shows : ShowsBand e test y many band) where
+  pub lit_wakes : (x k : ℕ) → IsLitInField band.field x k → IsWaking e test band.generation y many x (y + k)
+  lit_wakes x k lit =
       let high = is.high in
-      head (omega (arith, q)) (omega (arith, q, lt, high)) (lit_row x z k lt q true (is_set (row_tails band.rows.items k) x) h refl)
-  row_wakes x z k lt q (inr t) =
-      let high = is.high in
-      elim (cases_Bool (is_set (row_heads band.rows.items k) x)) [
-        | inl h ↦ head (omega (arith, q)) (omega (arith, q, lt, high)) (lit_row x z k lt q true (is_set (row_tails band.rows.items k) x) h refl)
-        | inr h ↦ tail (omega (arith, q)) (omega (arith, q, lt, high)) (lit_row x z k lt q false true h t)
+      let row = lit.row in
+      let place : pos (y + k) ≡ pos y +ℤ pos k = omega (arith, ints) in
+      let here = ap (e band.generation (pos x)) place ∙ sym (shows.cells k x row) in
+      elim lit.lit [
+        | inl h ↦ head (omega arith) (omega (arith, high, row)) (here ∙ h)
+        | inr t ↦ tail (omega arith) (omega (arith, high, row)) (here ∙ t)
       ]
 
-  pub lit_wakes : (x z : ℕ) → IsLitIn band.rows.items y x z → IsWaking e test band.generation y many x z
-  lit_wakes x z (lit_head k lt q h) = row_wakes x z k lt q (inl h)
-  lit_wakes x z (lit_tail k lt q t) = row_wakes x z k lt q (inr t)
-
-  pub faced_wakes : (up down : List ℕ) (x z : ℕ) → ShowsHeads up (e band.generation) (pos y -ℤ pos 1) → ShowsHeads down (e band.generation) (pos y +ℤ pos many) → ((z + 1 ≡ y) × (is_set up x ≡ true)) ⊎ ((z ≡ y + length band.rows.items) × (is_set down x ≡ true)) → IsWaking e test band.generation y many x z
+  pub faced_wakes : (up down : List ℕ) (x z : ℕ) → ShowsHeads up (e band.generation) (pos y -ℤ pos 1) → ShowsHeads down (e band.generation) (pos y +ℤ pos many) → ((z + 1 ≡ y) × (is_set up x ≡ true)) ⊎ ((z ≡ y + band.field.rows) × (is_set down x ≡ true)) → IsWaking e test band.generation y many x z
   faced_wakes up down x z over under (inl (q, s)) =
       let place : pos y -ℤ pos 1 ≡ pos z = omega (arith, ints, q) in
       above q (ap (e band.generation (pos x)) (sym place) ∙ one_is_head _ (sym (ap (λ h. count_head (state_of h false false)) s) ∙ over x))
@@ -64,7 +54,7 @@ module _ (e : ℕ → Plane) (test : Due) (words y many : ℕ) (band : Band) (is
       let inner : Contains (take band.done own ++ (i ∷ next.rest)) i = Contains-append_right (take band.done own) (i ∷ next.rest) i (Contains-get_or (i ∷ next.rest) 0 i zero_lt) in
       let parts : take band.done own ++ (i ∷ next.rest) ≡ own = ap (λ l. take band.done own ++ l) (sym next.first) ∙ take-append-drop band.done own in
       let is_in : Contains own i = subst (λ l. Contains l i) parts inner in
-      let fits = All-contains (λ (i : Injection). (y ≤ i.y) × (i.y < y + many) × (i.x / 64 < words)) own i is.inside is_in in
+      let fits = All-contains (λ (i : Injection). (y ≤ i.y) × (i.y < y + many) × (i.x / 64 < columns)) own i is.inside is_in in
       let from = fits.0 in
       let to = fits.1 in
       let row = next.row in

@@ -1,16 +1,14 @@
--- One band: its rows, the rows of heads that it keeps for its neighbours, and its own injections.
+-- One band: its field, and its own injections.
 use Rattle.ww_rule.specs.Due.{AreLeftAt, due_count}
-use Rattle.std.specs.Prelude.{pos, ◌+ℤ◌, ◌-ℤ◌, ℕ, ◌+◌, ◌-◌, ◌/◌, ◌≤◌, ◌<◌, ◌≡◌, ◌==◌, true, false, if◌then◌else◌, List, [], ◌∷◌, length, get_or, map, drop, All, min, ◌*◌, ◌^◌, None}
+use Rattle.std.specs.Prelude.{pos, ◌+ℤ◌, ◌-ℤ◌, ℕ, ◌+◌, ◌-◌, ◌/◌, ◌≤◌, ◌<◌, ◌≡◌, ◌==◌, true, false, if◌then◌else◌, List, ◌∷◌, length, get_or, map, drop, All, min, ◌*◌, ◌^◌, None}
 use Rattle.ww_rule.specs.declared.pattern.Injection.{Injection}
 use Rattle.ww_rule.specs.Wireworld.{Plane, Due, count_head, next_plane, injected}
 use Rattle.ww_rule.specs.Grid.{IsEmptyOutside}
 use Rattle.ww_rule.specs.Injections.{due_of_list}
-use Rattle.ww_rule.specs.declared.pattern.State.{State}
-use Rattle.ww_rule.specs.declared.pattern.State.TheVariants.{Empty, Head, Tail}
-use Rattle.lane_kernel.specs.Rows.{is_set, row_state}
-use Rattle.lane_kernel.specs.Spans.{AreZero}
-use Rattle.band_rows.specs.declared.row.Row.{Row}
-use Rattle.band_rows.specs.Rows.{AreLong, AreMarked, ShowRows, ShowsHeads, row_heads, row_tails, row_wires}
+use Rattle.ww_rule.specs.declared.pattern.State.TheVariants.{Head, Tail}
+use Rattle.lane_kernel.specs.Rows.{is_set}
+use Rattle.band_rows.specs.declared.field.Field.{Field}
+use Rattle.band_rows.specs.Fields.{IsClosed, IsDarkField, ShowsField, TailsShow, heads_of, tails_of}
 use Rattle.band_core.specs.declared.band.Band.{Band}
 use Rattle.band_core.specs.Bands.{bands_in, unready_neighbour}
 
@@ -23,22 +21,18 @@ pub record IsEvolution (e : ℕ → Plane) (due : Due) (width rows : ℕ) : Type
 abbrev pub injected_cells : List Injection → List (ℕ × ℕ)
 injected_cells injections = map (λ i. (i.x, i.y)) injections
 
--- the injections are at cells of `many` rows from row y on, within so many words
-abbrev pub AreInRows : (words y many : ℕ) → List Injection → Type 0
-AreInRows words y many injections =
-    All (λ i. (y ≤ i.y) × (i.y < y + many) × (i.x / 64 < words)) injections
+-- the injections are at cells of `many` rows from row y on, within so many columns of words
+abbrev pub AreInRows : (columns y many : ℕ) → List Injection → Type 0
+AreInRows columns y many injections =
+    All (λ i. (y ≤ i.y) × (i.y < y + many) × (i.x / 64 < columns)) injections
 
--- a band of `many` rows, from row y on, each of so many words
-pub record IsBand (words y many : ℕ) (band : Band) : Type 0 where
-  pub high : length band.rows.items ≡ many
+-- a band of `many` rows, from row y on, in so many columns of words
+pub record IsBand (columns y many : ℕ) (band : Band) : Type 0 where
+  pub closed : IsClosed band.field
+  pub wide : band.field.columns ≡ columns
+  pub high : band.field.rows ≡ many
   pub some : 0 < many
-  pub long : AreLong words band.rows.items
-  pub lit : AreMarked band.lit.items band.rows.items
-  pub near : length band.near.items ≡ length band.lit.items
-  pub dark : band.is_dark ≡ true → AreZero band.lit.items
-  pub top : length band.top.heads.items ≡ words
-  pub bottom : length band.bottom.heads.items ≡ words
-  pub inside : AreInRows words y many band.injections.items
+  pub inside : AreInRows columns y many band.injections.items
   pub done : band.done ≤ length band.injections.items
 
 -- in rows from row y on, the injections are due where the test `due` holds
@@ -47,14 +41,11 @@ AreDueIn injections due y many =
     (g x k : ℕ) → k < many → due_of_list injections g (pos x) (pos y +ℤ pos k) ≡ due g (pos x)
     (pos y +ℤ pos k)
 
--- The band shows an evolution from row y on: its rows show the cells at its generation, and the
--- kept rows the heads of the top and the bottom row one generation ago. The injections that are
--- left are those of later generations.
+-- The band shows an evolution from row y on: its field shows the cells at its generation, and its
+-- tails the heads one generation ago. The injections that are left are those of later generations.
 pub record ShowsBand (e : ℕ → Plane) (due : Due) (y many : ℕ) (band : Band) : Type 0 where
-  pub rows : ShowRows band.rows.items (e band.generation) (pos y)
-  pub top : (g : ℕ) → band.generation ≡ g + 1 → ShowsHeads band.top.heads.items (e g) (pos y)
-  pub bottom : (g : ℕ) → band.generation ≡ g + 1
-      → ShowsHeads band.bottom.heads.items (e g) (pos y +ℤ pos (many - 1))
+  pub cells : ShowsField band.field (e band.generation) (pos y)
+  pub before : (g : ℕ) → band.generation ≡ g + 1 → TailsShow band.field (e g) (pos y)
   pub own : AreDueIn band.injections.items due y many
   pub left : AreLeftAt (band.generation + 1) band.injections.items
       (drop band.done band.injections.items)
@@ -63,17 +54,17 @@ pub record ShowsBand (e : ℕ → Plane) (due : Due) (y many : ℕ) (band : Band
 -- before
 abbrev pub bottom_at : ℕ → Band → List ℕ
 bottom_at g band =
-    if band.generation == g then row_heads band.rows.items (length band.rows.items - 1)
-    else band.bottom.heads.items
+    if band.generation == g then heads_of band.field band.field.rows
+    else tails_of band.field band.field.rows
 
 abbrev pub top_at : ℕ → Band → List ℕ
-top_at g band = if band.generation == g then row_heads band.rows.items 0 else band.top.heads.items
+top_at g band = if band.generation == g then heads_of band.field 1 else tails_of band.field 1
 
 -- the bands are all the bands of a height over so many rows
-pub record AreBands (words height rows : ℕ) (bands : List Band) : Type 0 where
+pub record AreBands (columns height rows : ℕ) (bands : List Band) : Type 0 where
   pub many : length bands ≡ bands_in rows height
   pub each : (b : ℕ) (d : Band) → b < length bands
-      → IsBand words (b * height) (min height (rows - b * height)) (get_or bands b d)
+      → IsBand columns (b * height) (min height (rows - b * height)) (get_or bands b d)
 
 -- the bands show an evolution, each at its own generation
 abbrev pub AllShow : (e : ℕ → Plane) (due : Due) (height rows : ℕ) → List Band → Type 0
@@ -92,17 +83,10 @@ generation_at bands b = get_or (generations_of bands) b 0
 abbrev pub rows_in_band : (height rows b : ℕ) → ℕ
 rows_in_band height rows b = min height (rows - b * height)
 
--- the cell is a head or a tail, in rows from row y on
-pub data IsLitIn (rows : List Row) (y x z : ℕ) : Type 0 where
-  head : (k : ℕ) → k < length rows → z ≡ y + k → is_set (row_heads rows k) x ≡ true
-      → IsLitIn rows y x z
-  tail : (k : ℕ) → k < length rows → z ≡ y + k → is_set (row_tails rows k) x ≡ true
-      → IsLitIn rows y x z
-
--- no bit is set in these rows or in the rows beside them; the row above is not looked at if y is 0
-pub record AreUnlit (rows : List Row) (y : ℕ) (up down : List ℕ) : Type 0 where
-  pub heads : (k x : ℕ) → k < length rows → is_set (row_heads rows k) x ≡ false
-  pub tails : (k x : ℕ) → k < length rows → is_set (row_tails rows k) x ≡ false
+-- no cell of a field from row y on is lit, nor one of the rows beside it; the row above is not
+-- looked at if y is 0
+pub record AreUnlit (field : Field) (y : ℕ) (up down : List ℕ) : Type 0 where
+  pub cells : IsDarkField field
   pub above : (x : ℕ) → 0 < y → is_set up x ≡ false
   pub below : (x : ℕ) → is_set down x ≡ false
 
@@ -114,12 +98,6 @@ pub record IsNextDue (band : Band) (x y : ℕ) : Type 0 where
   pub in_time : injection.generation ≡ band.generation + 1
   pub column : injection.x ≡ x
   pub row : injection.y ≡ y
-
--- rows of words show rows of cells
-abbrev pub AreShown : List (List State) → List Row → Type 0
-AreShown cells rows =
-    (k x : ℕ) → k < length rows → row_state (row_heads rows k) (row_tails rows k)
-    (row_wires rows k) x ≡ get_or (get_or cells k []) x Empty
 
 -- In rows from row y on nothing can change: they have no head and follow the rule as they are, no
 -- head lies beside them, and no injection is due in them next.
@@ -144,11 +122,9 @@ pub data IsWaking (e : ℕ → Plane) (due : Due) (g y many x z : ℕ) : Type 0 
 abbrev pub HasNoneDue : Band → Type 0
 HasNoneDue band = due_count (band.generation + 1) (drop band.done band.injections.items) ≡ 0
 
--- band b of bands of a height over so many rows can move on: its neighbours are ready, and the row
--- that stands for those outside is dark
-pub record CanMove (height rows : ℕ) (dark : List ℕ) (bands : List Band) (b : ℕ) : Type 0 where
+-- band b of bands of a height over so many rows can move on: its neighbours are ready
+pub record CanMove (columns height rows : ℕ) (bands : List Band) (b : ℕ) : Type 0 where
   pub inside : b < length bands
   pub room : generation_at bands b + 1 < 2 ^ 64
   pub ready : unready_neighbour (generations_of bands) b ≡ None
-  pub are : AreBands (length dark) height rows bands
-  pub unlit : AreZero dark
+  pub are : AreBands columns height rows bands

@@ -1,11 +1,10 @@
 -- What `Bands` hold, and what their callers see of it.
 use Rattle.ww_rule.specs.Due.{AreInOrderFrom}
-use Rattle.std.specs.Prelude.{◌≤◌, ◌<◌, ◌^◌, length}
+use Rattle.std.specs.Prelude.{◌*◌, ◌≤◌, ◌<◌, ◌^◌, All, length}
 use Rattle.ww_rule.specs.Wireworld.{driven}
 use Rattle.ww_rule.specs.Grid.{plane_of}
 use Rattle.ww_rule.specs.Patterns.{grid_of}
 use Rattle.ww_rule.specs.Injections.{due_of_list, AreInside}
-use Rattle.lane_kernel.specs.Spans.{AreZero}
 use Rattle.band_core.specs.declared.bands.Bands.TheInside.{Inside}
 use Rattle.band_core.specs.Bands.{BandedPattern}
 use Rattle.band_core.specs.Band.{AreBands, AllShow, generations_of}
@@ -23,9 +22,8 @@ pub record IsHeld (held : Inside) : Type 0 where
   pub inside : AreInside held.pattern.width held.pattern.height held.injections.items
   pub in_order : AreInOrderFrom 0 held.injections.items
   pub height : 0 < held.height
-  pub few : length held.dark.items ≤ 2 ^ 58
-  pub dark : AreZero held.dark.items
-  pub bands : AreBands (length held.dark.items) held.height
-      (length held.pattern.rows) held.bands.items
+  pub few : held.columns ≤ 2 ^ 58
+  pub wide : All (λ row. length row ≤ 64 * held.columns) held.pattern.rows
+  pub bands : AreBands held.columns held.height (length held.pattern.rows) held.bands.items
   pub shows : AllShow (driven (due_of_list held.injections.items) (plane_of held.pattern.rows))
       (due_of_list held.injections.items) held.height (length held.pattern.rows) held.bands.items

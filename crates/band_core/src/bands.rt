@@ -23,8 +23,8 @@ pub struct Bands {
     pattern: Pattern,
     injections: Vec<Injection>,
     height: usize,
+    columns: usize,
     bands: Vec<Band>,
-    dark: Vec<u64>,
 }
 
 impl Model for Bands {
@@ -39,8 +39,8 @@ impl Model for Bands {
     ghost invariant = { IsHeld };
 }
 
-// How many words a row of cells takes, if all rows have one length.
-fn words_for(rows: &CellRows) -> usize
+// How many columns of words rows of cells take, if all rows have one length.
+fn columns_for(rows: &CellRows) -> usize
     ensures few { result ≤ 2 ^ 58 }
     ensures wide { (width : ℕ)
         → All (λ row. length row ≡ width) rows.now
@@ -73,15 +73,14 @@ impl Bands {
         ensures { IfOk result (λ bands. bands ≡ begun (grid_of pattern) injections.items height) }
     {
         let height = height as usize;
-        let words = words_for(&pattern.rows);
-        let bands = begin_bands(alloc, &pattern.rows, &injections, height, words)?;
-        let dark = vec![in alloc; 0; words]?;
+        let columns = columns_for(&pattern.rows);
+        let bands = begin_bands(alloc, &pattern.rows, &injections, height, columns)?;
         Ok(Bands {
             pattern,
             injections,
             height,
+            columns,
             bands,
-            dark,
         })
     }
 
@@ -108,8 +107,7 @@ impl Bands {
         ensures { result ≡ band_at self.now b x y }
     {
         let band = &self.bands[b];
-        let row = &band.rows[y as usize - b * self.height];
-        row.state(x as usize)
+        band.field.state(x as usize, y as usize - b * self.height)
     }
 
     /// Returns the injections that drive the pattern, as they were given.
@@ -133,13 +131,8 @@ impl Bands {
         if let Some(refusal) = unready_neighbour(&self.bands, b) {
             return Err(refusal);
         }
-        move_band(
-            &mut self.bands,
-            b,
-            self.height,
-            self.pattern.rows.len(),
-            &self.dark,
-        );
+        let rows = self.pattern.rows.len();
+        move_band(&mut self.bands, b, self.columns, self.height, rows);
         Ok(())
     }
 
@@ -153,7 +146,7 @@ impl Bands {
         ensures unlit { (result ≡ true) ↔ IsUnlit self.new }
     {
         let rows = self.pattern.rows.len();
-        move_all(&mut self.bands, n, self.height, rows, &self.dark);
+        move_all(&mut self.bands, n, self.columns, self.height, rows);
         are_unlit(&self.bands)
     }
 
@@ -172,7 +165,7 @@ impl Bands {
         if let Some(refusal) = unready_neighbour(&self.bands, b) {
             return Err(NotSkipped::NotReady(refusal));
         }
-        if let Some((x, y)) = awake_cell(&self.bands, b, self.height, rows, &self.dark) {
+        if let Some((x, y)) = awake_cell(&self.bands, b, self.columns, self.height, rows) {
             return Err(NotSkipped::Awake { x, y });
         }
         rest_band(&mut self.bands, b);

@@ -7,7 +7,6 @@
 mod awake;
 mod band;
 mod bands;
-mod beside;
 mod error;
 mod making;
 mod moving;

@@ -5,12 +5,11 @@ ghost use Rattle.lists.specs.Items.{list_at};
 ghost use Rattle.ww_rule.specs.Wireworld.{Plane, Due, driven, injected};
 ghost use Rattle.ww_rule.specs.Grid.{plane_of};
 ghost use Rattle.ww_rule.specs.Injections.{due_of_list};
-ghost use Rattle.band_rows.specs.Rows.{AreLong, AreMarked};
 ghost use Rattle.band_core.specs.Bands.{bands_in};
-ghost use Rattle.band_core.specs.Band.{AllShow, AreBands, AreDueIn, AreInRows, AreShown, IsBand, ShowsBand, generations_of};
+ghost use Rattle.band_core.specs.Band.{AllShow, AreBands, AreDueIn, AreInRows, IsBand, ShowsBand, generations_of};
 
 use crate::band::{Band, due_count, inject};
-use band_rows::{Kept, Row, Span, is_clear, mark_lit};
+use band_rows::Field;
 use lists::List;
 use std::alloc::{AllocError, Global};
 use std::mem;
@@ -54,64 +53,22 @@ fn shares(
     Ok(shares)
 }
 
-// `many` rows of cells, each in `words` words, from row y on.
-fn packed(
-    alloc: Global,
-    cells: &CellRows,
-    y: usize,
-    many: usize,
-    words: usize,
-) -> Result<Vec<Row>, AllocError>
-    requires few { length cells.now < 2 ^ 63 }
-    requires within { y + many ≤ length cells.now }
-    requires wide { All (λ row. length row ≤ 64 * words) cells.now }
-    ensures many { IfOk result (λ rows. length rows.items ≡ many) }
-    ensures long { IfOk result (λ rows. AreLong words rows.items) }
-    ensures shows { IfOk result (λ rows. AreShown (drop y cells.now) rows.items) }
-{
-    let mut rows = Vec::with_capacity(alloc, many)?;
-    for k in 0..many {
-        rows.push(Row::of_cells(alloc, cells.row(y + k), words)?)?;
-    }
-    Ok(rows)
-}
-
-// A dark row of `words` words, in which heads are kept.
-fn dark_row(alloc: Global, words: usize) -> Result<Kept, AllocError>
-    ensures { IfOk result (λ kept. length kept.heads.items ≡ words) }
-{
-    Ok(Kept {
-        heads: vec![in alloc; 0; words]?,
-        span: Span { first: 0, end: 0 },
-    })
-}
-
-// Marks of the lit rows.
-fn marks_of(alloc: Global, rows: &[Row]) -> Result<Vec<u64>, AllocError>
-    requires few { length rows.now < 2 ^ 63 }
-    ensures { IfOk result (λ marks. AreMarked marks.items rows.now) }
-{
-    let mut marks = vec![in alloc; 0; rows.len() / 64 + 1]?;
-    mark_lit(rows, &mut marks);
-    Ok(marks)
-}
-
 // The band of `many` rows of cells from row y on, at generation 0, with its own injections.
 fn begin_band(
     alloc: Global,
     cells: &CellRows,
     y: usize,
     many: usize,
-    words: usize,
+    columns: usize,
     injections: Vec<Injection>,
 ) -> Result<Band, AllocError>
     requires some { 0 < many }
     requires few { length cells.now < 2 ^ 63 }
     requires within { y + many ≤ length cells.now }
-    requires wide { All (λ row. length row ≤ 64 * words) cells.now }
-    requires inside { AreInRows words y many injections.items }
+    requires wide { All (λ row. length row ≤ 64 * columns) cells.now }
+    requires inside { AreInRows columns y many injections.items }
     requires in_order { AreInOrderFrom 0 injections.items }
-    ensures is { IfOk result (λ band. IsBand words y many band) }
+    ensures is { IfOk result (λ band. IsBand columns y many band) }
     ensures begun { IfOk result (λ band. band.generation ≡ 0) }
     ensures shows { IfOk result (λ band.
         (e : ℕ → Plane) (due : Due)
@@ -120,20 +77,12 @@ fn begin_band(
         → ShowsBand e due y many band
         ) }
 {
-    let mut rows = packed(alloc, cells, y, many, words)?;
-    let mut lit = marks_of(alloc, &rows)?;
-    let near = vec![in alloc; 0; lit.len()]?;
+    let mut field = Field::of_cells(alloc, cells, y, many, columns)?;
     let done = due_count(0, &injections);
-    inject(&mut rows, &mut lit, y, words, &injections[..done]);
-    let is_dark = is_clear(&lit);
+    inject(&mut field, y, &injections[..done]);
     Ok(Band {
-        rows,
-        lit,
-        near,
-        is_dark,
+        field,
         generation: 0,
-        top: dark_row(alloc, words)?,
-        bottom: dark_row(alloc, words)?,
         injections,
         done,
     })
@@ -145,14 +94,14 @@ pub fn begin_bands(
     rows: &CellRows,
     injections: &[Injection],
     height: usize,
-    words: usize,
+    columns: usize,
 ) -> Result<Vec<Band>, AllocError>
     requires height { 0 < height }
     requires low { height < 2 ^ 32 }
-    requires long { All (λ row. length row ≤ 64 * words) rows.now }
-    requires inside { AreInRows words 0 (length rows.now) injections.now }
+    requires long { All (λ row. length row ≤ 64 * columns) rows.now }
+    requires inside { AreInRows columns 0 (length rows.now) injections.now }
     requires in_order { AreInOrderFrom 0 injections.now }
-    ensures bands { IfOk result (λ bands. AreBands words height (length rows.now) bands.items) }
+    ensures bands { IfOk result (λ bands. AreBands columns height (length rows.now) bands.items) }
     ensures begun { IfOk result (λ bands.
         generations_of bands.items ≡ replicate (bands_in (length rows.now) height) 0
         ) }
@@ -169,7 +118,7 @@ pub fn begin_bands(
         let y = b * height;
         let many = height.min(rows.len() - y);
         let own = mem::replace(&mut shares[b], List::of(Vec::new(alloc))).into_vec();
-        bands.push(begin_band(alloc, rows, y, many, words, own)?)?;
+        bands.push(begin_band(alloc, rows, y, many, columns, own)?)?;
     }
     Ok(bands)
 }

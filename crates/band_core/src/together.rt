@@ -1,18 +1,18 @@
 // Bands that all move on together.
 ghost use Rattle.std.specs.Prelude.{◌≡◌, ◌+◌, ◌<◌, ◌≤◌, ◌^◌, ◌↔◌, ℕ, All, true, length, slice_set};
 ghost use Rattle.ww_rule.specs.Wireworld.{Plane, Due};
+ghost use Rattle.band_rows.specs.Fields.{IsClosed};
 ghost use Rattle.band_core.specs.Band.{AllShow, AreBands, CanMove, IsEvolution, generation_at, generations_of};
-ghost use Rattle.band_core.specs.Together.{CanMoveOn, HasNoneLit, HaveMovedOn, HaveRested, IsCalm, IsMarkedBand};
+ghost use Rattle.band_core.specs.Together.{CanMoveOn, HasNoneLit, HaveMovedOn, HaveRested, IsCalm, IsNarrowBand};
 
-use crate::awake::lit_cell;
 use crate::band::Band;
 use crate::moving::{awake_cell, move_band, rest_band};
 
-// Moves band b on by one generation; its rows stay if nothing can change in it.
-fn move_one(bands: &mut [Band], b: usize, height: usize, rows: usize, dark: &[u64])
-    requires can_move { CanMove height rows dark.now bands.old b }
-    requires few { length dark.now ≤ 2 ^ 58 }
-    ensures bands { AreBands (length dark.now) height rows bands.new }
+// Moves band b on by one generation; its field stays if nothing can change in it.
+fn move_one(bands: &mut [Band], b: usize, columns: usize, height: usize, rows: usize)
+    requires can_move { CanMove columns height rows bands.old b }
+    requires few { columns ≤ 2 ^ 58 }
+    ensures bands { AreBands columns height rows bands.new }
     ensures generations { generations_of bands.new
         ≡ slice_set (generations_of bands.old) b (generation_at bands.old b + 1) }
     ensures shows { (e : ℕ → Plane) (due : Due) (width : ℕ)
@@ -20,24 +20,24 @@ fn move_one(bands: &mut [Band], b: usize, height: usize, rows: usize, dark: &[u6
         → AllShow e due height rows bands.old
         → AllShow e due height rows bands.new }
 {
-    if bands[b].is_dark && awake_cell(bands, b, height, rows, dark).is_none() {
+    if bands[b].field.is_dark() && awake_cell(bands, b, columns, height, rows).is_none() {
         rest_band(bands, b);
     } else {
-        move_band(bands, b, height, rows, dark);
+        move_band(bands, b, columns, height, rows);
     }
 }
 
 // Moves all bands on by one generation.
-fn step_all(bands: &mut [Band], height: usize, rows: usize, dark: &[u64])
-    requires { CanMoveOn 1 height rows dark.now bands.old }
-    ensures { HaveMovedOn 1 (length dark.now) height rows bands.old bands.new }
+fn step_all(bands: &mut [Band], columns: usize, height: usize, rows: usize)
+    requires { CanMoveOn 1 columns height rows bands.old }
+    ensures { HaveMovedOn 1 columns height rows bands.old bands.new }
 {
     for b in 0..bands.len() {
-        move_one(bands, b, height, rows, dark);
+        move_one(bands, b, columns, height, rows);
     }
 }
 
-// Moves all bands on by `n` generations, if nothing in them changes: their rows stay.
+// Moves all bands on by `n` generations, if nothing in them changes: their fields stay.
 fn rest_all(bands: &mut [Band], n: u64)
     requires { All (λ band. band.generation + n < 2 ^ 64) bands.old }
     ensures { HaveRested n bands.old bands.new }
@@ -49,9 +49,15 @@ fn rest_all(bands: &mut [Band], n: u64)
 
 // Returns whether all bands are dark.
 fn are_dark(bands: &[Band]) -> bool
-    ensures { result ≡ true → All (λ band. band.is_dark ≡ true) bands.now }
+    requires { All (λ band. IsClosed band.field) bands.now }
+    ensures { result ≡ true → All HasNoneLit bands.now }
 {
-    bands.iter().all(|band| band.is_dark)
+    for band in bands {
+        if !band.field.is_dark() {
+            return false;
+        }
+    }
+    true
 }
 
 // Returns in how many of the next generations, of `most`, no injection is due.
@@ -66,14 +72,32 @@ fn calm_generations(bands: &[Band], most: u64) -> u64
     calm
 }
 
-// Moves all bands on, by at least one generation and at most `most`, and returns by how many. Bands
-// without a lit cell come to the generation before the next injection at once.
-fn move_further(bands: &mut [Band], most: u64, height: usize, rows: usize, dark: &[u64]) -> u64
+// Moves a band that stands alone on, by at least one generation and at most `most`, and returns by
+// how many.
+fn run_alone(bands: &mut [Band], most: u64, columns: usize, height: usize, rows: usize) -> u64
     requires some { 0 < most }
-    requires can_move { CanMoveOn most height rows dark.now bands.old }
+    requires one { length bands.old ≡ 1 }
+    requires can_move { CanMoveOn most columns height rows bands.old }
     ensures some { 0 < result }
     ensures few { result ≤ most }
-    ensures moved { HaveMovedOn result (length dark.now) height rows bands.old bands.new }
+    ensures moved { HaveMovedOn result columns height rows bands.old bands.new }
+{
+    let calm = calm_generations(bands, most);
+    if calm == 0 {
+        step_all(bands, columns, height, rows);
+        return 1;
+    }
+    bands[0].run(calm)
+}
+
+// Moves all bands on, by at least one generation and at most `most`, and returns by how many. Bands
+// without a lit cell come to the generation before the next injection at once.
+fn move_further(bands: &mut [Band], most: u64, columns: usize, height: usize, rows: usize) -> u64
+    requires some { 0 < most }
+    requires can_move { CanMoveOn most columns height rows bands.old }
+    ensures some { 0 < result }
+    ensures few { result ≤ most }
+    ensures moved { HaveMovedOn result columns height rows bands.old bands.new }
 {
     if are_dark(bands) {
         let calm = calm_generations(bands, most);
@@ -82,28 +106,31 @@ fn move_further(bands: &mut [Band], most: u64, height: usize, rows: usize, dark:
             return calm;
         }
     }
-    step_all(bands, height, rows, dark);
+    if bands.len() == 1 {
+        return run_alone(bands, most, columns, height, rows);
+    }
+    step_all(bands, columns, height, rows);
     1
 }
 
 /// Moves all bands on by `n` generations. It takes no memory.
-pub fn move_all(bands: &mut [Band], n: u64, height: usize, rows: usize, dark: &[u64])
-    requires { CanMoveOn n height rows dark.now bands.old }
-    ensures { HaveMovedOn n (length dark.now) height rows bands.old bands.new }
+pub fn move_all(bands: &mut [Band], n: u64, columns: usize, height: usize, rows: usize)
+    requires { CanMoveOn n columns height rows bands.old }
+    ensures { HaveMovedOn n columns height rows bands.old bands.new }
 {
     let mut left = n;
     while left > 0 {
-        left -= move_further(bands, left, height, rows, dark);
+        left -= move_further(bands, left, columns, height, rows);
     }
 }
 
 /// Returns whether no cell of the bands is a head or a tail.
 pub fn are_unlit(bands: &[Band]) -> bool
-    requires { All IsMarkedBand bands.now }
+    requires { All IsNarrowBand bands.now }
     ensures { (result ≡ true) ↔ All HasNoneLit bands.now }
 {
     for band in bands {
-        if lit_cell(&band.rows, &band.lit, band.is_dark, 0).is_some() {
+        if band.field.lit_cell().is_some() {
             return false;
         }
     }

@@ -48,11 +48,3 @@ module _ {X : Type 0} (xs before own after : List X) (r : ℕ) (p : IsParted xs 
       let one = p.one in
       let zero : r - r ≡ 0 = omega arith in
       sym (ap (λ xs. slice_set xs r new) p.whole ∙ set-append_right before (own ++ after) r r new p.place (omega arith) ∙ ap (λ i. before ++ slice_set (own ++ after) i new) zero ∙ ap (λ ys. before ++ ys) (set-append_left own after 0 new (omega (arith, one))))
-
-  pub mapped : {Y : Type 0} (f : X → Y) → IsParted (map f xs) r (map f before) (map f own) (map f after)
-  mapped f =
-      record {
-        whole = ap (map f) p.whole ∙ map-append f before (own ++ after) ∙ ap (λ ys. map f before ++ ys) (map-append f own after);
-        place = length-map before f ∙ p.place;
-        one = length-map own f ∙ p.one;
-      }

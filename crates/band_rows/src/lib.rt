@@ -1,18 +1,15 @@
-//! Rows of cells in words of bits that keep track of where their light is, and one generation of rows that stand
-//! together.
+//! Fields of cells in planes of words, with marks of the words that may change, and generations of a field between rows
+//! of heads and alone.
 //!
-//! Theorem: `step_band` (`steps`).
+//! Theorem: `step_between`, `run` (`shows`, `tails`).
 #![tactic(auto)]
 
-mod band;
-mod bits;
-mod kept;
-mod row;
-mod row_marks;
-mod span;
+mod field;
+mod field_facing;
+mod field_light;
+mod field_making;
+mod field_run;
+mod plane_row;
 
-pub use band::step_band;
-pub use kept::Kept;
-pub use row::Row;
-pub use row_marks::{is_clear, mark_lit, mark_row, next_marked};
-pub use span::{Span, first_bit};
+pub use field::{Field, WordMarks};
+pub use plane_row::{FacingRows, PlaneRow};

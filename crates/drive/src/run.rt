@@ -20,18 +20,8 @@ use std::alloc::Global;
 use streams::Streams;
 use ww_rule::{Injection, Pattern, State};
 
-/// The least number of rows of a band.
-const LEAST_BAND_ROWS: usize = 512;
-
-/// The number of rows that are marked in one word of a band: its rows are a multiple of them.
-const ROWS_OF_A_WORD: usize = 64;
-
 /// The greatest number of rows of a band.
 const MOST_BAND_ROWS: usize = 1 << 20;
-
-/// The greatest number of bands, if they have more than the least number of rows and fewer than the
-/// greatest.
-const MOST_BANDS: usize = 32;
 
 /// The number of cells of a row in one word of a band.
 const WORD_CELLS: u64 = 64;
@@ -60,14 +50,12 @@ pub struct Run {
     is_still: bool,
 }
 
-// The number of rows of a band, if there are so many rows. A generation looks at each band, even at
-// one that sleeps.
+// The number of rows of a band, if there are so many rows: all of them stand in one band, if they
+// may.
 fn band_rows(rows: usize) -> u32
     ensures { 0 < result }
 {
-    rows.div_ceil(MOST_BANDS)
-        .clamp(LEAST_BAND_ROWS, MOST_BAND_ROWS)
-        .next_multiple_of(ROWS_OF_A_WORD) as u32
+    rows.clamp(1, MOST_BAND_ROWS) as u32
 }
 
 // Whether a row fills less than one word, and there are more rows than columns.

@@ -1,7 +1,11 @@
-pub mod Alone
 pub mod Bits
 pub mod Counting
 pub mod Four
-pub mod OneWord
 pub mod Parts
 pub mod Places
+pub mod Calm
+pub mod Listing
+pub mod Ways
+pub mod UnderWay
+pub mod PlaneRows
+pub mod Marking

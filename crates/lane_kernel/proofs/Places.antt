@@ -1,16 +1,16 @@
 -- Cells of rows, by words and bits.
 use Rattle.std.proofs.Common.{ℤ, pos, negsuc, ◌-ℤ◌, ◌+ℤ◌, ℕ, zero, suc, ◌+◌, ◌*◌, ◌/◌, ◌%◌, ◌^◌, ◌<◌, ◌≡◌, refl, sym, ap, ap₂, ◌∙◌, Bool, true, false, ◌&&◌, ◌||◌, ◌==◌, cond, List, length, get_or, inl, inr, arith}
-use Rattle.std.proofs.lemmas.Bool.{cases_lt}
+use Rattle.std.proofs.lemmas.Bool.{cases_lt, true≢false}
 use Rattle.std.proofs.lemmas.Int.{ints}
 use Rattle.std.proofs.lemmas.List.{get_or_past}
 use Rattle.std.proofs.lemmas.Nat.{and_le_l, or_lt, xor_lt}
-use Rattle.std.specs.Int.RustNames.{bit_and, bit_or, bit_xor}
+use Rattle.std.specs.Int.RustNames.{bit_and, bit_xor}
 use Rattle.ww_rule.specs.declared.pattern.State.{State}
-use Rattle.ww_rule.specs.declared.pattern.State.TheVariants.{Empty}
+use Rattle.ww_rule.specs.declared.pattern.State.TheVariants.{Empty, Head, Conductor}
 use Rattle.ww_rule.specs.Wireworld.{count_head, heads_around, next_plane, next_state}
 use Rattle.lane_kernel.specs.Rows.{is_set, state_of, row_state, plane_of_rows, AreDisjoint}
 use Rattle.lists.specs.Bits.{has_bit}
-use Rattle.lane_kernel.specs.Words.{ones_of, twos_of, from_west, from_east, before, new_heads_of, new_wires_of, heads_word, wires_word, spread_of}
+use Rattle.lane_kernel.specs.Words.{ones_of, twos_of, from_west, from_east, before, new_heads_of, new_wires_of, heads_word, wires_word}
 use Rattle.lane_kernel.proofs.Bits.{differ, odd, most, ones_bit, twos_bit, fires_bit, xor_bit, no_bit, west_bit, east_bit, west_is, east_is, not_last, fire_bit}
 use Rattle.lane_kernel.proofs.Counting.{total, counts, count_is, next_is, no_clash, clash}
 use Rattle.lists.proofs.WordBits.{or_bit, and_bit}
@@ -71,36 +71,22 @@ east_place words x j i e h =
           ∙ sym (is_set_at words (x + 1) (j + 1) 0 s (omega arith))
     ]
 
--- a bit and those beside it, in a word that was spread
-pub spread_bit : (words : List ℕ) → Fit words → (x : ℕ) → has_bit (spread_of (before words (x / 64)) (get_or words (x / 64) 0) (get_or words (x / 64 + 1) 0)) (x % 64) ≡ ((is_set words x || row_bit words (pos x -ℤ pos 1)) || row_bit words (pos x +ℤ pos 1))
-spread_bit words fit x =
-    let j = x / 64 in
-    let i = x % 64 in
-    let e : x ≡ j * 64 + i = omega arith in
-    let lt : i < 64 = omega arith in
-    let west = from_west (before words j) (get_or words j 0) in
-    let east = from_east (get_or words j 0) (get_or words (j + 1) 0) in
-    or_bit (bit_or (get_or words j 0) west) east i
-    ∙ ap₂ (λ p q. p || q)
-    (or_bit (get_or words j 0) west i ∙ ap (λ q. is_set words x || q) (west_is (before words j) (get_or words j 0) i (before_fits words j fit) lt ∙ west_place words x j i e lt))
-    (east_is (get_or words j 0) (get_or words (j + 1) 0) i (fit j) lt ∙ east_place words x j i e lt)
-
 -- a column beside a cell: its three bits
-west_column : (f : ℕ → ℕ → ℕ → ℕ) (g : Bool → Bool → Bool → Bool) → ((a b c i : ℕ) → has_bit (f a b c) i ≡ g (has_bit a i) (has_bit b i) (has_bit c i)) → (a0 a b0 b h0 h i : ℕ) → f a0 b0 h0 < 2 ^ 64 → i < 64 → has_bit (from_west (f a0 b0 h0) (f a b h)) i ≡ g (west_bit a0 a i) (west_bit b0 b i) (west_bit h0 h i)
+pub west_column : (f : ℕ → ℕ → ℕ → ℕ) (g : Bool → Bool → Bool → Bool) → ((a b c i : ℕ) → has_bit (f a b c) i ≡ g (has_bit a i) (has_bit b i) (has_bit c i)) → (a0 a b0 b h0 h i : ℕ) → f a0 b0 h0 < 2 ^ 64 → i < 64 → has_bit (from_west (f a0 b0 h0) (f a b h)) i ≡ g (west_bit a0 a i) (west_bit b0 b i) (west_bit h0 h i)
 west_column f g is a0 a b0 b h0 h zero fit lt = west_is (f a0 b0 h0) (f a b h) 0 fit lt ∙ is a0 b0 h0 63
 west_column f g is a0 a b0 b h0 h (suc i) fit lt = west_is (f a0 b0 h0) (f a b h) (suc i) fit lt ∙ is a b h i
 
-east_column : (f : ℕ → ℕ → ℕ → ℕ) (g : Bool → Bool → Bool → Bool) → ((a b c i : ℕ) → has_bit (f a b c) i ≡ g (has_bit a i) (has_bit b i) (has_bit c i)) → (a a2 b b2 h h2 i : ℕ) → f a b h < 2 ^ 64 → i < 64 → has_bit (from_east (f a b h) (f a2 b2 h2)) i ≡ g (east_bit a a2 i) (east_bit b b2 i) (east_bit h h2 i)
+pub east_column : (f : ℕ → ℕ → ℕ → ℕ) (g : Bool → Bool → Bool → Bool) → ((a b c i : ℕ) → has_bit (f a b c) i ≡ g (has_bit a i) (has_bit b i) (has_bit c i)) → (a a2 b b2 h h2 i : ℕ) → f a b h < 2 ^ 64 → i < 64 → has_bit (from_east (f a b h) (f a2 b2 h2)) i ≡ g (east_bit a a2 i) (east_bit b b2 i) (east_bit h h2 i)
 east_column f g is a a2 b b2 h h2 i fit lt = east_is (f a b h) (f a2 b2 h2) i fit lt ∙ go (i == 63)
   where
     go : (t : Bool) → cond t (has_bit (f a2 b2 h2) 0) (has_bit (f a b h) (i + 1)) ≡ g (cond t (has_bit a2 0) (has_bit a (i + 1))) (cond t (has_bit b2 0) (has_bit b (i + 1))) (cond t (has_bit h2 0) (has_bit h (i + 1)))
     go true = is a2 b2 h2 0
     go false = is a b h (i + 1)
 
-same3 : (g : Bool → Bool → Bool → Bool) {a b c a' b' c' : Bool} → a ≡ a' → b ≡ b' → c ≡ c' → g a b c ≡ g a' b' c'
+pub same3 : (g : Bool → Bool → Bool → Bool) {a b c a' b' c' : Bool} → a ≡ a' → b ≡ b' → c ≡ c' → g a b c ≡ g a' b' c'
 same3 g p q r = ap₂ (λ f c. f c) (ap₂ g p q) r
 
-same6 : (g : Bool → Bool → Bool → Bool → Bool → Bool → Bool) {a b c d e f a' b' c' d' e' f' : Bool} → a ≡ a' → b ≡ b' → c ≡ c' → d ≡ d' → e ≡ e' → f ≡ f' → g a b c d e f ≡ g a' b' c' d' e' f'
+pub same6 : (g : Bool → Bool → Bool → Bool → Bool → Bool → Bool) {a b c d e f a' b' c' d' e' f' : Bool} → a ≡ a' → b ≡ b' → c ≡ c' → d ≡ d' → e ≡ e' → f ≡ f' → g a b c d e f ≡ g a' b' c' d' e' f'
 same6 g p q r s t u = ap₂ (λ f c. f c) (ap₂ (λ f c. f c) (ap₂ (λ f c. f c) (ap₂ (λ f c. f c) (ap₂ g p q) r) s) t) u
 
 -- the heads around a cell of the middle row
@@ -219,17 +205,6 @@ everywhere_wires above heads below tails wires new_wires lw lt ln h j =
           ∙ sym (ap₂ (λ w t. new_wires_of w t (new_heads_of (before above j) (get_or above j 0) (get_or above (j + 1) 0) (before heads j) (get_or heads j 0) (get_or heads (j + 1) 0) (before below j) (get_or below j 0) (get_or below (j + 1) 0) w)) (get_or_past wires j 0 (omega (arith, lw, ge))) (get_or_past tails j 0 (omega (arith, lt, ge))))
     ]
 
--- a row that was stepped in place, tails and all
-pub stepped_cells : (above heads below tails wires new_heads new_tails new_wires : List ℕ) → Fit above → Fit heads → Fit below → ((j : ℕ) → get_or new_heads j 0 ≡ heads_word above heads below wires j) → ((j : ℕ) → get_or new_tails j 0 ≡ get_or heads j 0) → ((j : ℕ) → get_or new_wires j 0 ≡ wires_word above heads below tails wires j) → AreDisjoint heads tails wires → (x : ℕ) → row_state new_heads new_tails new_wires x ≡ next_plane (plane_of_rows above heads below tails wires) (pos x) (pos 1)
-stepped_cells above heads below tails wires new_heads new_tails new_wires fa fh fb eh et ew apart x =
-    ap (λ t. state_of (is_set new_heads x) (has_bit t (x % 64)) (is_set new_wires x)) (et (x / 64))
-    ∙ cells above heads below tails wires fa fh fb new_heads new_wires eh ew apart x
-
-pub stepped_apart : (above heads below tails wires new_heads new_tails new_wires : List ℕ) → Fit above → Fit heads → Fit below → ((j : ℕ) → get_or new_heads j 0 ≡ heads_word above heads below wires j) → ((j : ℕ) → get_or new_tails j 0 ≡ get_or heads j 0) → ((j : ℕ) → get_or new_wires j 0 ≡ wires_word above heads below tails wires j) → AreDisjoint heads tails wires → AreDisjoint new_heads new_tails new_wires
-stepped_apart above heads below tails wires new_heads new_tails new_wires fa fh fb eh et ew apart x =
-    ap (λ t. clash (is_set new_heads x) (has_bit t (x % 64)) (is_set new_wires x)) (et (x / 64))
-    ∙ stay_apart above heads below tails wires fa fh fb new_heads new_wires eh ew apart x
-
 -- a row of words shows the row y of a plane; its heads show the plane's heads there
 abbrev pub Shows : List ℕ → List ℕ → List ℕ → (ℤ → ℤ → State) → ℤ → Type 0
 Shows heads tails wires p y = (x : ℕ) → row_state heads tails wires x ≡ p (pos x) y
@@ -261,3 +236,34 @@ row_steps above heads below tails wires new_heads new_tails new_wires p y west s
   where
     sums : {a b c d e f g h a' b' c' d' e' f' g' h' : ℕ} → a ≡ a' → b ≡ b' → c ≡ c' → d ≡ d' → e ≡ e' → f ≡ f' → g ≡ g' → h ≡ h' → a + b + c + d + e + f + g + h ≡ a' + b' + c' + d' + e' + f' + g' + h'
     sums p1 p2 p3 p4 p5 p6 p7 p8 = omega (arith, p1, p2, p3, p4, p5, p6, p7, p8)
+
+-- a row of heads, tails and cells: the next state of a cell, by the new head
+next_by_cells : (h t c : Bool) (n : ℕ) → (t ≡ true → c ≡ true) → state_of (differ c (c && (h || t)) && (n == 1 || n == 2)) h c ≡ next_state (state_of h t c) n
+next_by_cells true t true n on = refl
+next_by_cells true t false n on = refl
+next_by_cells false true true n on = refl
+next_by_cells false true false n on = absurd (true≢false (sym (on refl)))
+next_by_cells false false true n on = go (n == 1 || n == 2)
+  where
+    go : (f : Bool) → state_of f false true ≡ cond f Head Conductor
+    go true = refl
+    go false = refl
+next_by_cells false false false n on = refl
+
+-- the words of a row, by the cells that are neither heads nor tails: with the old heads as tails they show the next row
+pub cells_next : (above heads below tails cells wires new_heads : List ℕ) → Fit above → Fit heads → Fit below
+    → ((j : ℕ) → get_or new_heads j 0 ≡ heads_word above heads below wires j)
+    → ((x : ℕ) → is_set wires x ≡ differ (is_set cells x) (is_set cells x && (is_set heads x || is_set tails x)))
+    → ((x : ℕ) → is_set tails x ≡ true → is_set cells x ≡ true)
+    → (x : ℕ) → row_state new_heads heads cells x ≡ next_plane (plane_of_rows above heads below tails cells) (pos x) (pos 1)
+cells_next above heads below tails cells wires new_heads fa fh fb is_heads is_wires on x =
+    let h = is_set heads x in
+    let t = is_set tails x in
+    let c = is_set cells x in
+    let n = around above heads below tails wires x in
+    let m = around above heads below tails cells x in
+    let same : n ≡ m = around_is above heads below tails wires x ∙ sym (around_is above heads below tails cells x) in
+    let e : x ≡ x / 64 * 64 + x % 64 = omega arith in
+    let head = ap (λ w. has_bit w (x % 64)) (is_heads (x / 64)) ∙ head_bit above heads below tails wires fa fh fb x (x / 64) (x % 64) e (omega arith) in
+    ap (λ p. state_of p h c) (head ∙ ap₂ (λ w n. w && (n == 1 || n == 2)) (is_wires x) same)
+    ∙ next_by_cells h t c m (on x)

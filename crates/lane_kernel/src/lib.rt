@@ -1,15 +1,16 @@
-//! The rule on rows of cells in words of bits: bit i of word j is cell 64 j + i of a row.
+//! The rule on rows of cells in words of bits: bit i of word j is cell 64 j + i of a row; and one generation of the
+//! marked words of a plane.
 //!
-//! Theorem: `step_rows` (`heads`, `wires`, `cells`).
+//! Theorem: `step_rows` (`heads`, `wires`, `cells`), `step_listed` (`next`, `marked`).
 #![tactic(auto)]
 
 mod lanes;
-mod one_word;
+mod planes;
 mod rows;
-mod spans;
+mod stepping;
+mod word_marks;
 mod words;
 
-pub use one_word::step_one_word;
 pub use rows::step_rows;
-pub use spans::{eastern_end, put_words, stays_within, step_span, western_end};
-pub use words::{Near, spread};
+pub use stepping::{mark_all, step_all, step_listed};
+pub use word_marks::{BESIDE, Free, mark, tell_around};

@@ -25,9 +25,9 @@ begin_band-requires-clause-inside c =
     let parts = v.parts in
     let first = starts b h (length rows) c.requires.height (subst (λ n. b < bands_in n h) c.len.ensures.count lt) in
     let own = own_is c.loop-b.shares.items b 0 c.into_vec-own.result.items c.replace.result c.index_mut.result.now (λ i. i.y / h == b) c.args.injections.now (omega (arith, parts, lt)) c.into_vec-own.ensures c.replace.ensures.value c.index_mut.ensures.value (v.left b (omega arith) lt) in
-    subst (AreInRows c.args.words (b * h) _) (sym own)
-    (subst (λ n. AreInRows c.args.words (b * h) n (filter (λ i. i.y / h == b) c.args.injections.now)) (sym (let long : c.min-many.result ≡ min h (length rows - b * h) = c.min-many.ensures ∙ ap (λ n. min h (n - b * h)) c.len-in-loop-b.ensures.count in long))
-    (share_inside c.args.words (length rows) h b c.args.injections.now c.requires.height c.requires.inside))
+    subst (AreInRows c.args.columns (b * h) _) (sym own)
+    (subst (λ n. AreInRows c.args.columns (b * h) n (filter (λ i. i.y / h == b) c.args.injections.now)) (sym (let long : c.min-many.result ≡ min h (length rows - b * h) = c.min-many.ensures ∙ ap (λ n. min h (n - b * h)) c.len-in-loop-b.ensures.count in long))
+    (share_inside c.args.columns (length rows) h b c.args.injections.now c.requires.height c.requires.inside))
 
 pub begin_band-requires-clause-in_order : goal.begin_band-requires-clause-in_order
 begin_band-requires-clause-in_order c =
@@ -69,8 +69,8 @@ loop-b-preserved c =
       left = λ k le lk. get_or-set_other shares b k c.replace.new.dest [] (λ q. omega (arith, q, le)) ∙ v.left k (omega (arith, le)) lk;
       many = le ∙ grown ∙ ap (λ n. n + 1) many;
       each = λ k d lk.
-          subst (λ xs. IsBand c.args.words (k * h) (min h (length rows - k * h)) (get_or xs k d)) (sym e)
-          (pushed (λ k z. IsBand c.args.words (k * h) (min h (length rows - k * h)) z) bands band d b many (λ k l. v.each k d (omega (arith, l, many))) (subst (λ n. IsBand c.args.words y n band) long made.is) k (omega (arith, lk, le, grown, many)));
+          subst (λ xs. IsBand c.args.columns (k * h) (min h (length rows - k * h)) (get_or xs k d)) (sym e)
+          (pushed (λ k z. IsBand c.args.columns (k * h) (min h (length rows - k * h)) z) bands band d b many (λ k l. v.each k d (omega (arith, l, many))) (subst (λ n. IsBand c.args.columns y n band) long made.is) k (omega (arith, lk, le, grown, many)));
       begun =
           ap generations_of e ∙ map-append (λ (band : Band). band.generation) bands (band ∷ []) ∙ ap₂ (λ gs g. gs ++ g ∷ []) v.begun made.begun ∙ replicate_more b 0;
       shows = λ k d lk.

@@ -13,7 +13,7 @@ invariant-loop-b l =
       parts : length l.shares.items ≡ l.count;
       left : (k : ℕ) → l.b ≤ k → k < l.count → get_or l.shares.items k [] ≡ filter (λ i. i.y / l.height == k) l.injections;
       many : length l.bands.items ≡ l.b;
-      each : (k : ℕ) (d : Band) → k < length l.bands.items → IsBand l.words (k * l.height) (min l.height (length l.rows - k * l.height)) (get_or l.bands.items k d);
+      each : (k : ℕ) (d : Band) → k < length l.bands.items → IsBand l.columns (k * l.height) (min l.height (length l.rows - k * l.height)) (get_or l.bands.items k d);
       begun : generations_of l.bands.items ≡ replicate l.b 0;
       shows : (k : ℕ) (d : Band) → k < length l.bands.items → ShowsBand (driven (due_of_list l.injections) (plane_of l.rows)) (due_of_list l.injections) (k * l.height) (min l.height (length l.rows - k * l.height)) (get_or l.bands.items k d);
     }

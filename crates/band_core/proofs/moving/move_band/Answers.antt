@@ -1,16 +1,16 @@
-use Rattle.std.proofs.Common.{pos, ◌+◌, ◌*◌, refl, sym, ap, subst, ◌∙◌, length, get_or, slice_set, arith}
+use Rattle.std.proofs.Common.{pos, ◌+◌, ◌*◌, sym, ap, subst, ◌∙◌, get_or, slice_set, arith}
 use Rattle.std.proofs.lemmas.List.{length-set, map-set}
 use Rattle.band_core.specs.declared.band.Band.{Band}
 use Rattle.band_core.specs.Band.{AllShow, AreBands, IsBand, ShowsBand, generations_of, rows_in_band}
 use Rattle.band_core.specs.Beside.{ShowRowsOf}
-use Rattle.band_core.proofs.OneBand.{AreSplit, is_band, own_generation, put_back, above_some, below_some, up_long, down_long, shows_band, up_shows, down_shows}
+use Rattle.band_core.proofs.OneBand.{AreSplit, is_band, own_generation, put_back, have_rows, shows_band, shows_rows}
 use Rattle.band_rows.proofs.Parts.{parted}
 use Rattle.band_core.proofs.Putting.{put_one}
 use Rattle.band_core.proofs.moving.move_band.Goals as goal
 use Rattle.band_core.proofs.moving.move_band.Goals.{After-index-own-0}
 
 -- the bands as they are split, and the band itself
-split : (c : After-index-own-0) → AreSplit (length c.args.dark.now) c.args.height c.args.rows c.args.bands.now c.split_at_mut-before.result.0.now c.split_at_mut-own.result.0.now c.split_at_mut-own.result.1.now c.args.b
+split : (c : After-index-own-0) → AreSplit c.args.columns c.args.height c.args.rows c.args.bands.now c.split_at_mut-before.result.0.now c.split_at_mut-own.result.0.now c.split_at_mut-own.result.1.now c.args.b
 split c =
     let s = c.split_at_mut-before in
     let t = c.split_at_mut-own in
@@ -20,7 +20,7 @@ split c =
       are = c.requires.are;
     }
 
-own : (c : After-index-own-0) → IsBand (length c.args.dark.now) (c.args.b * c.args.height) (rows_in_band c.args.height c.args.rows c.args.b) (get_or c.split_at_mut-own.result.0.now 0 c.index-own-0.result)
+own : (c : After-index-own-0) → IsBand c.args.columns (c.args.b * c.args.height) (rows_in_band c.args.height c.args.rows c.args.b) (get_or c.split_at_mut-own.result.0.now 0 c.index-own-0.result)
 own c = is_band (split c) c.index-own-0.result
 
 pub step_beside-requires : goal.step_beside-requires
@@ -28,19 +28,13 @@ step_beside-requires c =
     let k = (goal.at.step_beside-requires c).After-index-own-0 in
     let d = c.index-own-0.result in
     let y = c.args.b * c.args.height in
-    let words = length c.args.dark.now in
+    let band = get_or c.split_at_mut-own.result.0.now 0 d in
     let generation = own_generation (split k) d in
     let room = c.requires.room in
     record {
-      is = subst (λ n. IsBand words y n (get_or c.split_at_mut-own.result.0.now 0 d)) (sym (own k).high) (own k);
+      is = subst (λ columns. IsBand columns y band.field.rows band) (sym (own k).wide) (subst (λ n. IsBand c.args.columns y n band) (sym (own k).high) (own k));
       room = omega (arith, generation, room);
-      rows = record {
-        some_above = above_some (split k) d;
-        some_below = below_some (split k) d;
-        long_above = λ up is. up_long (split k) d c.args.dark.now refl up is.first is.later;
-        long_below = λ down is. down_long (split k) d c.args.dark.now refl down is.last is.earlier;
-      };
-      dark = c.requires.unlit;
+      rows = have_rows (split k) d;
     }
 
 pub returns-clause-bands : goal.returns-clause-bands
@@ -50,14 +44,16 @@ returns-clause-bands c =
     let bands = c.args.bands.now in
     let height = c.args.height in
     let rows = c.args.rows in
-    let words = length c.args.dark.now in
+    let columns = c.args.columns in
     let y = b * height in
+    let band = get_or c.split_at_mut-own.result.0.now 0 c.index-own-0.result in
     let next = c.step_beside.new.band in
-    let after : IsBand words y (rows_in_band height rows b) next = subst (λ n. IsBand words y n next) (own k).high c.step_beside.ensures.is in
-    subst (AreBands words height rows) (sym (put_back (split k) c.index-own-0.result next))
+    let after : IsBand columns y (rows_in_band height rows b) next =
+    subst (λ columns. IsBand columns y (rows_in_band height rows b) next) (own k).wide (subst (λ n. IsBand band.field.columns y n next) (own k).high c.step_beside.ensures.is) in
+    subst (AreBands columns height rows) (sym (put_back (split k) c.index-own-0.result next))
     (record {
       many = length-set bands b next ∙ c.requires.are.many;
-      each = put_one (λ k band. IsBand words (k * height) (rows_in_band height rows k) band) bands b next c.requires.inside after c.requires.are.each;
+      each = put_one (λ k band. IsBand columns (k * height) (rows_in_band height rows k) band) bands b next c.requires.inside after c.requires.are.each;
     })
 
 pub returns-clause-generations : goal.returns-clause-generations
@@ -82,13 +78,11 @@ returns-clause-shows c e due width evo shows =
     let band = get_or c.split_at_mut-own.result.0.now 0 d in
     let high = (own k).high in
     let next = c.step_beside.new.band in
-    let beside : ShowRowsOf c.split_at_mut-before.result.0.now c.split_at_mut-own.result.1.now band.generation c.args.dark.now (e band.generation) (pos y) (rows_in_band height rows b) =
-    record {
-      above = λ up is. up_shows (split k) d e due width evo shows c.args.dark.now c.requires.unlit c.requires.ready up is.first is.later;
-      below = λ down is. down_shows (split k) d e due width evo shows c.args.dark.now c.requires.unlit c.requires.ready down is.last is.earlier;
-    } in
+    let front = c.split_at_mut-before.result.0.now in
+    let back = c.split_at_mut-own.result.1.now in
     let here = shows_band (split k) d e due width evo shows in
+    let beside = shows_rows (split k) d e due width evo shows c.requires.ready in
     let after = c.step_beside.ensures.shows e due width rows evo (subst (λ n. ShowsBand e due y n band) (sym high) here)
-    (subst (ShowRowsOf c.split_at_mut-before.result.0.now c.split_at_mut-own.result.1.now band.generation c.args.dark.now (e band.generation) (pos y)) (sym high) beside) in
+    (subst (ShowRowsOf front back band.generation (e band.generation) (pos y)) (sym high) beside) in
     subst (AllShow e due height rows) (sym (put_back (split k) d next))
     (put_one (λ k band. ShowsBand e due (k * height) (rows_in_band height rows k) band) bands b next c.requires.inside (subst (λ n. ShowsBand e due y n next) high after) shows)

@@ -10,7 +10,7 @@ own : (bands : List Band) (b : ℕ) (d : Band) → b < length bands → (get_or 
 own bands b d lt = sym (get_or-map (λ (band : Band). band.generation) bands b d 0 lt)
 
 pub returns-clause-bands : goal.returns-clause-bands
-returns-clause-bands c words height rows are =
+returns-clause-bands c columns height rows are =
     let b = c.args.b in
     let bands = c.args.bands.now in
     let d = c.index-bands-b.result in
@@ -21,8 +21,8 @@ returns-clause-bands c words height rows are =
     let is = are.each b d c.requires.band in
     record {
       many = length-set bands b next ∙ are.many;
-      each = put_one (λ k band. IsBand words (k * height) (min height (rows - k * height)) band) bands b next c.requires.band
-          (rests words y m (get_or bands b d) next e.rows e.lit e.near e.is_dark e.injections e.done (e.long_top ∙ is.top) (e.long_bottom ∙ is.bottom) is) are.each;
+      each = put_one (λ k band. IsBand columns (k * height) (min height (rows - k * height)) band) bands b next c.requires.band
+          (rests columns y m (get_or bands b d) next e.field e.injections e.done is) are.each;
     }
 
 pub returns-clause-generations : goal.returns-clause-generations
@@ -33,7 +33,7 @@ returns-clause-generations c =
     map-set (λ (band : Band). band.generation) bands b next ∙ ap (slice_set (generations_of bands) b) (c.rest.ensures.generation ∙ ap (λ n. n + 1) (own bands b c.index-bands-b.result c.requires.band))
 
 pub returns-clause-shows : goal.returns-clause-shows
-returns-clause-shows c e due width words height rows evo are shows quiet =
+returns-clause-shows c e due width columns height rows evo are shows quiet =
     let b = c.args.b in
     let bands = c.args.bands.now in
     let d = c.index-bands-b.result in
@@ -43,4 +43,4 @@ returns-clause-shows c e due width words height rows evo are shows quiet =
     let m = min height (rows - y) in
     let calm = subst (λ g. IsQuiet e due g y m) (sym (own bands b d c.requires.band)) quiet in
     put_one (λ k band. ShowsBand e due (k * height) (min height (rows - k * height)) band) bands b next c.requires.band
-    (rest_shows e due width rows words y m (get_or bands b d) next evo (are.each b d c.requires.band) (shows b d c.requires.band) calm (c.requires.none_due d) r.generation r.rows r.injections r.done r.top r.bottom) shows
+    (rest_shows e due width rows columns y m (get_or bands b d) next evo (are.each b d c.requires.band) (shows b d c.requires.band) calm (c.requires.none_due d) r.generation r.field r.injections r.done) shows

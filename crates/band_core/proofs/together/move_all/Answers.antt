@@ -1,4 +1,4 @@
-use Rattle.std.proofs.Common.{◌-◌, length, arith}
+use Rattle.std.proofs.Common.{◌-◌, arith}
 use Rattle.band_core.proofs.MovedOn.{can_still_move, moved_on_further}
 use Rattle.band_core.proofs.together.move_all.Goals as goal
 
@@ -13,6 +13,6 @@ loop-left-preserved c =
     let new = c.move_further-left.new.bands in
     record {
       few = omega (arith, few);
-      can_move = can_still_move left by c.args.height c.args.rows c.args.dark.now bands new less c.loop-left.invariant.can_move further.moved;
-      moved = moved_on_further (length c.args.dark.now) c.args.height c.args.rows (c.args.n - left) by (c.args.n - (left - by)) c.args.bands.now bands new (omega (arith, few, less)) c.loop-left.invariant.moved further.moved;
+      can_move = can_still_move left by c.args.columns c.args.height c.args.rows bands new less c.loop-left.invariant.can_move further.moved;
+      moved = moved_on_further c.args.columns c.args.height c.args.rows (c.args.n - left) by (c.args.n - (left - by)) c.args.bands.now bands new (omega (arith, few, less)) c.loop-left.invariant.moved further.moved;
     }

@@ -1,4 +1,4 @@
-use Rattle.std.proofs.Common.{◌≡◌, sym, ap, subst, ◌∙◌, length, arith}
+use Rattle.std.proofs.Common.{◌≡◌, sym, subst, ◌∙◌, length, arith}
 use Rattle.std.proofs.lemmas.List.{with_items_is}
 use Rattle.ww_rule.specs.Wireworld.{driven}
 use Rattle.ww_rule.specs.Grid.{plane_of}
@@ -16,10 +16,9 @@ invariant_of-self c =
     let plane = driven due (plane_of s.pattern.rows) in
     let rows = length s.pattern.rows in
     let new = c.move_band.new.bands in
-    let dark : c.deref-2.result.now ≡ s.dark.items = c.deref-2.ensures.value in
-    let many : c.len.result ≡ rows = c.len.ensures.count in
+    let many : c.len-rows.result ≡ rows = c.len-rows.ensures.count in
     let old : c.deref_mut.result.now ≡ s.bands.items = c.deref_mut.ensures.value in
-    let are : AreBands (length s.dark.items) s.height rows new = subst (λ w. AreBands w s.height rows new) (ap length dark) (subst (λ r. AreBands (length c.deref-2.result.now) s.height r new) many e.bands) in
+    let are : AreBands s.columns s.height rows new = subst (λ r. AreBands s.columns s.height r new) many e.bands in
     let same : length new ≡ length s.bands.items = are.many ∙ sym v.bands.many in
     let bands_is = with_items_is s.bands new (omega (arith, same)) in
     let evo = evolution s.pattern.width s.pattern.height s.pattern.rows s.injections.items s.pattern.in_rows v.inside in
@@ -29,7 +28,7 @@ invariant_of-self c =
       in_order = v.in_order;
       height = v.height;
       few = v.few;
-      dark = v.dark;
-      bands = subst (AreBands (length s.dark.items) s.height rows) (sym bands_is) are;
+      wide = v.wide;
+      bands = subst (AreBands s.columns s.height rows) (sym bands_is) are;
       shows = subst (AllShow plane due s.height rows) (sym bands_is) (subst (λ r. AllShow plane due s.height r new) many shows);
     }

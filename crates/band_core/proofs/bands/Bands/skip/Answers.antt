@@ -49,7 +49,7 @@ invariant_of-self c =
     let e = c.rest_band.ensures in
     let due = due_of_list s.injections.items in
     let plane = driven due (plane_of s.pattern.rows) in
-    let words = length s.dark.items in
+    let columns = s.columns in
     let rows = length s.pattern.rows in
     let new = c.rest_band.new.bands in
     let evo = evolution s.pattern.width s.pattern.height s.pattern.rows s.injections.items s.pattern.in_rows v.inside in
@@ -63,9 +63,9 @@ invariant_of-self c =
     let calm : IsQuiet plane due (get_or (generations_of c.deref_mut.result.now) b 0) (b * h) (min h (rows - b * h)) =
     subst (λ r. IsQuiet plane due (get_or (generations_of c.deref_mut.result.now) b 0) (b * h) (min h (r - b * h))) many
     (subst (λ bands. IsQuiet plane due (get_or (generations_of bands) b 0) (b * h) (min h (c.len-rows.result - b * h))) (value ∙ sym old) quiet) in
-    let were : AreBands words h rows c.deref_mut.result.now = subst (AreBands words h rows) (sym old) v.bands in
-    let are : AreBands words h rows new = e.bands words h rows were in
-    let shows = e.shows plane due s.pattern.width words h rows evo were (subst (AllShow plane due h rows) (sym old) v.shows) calm in
+    let were : AreBands columns h rows c.deref_mut.result.now = subst (AreBands columns h rows) (sym old) v.bands in
+    let are : AreBands columns h rows new = e.bands columns h rows were in
+    let shows = e.shows plane due s.pattern.width columns h rows evo were (subst (AllShow plane due h rows) (sym old) v.shows) calm in
     let same : length new ≡ length s.bands.items = are.many ∙ sym v.bands.many in
     let bands_is = with_items_is s.bands new (omega (arith, same)) in
     record {
@@ -73,8 +73,8 @@ invariant_of-self c =
       in_order = v.in_order;
       height = v.height;
       few = v.few;
-      dark = v.dark;
-      bands = subst (AreBands words h rows) (sym bands_is) are;
+      wide = v.wide;
+      bands = subst (AreBands columns h rows) (sym bands_is) are;
       shows = subst (AllShow plane due h rows) (sym bands_is) shows;
     }
 
@@ -124,10 +124,10 @@ returns-clause-moved c =
     let s = c.self.inside in
     let b = c.args.b in
     let new = c.rest_band.new.bands in
-    let words = length s.dark.items in
+    let columns = s.columns in
     let rows = length s.pattern.rows in
     let old : c.deref_mut.result.now ≡ s.bands.items = c.deref_mut.ensures.value in
-    let are : AreBands words s.height rows new = c.rest_band.ensures.bands words s.height rows (subst (AreBands words s.height rows) (sym old) c.self.invariant.bands) in
+    let are : AreBands columns s.height rows new = c.rest_band.ensures.bands columns s.height rows (subst (AreBands columns s.height rows) (sym old) c.self.invariant.bands) in
     let same : length new ≡ length s.bands.items = are.many ∙ sym c.self.invariant.bands.many in
     let generations =
     ap generations_of (with_items_is s.bands new (omega (arith, same)))

@@ -1,0 +1,232 @@
+// Fields of cells.
+ghost use Rattle.std.specs.Prelude.{◌≡◌, ◌≢◌, ◌+◌, ◌*◌, ◌/◌, ◌%◌, ◌^◌, ◌<◌, ◌≤◌, ℕ, [], length, get_or, drop, slice_set, All, IfOk, IfSome};
+ghost use Rattle.std.specs.Int.RustNames.{bit_or};
+ghost use Rattle.lists.specs.Items.{number_at};
+ghost use Rattle.ww_rule.specs.declared.pattern.State.TheVariants.{Conductor, Empty, Head, Tail};
+ghost use Rattle.ww_rule.specs.Grid.{row_cell};
+ghost use Rattle.lane_kernel.specs.Marked.{AreCleared};
+ghost use Rattle.lane_kernel.specs.Spans.{AreZero};
+
+use crate::field::{Field, WAIT, WordMarks, mark_again, set_bits};
+use std::alloc::{AllocError, Global};
+use ww_rule::{CellRows, State};
+
+/// The list of marked words has an entry for so many words of a plane.
+const WORDS_AN_ENTRY: usize = 8;
+
+// How many words a plane has, if the number fits.
+fn plane_size(columns: usize, stride: usize) -> Option<usize>
+    ensures { IfSome result (λ size. size ≡ (columns + 2) * stride + 2) }
+{
+    let Some(across) = columns.checked_add(2) else {
+        return None;
+    };
+    let Some(words) = across.checked_mul(stride) else {
+        return None;
+    };
+    words.checked_add(2)
+}
+
+// Cleared marks of so many words, without a list.
+fn no_marks(alloc: Global, words: usize) -> Result<WordMarks, AllocError>
+    ensures long { IfOk result (λ marks. length marks.bytes.items ≡ words) }
+    ensures cleared { IfOk result (λ marks. AreCleared marks.bytes.items) }
+    ensures none { IfOk result (λ marks. marks.many ≡ 0) }
+    ensures unlisted { IfOk result (λ marks. marks.list.items ≡ []) }
+{
+    Ok(WordMarks {
+        bytes: vec![in alloc; 0; words]?,
+        list: Vec::new(alloc),
+        many: 0,
+    })
+}
+
+// So many words without a bit.
+fn no_words(alloc: Global, count: usize) -> Result<Vec<u64>, AllocError>
+    ensures long { IfOk result (λ words. length words.items ≡ count) }
+    ensures zero { IfOk result (λ words. AreZero words.items) }
+{
+    Ok(vec![in alloc; 0; count]?)
+}
+
+// Sets a bit of a word.
+fn set_bit(words: &mut [u64], i: usize, b: usize)
+    requires place { i < length words.old }
+    requires bit { b < 64 }
+    ensures { words.new
+        ≡ slice_set words.old i (bit_or (number_at words.old i) (1 * 2 ^ b % 2 ^ 64)) }
+{
+    words[i] |= 1 << b;
+}
+
+impl Field {
+    ghost use Rattle.band_rows.specs.Fields.{state_in, AreOfOneSize, HasCellPut, IsBlank, IsClosed, IsUnlisted};
+
+    // A field without cells, whose marks have no list.
+    fn blank(alloc: Global, columns: usize, rows: usize) -> Result<Field, AllocError>
+        ensures { IfOk result (λ field. IsBlank columns rows field) }
+    {
+        let Some(stride) = rows.checked_add(2) else {
+            return Err(AllocError);
+        };
+        let Some(size) = plane_size(columns, stride) else {
+            return Err(AllocError);
+        };
+        Ok(Field {
+            columns,
+            rows,
+            stride,
+            heads: no_words(alloc, size)?,
+            tails: no_words(alloc, size)?,
+            cells: no_words(alloc, size)?,
+            marks: no_marks(alloc, size)?,
+            spare: no_marks(alloc, size)?,
+            wait: WAIT,
+        })
+    }
+
+    // Makes an empty cell a head.
+    fn put_head(&mut self, x: usize, k: usize)
+        requires closed { IsClosed self.old }
+        requires unlisted { IsUnlisted self.old }
+        requires column { x / 64 < self.old.columns }
+        requires row { k < self.old.rows }
+        ensures { HasCellPut Head x k self.old self.new }
+    {
+        self.make_head(x, k);
+    }
+
+    // Makes an empty cell a tail.
+    fn put_tail(&mut self, x: usize, k: usize)
+        requires closed { IsClosed self.old }
+        requires unlisted { IsUnlisted self.old }
+        requires column { x / 64 < self.old.columns }
+        requires row { k < self.old.rows }
+        requires empty { state_in self.old x k ≡ Empty }
+        ensures { HasCellPut Tail x k self.old self.new }
+    {
+        let i = (x / 64 + 1) * self.stride + 1 + (k + 1);
+        set_bits(&mut self.tails, &mut self.cells, i, x % 64);
+    }
+
+    // Makes an empty cell a conductor.
+    fn put_conductor(&mut self, x: usize, k: usize)
+        requires closed { IsClosed self.old }
+        requires unlisted { IsUnlisted self.old }
+        requires column { x / 64 < self.old.columns }
+        requires row { k < self.old.rows }
+        requires empty { state_in self.old x k ≡ Empty }
+        ensures { HasCellPut Conductor x k self.old self.new }
+    {
+        let i = (x / 64 + 1) * self.stride + 1 + (k + 1);
+        set_bit(&mut self.cells, i, x % 64);
+    }
+
+    // Gives an empty cell a state.
+    fn put_cell(&mut self, x: usize, k: usize, state: State)
+        requires closed { IsClosed self.old }
+        requires unlisted { IsUnlisted self.old }
+        requires column { x / 64 < self.old.columns }
+        requires row { k < self.old.rows }
+        requires empty { state_in self.old x k ≡ Empty }
+        ensures { HasCellPut state x k self.old self.new }
+    {
+        match state {
+            State::Empty => {}
+            State::Head => self.put_head(x, k),
+            State::Tail => self.put_tail(x, k),
+            State::Conductor => self.put_conductor(x, k),
+        }
+    }
+
+    // Gives the cells of row k, which are empty, their states.
+    fn put_row(&mut self, k: usize, cells: &[State])
+        requires closed { IsClosed self.old }
+        requires unlisted { IsUnlisted self.old }
+        requires wide { length cells.now ≤ 64 * self.old.columns }
+        requires row { k < self.old.rows }
+        requires empty { (u : ℕ) → state_in self.old u k ≡ Empty }
+        ensures closed { IsClosed self.new }
+        ensures unlisted { IsUnlisted self.new }
+        ensures size { AreOfOneSize self.old self.new }
+        ensures here { (u : ℕ) → state_in self.new u k ≡ row_cell cells.now u }
+        ensures other { (u j : ℕ)
+            → j < self.old.rows
+            → j ≢ k
+            → state_in self.new u j ≡ state_in self.old u j }
+    {
+        for (x, state) in cells.iter().enumerate() {
+            self.put_cell(x, k, *state);
+        }
+    }
+
+    // Gives the cells of all rows, which are empty, their states: those of rows from row y on.
+    fn put_rows(&mut self, cells: &CellRows, y: usize)
+        requires closed { IsClosed self.old }
+        requires unlisted { IsUnlisted self.old }
+        requires few { length cells.now < 2 ^ 63 }
+        requires within { y + self.old.rows ≤ length cells.now }
+        requires wide { All (λ row. length row ≤ 64 * self.old.columns) cells.now }
+        requires empty { (u j : ℕ) → j < self.old.rows → state_in self.old u j ≡ Empty }
+        ensures closed { IsClosed self.new }
+        ensures unlisted { IsUnlisted self.new }
+        ensures size { AreOfOneSize self.old self.new }
+        ensures shows { (u j : ℕ)
+            → j < self.old.rows
+            → state_in self.new u j ≡ get_or (get_or (drop y cells.now) j []) u Empty }
+    {
+        for k in 0..self.rows {
+            self.put_row(k, cells.row(y + k));
+        }
+    }
+
+    // Makes the marks, and their lists.
+    fn mark_first(&mut self, list: Vec<usize>, spare: Vec<usize>)
+        requires closed { IsClosed self.old }
+        ensures closed { IsClosed self.new }
+        ensures size { AreOfOneSize self.old self.new }
+        ensures heads { self.new.heads ≡ self.old.heads }
+        ensures tails { self.new.tails ≡ self.old.tails }
+        ensures cells { self.new.cells ≡ self.old.cells }
+    {
+        self.marks.list = list;
+        self.spare.list = spare;
+        mark_again(
+            &self.heads,
+            &self.tails,
+            &self.cells,
+            self.stride,
+            &mut self.marks,
+        );
+    }
+
+    /// Makes a field of `rows` rows of cells from row y on, each in so many columns of words.
+    /// `AllocError` also comes if the number of words is over the greatest `usize`.
+    pub fn of_cells(
+        alloc: Global,
+        cells: &CellRows,
+        y: usize,
+        rows: usize,
+        columns: usize,
+    ) -> Result<Field, AllocError>
+        requires few { length cells.now < 2 ^ 63 }
+        requires within { y + rows ≤ length cells.now }
+        requires wide { All (λ row. length row ≤ 64 * columns) cells.now }
+        ensures closed { IfOk result (λ field. IsClosed field) }
+        ensures columns { IfOk result (λ field. field.columns ≡ columns) }
+        ensures rows { IfOk result (λ field. field.rows ≡ rows) }
+        ensures shows { IfOk result (λ field.
+            (k x : ℕ)
+            → k < rows
+            → state_in field x k ≡ get_or (get_or (drop y cells.now) k []) x Empty
+            ) }
+    {
+        let mut field = Field::blank(alloc, columns, rows)?;
+        let entries = field.heads.len() / WORDS_AN_ENTRY + 1;
+        let list = vec![in alloc; 0; entries]?;
+        let spare = vec![in alloc; 0; entries]?;
+        field.put_rows(cells, y);
+        field.mark_first(list, spare);
+        Ok(field)
+    }
+}
