@@ -53,6 +53,6 @@ PlansAnswerEachRow =
     → AnswersEachRow (times * 32) (plane_with library plan lit) (in_ports plan)
     (out_ports plan ++ net_ports plan) (plan_answer plan))
 
--- the tiles of the kit have open and clear entries
+-- the kit's library has open and clear entries
 abbrev pub TilesAreOpen : Type 0
 TilesAreOpen = HasOpenEntries shipped_drawing × HasClearEntries shipped_drawing

@@ -25,7 +25,8 @@ pub fn ports_take_wires()
     ensures { PortsTakeWires }
 {}
 
-/// At most two cells are beside each entry of a body's tile, and none is above or below it.
+/// At most two cells are beside each entry of a body's tile in the kit, and none is above or below
+/// it.
 pub fn tiles_are_open()
     ensures { TilesAreOpen }
 {}
