@@ -2,7 +2,7 @@
 -- is a design's carries it.
 use Rattle.std.specs.Prelude.{pos, ℕ, ◌+◌, ◌<◌, ◌≤◌, ◌≡◌, ◌≢◌, Bool, List, [], ◌∷◌, ◌++◌, length, map, Contains, Some, None, slice_get}
 use Rattle.lists.specs.Items.{flag_at, list_at}
-use Rattle.ww_rule.specs.declared.pattern.State.TheVariants.{Empty, Tail, Conductor}
+use Rattle.ww_rule.specs.declared.pattern.State.TheVariants.{Empty, Conductor}
 use Rattle.ww_rule.specs.Wireworld.{Plane}
 use Rattle.ww_rule.specs.Grid.{Grid, plane_of}
 use Rattle.wire_laws.specs.Rows.{Port, PartMeaning, IsPart, IsCausalMeaning, AnswersEachRow}
@@ -30,8 +30,8 @@ net_line_ports lines = map (λ line. ((pos line.x, pos line.y), line.offset)) li
 abbrev pub bits_of_rows : List (List Bool) → ℕ → ℕ → Bool
 bits_of_rows rows t i = flag_at (list_at rows t) i
 
--- In each run of the design on rows of input bits, this is what the meaning makes of the bits:
--- those of the design's outputs, and then those of these nets. It depends on no later cycle.
+-- In each run of the design on rows of input bits, the meaning makes of them the bits of the
+-- design's outputs, and then those of these nets. It depends on no later cycle.
 pub record IsMeaningOf (design : Design) (seen : List Net) (meaning : PartMeaning) : Type 0 where
   pub causal : IsCausalMeaning meaning
   pub runs : (rows : List (List Bool)) → AreInputRows design rows
@@ -44,11 +44,10 @@ pub record IsMeaningOf (design : Design) (seen : List Net) (meaning : PartMeanin
       → slice_get seen k ≡ Some net
       → meaning (bits_of_rows rows) t (length (main_outputs design) + k) ≡ run t net.place net.name
 
--- The cell of an IN line is no tail, and at most two cells are beside it. The input's own net has a
--- NET line, with the same cell and offset 0.
+-- At most two cells are beside the cell of an IN line. The input's own net has a NET line, with the
+-- same cell and offset 0.
 pub record IsOpenInput (ports : Ports) (seen : List Net) (p : Plane)
     (line : PortLine) : Type 0 where
-  pub no_tail : p (pos line.x) (pos line.y) ≢ Tail
   pub few : cells_around p (pos line.x) (pos line.y) ≤ 2
   pub number : ℕ
   pub net_line : NetLine
@@ -82,8 +81,8 @@ CarriersAreParts =
 abbrev pub HasNoLatches : Design → Type 0
 HasNoLatches design = (place : Place) (number : ℕ) → latch_at design place number ≡ None
 
--- in each run on one row, this is what the answer to the row is: the bits of the design's outputs,
--- and then those of these nets
+-- in each run on one row, the answer to the row has the bits of the design's outputs, and then
+-- those of these nets
 pub record IsAnswerOf (design : Design) (seen : List Net)
     (answer : (ℕ → Bool) → ℕ → Bool) : Type 0 where
   pub outs : (row : List Bool) → AreInputRows design (row ∷ []) → (run : ℕ → Valuation)
@@ -105,9 +104,8 @@ CarriersAnswerEachRow =
     (line_ports c.carried.ports.l c.carried.ports.outs ++ net_line_ports c.carried.ports.nets)
     answer
 
--- A text carries a design and its nets if its pattern is a part whose meaning is the design's, its
--- table names the ports and the nets, and the cells of its IN lines are conductors. The pattern may
--- be joined of several.
+-- A text of one context carries a design and its nets if its pattern is a part whose meaning is the
+-- design's, its table names the ports and the nets, and the cells of its IN lines are conductors.
 abbrev pub PartsCarry : Type 0
 PartsCarry =
     (text : List ℕ) (design : Design) (grid : Grid) (ports : Ports) (seen : List Net)

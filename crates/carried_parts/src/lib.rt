@@ -1,5 +1,5 @@
-//! The pattern of a text that carries a design is a part, so that wires may join it, and a part
-//! with the meaning of a design carries the design.
+//! A carrier's pattern is a part if its lines are open, and a text whose pattern is a part with a
+//! design's meaning carries it.
 //!
 //! Theorem: `carriers_are_parts`, `carriers_answer_each_row`, `parts_carry`.
 #![tactic(auto)]
@@ -8,20 +8,20 @@ ghost use Rattle.carried_parts.specs.CarriedParts.{CarriersAnswerEachRow, Carrie
 
 /// The pattern of a text that carries a design and its nets, whoever wrote it, is a part, and what
 /// it makes of its inputs' bits are the bits of the design's runs, if the period is 3 at least and
-/// some tests of the cells at its IN, OUT and NET lines hold.
+/// its lines are open (an input's NET line has its IN cell).
 pub fn carriers_are_parts()
     ensures { CarriersAreParts }
 {}
 
-/// If the design has no latches, the part answers each row of bits by one row, which depends on no
-/// other row: so it may also run more slowly, if it has no electrons.
+/// If the design has no latches, the part answers each row of bits by the design's, whatever the
+/// other rows: so it may also run more slowly, if it has no electrons.
 pub fn carriers_answer_each_row()
     ensures { CarriersAnswerEachRow }
 {}
 
-/// A text carries a design and its nets if its pattern is a part that makes the bits of the
-/// design's runs, its table names the design's ports and nets, and the cells of its IN lines are
-/// conductors.
+/// A text of one context carries a design and its nets if its pattern is a part that makes the bits
+/// of the design's runs, the design runs on all rows of input bits, the table names the design's
+/// ports and nets, and the cells of its IN lines are conductors.
 pub fn parts_carry()
     ensures { PartsCarry }
 {}

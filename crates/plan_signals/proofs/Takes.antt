@@ -1,4 +1,4 @@
--- Wires may come to the inputs of a plan and leave its outputs: nothing else is near.
+-- Wires may come to the inputs of a plan and leave its outputs: nothing but the port's cell is near.
 use Rattle.std.proofs.Common.{ℤ, pos, negsuc, ◌+ℤ◌, ◌-ℤ◌, ◌≤ℤ◌, ℕ, ◌+◌, ◌-◌, ◌*◌, ◌/◌, ◌%◌, ◌<◌, ◌≤◌, ◌≡◌, ◌≢◌, refl, ap, ap₂, ◌∙◌, inl, inr, Bool, true, false, ◌&&◌, ◌==◌, cond, length, arith}
 use Rattle.std.specs.Prelude.{◌⊎◌, slice_index}
 use Rattle.std.specs.List.{list_any}
@@ -96,19 +96,20 @@ module _ (library : Kind → Drawing) (clear : HasClearEntries library) (plan : 
         let some : 0 < length plan.columns = some_columns plan h (omega (arith, low)) in
         body_at plan plan.latches lane (omega arith) (omega (arith, some)) (omega (arith, low))
 
-    west_of : (u v : ℤ) → IsNear (u, v) (pos (left_of plan 0) -ℤ pos 1, pos (row_of lane)) → cell_at u v ≢ cell_at (pos (left_of plan 0)) (pos (row_of lane)) → plane_with library plan lit u v ≡ Empty
-    west_of (negsuc x) v near other = refl
-    west_of (pos x) (negsuc y) near other = refl
-    west_of (pos x) (pos y) near other =
+    west_of : (w u v : ℤ) → w ≤ℤ (pos (left_of plan 0) -ℤ pos 1) → IsNear (u, v) (w, pos (row_of lane)) → cell_at u v ≢ cell_at (pos (left_of plan 0)) (pos (row_of lane)) → plane_with library plan lit u v ≡ Empty
+    west_of w (negsuc x) v west near other = refl
+    west_of w (pos x) (negsuc y) west near other = refl
+    west_of w (pos x) (pos y) west near other =
         let from = near.north in
         let to = near.south in
-        let east = near.east in
+        let east : pos x ≤ℤ (w +ℤ pos 1) = near.east in
+        let column : pos x ≤ℤ pos (left_of plan 0) = omega (arith, ints, east, west) in
         elim (cases_lt x (left_of plan 0)) [
           | inl left ↦ (ports_stand_free plan h library lit).west i x y within (omega (arith, ints, from), omega (arith, ints, to)) left
           | inr ge ↦
-              let same : x ≡ left_of plan 0 = omega (arith, ints, east) in
-              let column : x ≡ 32 * plan.latches = omega (arith, same) in
-              ap (λ n. plane_with library plan lit (pos n) (pos y)) column
+              let same : x ≡ left_of plan 0 = omega (arith, ints, column) in
+              let begins : x ≡ 32 * plan.latches = omega (arith, same) in
+              ap (λ n. plane_with library plan lit (pos n) (pos y)) begins
               ∙ beside_empty library plan lit plan.latches lane (in_body plan plan.latches lane) (pos y) block (clear_body library clear plan plan.latches lane) from to (λ e. other (ap₂ cell_at (ap pos same) e))
         ]
 
@@ -119,14 +120,14 @@ module _ (library : Kind → Drawing) (clear : HasClearEntries library) (plan : 
     out_low : out_lane < first_loop_lane plan.lanes plan.latches
     out_low = h.outs.below i 0 within
 
-    east_of : (u v : ℤ) → IsNear (u, v) (pos (left_of plan (length plan.columns)) +ℤ pos 1, pos (row_of out_lane)) → cell_at u v ≢ cell_at (pos (left_of plan (length plan.columns))) (pos (row_of out_lane)) → plane_with library plan lit u v ≡ Empty
-    east_of (negsuc x) v near other = refl
-    east_of (pos x) (negsuc y) near other = refl
-    east_of (pos x) (pos y) near other =
+    east_of : (w u v : ℤ) → (pos (left_of plan (length plan.columns)) +ℤ pos 1) ≤ℤ w → IsNear (u, v) (w, pos (row_of out_lane)) → cell_at u v ≢ cell_at (pos (left_of plan (length plan.columns))) (pos (row_of out_lane)) → plane_with library plan lit u v ≡ Empty
+    east_of w (negsuc x) v east near other = refl
+    east_of w (pos x) (negsuc y) east near other = refl
+    east_of w (pos x) (pos y) east near other =
         let from = near.north in
         let to = near.south in
-        let west = near.west in
-        let corner : left_of plan (length plan.columns) ≤ x = omega (arith, ints, west) in
+        let west : (w -ℤ pos 1) ≤ℤ pos x = near.west in
+        let corner : left_of plan (length plan.columns) ≤ x = omega (arith, ints, west, east) in
         elim (cases_lt (left_of plan (length plan.columns)) x) [
           | inl right ↦ (ports_stand_free plan h library lit).east i x y within (omega (arith, ints, from), omega (arith, ints, to)) right
           | inr ge ↦
@@ -140,6 +141,6 @@ module _ (library : Kind → Drawing) (clear : HasClearEntries library) (plan : 
 pub ports_take_wires : PortsTakeWires
 ports_take_wires library clear plan h lit =
     record {
-      west = λ i within cell near other. west_of library clear plan h lit i within cell.0 cell.1 near other;
-      east = λ i within cell near other. east_of library clear plan h lit i within cell.0 cell.1 near other;
+      west = λ i x within west cell near other. west_of library clear plan h lit i within x cell.0 cell.1 west near other;
+      east = λ i x within east cell near other. east_of library clear plan h lit i within x cell.0 cell.1 east near other;
     }

@@ -35,8 +35,8 @@ PlansAreParts =
     (out_ports plan ++ net_ports plan) (plan_meaning plan start)
     × IsCausalMeaning (plan_meaning plan start)
 
--- A wire may end in the cell west of an input of a plan, and begin in the one east of an output.
--- The rest of their rows is free by `PortsStandFree`.
+-- A wire may come to an input of a plan from the west, and leave an output to the east, in the port's
+-- row of cells.
 abbrev pub PortsTakeWires : Type 0
 PortsTakeWires =
     (library : Kind → Drawing) → HasClearEntries library → (plan : Plan) → IsAdmissible plan
@@ -53,6 +53,6 @@ PlansAnswerEachRow =
     → AnswersEachRow (times * 32) (plane_with library plan lit) (in_ports plan)
     (out_ports plan ++ net_ports plan) (plan_answer plan))
 
--- the tiles of the kit have open and clear entries
+-- the kit's library has open and clear entries
 abbrev pub TilesAreOpen : Type 0
 TilesAreOpen = HasOpenEntries shipped_drawing × HasClearEntries shipped_drawing

@@ -1,5 +1,5 @@
 -- The ports of a plan, and the signals in them.
-use Rattle.std.specs.Prelude.{ℤ, pos, ◌+ℤ◌, ◌-ℤ◌, ℕ, ◌+◌, ◌<◌, ◌≤◌, ◌≡◌, ◌≢◌, Bool, false, List, [], ◌∷◌, length, map, slice_index}
+use Rattle.std.specs.Prelude.{ℤ, pos, ◌+ℤ◌, ◌-ℤ◌, ◌≤ℤ◌, ℕ, ◌+◌, ◌<◌, ◌≤◌, ◌≡◌, ◌≢◌, Bool, false, List, [], ◌∷◌, length, map, slice_index}
 use Rattle.std.specs.List.{range_with_len}
 use Rattle.lists.specs.Items.{one_if}
 use Rattle.ww_rule.specs.declared.pattern.State.TheVariants.{Empty}
@@ -89,22 +89,23 @@ pub record HasClearEntries (library : Kind → Drawing) : Type 0 where
   pub upper : (instr : Instr) → IsClearBeside (library (kind_of instr)) 7
   pub lower : (instr : Instr) → IsClearBeside (library (kind_of instr)) 23
 
--- nothing but the port's cell is drawn within distance 1 of the cell beside it, so a wire may end
--- or begin there
-abbrev pub IsFreeBeside : Plane → (port beside : ℤ × ℤ) → Type 0
-IsFreeBeside p port beside =
-    (cell : ℤ × ℤ) → IsNear cell beside → cell ≢ port → cell_state p cell ≡ Empty
+-- nothing but the port's cell is drawn within distance 1 of this cell, so a wire may have it
+abbrev pub IsFreeBeside : Plane → (port cell : ℤ × ℤ) → Type 0
+IsFreeBeside p port cell =
+    (other : ℤ × ℤ) → IsNear other cell → other ≢ port → cell_state p other ≡ Empty
 
--- a wire may come to each input of a plan from the west, and leave each output to the east
+-- a wire may come to each input of a plan from the west, in the input's row of cells, and leave each
+-- output to the east, in the output's
 pub record TakesWires (plan : Plan) (p : Plane) : Type 0 where
-  pub west : (i : ℕ) → i < length plan.ins
+  pub west : (i : ℕ) (x : ℤ) → i < length plan.ins → x ≤ℤ (pos (in_cell_of plan i).0 -ℤ pos 1)
       → IsFreeBeside p (pos (in_cell_of plan i).0, pos (in_cell_of plan i).1)
-      (pos (in_cell_of plan i).0 -ℤ pos 1, pos (in_cell_of plan i).1)
-  pub east : (i : ℕ) → i < length plan.outs
+      (x, pos (in_cell_of plan i).1)
+  pub east : (i : ℕ) (x : ℤ) → i < length plan.outs → (pos (out_cell_of plan i).0 +ℤ pos 1) ≤ℤ x
       → IsFreeBeside p (pos (out_cell_of plan i).0, pos (out_cell_of plan i).1)
-      (pos (out_cell_of plan i).0 +ℤ pos 1, pos (out_cell_of plan i).1)
+      (x, pos (out_cell_of plan i).1)
 
--- at most two cells are beside each entry of the tiles of a plan's body, which enter in row 8 or 24
+-- at most two cells are beside each entry of the tiles of a plan's body, which is in row 8 or 24 of
+-- the tile's cells
 pub record HasOpenEntries (library : Kind → Drawing) : Type 0 where
   pub east : cells_beside (library East) 7 ≤ 2
   pub upper : (instr : Instr) → cells_beside (library (kind_of instr)) 7 ≤ 2

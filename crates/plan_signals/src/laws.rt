@@ -19,13 +19,14 @@ pub fn plans_answer_each_row()
     ensures { PlansAnswerEachRow }
 {}
 
-/// A wire may end in the cell west of each input of an admissible plan, and begin in the one east of
-/// each output: nothing else is near.
+/// A wire may come to each input of an admissible plan from the west, and leave each output to the
+/// east, in the port's row of cells: nothing but the port's cell is near.
 pub fn ports_take_wires()
     ensures { PortsTakeWires }
 {}
 
-/// At most two cells are beside each entry of the kit's tiles, and none is above or below it.
+/// At most two cells are beside each entry of a body's tile in the kit, and none is above or below
+/// it.
 pub fn tiles_are_open()
     ensures { TilesAreOpen }
 {}

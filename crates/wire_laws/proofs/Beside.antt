@@ -43,7 +43,7 @@ is_tail _ = false
 Head≢Tail : Head ≢ Tail
 Head≢Tail e = true≢false (sym (ap is_tail e))
 
-Conductor≢Tail : Conductor ≢ Tail
+pub Conductor≢Tail : Conductor ≢ Tail
 Conductor≢Tail e = true≢false (sym (ap is_tail e))
 
 Empty≢Tail : Empty ≢ Tail

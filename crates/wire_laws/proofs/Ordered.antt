@@ -1,34 +1,67 @@
--- Parts that are moved, and parts whose ports stand in another order.
-use Rattle.std.proofs.Common.{ℤ, ℕ, zero, suc, ◌<◌, ◌≡◌, refl, sym, ap, ap₂, ◌∙◌, subst, inl, inr, Bool, false, List, [], ◌∷◌, ◌++◌, length, map, get_or, arith}
+-- Parts that are moved, what parts read, and parts whose ports stand in another order.
+use Rattle.std.proofs.Common.{ℤ, ◌+ℤ◌, ◌-ℤ◌, ℕ, zero, suc, ◌+◌, ◌*◌, ◌/◌, ◌<◌, ◌≡◌, refl, sym, ap, ap₂, ◌∙◌, subst, inl, inr, Bool, false, List, [], ◌∷◌, ◌++◌, length, map, get_or, arith}
 use Rattle.std.specs.Prelude.{Contains, ◌⊎◌, Some, slice_get}
 use Rattle.std.proofs.lemmas.Bool.{true≢false, false_from_ne_true}
+use Rattle.std.specs.Cmp.{both_ways}
+use Rattle.std.proofs.Math.Nat.{mul-div_cancel}
 use Rattle.std.proofs.lemmas.Option.{none-some, same_Some}
 use Rattle.std.proofs.lemmas.List.{length-map, get_or-map, get_or_default}
 use Rattle.lists.specs.Items.{number_at}
 use Rattle.lists.proofs.Members.{In, in_from, contains_from, in_left, in_right, in_parts}
 use Rattle.ww_rule.specs.Wireworld.{Plane}
-use Rattle.wire_laws.specs.Signals.{Signal, CarriesSignals}
+use Rattle.ww_rule.specs.Laws.{moved, mirrored}
+use Rattle.ww_rule.specs.DrivenLaws.{upside_down}
+use Rattle.ww_rule.specs.Turns.{turned}
+use Rattle.wire_laws.specs.Signals.{Signal, is_lit, CarriesSignals}
 use Rattle.wire_laws.specs.Rows.{Port, signal_of, signals_at, PartMeaning, IsPart, IsCausalMeaning, row_of_both}
-use Rattle.wire_laws.specs.Moved.{signal_at}
+use Rattle.wire_laws.specs.Moved.{signal_at, CarriesAlso}
 use Rattle.wire_laws.specs.PortWires.{nth_port}
-use Rattle.wire_laws.specs.PartLaws.{PartsMove, IsOrderOf, meaning_in_order, PartsTakeOrder, UnusedInputsGo}
-use Rattle.wire_laws.proofs.Lit.{lit_in}
-use Rattle.wire_laws.proofs.Rows.{port_signal, no_port, port_of_signal, signal_of_port}
+use Rattle.wire_laws.specs.PartLaws.{moved_port, IsPartAlso, PartsMove, PartsReadInputs, HasEachOnce, meaning_in_order, PartsTakeOrder, UnusedInputsGo}
+use Rattle.wire_laws.proofs.Lit.{lit_in, in_lit}
+use Rattle.wire_laws.proofs.Rows.{port_signal, no_port, port_of_signal, signal_of_port, same_signals}
+use Rattle.wire_laws.proofs.Moved.{carries_anywhere}
 use Rattle.wire_laws.proofs.Order.{order_is_free}
 use Rattle.wire_laws.proofs.Alike.{dark_inputs_may_go}
 use Rattle.wire_laws.proofs.Early.{signals_both}
-
-abbrev moved_port : (ℤ × ℤ → ℤ × ℤ) → Port → Port
-moved_port place port = (place port.0, port.1)
 
 ports_moved : (place : ℤ × ℤ → ℤ × ℤ) (ports : List Port) (bits : ℕ → ℕ → Bool) → signals_at (map (moved_port place) ports) bits ≡ map (signal_at place) (signals_at ports bits)
 ports_moved place [] bits = refl
 ports_moved place (port ∷ ports) bits =
     ap (λ rest. signal_of (moved_port place port) (λ t. bits t 0) ∷ rest) (ports_moved place ports (λ t i. bits t (suc i)))
 
-pub parts_move : PartsMove
-parts_move period place p q ins outs meaning also part bits =
+part_also : (place : ℤ × ℤ → ℤ × ℤ) (p q : Plane) → CarriesAlso place p q → IsPartAlso place p q
+part_also place p q also period ins outs meaning part bits =
     subst (λ signals. CarriesSignals period q signals (signals_at (map (moved_port place) outs) (meaning bits))) (sym (ports_moved place ins bits)) (subst (CarriesSignals period q (map (signal_at place) (signals_at ins bits))) (sym (ports_moved place outs (meaning bits))) (also period (signals_at ins bits) (signals_at outs (meaning bits)) (part bits)))
+
+pub parts_move : (p : Plane) → PartsMove p
+parts_move p =
+    let carries = carries_anywhere p in
+    record {
+      moves = λ a b. part_also (λ cell. (cell.0 +ℤ a, cell.1 +ℤ b)) p (moved a b p) (carries.moves a b);
+      mirrors = λ a. part_also (λ cell. (a -ℤ cell.0, cell.1)) p (mirrored a p) (carries.mirrors a);
+      mirrors_down = λ b. part_also (λ cell. (cell.0, b -ℤ cell.1)) p (upside_down b p) (carries.mirrors_down b);
+      turns = part_also (λ cell. (cell.1, cell.0)) p (turned p) carries.turns;
+    }
+
+-- a signal is lit at the beginning of a cycle exactly if its bit is 1
+lit_by_bit : (period : ℕ) → 0 < period → (s : Signal) (t : ℕ) → is_lit period s (s.first + t * period) ≡ s.bit t
+lit_by_bit period some s t =
+    both_ways _ _ (λ lit. (let c = lit_in period s (s.first + t * period) lit in
+    let when : s.first + t * period ≡ s.first + c.0 * period = c.1 in
+    let product : t * period ≡ c.0 * period = omega (arith, when) in
+    let cycle : t ≡ c.0 = sym (mul-div_cancel t some) ∙ ap (λ n. n / period) product ∙ mul-div_cancel c.0 some in
+    ap s.bit cycle ∙ c.2)) (λ bit. in_lit period s (s.first + t * period) t some refl bit)
+
+pub parts_read_inputs : PartsReadInputs
+parts_read_inputs period some p ins outs meaning part bits others same t o low =
+    let port = get_or outs o no_port in
+    let s = port_signal port (meaning bits) o in
+    let r = port_signal port (meaning others) o in
+    let run : CarriesSignals period p (signals_at ins bits) (signals_at outs (meaning others)) = subst (λ signals. CarriesSignals period p signals (signals_at outs (meaning others))) (sym (same_signals ins bits others same)) (part others) in
+    let among = λ (shown : ℕ → ℕ → Bool). contains_from (signals_at ins bits ++ signals_at outs shown) (port_signal port shown o) (in_right (signals_at ins bits) (signals_at outs shown) (port_signal port shown o) (signal_of_port outs shown o low)) in
+    let here = (part bits).shows s (among (meaning bits)) (port.1 + t * period) in
+    let there = run.shows r (among (meaning others)) (port.1 + t * period) in
+    sym (lit_by_bit period some s t) ∙ both_ways _ _ (λ e. there.0 (here.1 e)) (λ e. here.0 (there.1 e)) ∙ lit_by_bit period some r t
 
 got : (numbers : List ℕ) (i : ℕ) → i < length numbers → slice_get numbers i ≡ Some (get_or numbers i 0)
 got [] i l = absurd (omega arith)
@@ -40,7 +73,7 @@ number_of [] i n e = absurd (none-some n e)
 number_of (m ∷ numbers) zero n e = (omega arith, same_Some _ _ e)
 number_of (m ∷ numbers) (suc i) n e = let r = number_of numbers i n e in ((let l : i < length numbers = r.0 in omega arith), r.1)
 
-module _ (period : ℕ) (p : Plane) (ins outs : List Port) (meaning : PartMeaning) (inputs outputs : List ℕ) (home : ℕ → ℕ) (order : IsOrderOf (length ins) inputs home) (among : (o : ℕ) → Contains outputs o → o < length (outs ++ ins)) (part : IsPart period p ins outs meaning) (bits : ℕ → ℕ → Bool) where
+module _ (period : ℕ) (p : Plane) (ins outs : List Port) (meaning : PartMeaning) (inputs outputs : List ℕ) (home : ℕ → ℕ) (order : HasEachOnce (length ins) inputs home) (among : (o : ℕ) → Contains outputs o → o < length (outs ++ ins)) (part : IsPart period p ins outs meaning) (bits : ℕ → ℕ → Bool) where
   abbrev row : ℕ → ℕ → Bool
   row t i = bits t (home i)
 

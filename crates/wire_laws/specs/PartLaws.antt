@@ -1,13 +1,16 @@
--- Laws of parts: put side by side, moved, put in order, begun later, and known by what they show.
-use Rattle.std.specs.Prelude.{ℤ, pos, ◌+ℤ◌, ◌-ℤ◌, ℕ, ◌+◌, ◌<◌, ◌≤◌, ◌≡◌, ◌≢◌, ◌↔◌, true, false, List, ◌∷◌, ◌++◌, length, map, Some, slice_get, Contains}
+-- Laws of parts: put side by side, moved, put in order, begun later, and known by what they read
+-- and show.
+use Rattle.std.specs.Prelude.{ℤ, pos, ◌+ℤ◌, ◌-ℤ◌, ℕ, ◌+◌, ◌<◌, ◌≤◌, ◌≡◌, ◌≢◌, ◌↔◌, Bool, true, false, List, ◌∷◌, ◌++◌, length, map, Some, slice_get, Contains}
 use Rattle.lists.specs.Items.{number_at}
 use Rattle.ww_rule.specs.declared.pattern.State.{State}
 use Rattle.ww_rule.specs.declared.pattern.State.TheVariants.{Empty, Head, Tail}
 use Rattle.ww_rule.specs.Wireworld.{Plane, driven}
 use Rattle.ww_rule.specs.Injections.{MeetsConductors}
+use Rattle.ww_rule.specs.Laws.{moved, mirrored}
+use Rattle.ww_rule.specs.DrivenLaws.{upside_down}
+use Rattle.ww_rule.specs.Turns.{turned}
 use Rattle.wire_laws.specs.Signals.{Signal, cell_state, is_lit, due_of_signals, CarriesSignals}
 use Rattle.wire_laws.specs.Rows.{Port, PartMeaning, IsPart, IsCausalMeaning, HasNoElectrons, row_of_both}
-use Rattle.wire_laws.specs.Moved.{CarriesAlso}
 use Rattle.wire_laws.specs.PortWires.{nth_port}
 use Rattle.wire_laws.specs.Laws.{StandApart, side_by_side}
 
@@ -27,17 +30,35 @@ PartsUnite =
     × (IsCausalMeaning meaning → IsCausalMeaning second
     → IsCausalMeaning (both_meanings (length ins) (length outs) meaning second))
 
--- a part that is moved, mirrored or turned is a part (`CarriesAnywhere`)
-abbrev pub PartsMove : Type 0
-PartsMove =
-    (period : ℕ) (place : ℤ × ℤ → ℤ × ℤ) (p q : Plane) (ins outs : List Port)
-    (meaning : PartMeaning)
-    → CarriesAlso place p q → IsPart period p ins outs meaning
-    → IsPart period q (map (λ port. (place port.0, port.1)) ins)
-    (map (λ port. (place port.0, port.1)) outs) meaning
+-- the port in another cell
+abbrev pub moved_port : (ℤ × ℤ → ℤ × ℤ) → Port → Port
+moved_port place port = (place port.0, port.1)
+
+-- if the first plane is a part, the second is one with its meaning, and with its ports in the cells
+-- that these come to
+abbrev pub IsPartAlso : (ℤ × ℤ → ℤ × ℤ) → Plane → Plane → Type 0
+IsPartAlso place p q =
+    (period : ℕ) (ins outs : List Port) (meaning : PartMeaning) → IsPart period p ins outs meaning
+    → IsPart period q (map (moved_port place) ins) (map (moved_port place) outs) meaning
+
+-- a part may be moved, mirrored, and turned by an exchange of x and y
+pub record PartsMove (p : Plane) : Type 0 where
+  pub moves : (a b : ℤ) → IsPartAlso (λ cell. (cell.0 +ℤ a, cell.1 +ℤ b)) p (moved a b p)
+  pub mirrors : (a : ℤ) → IsPartAlso (λ cell. (a -ℤ cell.0, cell.1)) p (mirrored a p)
+  pub mirrors_down : (b : ℤ) → IsPartAlso (λ cell. (cell.0, b -ℤ cell.1)) p (upside_down b p)
+  pub turns : IsPartAlso (λ cell. (cell.1, cell.0)) p (turned p)
+
+-- Bits that are the same at the inputs of a part have the same bits at its outputs: a part reads no
+-- others.
+abbrev pub PartsReadInputs : Type 0
+PartsReadInputs =
+    (period : ℕ) → 0 < period → (p : Plane) (ins outs : List Port) (meaning : PartMeaning)
+    → IsPart period p ins outs meaning → (bits others : ℕ → ℕ → Bool)
+    → ((t i : ℕ) → i < length ins → bits t i ≡ others t i)
+    → (t o : ℕ) → o < length outs → meaning bits t o ≡ meaning others t o
 
 -- the list has each number below this one once: number i is at place `home i`
-pub record IsOrderOf (count : ℕ) (numbers : List ℕ) (home : ℕ → ℕ) : Type 0 where
+pub record HasEachOnce (count : ℕ) (numbers : List ℕ) (home : ℕ → ℕ) : Type 0 where
   pub each : (i : ℕ) → i < count → slice_get numbers (home i) ≡ Some i
   pub no_others : (place i : ℕ) → slice_get numbers place ≡ Some i
       → (i < count) × (home i ≡ place)
@@ -55,7 +76,7 @@ meaning_in_order outs home outputs meaning bits t o =
 abbrev pub PartsTakeOrder : Type 0
 PartsTakeOrder =
     (period : ℕ) (p : Plane) (ins outs : List Port) (meaning : PartMeaning)
-    (inputs outputs : List ℕ) (home : ℕ → ℕ) → IsOrderOf (length ins) inputs home
+    (inputs outputs : List ℕ) (home : ℕ → ℕ) → HasEachOnce (length ins) inputs home
     → ((o : ℕ) → Contains outputs o → o < length (outs ++ ins))
     → IsPart period p ins outs meaning
     → IsPart period p (map (nth_port ins) inputs) (map (nth_port (outs ++ ins)) outputs)

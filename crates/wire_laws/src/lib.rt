@@ -13,6 +13,6 @@ pub use laws::{
     stretched_are_slower, wires_delay, wires_feed,
 };
 pub use parts::{
-    parts_feed, parts_move, parts_start_later, parts_take_order, parts_unite, ready_by_count,
-    unused_inputs_go,
+    parts_feed, parts_move, parts_read_inputs, parts_start_later, parts_take_order, parts_unite,
+    ready_by_count, unused_inputs_go,
 };

@@ -1,5 +1,6 @@
 //! Laws of parts: each function does nothing, and its contract is the law.
-ghost use Rattle.wire_laws.specs.PartLaws.{PartsUnite, PartsMove, PartsTakeOrder, UnusedInputsGo, PartsStartLater, ReadyByCount};
+ghost use Rattle.ww_rule.specs.Wireworld.{Plane};
+ghost use Rattle.wire_laws.specs.PartLaws.{PartsUnite, PartsMove, PartsReadInputs, PartsTakeOrder, UnusedInputsGo, PartsStartLater, ReadyByCount};
 ghost use Rattle.wire_laws.specs.PortWires.{PartsFeed};
 
 /// Wires from outputs of a part to inputs of it make another part, without these inputs. Each wire
@@ -17,18 +18,23 @@ pub fn parts_unite()
     ensures { PartsUnite }
 {}
 
-/// A part that is moved, mirrored or turned is a part.
+/// A part may be moved, mirrored, and turned by an exchange of x and y.
 pub fn parts_move()
-    ensures { PartsMove }
+    ensures { (p : Plane) → PartsMove p }
 {}
 
-/// The inputs of a part may stand in any order, and its outputs too; outputs may be left out, and
-/// an input may be read like an output.
+/// What a part makes at its outputs depends on the bits of its inputs alone.
+pub fn parts_read_inputs()
+    ensures { PartsReadInputs }
+{}
+
+/// The inputs of a part may stand in any order, and its outputs too; outputs may be left out or
+/// stand twice, and an input may be read like an output.
 pub fn parts_take_order()
     ensures { PartsTakeOrder }
 {}
 
-/// An input of a part may be left without a drive, with bits that are 0.
+/// The first input of a part may be left without a drive: its bits are 0.
 pub fn unused_inputs_go()
     ensures { UnusedInputsGo }
 {}
