@@ -15,14 +15,13 @@ use Rattle.ww_rule.specs.Wireworld.{Plane, Due, next_plane, driven}
 use Rattle.ww_rule.specs.Grid.{plane_of}
 use Rattle.ww_rule.specs.Injections.{MeetsConductors, before_injections}
 use Rattle.ww_rule.proofs.DrivenPlanes.{is_causal}
-use Rattle.ww_rule.proofs.Streams.{streams_injected}
 use Rattle.wire_laws.specs.Signals.{Signal, is_lit, cell_state, due_of_signals, CarriesSignals}
 use Rattle.wire_laws.specs.Rows.{Port, signal_of, signals_at, row_of_both}
 use Rattle.wire_laws.specs.PartLaws.{cells_around}
 use Rattle.wire_laws.proofs.Lit.{lit_in, in_lit}
 use Rattle.wire_laws.proofs.Rows.{port_signal, no_port, port_of_signal, rows_are_signals}
 use Rattle.wire_laws.proofs.Early.{both_first, both_rest, signals_both, lit_same, due_same}
-use Rattle.wire_laws.proofs.Beside.{Conductor≢Tail, ready_by_count}
+use Rattle.wire_laws.proofs.Beside.{ready_by_count}
 use Rattle.pattern_reading.specs.declared.ports.Ports.{Ports}
 use Rattle.pattern_reading.specs.declared.ports.PortLine.{PortLine}
 use Rattle.pattern_reading.specs.declared.ports.NetLine.{NetLine}
@@ -161,16 +160,6 @@ module _ (text : List ℕ) (design : Design) (c : CarriesNets text design) (long
             ∙ ap (λ found. net_bit found (valuation (bits_of_rows rows) t)) at
             ∙ same_net (bits_of_rows rows) run t (restricted rows (bits_of_rows rows) run t lt (λ u le. rows_again rows are u (omega (arith, le, lt))) is) i net (get_or ports.nets i no_net_line) at (got_at ports.nets i no_net_line l));
       }
-
-  -- a row of ones meets a conductor at each IN cell
-  in_conducts : (i : ℕ) (line : PortLine) → slice_get ports.ins i ≡ Some line → plane (pos line.x) (pos line.y) ≡ Conductor
-  in_conducts i line at =
-      let ones : ℕ → ℕ → Bool = λ t i. true in
-      let got = got_is ports.ins i line line at in
-      let low : i < length (cells_of ports.ins) = (let l = got.0 in omega (arith, l, length-map ports.ins (λ line. (line.x, line.y)))) in
-      let cell : get_or (cells_of ports.ins) i (0, 0) ≡ (line.x, line.y) = get_or-map (λ line. (line.x, line.y)) ports.ins i line (0, 0) got.0 ∙ ap (λ line. (line.x, line.y)) got.1 in
-      let due : drive ports (rows_of k 1 ones) 0 (pos line.x) (pos line.y) ≡ true = (streams_injected period (cells_of ports.ins) (rows_of k 1 ones) 0 (pos line.x) (pos line.y)).1 (record { cycle = 0; input = i; in_time = refl; in_cells = low; one = bit_at k 1 ones 0 i (omega arith) got.0; column = ap (λ c. pos c.0) cell; line = ap (λ c. pos c.1) cell }) in
-      c.carried.shows.conductors (rows_of k 1 ones) (fits 1 ones) 0 (pos line.x) (pos line.y) due
 
   module _ (bits : ℕ → ℕ → Bool) where
     abbrev ins : List Signal
@@ -319,7 +308,7 @@ module _ (text : List ℕ) (design : Design) (c : CarriesNets text design) (long
     carried : CarriesSignals period plane ins (outs ++ nets)
     carried =
         ready_by_count period long_enough plane ins (outs ++ nets) (record { drawn = λ s among. (each_shown s among).0; shows = λ s among g. (each_shown s among).1 g }) meets (λ s among. (let of = in_line s among in
-        subst (λ s. cell_state plane s.cell ≢ Tail) (sym of.3) (λ tail. Conductor≢Tail (sym (in_conducts of.0 of.1 of.2) ∙ tail)))) (λ s among. (let of = in_line s among in
+        subst (λ s. cell_state plane s.cell ≢ Tail) (sym of.3) (open_lines.ins of.1 (contains_from ports.ins of.1 (in_got ports.ins of.0 of.1 of.2))).no_tail)) (λ s among. (let of = in_line s among in
         subst (λ s. cells_around plane s.cell.0 s.cell.1 ≤ 2) (sym of.3) (open_lines.ins of.1 (contains_from ports.ins of.1 (in_got ports.ins of.0 of.1 of.2))).few))
 
     pub part_carried : CarriesSignals period plane ins (signals_at (line_ports ports.l ports.outs ++ net_line_ports ports.nets) (meant bits))

@@ -2,7 +2,7 @@
 -- is a design's carries it.
 use Rattle.std.specs.Prelude.{pos, ℕ, ◌+◌, ◌<◌, ◌≤◌, ◌≡◌, ◌≢◌, Bool, List, [], ◌∷◌, ◌++◌, length, map, Contains, Some, None, slice_get}
 use Rattle.lists.specs.Items.{flag_at, list_at}
-use Rattle.ww_rule.specs.declared.pattern.State.TheVariants.{Empty, Conductor}
+use Rattle.ww_rule.specs.declared.pattern.State.TheVariants.{Empty, Tail, Conductor}
 use Rattle.ww_rule.specs.Wireworld.{Plane}
 use Rattle.ww_rule.specs.Grid.{Grid, plane_of}
 use Rattle.wire_laws.specs.Rows.{Port, PartMeaning, IsPart, IsCausalMeaning, AnswersEachRow}
@@ -44,10 +44,11 @@ pub record IsMeaningOf (design : Design) (seen : List Net) (meaning : PartMeanin
       → slice_get seen k ≡ Some net
       → meaning (bits_of_rows rows) t (length (main_outputs design) + k) ≡ run t net.place net.name
 
--- At most two cells are beside the cell of an IN line. The input's own net has a NET line, with the
--- same cell and offset 0.
+-- The cell of an IN line is no tail, and at most two cells are beside it. The input's own net has a
+-- NET line, with the same cell and offset 0.
 pub record IsOpenInput (ports : Ports) (seen : List Net) (p : Plane)
     (line : PortLine) : Type 0 where
+  pub no_tail : p (pos line.x) (pos line.y) ≢ Tail
   pub few : cells_around p (pos line.x) (pos line.y) ≤ 2
   pub number : ℕ
   pub net_line : NetLine
