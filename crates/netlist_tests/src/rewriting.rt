@@ -70,7 +70,7 @@ fn count_of(alloc: Global, lists: &[CellList], want: &str) -> Result<u64, AllocE
     Ok(count)
 }
 
-// Fails unless exactly four of the lists to which these cells and nets are rewritten have this
+// Fails unless exactly eight of the lists to which these cells and nets are rewritten have this
 // text, the first one among them. The sources in `kept` are kept.
 fn expect_lists(
     alloc: Global,
@@ -81,7 +81,7 @@ fn expect_lists(
 ) -> Result<(), Fail> {
     let list = list_of(alloc, cells, nets)?;
     let lists = rewritten(alloc, &list, kept)?;
-    expect_number(want, count_of(alloc, &lists, want)?, 4)
+    expect_number(want, count_of(alloc, &lists, want)?, 8)
 }
 
 // An XOR of two inputs as two AND-NOTs and an OR.
