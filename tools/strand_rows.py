@@ -10,7 +10,7 @@ from patterns import LANE, TILE
 from strands import SHAPES, SPACE, Strand
 
 LEAST_GAP = 2  # columns from a tile's exit to the next one's entry: a wire has a cell at least
-GAPS = (8, 12, 16)  # widths with which all gaps begin, before those are made narrow that need not be so wide
+GAPS = (6, 9, 12)  # widths with which all gaps begin, before those are made narrow that need not be so wide
 
 
 @dataclass
