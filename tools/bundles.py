@@ -121,13 +121,17 @@ class Bundle:
         return False
 
     def fit(self, wanted_for):
-        """Lays the wires in the thinnest bundle that is found; `wanted_for` gives the lengths that are wanted, by those without bumps."""
-        high, found = 0, []
-        while not found or high < 2 * found[0][1]:
+        """Lays the wires in the thinnest bundle that is found; `wanted_for` gives the lengths that are wanted, by those without bumps. Returns whether
+        there is one."""
+        high, found, most = 0, [], 0
+        while high <= most:
             if self.try_high(high, wanted_for):
                 found.append((self.thickness(), high))
+            lengths = self.lengths()
+            highest = max((want - length for want, length in zip(wanted_for(lengths), lengths)), default=0) // 2 + LEAST
+            most = 2 * found[0][1] if found else highest
             high = max(LEAST, high + 1 + high // 16)
-        self.try_high(min(found)[1], wanted_for)
+        return bool(found) and self.try_high(min(found)[1], wanted_for)
 
     def thickness(self):
         """Returns how far outward the wires go."""

@@ -85,11 +85,11 @@ class Drawing:
         ends = [self.points[self.entries[self.by_data[it.output].output()]][0] for it in exits]
         cycles = [len(self.by_data[it.output].starts) for it in exits]
         found = [self.laid_around(starts, ends, cycles, further) for further in (FURTHER if exits else ())]
-        _, self.period, ways = min(found, key=lambda it: it[0], default=(0, TILE, []))
+        _, self.period, ways = min(filter(None, found), key=lambda it: it[0], default=(0, TILE, []))
         self.ways = dict(zip((it.output for it in exits), ways))
 
     def laid_around(self, starts, ends, cycles, further):
-        """Returns the cells of the box, the least period, and ways around the north that take so many cycles."""
+        """Returns the cells of the box, the least period, and ways around the north that take so many cycles; None where there is no room for them."""
         ways, period = [], 0
         for number, (start, end) in enumerate(zip(starts, ends)):
             right, left = self.east + further + APART * (number + 1), -APART * (number + 1)
@@ -102,7 +102,8 @@ class Drawing:
             return [many * period - self.east for many in cycles]
 
         bundle = Bundle(lambda along, out: (-along, -out), APART + 1, ways)
-        bundle.fit(wanted)
+        if not bundle.fit(wanted):
+            return None
         return (self.east + further + 2 * APART * len(ends) + 1) * (self.rows.height() + bundle.thickness()), period, ways
 
     def cells_of(self, strand):
