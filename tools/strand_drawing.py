@@ -72,9 +72,9 @@ class Drawing:
         """Draws a tile with the cells at which it shows its strands."""
         shape = SHAPES[tile.kind]
         self.parts.append(Part(x, y + shape.top, TILE + 1, shape.bottom - shape.top + 1, TILE, x, TILE))
-        shown = [(TILE, LANE * number) for number, it in enumerate(tile.outs) if it]
-        for a, b in [*shape.cells, *shown]:
-            self.plane.put(x + a, y + b)
+        shown = [(TILE, LANE * number, 1) for number, it in enumerate(tile.outs) if it]
+        for a, b, length in [*shape.runs, *shown]:
+            self.plane.run(x + a, y + b, length)
 
     def add_registers(self, registers):
         """Leads the registers around, from where the circuit shows their data to where it takes their bits."""
