@@ -10,7 +10,8 @@ from patterns import LANE, TILE
 from strands import SHAPES, SPACE, Strand
 
 LEAST_GAP = 2  # columns from a tile's exit to the next one's entry: a wire has a cell at least
-GAPS = (6, 9, 12)  # widths with which all gaps begin, before those are made narrow that need not be so wide
+PATIENCE = 12  # times that each row is looked at, at most, in the mean
+GAPS = (8, 11, 14)  # widths with which all gaps begin, before those are made narrow that need not be so wide
 
 
 @dataclass
@@ -106,27 +107,28 @@ class Rows:
                     self.bound(slot.west, row, south - own, gap)
 
     def push(self, waiting, most):
-        """Moves rows south as the bounds of the rows that wait ask for. Returns the rows as they were that have moved; None where one would have to
-        be further south than there are rows: then none moves."""
+        """Moves rows south as the bounds of the rows that wait ask for. Returns whether it could; where one would have to be further south than there
+        are rows, or it takes too long, none moves."""
         rows, bounds, gaps, old = self.rows, self.bounds, self.gaps, {}
-        queue, queued = deque(waiting), set(waiting)
+        queue, queued, left = deque(waiting), set(waiting), PATIENCE * len(self.rows)
         while queue:
             row = queue.popleft()
             queued.discard(row)
+            left -= 1
             here = rows[row]
             for other, south, gap in bounds[row]:
                 least = here + south - (gaps[gap] if gap is not None else 0)
                 if least > rows[other]:
                     old.setdefault(other, rows[other])
                     rows[other] = least
-                    if least + self.south[other] >= most:
+                    if least + self.south[other] >= most or left < 0:
                         for it, was in old.items():
                             rows[it] = was
-                        return None
+                        return False
                     if other not in queued:
                         queued.add(other)
                         queue.append(other)
-        return old
+        return True
 
     def height(self):
         return max(row + south + 1 for row, south in zip(self.rows, self.south))
@@ -140,7 +142,7 @@ class Rows:
         self.gaps = [gap] * len(self.gaps)
         self.rows = list(self.first)
         most = 2 * LANE * max(len(it) for it in self.columns)
-        return self.push(range(len(self.first)), most) is not None
+        return self.push(range(len(self.first)), most)
 
     def tighten(self):
         """Makes each gap as narrow as the height lets it be."""
@@ -158,8 +160,8 @@ class Rows:
         low, high = LEAST_GAP, self.gaps[gap]
         while low < high:
             self.gaps[gap] = (low + high) // 2
-            if self.push(rows, most) is None:
-                low = self.gaps[gap] + 1
-            else:
+            if self.push(rows, most):
                 high = self.gaps[gap]
+            else:
+                low = self.gaps[gap] + 1
         self.gaps[gap] = high
