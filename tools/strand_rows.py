@@ -131,7 +131,7 @@ class Rows:
         return True
 
     def height(self):
-        return max(row + south + 1 for row, south in zip(self.rows, self.south))
+        return max((row + south + 1 for row, south in zip(self.rows, self.south)), default=0)
 
     def width(self):
         """Returns the columns of cells."""
