@@ -13,6 +13,7 @@ pub use laws::{
     stretched_are_slower, wires_delay, wires_feed,
 };
 pub use parts::{
-    parts_feed, parts_move, parts_read_inputs, parts_start_later, parts_take_order, parts_unite,
-    ready_by_count, unused_inputs_go,
+    lone_cells_are_parts, lone_cells_end_wires, outputs_begin_earlier, parts_begin_later,
+    parts_feed, parts_join, parts_lit_alike, parts_move, parts_read_inputs, parts_start_later,
+    parts_take_order, parts_unite, ready_by_count, unused_inputs_go,
 };
