@@ -6,8 +6,8 @@ use Rattle.wire_laws.specs.Rows.{Port, PartMeaning, IsPart, IsCausalMeaning, row
 use Rattle.wire_laws.specs.PortWires.{PortWire, HasPortWires, all_inputs, with_fed}
 use Rattle.wire_laws.specs.Laws.{IsLoneCell, StandApart, side_by_side}
 
--- what comes by each wire if the outputs show these bits: its start bits, and then the bits of its
--- output
+-- What comes by wires if the outputs show these bits, by cycle and by the number of the wire: its
+-- start bits, and then the bits of its output. Past the last wire it is 0.
 abbrev pub comes_by_wires : List PortWire → (shown : ℕ → ℕ → Bool) → ℕ → ℕ → Bool
 comes_by_wires [] shown t i = false
 comes_by_wires (wire ∷ wires) shown t zero =
@@ -15,8 +15,8 @@ comes_by_wires (wire ∷ wires) shown t zero =
 comes_by_wires (wire ∷ wires) shown t (suc i) = comes_by_wires wires shown t i
 
 -- The meaning of two parts, if wires lead from outputs of the first to the first inputs of the
--- second. The inputs and outputs of the first, so many, come first; the second's are those that
--- are left.
+-- second. The first part has so many inputs and outputs, which come first. After them come the
+-- second's inputs that are left, and all its outputs.
 abbrev pub joined_meaning : List PortWire → (ins outs : ℕ) → PartMeaning → PartMeaning
     → PartMeaning
 joined_meaning wires ins outs meaning second bits t =

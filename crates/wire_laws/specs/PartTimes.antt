@@ -1,5 +1,5 @@
--- Laws of the times of a part's ports: read by other ports and bits, and begun cycles later or
--- earlier.
+-- Laws of the times of a part's ports: other ports that are lit alike may stand for them, and they
+-- may begin cycles later or earlier.
 use Rattle.std.specs.Prelude.{ℕ, suc, ◌+◌, ◌*◌, ◌<◌, ◌≤◌, ◌≡◌, Bool, false, List, [], ◌∷◌, length}
 use Rattle.ww_rule.specs.Wireworld.{Plane}
 use Rattle.wire_laws.specs.Rows.{Port, signal_of, PartMeaning, IsPart, IsCausalMeaning, row_of_both}
@@ -8,24 +8,25 @@ use Rattle.wire_laws.specs.PortWires.{nth_port}
 
 -- Ports with their bits, and other ports with other bits: the two of each number are one cell, and
 -- lit at the same generations.
-pub record AreReadAlike (period : ℕ) (ports others : List Port)
+pub record ArePortsLitAlike (period : ℕ) (ports others : List Port)
     (bits other_bits : ℕ → ℕ → Bool) : Type 0 where
   pub count : length ports ≡ length others
   pub alike : (i : ℕ) → i < length ports
       → AreLitAlike period (signal_of (nth_port ports i) (λ t. bits t i))
       (signal_of (nth_port others i) (λ t. other_bits t i))
 
--- Other ports and bits may stand for a part's if they are lit alike: whatever the bits at the new
--- inputs are, they are lit as the part's inputs with the bits that `read` makes of them, and the
--- part's outputs are then lit as the new outputs with the bits of the second meaning. So may a
--- second meaning that has the same bits at each output.
+-- Other ports may stand for a part's if they are lit alike: the new inputs, whatever their bits
+-- are, as the part's inputs with the bits that `taken` makes of these, and the new outputs with the
+-- bits of the second meaning as the part's outputs with the bits of its own. So a second meaning
+-- may stand for the first if it has the same bits at each output. Whether later cycles count for
+-- the second meaning is not said.
 abbrev pub PartsLitAlike : Type 0
 PartsLitAlike =
     (period : ℕ) (p : Plane) (ins outs inputs outputs : List Port) (meaning second : PartMeaning)
-    (read : (ℕ → ℕ → Bool) → ℕ → ℕ → Bool)
-    → ((bits : ℕ → ℕ → Bool) → AreReadAlike period ins inputs (read bits) bits)
+    (taken : (ℕ → ℕ → Bool) → ℕ → ℕ → Bool)
+    → ((bits : ℕ → ℕ → Bool) → ArePortsLitAlike period ins inputs (taken bits) bits)
     → ((bits : ℕ → ℕ → Bool)
-    → AreReadAlike period outs outputs (meaning (read bits)) (second bits))
+    → ArePortsLitAlike period outs outputs (meaning (taken bits)) (second bits))
     → IsPart period p ins outs meaning → IsPart period p inputs outputs second
 
 -- each port begun so many cycles later
@@ -38,14 +39,17 @@ cycles_later period later (port ∷ ports) =
 abbrev pub held_back : (later : ℕ → ℕ) → (ℕ → ℕ → Bool) → ℕ → ℕ → Bool
 held_back later bits t i = row_of_both (later i) (λ u. false) (λ u. bits u i) t
 
--- what a meaning makes of bits that are held back, without the first bits of each output
-abbrev pub begun_meaning : (later outs_later : ℕ → ℕ) → PartMeaning → PartMeaning
-begun_meaning later outs_later meaning bits t o =
+-- what a meaning makes of bits that are held back so many cycles, without so many first bits of
+-- each output
+abbrev pub meaning_later : (later outs_later : ℕ → ℕ) → PartMeaning → PartMeaning
+meaning_later later outs_later meaning bits t o =
     meaning (held_back later bits) (outs_later o + t) o
 
--- Inputs of a part may begin some cycles later: the part takes it that their bits before are 0. So
--- may each output whose bits before are then 0. No later cycle comes to count if no output begins
--- more cycles later than any input. (An input may not begin earlier, since a part takes any bits.)
+-- Inputs of a part may begin some cycles later: before, the part gets 0 from them. So may an output
+-- if its bits before are then 0, whatever bits come. No later cycle comes to count if
+-- `outs_later o` is at most `later i` for all numbers o and i, also those past the last port, of
+-- which the two may say anything. (Of inputs that begin earlier it says nothing: these may bring
+-- bits in cycles in which the part is not known to take any.)
 abbrev pub PartsBeginLater : Type 0
 PartsBeginLater =
     (period : ℕ) → 0 < period → (p : Plane) (ins outs : List Port) (meaning : PartMeaning)
@@ -54,14 +58,14 @@ PartsBeginLater =
     → meaning (held_back later bits) t o ≡ false)
     → IsPart period p ins outs meaning
     → IsPart period p (cycles_later period later ins) (cycles_later period outs_later outs)
-    (begun_meaning later outs_later meaning)
+    (meaning_later later outs_later meaning)
     × (((i o : ℕ) → outs_later o ≤ later i) → IsCausalMeaning meaning
-    → IsCausalMeaning (begun_meaning later outs_later meaning))
+    → IsCausalMeaning (meaning_later later outs_later meaning))
 
--- outputs of a part may begin some cycles earlier: their bits before are 0
+-- outputs of a part may begin so many cycles earlier: in these cycles their bits are 0
 abbrev pub OutputsBeginEarlier : Type 0
 OutputsBeginEarlier =
     (period : ℕ) → 0 < period → (p : Plane) (ins outs : List Port) (meaning : PartMeaning)
-    (later : ℕ → ℕ) → IsPart period p ins (cycles_later period later outs) meaning
-    → IsPart period p ins outs (λ bits. held_back later (meaning bits))
-    × (IsCausalMeaning meaning → IsCausalMeaning (λ bits. held_back later (meaning bits)))
+    (earlier : ℕ → ℕ) → IsPart period p ins (cycles_later period earlier outs) meaning
+    → IsPart period p ins outs (λ bits. held_back earlier (meaning bits))
+    × (IsCausalMeaning meaning → IsCausalMeaning (λ bits. held_back earlier (meaning bits)))

@@ -47,39 +47,41 @@ pub fn parts_start_later()
 {}
 
 /// Other ports and bits may stand for those of a part, if the cells are the same and are lit at the
-/// same generations. So a meaning counts at the outputs alone.
+/// same generations. So a second meaning may stand for a part's, with the same bits at each output.
 pub fn parts_lit_alike()
     ensures { PartsLitAlike }
 {}
 
-/// Each input of a part may begin some cycles later, with bits that are 0 before. Each output may
-/// begin some cycles later if its bits are then 0 before. If all ports begin as many cycles later,
-/// still no later cycle counts.
+/// Each input of a part may begin some cycles later: before, the part gets 0 from it. Each output
+/// may begin some cycles later if its bits before are then 0. If no later cycle counts for the
+/// part, and no output begins more cycles later than an input, none counts then either.
 pub fn parts_begin_later()
     ensures { PartsBeginLater }
 {}
 
-/// Each output of a part may begin some cycles earlier, with bits that are 0 before: each of these
-/// cycles is like a latch that starts as 0.
+/// Each output of a part may begin some cycles earlier, with bits that are 0 in these cycles, as if
+/// it came by latches that start as 0. If no later cycle counts for the part, none counts then.
 pub fn outputs_begin_earlier()
     ensures { OutputsBeginEarlier }
 {}
 
-/// Two parts, and wires from outputs of the first to inputs of the second, are one part. Its
-/// meaning is the one after the other: no bits are fed back. If the first is a lone cell, it is an
-/// input, whose bits come to the second by a wire.
+/// Two parts that stand apart, and wires from outputs of the first to the first inputs of the
+/// second, are one part, with the outputs of both. The second gets what the first makes: by each
+/// wire its start bits, and then the bits of its output. Nothing is fed back, so the meaning can be
+/// written out. List a fed input among the second's outputs first if it is to be shown. A lone cell
+/// may be the first: then it is an input, whose bits come to the second by wires.
 pub fn parts_join()
     ensures { PartsJoin }
 {}
 
-/// A lone cell is a part: an input which is also the output.
+/// A lone cell is a part: an input, and an output that shows the same bits.
 pub fn lone_cells_are_parts()
     ensures { LoneCellsAreParts }
 {}
 
 /// A wire from an output of a part to a lone cell makes the cell one more output, which shows the
-/// output's bits so many generations later. So all outputs come to one latency. Another wire may
-/// begin there.
+/// wire's start bits and then the bits of the output. So early outputs can be brought to one
+/// latency, and another wire may begin there.
 pub fn lone_cells_end_wires()
     ensures { LoneCellsEndWires }
 {}
