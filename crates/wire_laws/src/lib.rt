@@ -1,7 +1,8 @@
 //! Laws of planes that carry signals, and of parts, which carry whatever bits come to their inputs:
 //! side by side, joined by wires, begun later, run more slowly.
 //!
-//! Theorem: `parts_feed`, `parts_unite`, `parts_start_later`, `answers_go_slower`.
+//! Theorem: `parts_feed`, `parts_unite`, `parts_join`, `parts_start_later`, `parts_begin_later`,
+//! `answers_go_slower`.
 #![tactic(auto)]
 
 mod laws;
