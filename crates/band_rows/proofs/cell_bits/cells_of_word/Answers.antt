@@ -1,4 +1,4 @@
-use Rattle.std.proofs.Common.{◌-◌, ◌*◌, ◌≡◌, ◌≤◌, sym, ◌∙◌, length, drop, arith}
+use Rattle.std.proofs.Common.{◌-◌, ◌*◌, sym, ◌∙◌, length, drop, arith}
 use Rattle.std.proofs.lemmas.List.{length-drop, take_all}
 use Rattle.band_rows.proofs.cell_bits.cells_of_word.Goals as goal
 

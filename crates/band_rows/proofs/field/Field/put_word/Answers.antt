@@ -1,4 +1,4 @@
-use Rattle.std.proofs.Common.{◌+◌, ◌<◌, ◌≡◌, refl, ap, sym, subst, ◌∙◌, List, ℕ, length, slice_set, arith}
+use Rattle.std.proofs.Common.{◌+◌, ◌<◌, ◌≡◌, refl, ap, sym, subst, ◌∙◌, length, slice_set, arith}
 use Rattle.std.proofs.lemmas.List.{length-set, with_items_is}
 use Rattle.lane_kernel.specs.PlaneRows.{place}
 use Rattle.band_rows.proofs.HeadPlaced.{word_within}
