@@ -47,17 +47,6 @@ closed_again old new closed unlisted size heads tails cells marks spare in_rows 
       tails = on_tails;
     }
 
--- nothing was put, since the cells are empty
-pub none_put : (field : Field) (cells : List State) (c k : ℕ) → IsClosed field → ((u : ℕ) → u / 64 ≡ c → state_in field u k ≡ row_cell cells (u % 64)) → HasWordPut cells c k field field
-none_put field cells c k closed same =
-    record {
-      closed = closed;
-      size = record { columns = refl; rows = refl; stride = refl };
-      marks = refl;
-      here = same;
-      other = λ u j lt ne. refl;
-    }
-
 module _ (old : Field) (c k : ℕ) (closed : IsClosed old) (unlisted : IsUnlisted old) (west : c < old.columns) (low : k < old.rows) (bits : CellBits) (on : IsOnCells bits) where
   abbrev spot : ℕ
   spot = place old.stride c (k + 1)

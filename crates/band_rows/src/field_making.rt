@@ -107,7 +107,8 @@ impl Field {
         put_bits(&mut self.heads, &mut self.tails, &mut self.cells, i, bits);
     }
 
-    // Gives the cells of row k, which are empty, their states.
+    // Gives the cells of row k, which are empty, their states. A row of empty cells is passed over
+    // at once, and so is a word of them.
     fn put_row(&mut self, k: usize, cells: &[State])
         requires closed { IsClosed self.old }
         requires unlisted { IsUnlisted self.old }
@@ -123,6 +124,9 @@ impl Field {
             → j ≢ k
             → state_in self.new u j ≡ state_in self.old u j }
     {
+        if !any_filled(cells) {
+            return;
+        }
         for c in 0..cells.len().div_ceil(64) {
             self.put_word(k, c, cells_of_word(cells, c));
         }
