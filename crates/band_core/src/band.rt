@@ -4,10 +4,10 @@ ghost use Rattle.std.specs.Prelude.{◌≡◌, ◌+◌, ◌<◌, ◌≤◌, ◌^
 ghost use Rattle.ww_rule.specs.Wireworld.{Plane, Due, injected};
 ghost use Rattle.ww_rule.specs.Injections.{has_cell};
 ghost use Rattle.band_rows.specs.Facing.{words_in};
-ghost use Rattle.band_rows.specs.Fields.{AreOfOneSize, IsClosed, ShowsField};
+ghost use Rattle.band_rows.specs.Fields.{AreOfOneSize, IsClosedField, ShowsField};
 ghost use Rattle.band_core.specs.Band.{AreInRows, IsBand, IsEvolution, ShowsBand, bottom_at, top_at, injected_cells};
 ghost use Rattle.band_core.specs.Beside.{HasRows, ShowBeside};
-ghost use Rattle.band_core.specs.Together.{HasRun};
+ghost use Rattle.band_core.specs.Together.{HasBandRun};
 
 use band_rows::{FacingRows, Field, PlaneRow};
 use ww_rule::Injection;
@@ -50,9 +50,9 @@ pub fn calm_count(generation: u64, injections: &[Injection], done: usize, most: 
 
 /// Makes the cells of injections heads, in a field from row y on. It takes no memory.
 pub fn inject(field: &mut Field, y: usize, due: &[Injection])
-    requires closed { IsClosed field.old }
+    requires closed { IsClosedField field.old }
     requires inside { AreInRows field.old.columns y field.old.rows due.now }
-    ensures closed { IsClosed field.new }
+    ensures closed { IsClosedField field.new }
     ensures size { AreOfOneSize field.old field.new }
     ensures tails { field.new.tails.items ≡ field.old.tails.items }
     ensures shows { (p : Plane)
@@ -136,12 +136,12 @@ impl Band {
     /// Goes on by at least one generation, and at most `most`, if in them no head lies beside the
     /// band and no injection is due, and returns by how many.
     pub fn run(&mut self, most: u64) -> u64
-        requires closed { IsClosed self.old.field }
+        requires closed { IsClosedField self.old.field }
         requires some { 0 < most }
         requires room { self.old.generation + most < 2 ^ 64 }
         ensures some { 0 < result }
         ensures few { result ≤ most }
-        ensures run { HasRun result self.old self.new }
+        ensures run { HasBandRun result self.old self.new }
     {
         let n = self.field.run(most);
         self.generation += n;

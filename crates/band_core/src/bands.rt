@@ -39,7 +39,7 @@ impl Model for Bands {
     ghost invariant = { IsHeld };
 }
 
-// How many columns of words rows of cells take, if all rows have one length.
+// How many word columns rows of cells take, if all rows have one length.
 fn columns_for(rows: &CellRows) -> usize
     ensures few { result ≤ 2 ^ 58 }
     ensures wide { (width : ℕ)

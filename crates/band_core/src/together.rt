@@ -1,9 +1,9 @@
 // Bands that all move on together.
 ghost use Rattle.std.specs.Prelude.{◌≡◌, ◌+◌, ◌<◌, ◌≤◌, ◌^◌, ◌↔◌, ℕ, All, true, length, slice_set};
 ghost use Rattle.ww_rule.specs.Wireworld.{Plane, Due};
-ghost use Rattle.band_rows.specs.Fields.{IsClosed};
+ghost use Rattle.band_rows.specs.Fields.{IsClosedField};
 ghost use Rattle.band_core.specs.Band.{AllShow, AreBands, CanMove, IsEvolution, generation_at, generations_of};
-ghost use Rattle.band_core.specs.Together.{CanMoveOn, HasNoneLit, HaveMovedOn, HaveRested, IsCalm, IsNarrowBand};
+ghost use Rattle.band_core.specs.Together.{CanMoveOn, HasNoneDueFor, HasNoneLit, HaveMovedOn, HaveRested, IsNarrowBand};
 
 use crate::band::Band;
 use crate::moving::{awake_cell, move_band, rest_band};
@@ -49,7 +49,7 @@ fn rest_all(bands: &mut [Band], n: u64)
 
 // Returns whether all bands are dark.
 fn are_dark(bands: &[Band]) -> bool
-    requires { All (λ band. IsClosed band.field) bands.now }
+    requires { All (λ band. IsClosedField band.field) bands.now }
     ensures { result ≡ true → All HasNoneLit bands.now }
 {
     for band in bands {
@@ -63,7 +63,7 @@ fn are_dark(bands: &[Band]) -> bool
 // Returns in how many of the next generations, of `most`, no injection is due.
 fn calm_generations(bands: &[Band], most: u64) -> u64
     ensures few { result ≤ most }
-    ensures calm { All (IsCalm result) bands.now }
+    ensures calm { All (HasNoneDueFor result) bands.now }
 {
     let mut calm = most;
     for band in bands {

@@ -7,11 +7,11 @@ use Rattle.std.proofs.Math.Bool.{and-false}
 use Rattle.ww_rule.specs.declared.pattern.State.{State}
 use Rattle.ww_rule.specs.declared.pattern.State.TheVariants.{Conductor, Empty, Head, Tail}
 use Rattle.lane_kernel.specs.Marked.{AreCleared, AreListed, AreOn}
-use Rattle.lane_kernel.specs.PlaneRows.{place, row_of, size_of, stride_of, IsInRow}
+use Rattle.lane_kernel.specs.PlaneRows.{place, row_in_plane, plane_size, stride_of, IsInRow}
 use Rattle.lane_kernel.specs.Rows.{is_set, row_state, state_of}
 use Rattle.band_rows.specs.declared.field.Field.{Field}
 use Rattle.band_rows.specs.declared.field.WordMarks.{WordMarks}
-use Rattle.band_rows.specs.Fields.{state_in, AreOfOneSize, HasCellPut, IsClosed, IsUnlisted}
+use Rattle.band_rows.specs.Fields.{field_state, AreOfOneSize, HasCellPut, IsClosedField, IsUnlisted}
 use Rattle.band_rows.proofs.HeadPlaced.{in_rows, on_placed, tails_placed, with_bit, within}
 use Rattle.band_rows.proofs.PlaceCells.{put_bit}
 
@@ -22,13 +22,13 @@ abbrev Room : WordMarks → Type 0
 Room m = m.many < length m.list.items
 
 -- with more cells, heads or tails and the same marks, which say nothing
-pub closed_again : (old new : Field) → IsClosed old → IsUnlisted old → AreOfOneSize old new
+pub closed_again : (old new : Field) → IsClosedField old → IsUnlisted old → AreOfOneSize old new
     → length new.heads.items ≡ length old.heads.items → length new.tails.items ≡ length old.tails.items → length new.cells.items ≡ length old.cells.items
     → new.marks ≡ old.marks → new.spare ≡ old.spare → ((i : ℕ) → get_or new.cells.items i 0 ≢ 0 → IsInRow old.columns old.rows i)
-    → AreOn new.cells.items new.heads.items → AreOn new.cells.items new.tails.items → IsClosed new
+    → AreOn new.cells.items new.heads.items → AreOn new.cells.items new.tails.items → IsClosedField new
 closed_again old new closed unlisted size heads tails cells marks spare in_rows on_heads on_tails =
     let is = closed.is in
-    let same : size_of old.columns old.rows ≡ size_of new.columns new.rows = sym (ap₂ size_of size.columns size.rows) in
+    let same : plane_size old.columns old.rows ≡ plane_size new.columns new.rows = sym (ap₂ plane_size size.columns size.rows) in
     record {
       is = record {
         stride = size.stride ∙ is.stride ∙ sym (ap stride_of size.rows);
@@ -84,34 +84,34 @@ at_places x k u j e =
     ]
 
 -- a state by the test is a state here, and the others as they were
-pub by_test : (state : State) (x k : ℕ) (old new : Field) → IsClosed new → AreOfOneSize old new → new.marks ≡ old.marks → k < old.rows
-    → ((u j : ℕ) → j < old.rows → state_in new u j ≡ cond (is_at x k u j) state (state_in old u j)) → HasCellPut state x k old new
+pub by_test : (state : State) (x k : ℕ) (old new : Field) → IsClosedField new → AreOfOneSize old new → new.marks ≡ old.marks → k < old.rows
+    → ((u j : ℕ) → j < old.rows → field_state new u j ≡ cond (is_at x k u j) state (field_state old u j)) → HasCellPut state x k old new
 by_test state x k old new closed size marks low cells =
     record {
       closed = closed;
       size = size;
       marks = marks;
-      here = cells x k low ∙ ap (λ b. cond b state (state_in old x k)) (at_itself x k);
-      other = λ u j lt ne. cells u j lt ∙ ap (λ b. cond b state (state_in old u j)) (at_other x k u j ne);
+      here = cells x k low ∙ ap (λ b. cond b state (field_state old x k)) (at_itself x k);
+      other = λ u j lt ne. cells u j lt ∙ ap (λ b. cond b state (field_state old u j)) (at_other x k u j ne);
     }
 
-module _ (old : Field) (x k : ℕ) (closed : IsClosed old) (unlisted : IsUnlisted old) (west : x / 64 < old.columns) (low : k < old.rows) (empty : state_in old x k ≡ Empty) where
+module _ (old : Field) (x k : ℕ) (closed : IsClosedField old) (unlisted : IsUnlisted old) (west : x / 64 < old.columns) (low : k < old.rows) (empty : field_state old x k ≡ Empty) where
   abbrev at : ℕ
   at = place old.stride (x / 64) (k + 1)
 
   abbrev bit : ℕ
   bit = 1 * 2 ^ (x % 64) % 2 ^ 64
 
-  empty_there : (u j : ℕ) → is_at x k u j ≡ true → state_in old u j ≡ Empty
-  empty_there u j e = let p = at_places x k u j e in ap₂ (state_in old) p.0 p.1 ∙ empty
+  empty_there : (u j : ℕ) → is_at x k u j ≡ true → field_state old u j ≡ Empty
+  empty_there u j e = let p = at_places x k u j e in ap₂ (field_state old) p.0 p.1 ∙ empty
 
   long : (plane : List ℕ) → length (with_bit plane at bit) ≡ length plane
   long plane = length-set plane at _
 
-  fits : (plane : List ℕ) → length plane ≡ size_of old.columns old.rows → at < length plane
+  fits : (plane : List ℕ) → length plane ≡ plane_size old.columns old.rows → at < length plane
   fits plane size = within old x k closed west low plane size
 
-  bits : (plane : List ℕ) → length plane ≡ size_of old.columns old.rows → (u j : ℕ) → j < old.rows → is_set (row_of old.columns old.stride (with_bit plane at bit) (j + 1)) u ≡ (is_at x k u j || is_set (row_of old.columns old.stride plane (j + 1)) u)
+  bits : (plane : List ℕ) → length plane ≡ plane_size old.columns old.rows → (u j : ℕ) → j < old.rows → is_set (row_in_plane old.columns old.stride (with_bit plane at bit) (j + 1)) u ≡ (is_at x k u j || is_set (row_in_plane old.columns old.stride plane (j + 1)) u)
   bits plane size u j lt =
       let s = closed.is.stride in
       put_bit old.columns old.stride plane x k west (omega (arith, low, s)) (fits plane size) u j (omega (arith, lt, s))
@@ -125,13 +125,13 @@ module _ (old : Field) (x k : ℕ) (closed : IsClosed old) (unlisted : IsUnliste
       (subst (λ c. AreOn c new.tails.items) (sym cells) (subst (AreOn (with_bit old.cells.items at bit)) (sym tails) (on_placed old.cells.items old.tails.items at bit (fits old.cells.items closed.is.long_cells) (fits old.tails.items closed.is.long_tails) closed.tails))))
       size marks low
       (λ u j lt.
-      let f = λ (columns stride : ℕ) (h t c : List ℕ). row_state (row_of columns stride h (j + 1)) (row_of columns stride t (j + 1)) (row_of columns stride c (j + 1)) u in
-      let h = is_set (row_of old.columns old.stride old.heads.items (j + 1)) u in
+      let f = λ (columns stride : ℕ) (h t c : List ℕ). row_state (row_in_plane columns stride h (j + 1)) (row_in_plane columns stride t (j + 1)) (row_in_plane columns stride c (j + 1)) u in
+      let h = is_set (row_in_plane old.columns old.stride old.heads.items (j + 1)) u in
       ap₂ (λ a b. f a b new.heads.items new.tails.items new.cells.items) size.columns size.stride
       ∙ ap₂ (λ h t. f old.columns old.stride h t new.cells.items) heads tails
       ∙ ap (f old.columns old.stride old.heads.items (with_bit old.tails.items at bit)) cells
       ∙ ap₂ (state_of h) (bits old.tails.items closed.is.long_tails u j lt) (bits old.cells.items closed.is.long_cells u j lt)
-      ∙ tail_state (is_at x k u j) h (is_set (row_of old.columns old.stride old.tails.items (j + 1)) u) (is_set (row_of old.columns old.stride old.cells.items (j + 1)) u) (empty_there u j))
+      ∙ tail_state (is_at x k u j) h (is_set (row_in_plane old.columns old.stride old.tails.items (j + 1)) u) (is_set (row_in_plane old.columns old.stride old.cells.items (j + 1)) u) (empty_there u j))
 
   pub wire_put : (new : Field) → AreOfOneSize old new → new.heads.items ≡ old.heads.items → new.tails.items ≡ old.tails.items → new.cells.items ≡ with_bit old.cells.items at bit → new.marks ≡ old.marks → new.spare ≡ old.spare → HasCellPut Conductor x k old new
   wire_put new size heads tails cells marks spare =
@@ -142,11 +142,11 @@ module _ (old : Field) (x k : ℕ) (closed : IsClosed old) (unlisted : IsUnliste
       (subst (λ c. AreOn c new.tails.items) (sym cells) (subst (AreOn (with_bit old.cells.items at bit)) (sym tails) (tails_placed old.cells.items old.tails.items at bit (fits old.cells.items closed.is.long_cells) closed.tails))))
       size marks low
       (λ u j lt.
-      let f = λ (columns stride : ℕ) (h t c : List ℕ). row_state (row_of columns stride h (j + 1)) (row_of columns stride t (j + 1)) (row_of columns stride c (j + 1)) u in
-      let h = is_set (row_of old.columns old.stride old.heads.items (j + 1)) u in
-      let t = is_set (row_of old.columns old.stride old.tails.items (j + 1)) u in
+      let f = λ (columns stride : ℕ) (h t c : List ℕ). row_state (row_in_plane columns stride h (j + 1)) (row_in_plane columns stride t (j + 1)) (row_in_plane columns stride c (j + 1)) u in
+      let h = is_set (row_in_plane old.columns old.stride old.heads.items (j + 1)) u in
+      let t = is_set (row_in_plane old.columns old.stride old.tails.items (j + 1)) u in
       ap₂ (λ a b. f a b new.heads.items new.tails.items new.cells.items) size.columns size.stride
       ∙ ap₂ (λ h t. f old.columns old.stride h t new.cells.items) heads tails
       ∙ ap (f old.columns old.stride old.heads.items old.tails.items) cells
       ∙ ap (state_of h t) (bits old.cells.items closed.is.long_cells u j lt)
-      ∙ wire_state (is_at x k u j) h t (is_set (row_of old.columns old.stride old.cells.items (j + 1)) u) (empty_there u j))
+      ∙ wire_state (is_at x k u j) h t (is_set (row_in_plane old.columns old.stride old.cells.items (j + 1)) u) (empty_there u j))

@@ -82,7 +82,7 @@ fn take_word(
     tell_word(tails, cells, stride, marks, i, word);
 }
 
-// Puts the words of a row into the r-th words of columns, which have no cells.
+// Puts the words of a row into the r-th words of word columns, which have no cells.
 fn take_row(
     heads: &mut [u64],
     tails: &[u64],
@@ -118,7 +118,7 @@ fn take_row(
     }
 }
 
-// Removes the r-th words of so many columns.
+// Removes the r-th words of so many word columns.
 fn clear_row(words: &mut [u64], columns: usize, stride: usize, r: usize)
     requires low { r < stride }
     requires within { (c : ℕ) → c < columns → place stride c r < length words.old }
@@ -131,11 +131,12 @@ fn clear_row(words: &mut [u64], columns: usize, stride: usize, r: usize)
 }
 
 impl Field {
-    ghost use Rattle.band_rows.specs.Fields.{AreOfOneSize, HasForgotten, HasSteppedBetween, HasTaken, IsBesideRows, IsClosed, IsField, ShowsField, TailsShow};
+    ghost use Rattle.band_rows.specs.Fields.{AreOfOneSize, HasForgotten, HasSteppedBetween, HasTaken, IsBesideRows, IsClosedField, IsPlaneField, ShowsField, TailsShow};
 
-    // Takes over the heads of a row that faces the field into the r-th words of its columns.
+    // Takes over the heads of a row that faces the field into the r-th words of its word
+    // columns.
     fn face(&mut self, row: &PlaneRow<'_>, r: usize)
-        requires is { IsField self.old }
+        requires is { IsPlaneField self.old }
         requires narrow { row.now.columns ≤ self.old.columns }
         requires beside { IsBesideRows self.old.rows r }
         ensures { HasTaken (words_in row.now) r self.old self.new }
@@ -151,9 +152,9 @@ impl Field {
         );
     }
 
-    // Removes the tails in the r-th words of so many columns.
+    // Removes the tails in the r-th words of so many word columns.
     fn forget(&mut self, columns: usize, r: usize)
-        requires is { IsField self.old }
+        requires is { IsPlaneField self.old }
         requires narrow { columns ≤ self.old.columns }
         requires beside { IsBesideRows self.old.rows r }
         ensures { HasForgotten columns r self.old self.new }
@@ -163,7 +164,7 @@ impl Field {
 
     // Goes on as `step_between` does, from marks that were looked at.
     fn step_faced(&mut self, facing: &FacingRows<'_>)
-        requires closed { IsClosed self.old }
+        requires closed { IsClosedField self.old }
         requires above { facing.now.above.columns ≤ self.old.columns }
         requires below { facing.now.below.columns ≤ self.old.columns }
         ensures { HasSteppedBetween
@@ -181,10 +182,10 @@ impl Field {
     /// Goes on by one generation between two rows of heads. The tails are then the heads that the
     /// field had.
     pub fn step_between(&mut self, facing: &FacingRows<'_>)
-        requires closed { IsClosed self.old }
+        requires closed { IsClosedField self.old }
         requires above { facing.now.above.columns ≤ self.old.columns }
         requires below { facing.now.below.columns ≤ self.old.columns }
-        ensures closed { IsClosed self.new }
+        ensures closed { IsClosedField self.new }
         ensures size { AreOfOneSize self.old self.new }
         ensures tails { (p : Plane) (y : ℤ) → ShowsField self.old p y → TailsShow self.new p y }
         ensures shows { (p : Plane) (y : ℤ)

@@ -1,7 +1,7 @@
 -- Marks of the words of a plane that may change: a byte for each word, and a list of the marked words.
 use Rattle.std.specs.Prelude.{ℕ, ◌<◌, ◌≤◌, ◌≡◌, ◌≢◌, ◌⊎◌, Bool, true, false, List, length, get_or}
 use Rattle.std.specs.Int.RustNames.{bit_and}
-use Rattle.lane_kernel.specs.Around.{Way, beside, near_heads, free_of, next_word, IsCalm, IsInner}
+use Rattle.lane_kernel.specs.Around.{Way, beside, near_heads, free_of, next_word, StepsAlone, IsInner}
 use Rattle.lane_kernel.specs.Around.Way.{north, south, west, east, north_west, north_east, south_west, south_east}
 
 -- a number stands in a list, from one place up to another
@@ -23,7 +23,7 @@ pub record AreListed (stride : ℕ) (bytes list : List ℕ) (many : ℕ) : Type 
 pub record IsMarked (stride : ℕ) (heads tails cells bytes : List ℕ) : Type 0 where
   pub dark : (i : ℕ) → get_or bytes i 0 ≡ 0
       → (get_or cells i 0 ≡ 0) ⊎ ((get_or heads i 0 ≡ 0) × (get_or tails i 0 ≡ 0))
-  pub calm : (i : ℕ) → get_or bytes i 0 < 2 → IsCalm stride heads tails cells i
+  pub calm : (i : ℕ) → get_or bytes i 0 < 2 → StepsAlone stride heads tails cells i
 
 -- all marks are cleared
 abbrev pub AreCleared : List ℕ → Type 0
@@ -75,7 +75,7 @@ AreOn cells words = (i : ℕ) → bit_and (get_or cells i 0) (get_or words i 0) 
 pub record IsUnderWay (stride : ℕ) (heads old_tails cells entries : List ℕ) (entry : ℕ)
     (tails bytes soon : List ℕ) : Type 0 where
   pub old : (i : ℕ) → get_or bytes i 0 ≢ 0 → get_or tails i 0 ≡ get_or old_tails i 0
-  pub calm : (i : ℕ) → get_or bytes i 0 ≡ 1 → IsCalm stride heads old_tails cells i
+  pub calm : (i : ℕ) → get_or bytes i 0 ≡ 1 → StepsAlone stride heads old_tails cells i
   pub left : (i : ℕ) → get_or bytes i 0 ≢ 0 → IsAmong entries entry (length entries) i
   pub done : (i : ℕ) → get_or bytes i 0 ≡ 0
       → get_or tails i 0 ≡ next_word stride heads old_tails cells i

@@ -12,5 +12,5 @@ mod word_marks;
 mod words;
 
 pub use rows::step_rows;
-pub use stepping::{mark_all, step_all, step_listed};
+pub use stepping::{mark_words, step_all, step_listed};
 pub use word_marks::{BESIDE, Free, mark, tell_around};

@@ -1,4 +1,4 @@
-// Words of a plane, in columns.
+// Words of a plane, in word columns.
 ghost use Rattle.std.specs.Prelude.{◌≡◌, ◌+◌, ◌-◌, ◌<◌, ◌≤◌, ◌≢◌, ℕ, length};
 ghost use Rattle.lists.specs.Items.{number_at};
 ghost use Rattle.lane_kernel.specs.Around.{free_of, heads_alone, next_word, wires_of, AreNextWords, IsInner};

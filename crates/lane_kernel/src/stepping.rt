@@ -1,7 +1,7 @@
 // One generation of the marked words of a plane.
 ghost use Rattle.std.specs.Prelude.{◌≡◌, ◌≢◌, ◌⊎◌, ◌+◌, ◌<◌, ◌≤◌, ◌^◌, ℕ, List, length};
 ghost use Rattle.lists.specs.Items.{number_at};
-ghost use Rattle.lane_kernel.specs.Around.{next_word, IsCalm, IsFramed, IsInner};
+ghost use Rattle.lane_kernel.specs.Around.{next_word, StepsAlone, IsFramed, IsInner};
 ghost use Rattle.lane_kernel.specs.Marked.{AreCleared, AreListed, AreMore, AreOn, AreTold, IsAmong, IsMarked, IsUnderWay};
 
 use crate::planes::{heads_alone, next_word, next_words, wires_of};
@@ -26,7 +26,7 @@ fn stepped_word(
     requires inner { IsInner stride (length heads.now) i }
     requires tails { length tails.now ≡ length heads.now }
     requires cells { length cells.now ≡ length heads.now }
-    requires calm { byte ≡ 1 → IsCalm stride heads.now tails.now cells.now i }
+    requires calm { byte ≡ 1 → StepsAlone stride heads.now tails.now cells.now i }
     ensures { result ≡ next_word stride heads.now tails.now cells.now i }
 {
     if byte == LIT {
@@ -86,7 +86,7 @@ fn step_entry(
     requires bytes { length bytes.old ≡ length coming.now.cells.now }
     requires soon { length soon.old ≡ length coming.now.cells.now }
     requires calm { number_at bytes.old (number_at entries.now k) ≡ 1
-        → IsCalm coming.now.stride
+        → StepsAlone coming.now.stride
         coming.now.tails.now tails.old coming.now.cells.now (number_at entries.now k) }
     requires listed { AreListed coming.now.stride soon.old list.old many }
     ensures tails { length tails.new ≡ length tails.old }
@@ -171,7 +171,7 @@ pub fn step_all(coming: &Free<'_>, tails: &mut [u64])
 }
 
 /// Marks the words of a plane that may change, and returns how many are listed.
-pub fn mark_all(free: &Free<'_>, heads: &[u64], bytes: &mut [u8], list: &mut [usize]) -> usize
+pub fn mark_words(free: &Free<'_>, heads: &[u64], bytes: &mut [u8], list: &mut [usize]) -> usize
     requires heads { length heads.now ≡ length free.now.cells.now }
     requires bytes { length bytes.old ≡ length free.now.cells.now }
     requires size { free.now.stride + free.now.stride + 2 ≤ length free.now.cells.now }

@@ -14,7 +14,8 @@ pub const LIT: u8 = 1;
 /// The mark of a word beside one of whose cells a head of another word stands.
 pub const BESIDE: u8 = 2;
 
-/// The cells of a plane and those that are tails; a column has `stride` words.
+/// The cells of a plane and those that are tails; a word column has
+/// `stride` words.
 #[derive(Clone, Copy)]
 pub struct Free<'a> {
     pub tails: &'a [u64],

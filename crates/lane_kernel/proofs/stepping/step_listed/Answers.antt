@@ -1,11 +1,11 @@
 use Rattle.std.proofs.Common.{ℕ, ◌≡◌, refl, ap, subst, ◌∙◌, List, length, get_or, arith}
 use Rattle.std.specs.Int.RustNames.{bit_and}
-use Rattle.lane_kernel.specs.Around.{beside, free_of, near_heads, IsCalm}
+use Rattle.lane_kernel.specs.Around.{beside, free_of, near_heads, StepsAlone}
 use Rattle.lane_kernel.specs.Marked.{IsUnderWay}
 use Rattle.lane_kernel.proofs.UnderWay.{begun, ended, none_left}
 use Rattle.lane_kernel.proofs.stepping.step_listed.Goals as goal
 
-same_calm : (stride : ℕ) (heads t t' cells : List ℕ) (i : ℕ) → get_or t i 0 ≡ get_or t' i 0 → IsCalm stride heads t' cells i → IsCalm stride heads t cells i
+same_calm : (stride : ℕ) (heads t t' cells : List ℕ) (i : ℕ) → get_or t i 0 ≡ get_or t' i 0 → StepsAlone stride heads t' cells i → StepsAlone stride heads t cells i
 same_calm stride heads t t' cells i e calm way = ap (λ w. bit_and (near_heads way (get_or heads (beside stride way i) 0)) (free_of (get_or cells i 0) w)) e ∙ calm way
 
 pub loop-k-init : goal.loop-k-init

@@ -4,7 +4,7 @@ use Rattle.std.proofs.lemmas.Bool.{cases_eq, cases_lt}
 use Rattle.std.proofs.lemmas.List.{get_or_past}
 use Rattle.ww_rule.specs.declared.pattern.State.TheVariants.{Empty}
 use Rattle.ww_rule.specs.Grid.{row_cell}
-use Rattle.band_rows.specs.Fields.{state_in, IsUnlisted}
+use Rattle.band_rows.specs.Fields.{field_state, IsUnlisted}
 use Rattle.band_rows.specs.declared.field.WordMarks.{WordMarks}
 use Rattle.band_rows.proofs.GoneOn.{same_size}
 use Rattle.band_rows.proofs.field.Field.put_row.Goals as goal
@@ -39,7 +39,7 @@ loop-x-preserved c =
       size = same_size v.size e.size;
       done = λ u lt.
           elim (cases_eq u n) [
-            | inl q ↦ ap (λ u. state_in c.put_cell.new.self u c.args.k) q ∙ e.here ∙ sym (ap (row_cell c.args.cells.now) q)
+            | inl q ↦ ap (λ u. field_state c.put_cell.new.self u c.args.k) q ∙ e.here ∙ sym (ap (row_cell c.args.cells.now) q)
             | inr ne ↦ e.other u c.args.k here (λ same. absurd (ne same)) ∙ v.done u (omega (arith, lt, ne))
           ];
       left = λ u le.
