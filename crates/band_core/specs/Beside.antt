@@ -8,7 +8,7 @@ use Rattle.band_rows.specs.Rows.{ShowsHeads}
 use Rattle.band_core.specs.declared.band.Band.{Band}
 use Rattle.band_core.specs.Band.{bottom_at, top_at}
 
--- a band whose field has rows
+-- a band whose field has its form, and has rows
 pub record HasRows (band : Band) : Type 0 where
   pub is : IsPlaneField band.field
   pub some : 0 < band.field.rows

@@ -44,7 +44,7 @@ HasNoneDueFor n band =
     AreInOrderFrom (band.generation + 1) (drop band.done band.injections.items)
     → AreInOrderFrom (band.generation + n + 1) (drop band.done band.injections.items)
 
--- a band's field has few word columns
+-- a band's field is closed, and has few word columns
 pub record IsNarrowBand (band : Band) : Type 0 where
   pub closed : IsClosedField band.field
   pub few : band.field.columns ≤ 2 ^ 58

@@ -13,7 +13,8 @@ use band_rows::{FacingRows, Field, PlaneRow};
 use ww_rule::Injection;
 
 /// A band: a field of its rows at a generation, and the band's injections, of which the first
-/// `done` are done. The tails are the heads that the rows had one generation ago.
+/// `done` are done. The tails are the heads that the rows had one generation ago; at generation 0
+/// they are the drawn ones.
 #[derive(Drop)]
 pub struct Band {
     pub field: Field,
@@ -33,8 +34,8 @@ pub fn due_count(generation: u128, injections: &[Injection]) -> usize
         .count()
 }
 
-/// Returns in how many of the generations after this one, of `most`, no injection of a list is due,
-/// if the first `done` are done and the others are of later generations, in order.
+/// Returns a number of generations after this one, at most `most`, in none of which an injection of
+/// a list is due, if the first `done` are done and the others are of later generations, in order.
 pub fn calm_count(generation: u64, injections: &[Injection], done: usize, most: u64) -> u64
     ensures few { result ≤ most }
     ensures later { AreInOrderFrom (generation + 1) (drop done injections.now)
@@ -111,7 +112,8 @@ impl Band {
         self.done += count;
     }
 
-    /// Returns in how many of the next generations, of `most`, no injection of the band is due.
+    /// Returns a number of generations, at most `most`; in none of the next so many an injection of
+    /// the band is due.
     pub fn calm_generations(&self, most: u64) -> u64
         ensures few { result ≤ most }
         ensures later { AreInOrderFrom (self.now.generation + 1)

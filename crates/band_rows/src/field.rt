@@ -5,7 +5,7 @@ ghost use Rattle.ww_rule.specs.Wireworld.{Plane, next_plane};
 ghost use Rattle.std.specs.Int.RustNames.{bit_or};
 ghost use Rattle.ww_rule.specs.declared.pattern.State.TheVariants.{Head};
 ghost use Rattle.lane_kernel.specs.Around.{next_word, IsFramed, IsInner};
-ghost use Rattle.lane_kernel.specs.Marked.{AreCleared, AreListed, AreMore, AreOn, AreTold, IsMarked};
+ghost use Rattle.lane_kernel.specs.Marked.{AreCleared, AreListed, AreMore, AreOn, AreTold, IsMarked, beside_mark};
 ghost use Rattle.lists.specs.Bits.{has_bit};
 ghost use Rattle.lane_kernel.specs.Rows.{state_of};
 ghost use Rattle.lane_kernel.specs.PlaneRows.{HasDarkSides};
@@ -15,11 +15,12 @@ use lane_kernel::{BESIDE, Free, mark, mark_words, step_all, step_listed, tell_ar
 use std::mem;
 use ww_rule::State;
 
-/// After so many generations with a full list the marks are made again.
+/// After so many calls with a full list the marks are made again, if few words are lit.
 pub const WAIT: u32 = 64;
 
-/// Marks of the words of a plane: a byte for each word, and the first `many` numbers of `list` are
-/// places of words with a mark. If the list is full, neither says anything.
+/// Marks of the words of a plane: a byte for each word, and places of words, of which the first
+/// `many` of `list` count. Unless the list is full, each word with a mark is among them. If it is
+/// full, some words that may change may have no mark.
 #[derive(Drop)]
 pub struct WordMarks {
     pub bytes: Vec<u8>,
@@ -30,9 +31,10 @@ pub struct WordMarks {
 /// Rows of cells in word columns, 64 cells to a word: planes of heads, of tails, and of all cells
 /// that are not empty. Each word column has a word above its rows and one below them, which makes
 /// `stride` words. The planes have a word column more on each side, and a word before and one after
-/// all of them. `marks` are those of the words
-/// that may change, and the spare ones are cleared. While the list is full, `wait` counts the
-/// generations until the marks are made again.
+/// all of them. A cell with the bits of a head and of a tail is a head. `marks` are those of the
+/// words that may change. The bytes of the spare marks are cleared, and their list does not count.
+/// While the list of `marks` is full, `wait` counts the calls of `settle` until these are made
+/// again, if few words are lit then.
 #[derive(Drop)]
 pub struct Field {
     pub columns: usize,
@@ -130,7 +132,7 @@ pub fn set_bits(heads: &mut [u64], cells: &mut [u64], i: usize, b: usize)
     cells[i] |= 1 << b;
 }
 
-// WordMarks a word that got a head, and those beside which its heads stand.
+// Marks a word that got a head, and those beside which its heads stand.
 fn mark_head(
     heads: &[u64],
     tails: &[u64],
@@ -149,7 +151,7 @@ fn mark_head(
     ensures long_list { length now.new.list.items ≡ length now.old.list.items }
     ensures listed { AreListed stride now.new.bytes.items now.new.list.items now.new.many }
     ensures more { AreMore now.old.bytes.items now.new.bytes.items }
-    ensures here { 2 ≤ number_at now.new.bytes.items i }
+    ensures here { beside_mark ≤ number_at now.new.bytes.items i }
     ensures told { AreTold stride (number_at heads.now i) i tails.now cells.now now.new.bytes.items }
 {
     let free = Free {
@@ -366,7 +368,8 @@ impl Field {
         state_of(head, tail, cell)
     }
 
-    /// Makes the marks again, if the list has been full for some generations and few words are lit.
+    /// Makes the marks again, if the list has been full in some calls and few words are lit. No cell
+    /// changes.
     pub fn settle(&mut self)
         requires closed { IsClosedField self.old }
         ensures closed { IsClosedField self.new }

@@ -35,7 +35,7 @@ impl Field {
         }
     }
 
-    /// Returns the tails of row k.
+    /// Returns the tails of row k. A cell that has a head's bit too is a head.
     pub fn tails_in_row(&self, k: usize) -> PlaneRow<'_>
         requires is { IsPlaneField self.now }
         requires row { k < self.now.rows }
@@ -50,7 +50,7 @@ impl Field {
         }
     }
 
-    /// Returns whether no word has a mark; then no cell is a head or a tail.
+    /// Returns true only if no cell is a head or a tail: if the list has room and no entry.
     pub fn is_dark(&self) -> bool
         requires closed { IsClosedField self.now }
         ensures { result ≡ true → IsDarkField self.now }

@@ -112,7 +112,8 @@ impl Field {
     }
 
     /// Goes on by at least one generation, and at most `most`, with no heads beside the field, and
-    /// returns by how many. It stops where the field is dark.
+    /// returns by how many. It may stop earlier: where the field is dark, where the list is full, and
+    /// where one generation is left.
     pub fn run(&mut self, most: u64) -> u64
         requires closed { IsClosedField self.old }
         requires some { 0 < most }
