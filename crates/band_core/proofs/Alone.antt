@@ -7,7 +7,7 @@ use Rattle.ww_rule.specs.declared.pattern.State.TheVariants.{Head}
 use Rattle.ww_rule.specs.Wireworld.{Plane, Due, next_plane}
 use Rattle.ww_rule.proofs.Due.{from_earlier}
 use Rattle.band_rows.specs.Fields.{GoOnAlone, ShowsField, TailsShow}
-use Rattle.band_rows.specs.Rows.{ShowsHeads}
+use Rattle.lane_kernel.specs.PlaneRows.{ShowsHeads}
 use Rattle.band_core.specs.declared.band.Band.{Band}
 use Rattle.band_core.specs.Band.{AreDueIn, AreInRows, IsBand, IsEvolution, ShowsBand, generation_at, rows_in_band}
 use Rattle.band_core.specs.Together.{CanMoveOn, HasBandRun, HaveMovedOn, HasNoneDueFor}

@@ -5,13 +5,12 @@ use Rattle.std.proofs.lemmas.Bool.{eq-eqb, ne_eqb}
 use Rattle.std.proofs.lemmas.List.FromFn.{length-map-range_with_len}
 use Rattle.ww_rule.specs.Wireworld.{Plane}
 use Rattle.lane_kernel.specs.Rows.{is_set, state_of}
-use Rattle.lane_kernel.specs.PlaneRows.{place, row_in_plane}
+use Rattle.lane_kernel.specs.PlaneRows.{place, row_in_plane, ShowsHeads}
 use Rattle.band_rows.specs.declared.field.Field.{Field}
 use Rattle.band_rows.specs.declared.plane_row.PlaneRow.{PlaneRow}
 use Rattle.band_rows.specs.Facing.{words_in}
 use Rattle.band_rows.specs.Fields.{AreOfOneSize, IsDarkField, ShowsField, TailsShow, field_heads, field_state, field_tails}
-use Rattle.band_rows.specs.Rows.{ShowsHeads}
-use Rattle.band_rows.proofs.Bands.{heads_shown}
+use Rattle.lane_kernel.proofs.Places.{heads_of_row}
 use Rattle.band_core.specs.declared.band.Band.{Band}
 use Rattle.band_core.specs.Band.{bottom_at, top_at}
 
@@ -24,7 +23,7 @@ narrow_row row columns le = let l = long_row row.columns row.stride row.plane.no
 
 pub heads_show : (field : Field) (p : Plane) (y : ℤ) (k : ℕ) → k < field.rows → ShowsField field p y → ShowsHeads (field_heads field (k + 1)) p (y +ℤ pos k)
 heads_show field p y k lt shows =
-    heads_shown (field_heads field (k + 1)) (field_tails field (k + 1)) (row_in_plane field.columns field.stride field.cells.items (k + 1)) p (y +ℤ pos k) (λ x. shows k x lt)
+    heads_of_row (field_heads field (k + 1)) (field_tails field (k + 1)) (row_in_plane field.columns field.stride field.cells.items (k + 1)) p (y +ℤ pos k) (λ x. shows k x lt)
 
 -- what the third plane of a field says of a cell
 abbrev pub cell_set : Field → (x k : ℕ) → Bool

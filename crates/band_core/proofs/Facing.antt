@@ -13,7 +13,7 @@ use Rattle.ww_rule.specs.declared.pattern.State.TheVariants.{Empty}
 use Rattle.ww_rule.specs.Wireworld.{Plane, Due, count_head}
 use Rattle.lane_kernel.specs.Rows.{state_of}
 use Rattle.band_rows.specs.Fields.{field_heads, field_tails}
-use Rattle.band_rows.specs.Rows.{ShowsHeads}
+use Rattle.lane_kernel.specs.PlaneRows.{ShowsHeads}
 use Rattle.band_rows.proofs.Parts.{IsParted, many, at_before, at_after}
 use Rattle.band_rows.proofs.Marks.{none_set}
 use Rattle.band_core.specs.declared.band.Band.{Band}

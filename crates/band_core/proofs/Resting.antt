@@ -12,7 +12,7 @@ use Rattle.lane_kernel.specs.Rows.{is_set, state_of}
 use Rattle.lane_kernel.proofs.Counting.{count_is}
 use Rattle.band_rows.specs.declared.field.Field.{Field}
 use Rattle.band_rows.specs.Fields.{IsClosedField, ShowsField, TailsShow, field_heads, field_tails}
-use Rattle.band_rows.specs.Rows.{ShowsHeads}
+use Rattle.lane_kernel.specs.PlaneRows.{ShowsHeads}
 use Rattle.band_core.specs.declared.band.Band.{Band}
 use Rattle.band_core.specs.Band.{AreUnlit, AreDueIn, AreInRows, HasNoneDue, IsBand, IsEvolution, IsQuiet, ShowsBand}
 use Rattle.band_core.proofs.BandFields.{cell_set, dark_state}

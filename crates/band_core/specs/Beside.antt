@@ -4,7 +4,7 @@ use Rattle.ww_rule.specs.Wireworld.{Plane}
 use Rattle.band_rows.specs.declared.plane_row.FacingRows.{FacingRows}
 use Rattle.band_rows.specs.Facing.{words_in}
 use Rattle.band_rows.specs.Fields.{IsPlaneField}
-use Rattle.band_rows.specs.Rows.{ShowsHeads}
+use Rattle.lane_kernel.specs.PlaneRows.{ShowsHeads}
 use Rattle.band_core.specs.declared.band.Band.{Band}
 use Rattle.band_core.specs.Band.{bottom_at, top_at}
 

@@ -14,13 +14,12 @@ use Rattle.lane_kernel.specs.Around.{Way, beside, free_of, near_heads, next_word
 use Rattle.lane_kernel.specs.Around.Way.{north, south, west, east, north_west, north_east, south_west, south_east}
 use Rattle.lane_kernel.specs.Words.{fires, from_east, from_west, ones_of, twos_of}
 use Rattle.lane_kernel.specs.Marked.{AreOn, IsMarked}
-use Rattle.lane_kernel.specs.PlaneRows.{place, row_in_plane, stride_of, HasDarkSides, IsInRow}
+use Rattle.lane_kernel.specs.PlaneRows.{place, row_in_plane, stride_of, HasDarkSides, IsInRow, ShowsHeads}
 use Rattle.lane_kernel.proofs.Bits.{differ, no_bit, xor_bit}
 use Rattle.lane_kernel.proofs.Places.{Fit}
 use Rattle.lane_kernel.proofs.PlaneRows.{row_past, row_word}
 use Rattle.lane_kernel.proofs.UnderWay.{no_tails}
 use Rattle.band_rows.specs.declared.field.Field.{Field}
-use Rattle.band_rows.specs.Rows.{ShowsHeads}
 use Rattle.band_rows.specs.Fields.{AreOfOneSize, IsClosedField, IsDarkField, IsFieldStepped}
 use Rattle.band_rows.proofs.Bands.{words_show}
 use Rattle.band_rows.proofs.HeadPlaced.{same_bits}

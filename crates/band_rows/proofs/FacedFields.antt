@@ -11,14 +11,14 @@ use Rattle.ww_rule.specs.Wireworld.{Plane, next_plane}
 use Rattle.lane_kernel.specs.Rows.{row_state, state_of}
 use Rattle.lane_kernel.specs.Around.{Way, beside, free_of, near_heads, IsFramed, IsInner}
 use Rattle.lane_kernel.specs.Marked.{AreMore, AreOn, AreTold, IsMarked, IsTold, opposite}
-use Rattle.lane_kernel.specs.PlaneRows.{place, row_in_plane, HasDarkSides}
+use Rattle.lane_kernel.specs.PlaneRows.{place, row_in_plane, HasDarkSides, IsEmptyWest, ShowsHeads}
 use Rattle.lane_kernel.proofs.PlaneRows.{row_past, row_word}
 use Rattle.lane_kernel.proofs.Ways.{there_and_back, back_again}
 use Rattle.band_rows.specs.declared.field.Field.{Field}
 use Rattle.band_rows.specs.RowsPut.{HasRowPut}
-use Rattle.band_rows.specs.Rows.{IsEmptyWest, ShowsHeads}
 use Rattle.band_rows.specs.Fields.{field_heads, field_state, field_tails, AreOfOneSize, HasForgotten, HasSteppedBetween, HasTaken, IsBesideRows, IsClosedField, IsPlaneField, IsFieldStepped, ShowsField, TailsShow}
-use Rattle.band_rows.proofs.Bands.{heads_shown, words_show}
+use Rattle.lane_kernel.proofs.Places.{heads_of_row}
+use Rattle.band_rows.proofs.Bands.{words_show}
 use Rattle.band_rows.proofs.ClosedFields.{dark_margin, dark_sides, same_row_words, stepped_on}
 use Rattle.band_rows.proofs.GoneOn.{same_size}
 use Rattle.band_rows.proofs.PlaceCells.{same_place}
@@ -320,7 +320,7 @@ module _ (above below : List ℕ) (na nb : ℕ) (old one two three four five : F
             words_show (field_tails five (k + 1)) (field_heads old (k + 1)) p (y +ℤ pos k)
             (λ j. ap₂ (λ c s. get_or (row_in_plane c s five.tails.items (k + 1)) j 0) to_five.columns to_five.stride
             ∙ same_row_words old.columns s five.tails.items old.heads.items (k + 1) (λ c lt. tails_kept (place s c (k + 1)) (off_row c k k_low)) j)
-            (heads_shown (field_heads old (k + 1)) (field_tails old (k + 1)) (row_in_plane old.columns s old.cells.items (k + 1)) p (y +ℤ pos k) (λ x. shown k x k_low));
+            (heads_of_row (field_heads old (k + 1)) (field_tails old (k + 1)) (row_in_plane old.columns s old.cells.items (k + 1)) p (y +ℤ pos k) (λ x. shown k x k_low));
         shows = λ p y bare up shown down k x low.
             let rows = to_five.rows in
             let rows_three = to_three.rows in

@@ -2,12 +2,10 @@
 use Rattle.std.proofs.Common.{ℤ, pos, ◌-ℤ◌, ◌+ℤ◌, ℕ, ◌+◌, ◌-◌, ◌<◌, ◌≤◌, ◌≡◌, refl, sym, ap, ap₂, subst, ◌∙◌, List, [], arith}
 use Rattle.std.proofs.Math.Nat.{add-zero, zero-add, add_assoc}
 use Rattle.ww_rule.specs.Wireworld.{Plane, next_plane}
-use Rattle.lane_kernel.specs.PlaneRows.{row_in_plane}
-use Rattle.lane_kernel.proofs.Places.{Fit}
+use Rattle.lane_kernel.specs.PlaneRows.{row_in_plane, IsEmptyWest, ShowsHeads}
+use Rattle.lane_kernel.proofs.Places.{Fit, heads_of_row}
 use Rattle.band_rows.specs.declared.field.Field.{Field}
-use Rattle.band_rows.specs.Rows.{IsEmptyWest, ShowsHeads}
 use Rattle.band_rows.specs.Fields.{AreOfOneSize, GoOnAlone, HasRunAlone, IsClosedField, IsFieldStepped, ShowsField, TailsShow, field_heads, field_tails}
-use Rattle.band_rows.proofs.Bands.{heads_shown}
 use Rattle.band_rows.proofs.ClosedFields.{dark_above, dark_below, dark_sides, fit_heads, none_shown, stepped_closed}
 use Rattle.band_rows.proofs.FieldSteps.{field_shows}
 
@@ -20,7 +18,7 @@ tails_shown old new p y size tails shown k low =
     let rows = size.rows in
     let e : field_tails new (k + 1) ≡ field_heads old (k + 1) = ap₂ (λ c s. row_in_plane c s new.tails.items (k + 1)) size.columns size.stride ∙ ap (λ l. row_in_plane old.columns old.stride l (k + 1)) tails in
     subst (λ l. ShowsHeads l p (y +ℤ pos k)) (sym e)
-    (heads_shown (field_heads old (k + 1)) (field_tails old (k + 1)) (row_in_plane old.columns old.stride old.cells.items (k + 1)) p (y +ℤ pos k) (λ x. shown k x (omega (arith, low, rows))))
+    (heads_of_row (field_heads old (k + 1)) (field_tails old (k + 1)) (row_in_plane old.columns old.stride old.cells.items (k + 1)) p (y +ℤ pos k) (λ x. shown k x (omega (arith, low, rows))))
 
 -- one generation
 pub gone_one : (old new : Field) → Fit old.cells.items → IsClosedField old → IsFieldStepped old new → HasRunAlone 1 old new

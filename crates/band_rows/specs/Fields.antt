@@ -6,10 +6,9 @@ use Rattle.ww_rule.specs.Wireworld.{Plane, next_plane}
 use Rattle.lane_kernel.specs.Rows.{is_set, row_state}
 use Rattle.lane_kernel.specs.Around.{next_word}
 use Rattle.lane_kernel.specs.Marked.{AreCleared, AreListed, AreOn, IsMarked}
-use Rattle.lane_kernel.specs.PlaneRows.{place, row_in_plane, plane_size, stride_of, IsInRow, PlanesShow}
+use Rattle.lane_kernel.specs.PlaneRows.{place, row_in_plane, plane_size, stride_of, IsInRow, IsEmptyWest, ShowsHeads}
 use Rattle.band_rows.specs.declared.field.Field.{Field}
 use Rattle.band_rows.specs.RowsPut.{HasRowPut}
-use Rattle.band_rows.specs.Rows.{IsEmptyWest, ShowsHeads}
 
 -- The planes and the bytes have their sizes. Cells lie in rows. Unless the list is full, the marks
 -- promise what `IsMarked` says. The marks of the next generation are cleared.

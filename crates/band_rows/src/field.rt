@@ -8,8 +8,7 @@ ghost use Rattle.lane_kernel.specs.Around.{next_word, IsFramed, IsInner};
 ghost use Rattle.lane_kernel.specs.Marked.{AreCleared, AreListed, AreMore, AreOn, AreTold, IsMarked, beside_mark};
 ghost use Rattle.lists.specs.Bits.{has_bit};
 ghost use Rattle.lane_kernel.specs.Rows.{state_of};
-ghost use Rattle.lane_kernel.specs.PlaneRows.{HasDarkSides};
-ghost use Rattle.band_rows.specs.Rows.{IsEmptyWest, ShowsHeads};
+ghost use Rattle.lane_kernel.specs.PlaneRows.{HasDarkSides, IsEmptyWest, ShowsHeads};
 
 use lane_kernel::{BESIDE, Free, mark, mark_words, step_all, step_listed, tell_around};
 use std::mem;

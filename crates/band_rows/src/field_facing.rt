@@ -4,9 +4,8 @@ ghost use Rattle.lists.specs.Items.{number_at};
 ghost use Rattle.ww_rule.specs.Wireworld.{Plane, next_plane};
 ghost use Rattle.lane_kernel.specs.Around.{IsFramed, IsInner};
 ghost use Rattle.lane_kernel.specs.Marked.{AreListed, AreMore, AreOn, AreTold, IsMarked};
-ghost use Rattle.lane_kernel.specs.PlaneRows.{place};
+ghost use Rattle.lane_kernel.specs.PlaneRows.{place, IsEmptyWest, ShowsHeads};
 ghost use Rattle.band_rows.specs.Facing.{words_in};
-ghost use Rattle.band_rows.specs.Rows.{IsEmptyWest, ShowsHeads};
 ghost use Rattle.band_rows.specs.RowsPut.{HasRowPut};
 
 use crate::field::{Field, WordMarks};

@@ -14,11 +14,11 @@ use Rattle.lane_kernel.specs.Rows.{is_set, plane_of_rows, row_state}
 use Rattle.lane_kernel.specs.Words.{before, heads_word, new_heads_of}
 use Rattle.lane_kernel.specs.Around.{next_word, wires_of}
 use Rattle.lane_kernel.specs.Marked.{AreOn}
-use Rattle.lane_kernel.specs.PlaneRows.{place, row_in_plane, stride_of, HasDarkSides, PlanesShow}
+use Rattle.lane_kernel.specs.PlaneRows.{place, row_in_plane, stride_of, HasDarkSides, IsEmptyWest, IsNextPlane, PlanesShow, ShowsHeads}
 use Rattle.lane_kernel.proofs.Bits.{differ, no_bit, xor_bit}
 use Rattle.lane_kernel.proofs.Counting.{count_is}
 use Rattle.lane_kernel.proofs.Parts.{same_heads}
-use Rattle.lane_kernel.proofs.Places.{Fit, cells_next, everywhere_heads, row_steps, IsEmptyWest, ShowsHeads}
+use Rattle.lane_kernel.proofs.Places.{Fit, cells_next, everywhere_heads, row_steps}
 
 -- ---- the words of a row
 
@@ -149,15 +149,15 @@ module _ (columns rows : ℕ) (heads tails cells new : List ℕ) (dark : HasDark
       (next_row k low) (wire_bit k) (tail_on_cell on k) x
 
   -- rows between two others that show a plane show the next one
-  pub planes_step : Fit heads → AreOn cells tails → (p : Plane) (y : ℤ) → IsEmptyWest p
-      → ShowsHeads (H 0) p (y -ℤ pos 1) → PlanesShow columns rows heads tails cells p y → ShowsHeads (H (rows + 1)) p (y +ℤ pos rows)
-      → PlanesShow columns rows new heads cells (next_plane p) y
+  planes_step : Fit heads → AreOn cells tails → (p : Plane) (y : ℤ) → IsEmptyWest p
+      → ShowsHeads (H 0) p (y -ℤ pos 1) → PlanesShow columns rows s heads tails cells p y → ShowsHeads (H (rows + 1)) p (y +ℤ pos rows)
+      → PlanesShow columns rows s new heads cells (next_plane p) y
   planes_step fits on p y bare over shown under k x low =
       row_steps (H k) (H (k + 1)) (H (k + 2)) (row_in_plane columns s tails (k + 1)) (row_in_plane columns s cells (k + 1)) (row_in_plane columns s new (k + 1)) (H (k + 1)) (row_in_plane columns s cells (k + 1))
       p (y +ℤ pos k) bare (above k low) (λ x. shown k x low) (below k low) (cells_in_row fits on k low) x
     where
       heads_in : (k : ℕ) → k < rows → ShowsHeads (H (k + 1)) p (y +ℤ pos k)
-      heads_in k low x = sym (count_is (is_set (H (k + 1)) x) (is_set (row_in_plane columns s tails (k + 1)) x) (is_set (row_in_plane columns s cells (k + 1)) x)) ∙ ap count_head (shown k x low)
+      heads_in k low x = count_is (is_set (H (k + 1)) x) false false ∙ sym (count_is (is_set (H (k + 1)) x) (is_set (row_in_plane columns s tails (k + 1)) x) (is_set (row_in_plane columns s cells (k + 1)) x)) ∙ ap count_head (shown k x low)
 
       above : (k : ℕ) → k < rows → ShowsHeads (H k) p ((y +ℤ pos k) -ℤ pos 1)
       above zero low = let e : y -ℤ pos 1 ≡ (y +ℤ pos 0) -ℤ pos 1 = omega (arith, ints) in subst (ShowsHeads (H 0) p) e over
@@ -179,3 +179,18 @@ module _ (columns rows : ℕ) (heads tails cells new : List ℕ) (dark : HasDark
                 let q : rows + 1 ≡ k + 2 = omega (arith, n) in
                 subst (λ r. ShowsHeads (H r) p ((y +ℤ pos k) +ℤ pos 1)) q (subst (ShowsHeads (H (rows + 1)) p) e under)
           ]
+
+-- words that are the next ones, one by one, are the next plane
+module _ (columns rows : ℕ) (heads tails cells new : List ℕ) (fits : Fit heads) (on : AreOn cells tails) (p : Plane) (y : ℤ) (bare : IsEmptyWest p) where
+  abbrev Steps : ℕ → Type 0
+  Steps s =
+      ((i : ℕ) → get_or new i 0 ≡ next_word s heads tails cells i) → HasDarkSides columns s heads
+      → ShowsHeads (row_in_plane columns s heads 0) p (y -ℤ pos 1) → PlanesShow columns rows s heads tails cells p y → ShowsHeads (row_in_plane columns s heads (rows + 1)) p (y +ℤ pos rows)
+      → PlanesShow columns rows s new heads cells (next_plane p) y
+
+  steps_at : (s : ℕ) → s ≡ stride_of rows → Steps s
+  steps_at s e = subst Steps (sym e) (λ next dark over shown under. planes_step columns rows heads tails cells new dark next fits on p y bare over shown under)
+
+pub is_next_plane : (stride : ℕ) (heads tails cells new : List ℕ) → Fit heads → AreOn cells tails → ((i : ℕ) → get_or new i 0 ≡ next_word stride heads tails cells i) → IsNextPlane stride heads tails cells new
+is_next_plane stride heads tails cells new fits on next columns rows p y e bare dark over shown under =
+    steps_at columns rows heads tails cells new fits on p y bare stride e next dark over shown under

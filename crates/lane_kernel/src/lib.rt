@@ -1,7 +1,7 @@
 //! The rule on rows of cells in words of bits: bit i of word j is cell 64 j + i of a row; and one generation of the
 //! marked words of a plane.
 //!
-//! Theorem: `step_rows` (`heads`, `wires`, `cells`), `step_listed` (`next`, `marked`).
+//! Theorem: `step_rows` (`heads`, `wires`, `cells`), `step_listed` (`shows`, `marked`).
 #![tactic(auto)]
 
 mod lanes;

@@ -3,6 +3,7 @@ ghost use Rattle.std.specs.Prelude.{◌≡◌, ◌≢◌, ◌⊎◌, ◌+◌, �
 ghost use Rattle.lists.specs.Items.{number_at};
 ghost use Rattle.lane_kernel.specs.Around.{next_word, StepsAlone, IsFramed, IsInner};
 ghost use Rattle.lane_kernel.specs.Marked.{AreCleared, AreListed, AreMore, AreOn, AreTold, IsAmong, IsMarked, IsUnderWay, lit_mark};
+ghost use Rattle.lane_kernel.specs.PlaneRows.{IsNextPlane};
 
 use crate::planes::{heads_alone, next_word, next_words, wires_of};
 use crate::word_marks::{Free, LIT, mark, tell_around};
@@ -140,6 +141,8 @@ pub fn step_listed(
     ensures next { (i : ℕ)
         → number_at tails.new i
         ≡ next_word coming.now.stride coming.now.tails.now tails.old coming.now.cells.now i }
+    ensures shows { IsNextPlane coming.now.stride
+        coming.now.tails.now tails.old coming.now.cells.now tails.new }
     ensures cleared { AreCleared bytes.new }
     ensures marked { IsMarked coming.now.stride
         tails.new coming.now.tails.now coming.now.cells.now soon.new }
@@ -164,7 +167,10 @@ pub fn step_all(coming: &Free<'_>, tails: &mut [u64])
     ensures next { (i : ℕ)
         → number_at tails.new i
         ≡ next_word coming.now.stride coming.now.tails.now tails.old coming.now.cells.now i }
+    ensures shows { IsNextPlane coming.now.stride
+        coming.now.tails.now tails.old coming.now.cells.now tails.new }
 {
+    all_fit(coming.tails);
     let first = coming.stride + 1;
     let end = tails.len() - first;
     next_words(coming.tails, tails, coming.cells, coming.stride, first, end);

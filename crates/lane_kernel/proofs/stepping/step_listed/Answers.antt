@@ -2,6 +2,7 @@ use Rattle.std.proofs.Common.{ℕ, ◌≡◌, refl, ap, subst, ◌∙◌, List, 
 use Rattle.std.specs.Int.RustNames.{bit_and}
 use Rattle.lane_kernel.specs.Around.{beside, free_of, near_heads, StepsAlone}
 use Rattle.lane_kernel.specs.Marked.{IsUnderWay}
+use Rattle.lane_kernel.proofs.PlaneRows.{is_next_plane}
 use Rattle.lane_kernel.proofs.UnderWay.{begun, ended, none_left}
 use Rattle.lane_kernel.proofs.stepping.step_listed.Goals as goal
 
@@ -49,6 +50,11 @@ returns-clause-next c i =
     let end : l.k ≡ length c.args.entries.now = omega (arith, c.loop-k-test.false, l.auto.k-end) in
     let u = subst (λ k. IsUnderWay free.stride free.tails.now c.args.tails.now free.cells.now c.args.entries.now k l.tails l.bytes l.soon) end l.invariant.under_way in
     u.done i (none_left free.stride free.tails.now c.args.tails.now free.cells.now c.args.entries.now l.tails l.bytes l.soon u i)
+
+pub returns-clause-shows : goal.returns-clause-shows
+returns-clause-shows c =
+    let free = c.args.coming.now in
+    is_next_plane free.stride free.tails.now c.args.tails.now free.cells.now c.loop-k.tails c.all_fit.ensures c.requires.on_cells (returns-clause-next c)
 
 pub returns-clause-cleared : goal.returns-clause-cleared
 returns-clause-cleared c =
