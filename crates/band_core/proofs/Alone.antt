@@ -23,9 +23,9 @@ ran_is columns y many n old new r is =
     let le = ap (λ v. length v.items) r.injections in
     let same = r.done in
     record {
-      closed = r.closed;
-      wide = r.size.columns ∙ is.wide;
-      high = r.size.rows ∙ is.high;
+      closed = r.field.closed;
+      wide = r.field.size.columns ∙ is.wide;
+      high = r.field.size.rows ∙ is.high;
       some = is.some;
       inside = subst (λ v. AreInRows columns y many v.items) (sym r.injections) is.inside;
       done = omega (arith, done, le, same);
@@ -73,10 +73,10 @@ module _ (e : ℕ → Plane) (due : Due) (width rows columns y many n : ℕ) (ev
       let gen = r.generation in
       let start : ShowsField old.field (e (g + 0)) (pos y) = subst (λ h. ShowsField old.field (e h) (pos y)) (let q : g ≡ g + 0 = omega arith in q) shows.cells in
       record {
-        cells = subst (λ h. ShowsField new.field (e h) (pos y)) (sym gen) (r.shows (λ k. e (g + k)) (pos y) goes_on start);
+        cells = subst (λ h. ShowsField new.field (e h) (pos y)) (sym gen) (r.field.shows (λ k. e (g + k)) (pos y) goes_on start);
         before = λ h q.
             subst (λ h. TailsShow new.field (e h) (pos y)) (let s : g + (n - 1) ≡ h = omega (arith, q, gen, some) in s)
-            (r.tails (λ k. e (g + k)) (pos y) (n - 1) (omega (arith, some)) goes_on start);
+            (r.field.tails (λ k. e (g + k)) (pos y) (n - 1) (omega (arith, some)) goes_on start);
         own = subst (λ v. AreDueIn v.items due y many) (sym r.injections) shows.own;
         left = still_left n old new gen r.injections r.done calm shows.left;
       }

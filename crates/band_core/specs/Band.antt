@@ -60,28 +60,28 @@ bottom_at g band =
 abbrev pub top_at : ℕ → Band → List ℕ
 top_at g band = if band.generation == g then field_heads band.field 1 else field_tails band.field 1
 
+-- the number of rows of band b, if bands of a height cover so many rows
+abbrev pub rows_in_band : (height rows b : ℕ) → ℕ
+rows_in_band height rows b = min height (rows - b * height)
+
 -- the bands are all the bands of a height over so many rows
 pub record AreBands (columns height rows : ℕ) (bands : List Band) : Type 0 where
   pub many : length bands ≡ bands_in rows height
   pub each : (b : ℕ) (d : Band) → b < length bands
-      → IsBand columns (b * height) (min height (rows - b * height)) (get_or bands b d)
+      → IsBand columns (b * height) (rows_in_band height rows b) (get_or bands b d)
 
 -- the bands show an evolution, each at its own generation
 abbrev pub AllShow : (e : ℕ → Plane) (due : Due) (height rows : ℕ) → List Band → Type 0
 AllShow e due height rows bands =
     (b : ℕ) (d : Band) → b < length bands
-    → ShowsBand e due (b * height) (min height (rows - b * height)) (get_or bands b d)
+    → ShowsBand e due (b * height) (rows_in_band height rows b) (get_or bands b d)
 
 abbrev pub generations_of : List Band → List ℕ
 generations_of bands = map (λ band. band.generation) bands
 
--- the generation of band b; and below, the number of its rows, if the bands of this height cover so
--- many rows
+-- the generation of band b
 abbrev pub generation_at : List Band → ℕ → ℕ
 generation_at bands b = get_or (generations_of bands) b 0
-
-abbrev pub rows_in_band : (height rows b : ℕ) → ℕ
-rows_in_band height rows b = min height (rows - b * height)
 
 -- no cell of a field from row y on is lit, nor one of the rows beside it; the row above is not
 -- looked at if y is 0

@@ -1,8 +1,8 @@
 -- Bands that all move on together.
-use Rattle.std.specs.Prelude.{ℤ, ℕ, ◌+◌, ◌≤◌, ◌<◌, ◌≡◌, ◌^◌, List, length, get_or, drop}
+use Rattle.std.specs.Prelude.{ℕ, ◌+◌, ◌≤◌, ◌<◌, ◌≡◌, ◌^◌, List, length, get_or, drop}
 use Rattle.ww_rule.specs.Due.{AreInOrderFrom}
 use Rattle.ww_rule.specs.Wireworld.{Plane, Due}
-use Rattle.band_rows.specs.Fields.{AreOfOneSize, GoOnAlone, IsClosedField, IsDarkField, ShowsField, TailsShow}
+use Rattle.band_rows.specs.Fields.{HasRunAlone, IsClosedField, IsDarkField}
 use Rattle.band_core.specs.declared.band.Band.{Band}
 use Rattle.band_core.specs.Band.{AllShow, AreBands, IsEvolution, generation_at}
 
@@ -54,12 +54,7 @@ pub record HasBandRun (n : ℕ) (old new : Band) : Type 0 where
   pub generation : new.generation ≡ old.generation + n
   pub done : new.done ≡ old.done
   pub injections : new.injections ≡ old.injections
-  pub closed : IsClosedField new.field
-  pub size : AreOfOneSize old.field new.field
-  pub shows : (e : ℕ → Plane) (y : ℤ) → GoOnAlone e y old.field.rows n
-      → ShowsField old.field (e 0) y → ShowsField new.field (e n) y
-  pub tails : (e : ℕ → Plane) (y : ℤ) (g : ℕ) → n ≡ g + 1 → GoOnAlone e y old.field.rows n
-      → ShowsField old.field (e 0) y → TailsShow new.field (e g) y
+  pub field : HasRunAlone n old.field new.field
 
 -- no cell of a band's field is lit
 abbrev pub HasNoneLit : Band → Type 0

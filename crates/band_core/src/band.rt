@@ -7,7 +7,7 @@ ghost use Rattle.band_rows.specs.Facing.{words_in};
 ghost use Rattle.band_rows.specs.Fields.{AreOfOneSize, IsClosedField, ShowsField};
 ghost use Rattle.band_core.specs.Band.{AreInRows, IsBand, IsEvolution, ShowsBand, bottom_at, top_at, injected_cells};
 ghost use Rattle.band_core.specs.Beside.{HasRows, ShowBeside};
-ghost use Rattle.band_core.specs.Together.{HasBandRun};
+ghost use Rattle.band_core.specs.Together.{HasBandRun, HasRested};
 
 use band_rows::{FacingRows, Field, PlaneRow};
 use ww_rule::Injection;
@@ -127,10 +127,7 @@ impl Band {
     /// Goes on by `n` generations, if in them nothing in the band changes: its field stays.
     pub fn rest(&mut self, n: u64)
         requires room { self.old.generation + n < 2 ^ 64 }
-        ensures generation { self.new.generation ≡ self.old.generation + n }
-        ensures field { self.new.field ≡ self.old.field }
-        ensures done { self.new.done ≡ self.old.done }
-        ensures injections { self.new.injections ≡ self.old.injections }
+        ensures { HasRested n self.old self.new }
     {
         self.generation += n;
     }

@@ -6,7 +6,7 @@ use Rattle.ww_rule.specs.Wireworld.{Plane, next_plane}
 use Rattle.lane_kernel.specs.Rows.{is_set, row_state}
 use Rattle.lane_kernel.specs.Around.{next_word}
 use Rattle.lane_kernel.specs.Marked.{AreCleared, AreListed, AreOn, IsMarked}
-use Rattle.lane_kernel.specs.PlaneRows.{place, row_in_plane, plane_size, stride_of, IsInRow, IsEmptyWest, ShowsHeads}
+use Rattle.lane_kernel.specs.PlaneRows.{place, row_in_plane, plane_size, stride_of, IsInRow, PlanesShow, IsEmptyWest, ShowsHeads}
 use Rattle.band_rows.specs.declared.field.Field.{Field}
 use Rattle.band_rows.specs.RowsPut.{HasRowPut}
 
@@ -65,7 +65,9 @@ field_state field x k =
 
 -- a field shows a plane from row y on; its tails show the heads of a plane there
 abbrev pub ShowsField : Field → Plane → ℤ → Type 0
-ShowsField field p y = (k x : ℕ) → k < field.rows → field_state field x k ≡ p (pos x) (y +ℤ pos k)
+ShowsField field p y =
+    PlanesShow field.columns field.rows field.stride
+    field.heads.items field.tails.items field.cells.items p y
 
 abbrev pub TailsShow : Field → Plane → ℤ → Type 0
 TailsShow field p y =

@@ -1,10 +1,9 @@
 // Generations of a field between rows of heads.
-ghost use Rattle.std.specs.Prelude.{◌≡◌, ◌+◌, ◌<◌, ◌≤◌, ◌+ℤ◌, ◌-ℤ◌, ℤ, ℕ, pos, length, slice_set};
+ghost use Rattle.std.specs.Prelude.{◌≡◌, ◌<◌, ◌≤◌, ℕ, length, slice_set};
 ghost use Rattle.lists.specs.Items.{number_at};
-ghost use Rattle.ww_rule.specs.Wireworld.{Plane, next_plane};
 ghost use Rattle.lane_kernel.specs.Around.{IsFramed, IsInner};
 ghost use Rattle.lane_kernel.specs.Marked.{AreListed, AreMore, AreOn, AreTold, IsMarked};
-ghost use Rattle.lane_kernel.specs.PlaneRows.{place, IsEmptyWest, ShowsHeads};
+ghost use Rattle.lane_kernel.specs.PlaneRows.{place};
 ghost use Rattle.band_rows.specs.Facing.{words_in};
 ghost use Rattle.band_rows.specs.RowsPut.{HasRowPut};
 
@@ -130,7 +129,7 @@ fn clear_row(words: &mut [u64], columns: usize, stride: usize, r: usize)
 }
 
 impl Field {
-    ghost use Rattle.band_rows.specs.Fields.{AreOfOneSize, HasForgotten, HasSteppedBetween, HasTaken, IsBesideRows, IsClosedField, IsPlaneField, ShowsField, TailsShow};
+    ghost use Rattle.band_rows.specs.Fields.{HasForgotten, HasSteppedBetween, HasTaken, IsBesideRows, IsClosedField, IsPlaneField};
 
     // Takes over the heads of a row that faces the field into the r-th words of its word
     // columns.
@@ -184,15 +183,8 @@ impl Field {
         requires closed { IsClosedField self.old }
         requires above { facing.now.above.columns ≤ self.old.columns }
         requires below { facing.now.below.columns ≤ self.old.columns }
-        ensures closed { IsClosedField self.new }
-        ensures size { AreOfOneSize self.old self.new }
-        ensures tails { (p : Plane) (y : ℤ) → ShowsField self.old p y → TailsShow self.new p y }
-        ensures shows { (p : Plane) (y : ℤ)
-            → IsEmptyWest p
-            → ShowsHeads (words_in facing.now.above) p (y -ℤ pos 1)
-            → ShowsField self.old p y
-            → ShowsHeads (words_in facing.now.below) p (y +ℤ pos self.old.rows)
-            → ShowsField self.new (next_plane p) y }
+        ensures { HasSteppedBetween
+            (words_in facing.now.above) (words_in facing.now.below) self.old self.new }
     {
         self.settle();
         self.step_faced(facing);

@@ -1,13 +1,12 @@
 // Generations of a field that stands alone.
-ghost use Rattle.std.specs.Prelude.{◌≡◌, ◌+◌, ◌*◌, ◌<◌, ◌≤◌, ◌+ℤ◌, ℤ, ℕ, pos, length};
-ghost use Rattle.ww_rule.specs.Wireworld.{Plane};
+ghost use Rattle.std.specs.Prelude.{◌≡◌, ◌*◌, ◌<◌, ◌≤◌, length};
 ghost use Rattle.lane_kernel.specs.Marked.{AreOn};
 
 use crate::field::{Field, all_fit, step_marked};
 use std::mem;
 
 impl Field {
-    ghost use Rattle.band_rows.specs.Fields.{crossed, AreOfOneSize, GoOnAlone, HasRunAlone, IsClosedField, IsPlaneField, IsFieldStepped, ShowsField, TailsShow};
+    ghost use Rattle.band_rows.specs.Fields.{crossed, HasRunAlone, IsClosedField, IsPlaneField, IsFieldStepped};
 
     // Steps the marked words. The new heads stand in the tails' plane then, and their marks are the
     // spare ones.
@@ -119,17 +118,7 @@ impl Field {
         requires some { 0 < most }
         ensures some { 0 < result }
         ensures few { result ≤ most }
-        ensures closed { IsClosedField self.new }
-        ensures size { AreOfOneSize self.old self.new }
-        ensures shows { (e : ℕ → Plane) (y : ℤ)
-            → GoOnAlone e y self.old.rows result
-            → ShowsField self.old (e 0) y
-            → ShowsField self.new (e result) y }
-        ensures tails { (e : ℕ → Plane) (y : ℤ) (g : ℕ)
-            → result ≡ g + 1
-            → GoOnAlone e y self.old.rows result
-            → ShowsField self.old (e 0) y
-            → TailsShow self.new (e g) y }
+        ensures gone { HasRunAlone result self.old self.new }
     {
         self.settle();
         self.run_settled(most)
