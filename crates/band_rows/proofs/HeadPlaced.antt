@@ -11,10 +11,10 @@ use Rattle.lists.specs.Bits.{has_bit}
 use Rattle.lists.proofs.WordBits.{by_digits, and_bit, or_bit}
 use Rattle.lane_kernel.specs.Around.{IsInner}
 use Rattle.lane_kernel.specs.Marked.{AreCleared, AreListed, AreOn, AreTold, IsMarked}
-use Rattle.lane_kernel.specs.PlaneRows.{place, row_of, size_of, stride_of, IsInRow}
+use Rattle.lane_kernel.specs.PlaneRows.{place, row_in_plane, plane_size, stride_of, IsInRow}
 use Rattle.lane_kernel.specs.Rows.{is_set, row_state, state_of}
 use Rattle.band_rows.specs.declared.field.Field.{Field}
-use Rattle.band_rows.specs.Fields.{state_in, AreOfOneSize, IsClosed, IsField}
+use Rattle.band_rows.specs.Fields.{field_state, AreOfOneSize, IsClosedField, IsPlaneField}
 use Rattle.band_rows.proofs.FieldSteps.{inner_place}
 use Rattle.band_rows.proofs.PlaceCells.{head_state, put_bit}
 
@@ -105,7 +105,7 @@ pub record HasHead (old new : Field) (x k : ℕ) : Type 0 where
   pub cells : new.cells.items ≡ with_bit old.cells.items (place old.stride (x / 64) (k + 1)) (1 * 2 ^ (x % 64) % 2 ^ 64)
   pub tails : new.tails.items ≡ old.tails.items
 
-module _ (old : Field) (x k : ℕ) (closed : IsClosed old) (west : x / 64 < old.columns) (low : k < old.rows) where
+module _ (old : Field) (x k : ℕ) (closed : IsClosedField old) (west : x / 64 < old.columns) (low : k < old.rows) where
   abbrev at : ℕ
   at = place old.stride (x / 64) (k + 1)
 
@@ -122,12 +122,12 @@ module _ (old : Field) (x k : ℕ) (closed : IsClosed old) (west : x / 64 < old.
   in_rows = word_in_rows old (x / 64) k closed west low (bit_or (get_or old.cells.items at 0) bit)
 
   -- the new field, if its marks are as they must be
-  pub head_closed : (new : Field) → HasHead old new x k → length new.marks.bytes.items ≡ size_of old.columns old.rows → length new.spare.bytes.items ≡ size_of old.columns old.rows
+  pub head_closed : (new : Field) → HasHead old new x k → length new.marks.bytes.items ≡ plane_size old.columns old.rows → length new.spare.bytes.items ≡ plane_size old.columns old.rows
       → AreCleared new.spare.bytes.items → AreListed old.stride new.marks.bytes.items new.marks.list.items new.marks.many
-      → (new.marks.many < length new.marks.list.items → IsMarked old.stride new.heads.items new.tails.items new.cells.items new.marks.bytes.items) → IsClosed new
+      → (new.marks.many < length new.marks.list.items → IsMarked old.stride new.heads.items new.tails.items new.cells.items new.marks.bytes.items) → IsClosedField new
   head_closed new has long_marks long_spare cleared listed marked =
       let is = closed.is in
-      let size : size_of old.columns old.rows ≡ size_of new.columns new.rows = sym (ap₂ size_of has.columns has.rows) in
+      let size : plane_size old.columns old.rows ≡ plane_size new.columns new.rows = sym (ap₂ plane_size has.columns has.rows) in
       record {
         is = record {
           stride = has.stride ∙ is.stride ∙ sym (ap stride_of has.rows);
@@ -149,19 +149,19 @@ module _ (old : Field) (x k : ℕ) (closed : IsClosed old) (west : x / 64 < old.
             (tails_placed old.cells.items old.tails.items at bit (within old.cells.items is.long_cells) closed.tails));
       }
 
-  pub head_cells : (new : Field) → HasHead old new x k → (u j : ℕ) → j < old.rows → state_in new u j ≡ cond (u == x && j == k) Head (state_in old u j)
+  pub head_cells : (new : Field) → HasHead old new x k → (u j : ℕ) → j < old.rows → field_state new u j ≡ cond (u == x && j == k) Head (field_state old u j)
   head_cells new has u j lt =
       let is = closed.is in
       let s = is.stride in
       let h = put_bit old.columns old.stride old.heads.items x k west (omega (arith, low, s)) (within old.heads.items is.long_heads) u j (omega (arith, lt, s)) in
       let c = put_bit old.columns old.stride old.cells.items x k west (omega (arith, low, s)) (within old.cells.items is.long_cells) u j (omega (arith, lt, s)) in
-      let f = λ (columns stride : ℕ) (h t c : List ℕ). row_state (row_of columns stride h (j + 1)) (row_of columns stride t (j + 1)) (row_of columns stride c (j + 1)) u in
-      let t = is_set (row_of old.columns old.stride old.tails.items (j + 1)) u in
+      let f = λ (columns stride : ℕ) (h t c : List ℕ). row_state (row_in_plane columns stride h (j + 1)) (row_in_plane columns stride t (j + 1)) (row_in_plane columns stride c (j + 1)) u in
+      let t = is_set (row_in_plane old.columns old.stride old.tails.items (j + 1)) u in
       ap₂ (λ a b. f a b new.heads.items new.tails.items new.cells.items) has.columns has.stride
       ∙ ap₂ (λ h t. f old.columns old.stride h t new.cells.items) has.heads has.tails
       ∙ ap (f old.columns old.stride (with_bit old.heads.items at bit) old.tails.items) has.cells
       ∙ ap₂ (λ p q. state_of p t q) h c
-      ∙ head_state (u == x && j == k) (is_set (row_of old.columns old.stride old.heads.items (j + 1)) u) t (is_set (row_of old.columns old.stride old.cells.items (j + 1)) u)
+      ∙ head_state (u == x && j == k) (is_set (row_in_plane old.columns old.stride old.heads.items (j + 1)) u) t (is_set (row_in_plane old.columns old.stride old.cells.items (j + 1)) u)
 
 pub told_same : (s : ℕ) {a a' : ℕ} (i : ℕ) {t t' c c' : List ℕ} (new : List ℕ) → a ≡ a' → t ≡ t' → c ≡ c' → AreTold s a i t c new → AreTold s a' i t' c' new
 told_same s {a} {a'} i {t} {t'} {c} {c'} new p q r told =

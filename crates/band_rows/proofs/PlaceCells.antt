@@ -12,7 +12,7 @@ use Rattle.std.proofs.Math.Nat.{suc-mul, mul-le-mul_right}
 use Rattle.ww_rule.specs.declared.pattern.State.TheVariants.{Head}
 use Rattle.lists.specs.Bits.{has_bit}
 use Rattle.lane_kernel.specs.Rows.{is_set, row_state, state_of}
-use Rattle.lane_kernel.specs.PlaneRows.{place, row_of}
+use Rattle.lane_kernel.specs.PlaneRows.{place, row_in_plane}
 use Rattle.lane_kernel.proofs.Bits.{no_bit}
 use Rattle.lane_kernel.proofs.PlaneRows.{row_past, row_word}
 
@@ -27,10 +27,10 @@ same_place s c r c' r' lt lt' same =
     let rows : r ≡ r' = omega (arith, e, products) in
     (columns, rows)
 
-pub row_set : (columns s : ℕ) (plane : List ℕ) (r u : ℕ) → u / 64 < columns → is_set (row_of columns s plane r) u ≡ has_bit (get_or plane (place s (u / 64) r) 0) (u % 64)
+pub row_set : (columns s : ℕ) (plane : List ℕ) (r u : ℕ) → u / 64 < columns → is_set (row_in_plane columns s plane r) u ≡ has_bit (get_or plane (place s (u / 64) r) 0) (u % 64)
 row_set columns s plane r u lt = ap (λ w. has_bit w (u % 64)) (row_word columns s plane r (u / 64) lt)
 
-pub row_unset : (columns s : ℕ) (plane : List ℕ) (r u : ℕ) → columns ≤ u / 64 → is_set (row_of columns s plane r) u ≡ false
+pub row_unset : (columns s : ℕ) (plane : List ℕ) (r u : ℕ) → columns ≤ u / 64 → is_set (row_in_plane columns s plane r) u ≡ false
 row_unset columns s plane r u le = ap (λ w. has_bit w (u % 64)) (row_past columns s plane r (u / 64) le) ∙ no_bit (u % 64)
 
 -- a bit that was set
@@ -49,7 +49,7 @@ module _ (columns s : ℕ) (plane : List ℕ) (x k : ℕ) (west : x / 64 < colum
   abbrev new : List ℕ
   new = slice_set plane (place s (x / 64) (k + 1)) v
 
-  pub put_bit : (u j : ℕ) → j + 1 < s → is_set (row_of columns s new (j + 1)) u ≡ ((u == x && j == k) || is_set (row_of columns s plane (j + 1)) u)
+  pub put_bit : (u j : ℕ) → j + 1 < s → is_set (row_in_plane columns s new (j + 1)) u ≡ ((u == x && j == k) || is_set (row_in_plane columns s plane (j + 1)) u)
   put_bit u j lt =
       elim (cases_lt (u / 64) columns) [
         | inr past ↦
@@ -61,7 +61,7 @@ module _ (columns s : ℕ) (plane : List ℕ) (x k : ℕ) (west : x / 64 < colum
               | inr away ↦
                   ap (λ w. has_bit w (u % 64)) (get_or-set_other plane (place s (x / 64) (k + 1)) (place s (u / 64) (j + 1)) v 0 away)
                   ∙ sym (row_set columns s plane (j + 1) u inside)
-                  ∙ sym (ap (λ t. t || is_set (row_of columns s plane (j + 1)) u) (elsewhere u j away))
+                  ∙ sym (ap (λ t. t || is_set (row_in_plane columns s plane (j + 1)) u) (elsewhere u j away))
               | inl here ↦
                   let at = same_place s (u / 64) (j + 1) (x / 64) (k + 1) lt low here in
                   let row : j ≡ k = let r = at.1 in omega (arith, r) in

@@ -6,7 +6,7 @@ use Rattle.ww_rule.specs.declared.pattern.State.{State}
 use Rattle.ww_rule.specs.Grid.{row_cell}
 use Rattle.lists.specs.Bits.{has_bit}
 use Rattle.lane_kernel.specs.Marked.{AreCleared, AreListed, AreOn}
-use Rattle.lane_kernel.specs.PlaneRows.{place, row_of, size_of, stride_of, IsInRow}
+use Rattle.lane_kernel.specs.PlaneRows.{place, row_in_plane, plane_size, stride_of, IsInRow}
 use Rattle.lane_kernel.specs.Rows.{is_set, row_state, state_of}
 use Rattle.band_rows.specs.declared.cell_bits.CellBits.{CellBits}
 use Rattle.band_rows.specs.declared.field.Field.{Field}
@@ -23,13 +23,13 @@ abbrev Room : WordMarks → Type 0
 Room m = m.many < length m.list.items
 
 -- with more cells, heads or tails and the same marks, which say nothing
-pub closed_again : (old new : Field) → IsClosed old → IsUnlisted old → AreOfOneSize old new
+pub closed_again : (old new : Field) → IsClosedField old → IsUnlisted old → AreOfOneSize old new
     → length new.heads.items ≡ length old.heads.items → length new.tails.items ≡ length old.tails.items → length new.cells.items ≡ length old.cells.items
     → new.marks ≡ old.marks → new.spare ≡ old.spare → ((i : ℕ) → get_or new.cells.items i 0 ≢ 0 → IsInRow old.columns old.rows i)
-    → AreOn new.cells.items new.heads.items → AreOn new.cells.items new.tails.items → IsClosed new
+    → AreOn new.cells.items new.heads.items → AreOn new.cells.items new.tails.items → IsClosedField new
 closed_again old new closed unlisted size heads tails cells marks spare in_rows on_heads on_tails =
     let is = closed.is in
-    let same : size_of old.columns old.rows ≡ size_of new.columns new.rows = sym (ap₂ size_of size.columns size.rows) in
+    let same : plane_size old.columns old.rows ≡ plane_size new.columns new.rows = sym (ap₂ plane_size size.columns size.rows) in
     record {
       is = record {
         stride = size.stride ∙ is.stride ∙ sym (ap stride_of size.rows);

@@ -1,4 +1,3 @@
-pub mod Rows
 pub mod Fields
 pub mod Facing
 pub mod RowsPut

@@ -110,19 +110,19 @@ impl Field {
     // Gives the cells of row k, which are empty, their states. A row of empty cells is passed over
     // at once, and so is a word of them.
     fn put_row(&mut self, k: usize, cells: &[State])
-        requires closed { IsClosed self.old }
+        requires closed { IsClosedField self.old }
         requires unlisted { IsUnlisted self.old }
         requires wide { length cells.now ≤ 64 * self.old.columns }
         requires row { k < self.old.rows }
-        requires empty { (u : ℕ) → state_in self.old u k ≡ Empty }
-        ensures closed { IsClosed self.new }
+        requires empty { (u : ℕ) → field_state self.old u k ≡ Empty }
+        ensures closed { IsClosedField self.new }
         ensures unlisted { IsUnlisted self.new }
         ensures size { AreOfOneSize self.old self.new }
-        ensures here { (u : ℕ) → state_in self.new u k ≡ row_cell cells.now u }
+        ensures here { (u : ℕ) → field_state self.new u k ≡ row_cell cells.now u }
         ensures other { (u j : ℕ)
             → j < self.old.rows
             → j ≢ k
-            → state_in self.new u j ≡ state_in self.old u j }
+            → field_state self.new u j ≡ field_state self.old u j }
     {
         if !any_filled(cells) {
             return;
@@ -134,18 +134,18 @@ impl Field {
 
     // Gives the cells of all rows, which are empty, their states: those of rows from row y on.
     fn put_rows(&mut self, cells: &CellRows, y: usize)
-        requires closed { IsClosed self.old }
+        requires closed { IsClosedField self.old }
         requires unlisted { IsUnlisted self.old }
         requires few { length cells.now < 2 ^ 63 }
         requires within { y + self.old.rows ≤ length cells.now }
         requires wide { All (λ row. length row ≤ 64 * self.old.columns) cells.now }
-        requires empty { (u j : ℕ) → j < self.old.rows → state_in self.old u j ≡ Empty }
-        ensures closed { IsClosed self.new }
+        requires empty { (u j : ℕ) → j < self.old.rows → field_state self.old u j ≡ Empty }
+        ensures closed { IsClosedField self.new }
         ensures unlisted { IsUnlisted self.new }
         ensures size { AreOfOneSize self.old self.new }
         ensures shows { (u j : ℕ)
             → j < self.old.rows
-            → state_in self.new u j ≡ get_or (get_or (drop y cells.now) j []) u Empty }
+            → field_state self.new u j ≡ get_or (get_or (drop y cells.now) j []) u Empty }
     {
         for k in 0..self.rows {
             self.put_row(k, cells.row(y + k));
@@ -154,8 +154,8 @@ impl Field {
 
     // Makes the marks, and their lists.
     fn mark_first(&mut self, list: Vec<usize>, spare: Vec<usize>)
-        requires closed { IsClosed self.old }
-        ensures closed { IsClosed self.new }
+        requires closed { IsClosedField self.old }
+        ensures closed { IsClosedField self.new }
         ensures size { AreOfOneSize self.old self.new }
         ensures heads { self.new.heads ≡ self.old.heads }
         ensures tails { self.new.tails ≡ self.old.tails }
@@ -172,7 +172,7 @@ impl Field {
         );
     }
 
-    /// Makes a field of `rows` rows of cells from row y on, each in so many columns of words.
+    /// Makes a field of `rows` rows of cells from row y on, each in so many word columns.
     /// `AllocError` also comes if the number of words is over the greatest `usize`.
     pub fn of_cells(
         alloc: Global,
@@ -184,13 +184,13 @@ impl Field {
         requires few { length cells.now < 2 ^ 63 }
         requires within { y + rows ≤ length cells.now }
         requires wide { All (λ row. length row ≤ 64 * columns) cells.now }
-        ensures closed { IfOk result (λ field. IsClosed field) }
+        ensures closed { IfOk result (λ field. IsClosedField field) }
         ensures columns { IfOk result (λ field. field.columns ≡ columns) }
         ensures rows { IfOk result (λ field. field.rows ≡ rows) }
         ensures shows { IfOk result (λ field.
             (k x : ℕ)
             → k < rows
-            → state_in field x k ≡ get_or (get_or (drop y cells.now) k []) x Empty
+            → field_state field x k ≡ get_or (get_or (drop y cells.now) k []) x Empty
             ) }
     {
         let mut field = Field::blank(alloc, columns, rows)?;

@@ -2,13 +2,13 @@ use Rattle.std.proofs.Common.{ℕ, ◌*◌, ◌<◌, ◌≤◌, ◌≡◌}
 use Rattle.std.specs.Prelude.{◌≢◌}
 use Rattle.ww_rule.specs.declared.pattern.State.TheVariants.{Empty}
 use Rattle.ww_rule.specs.Grid.{row_cell}
-use Rattle.band_rows.specs.Fields.{state_in, AreOfOneSize, IsClosed, IsUnlisted}
+use Rattle.band_rows.specs.Fields.{field_state, AreOfOneSize, IsClosedField, IsUnlisted}
 use Rattle.band_rows.proofs.field.Field.put_row.Given as goal
 
 abbrev pub invariant-loop-c : goal.invariant-loop-c
 invariant-loop-c l =
     record {
-      closed : IsClosed l.self;
+      closed : IsClosedField l.self;
       unlisted : IsUnlisted l.self;
       size : AreOfOneSize l.fn.self l.self;
       done : (u : ℕ) → u < 64 * l.c → state_in l.self u l.k ≡ row_cell l.cells u;
