@@ -79,14 +79,14 @@ tails_placed cells tails i b lc on j =
     ]
 
 -- the place of a word of a field's rows
-module _ (field : Field) (c k : ℕ) (closed : IsClosed field) (west : c < field.columns) (low : k < field.rows) where
+module _ (field : Field) (c k : ℕ) (closed : IsClosedField field) (west : c < field.columns) (low : k < field.rows) where
   abbrev spot : ℕ
   spot = place field.stride c (k + 1)
 
-  pub word_inner : (plane : List ℕ) → length plane ≡ size_of field.columns field.rows → IsInner field.stride (length plane) spot
+  pub word_inner : (plane : List ℕ) → length plane ≡ plane_size field.columns field.rows → IsInner field.stride (length plane) spot
   word_inner plane long = inner_place field.columns field.rows field.stride c k (length plane) closed.is.stride west low (long ∙ sym (ap (λ s. (field.columns + 2) * s + 2) closed.is.stride))
 
-  pub word_within : (plane : List ℕ) → length plane ≡ size_of field.columns field.rows → spot < length plane
+  pub word_within : (plane : List ℕ) → length plane ≡ plane_size field.columns field.rows → spot < length plane
   word_within plane long = let i = word_inner plane long in let to = i.to in omega (arith, to)
 
   pub word_in_rows : (v j : ℕ) → get_or (slice_set field.cells.items spot v) j 0 ≢ 0 → IsInRow field.columns field.rows j
@@ -112,10 +112,10 @@ module _ (old : Field) (x k : ℕ) (closed : IsClosedField old) (west : x / 64 <
   abbrev bit : ℕ
   bit = 1 * 2 ^ (x % 64) % 2 ^ 64
 
-  pub inner : (plane : List ℕ) → length plane ≡ size_of old.columns old.rows → IsInner old.stride (length plane) at
+  pub inner : (plane : List ℕ) → length plane ≡ plane_size old.columns old.rows → IsInner old.stride (length plane) at
   inner = word_inner old (x / 64) k closed west low
 
-  pub within : (plane : List ℕ) → length plane ≡ size_of old.columns old.rows → at < length plane
+  pub within : (plane : List ℕ) → length plane ≡ plane_size old.columns old.rows → at < length plane
   within = word_within old (x / 64) k closed west low
 
   pub in_rows : (j : ℕ) → get_or (with_bit old.cells.items at bit) j 0 ≢ 0 → IsInRow old.columns old.rows j

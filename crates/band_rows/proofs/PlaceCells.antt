@@ -93,13 +93,13 @@ module _ (columns s : ℕ) (plane : List ℕ) (c k v : ℕ) (west : c < columns)
   abbrev put : List ℕ
   put = slice_set plane (place s c (k + 1)) v
 
-  pub put_here : (u : ℕ) → u / 64 ≡ c → is_set (row_of columns s put (k + 1)) u ≡ has_bit v (u % 64)
+  pub put_here : (u : ℕ) → u / 64 ≡ c → is_set (row_in_plane columns s put (k + 1)) u ≡ has_bit v (u % 64)
   put_here u e =
       row_set columns s put (k + 1) u (omega (arith, e, west))
       ∙ ap (λ c. has_bit (get_or put (place s c (k + 1)) 0) (u % 64)) e
       ∙ ap (λ w. has_bit w (u % 64)) (get_or-set_same plane (place s c (k + 1)) v 0 within)
 
-  pub put_other : (u j : ℕ) → j + 1 < s → (u / 64 ≡ c → j ≢ k) → is_set (row_of columns s put (j + 1)) u ≡ is_set (row_of columns s plane (j + 1)) u
+  pub put_other : (u j : ℕ) → j + 1 < s → (u / 64 ≡ c → j ≢ k) → is_set (row_in_plane columns s put (j + 1)) u ≡ is_set (row_in_plane columns s plane (j + 1)) u
   put_other u j lt ne =
       elim (cases_lt (u / 64) columns) [
         | inr past ↦ row_unset columns s put (j + 1) u past ∙ sym (row_unset columns s plane (j + 1) u past)

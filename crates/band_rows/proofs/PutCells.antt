@@ -12,7 +12,7 @@ use Rattle.band_rows.specs.declared.cell_bits.CellBits.{CellBits}
 use Rattle.band_rows.specs.declared.field.Field.{Field}
 use Rattle.band_rows.specs.declared.field.WordMarks.{WordMarks}
 use Rattle.band_rows.specs.CellWords.{state_by, HasWordPut, IsOnCells}
-use Rattle.band_rows.specs.Fields.{state_in, AreOfOneSize, IsClosed, IsUnlisted}
+use Rattle.band_rows.specs.Fields.{field_state, AreOfOneSize, IsClosedField, IsUnlisted}
 use Rattle.band_rows.proofs.HeadPlaced.{on_put, word_in_rows, word_within}
 use Rattle.band_rows.proofs.PlaceCells.{put_here, put_other}
 
@@ -47,22 +47,22 @@ closed_again old new closed unlisted size heads tails cells marks spare in_rows 
       tails = on_tails;
     }
 
-module _ (old : Field) (c k : ℕ) (closed : IsClosed old) (unlisted : IsUnlisted old) (west : c < old.columns) (low : k < old.rows) (bits : CellBits) (on : IsOnCells bits) where
+module _ (old : Field) (c k : ℕ) (closed : IsClosedField old) (unlisted : IsUnlisted old) (west : c < old.columns) (low : k < old.rows) (bits : CellBits) (on : IsOnCells bits) where
   abbrev spot : ℕ
   spot = place old.stride c (k + 1)
 
-  within : (plane : List ℕ) → length plane ≡ size_of old.columns old.rows → spot < length plane
+  within : (plane : List ℕ) → length plane ≡ plane_size old.columns old.rows → spot < length plane
   within = word_within old c k closed west low
 
   below : (j : ℕ) → j < old.rows → j + 1 < old.stride
   below j lt = let s = closed.is.stride in omega (arith, lt, s)
 
-  here : (plane : List ℕ) (v : ℕ) → length plane ≡ size_of old.columns old.rows → (u : ℕ) → u / 64 ≡ c
-      → is_set (row_of old.columns old.stride (slice_set plane spot v) (k + 1)) u ≡ has_bit v (u % 64)
+  here : (plane : List ℕ) (v : ℕ) → length plane ≡ plane_size old.columns old.rows → (u : ℕ) → u / 64 ≡ c
+      → is_set (row_in_plane old.columns old.stride (slice_set plane spot v) (k + 1)) u ≡ has_bit v (u % 64)
   here plane v long = put_here old.columns old.stride plane c k v west (below k low) (within plane long)
 
-  other : (plane : List ℕ) (v : ℕ) → length plane ≡ size_of old.columns old.rows → (u j : ℕ) → j < old.rows → (u / 64 ≡ c → j ≢ k)
-      → is_set (row_of old.columns old.stride (slice_set plane spot v) (j + 1)) u ≡ is_set (row_of old.columns old.stride plane (j + 1)) u
+  other : (plane : List ℕ) (v : ℕ) → length plane ≡ plane_size old.columns old.rows → (u j : ℕ) → j < old.rows → (u / 64 ≡ c → j ≢ k)
+      → is_set (row_in_plane old.columns old.stride (slice_set plane spot v) (j + 1)) u ≡ is_set (row_in_plane old.columns old.stride plane (j + 1)) u
   other plane v long u j lt = put_other old.columns old.stride plane c k v west (below k low) (within plane long) u j (below j lt)
 
   pub word_put : (cells : List State) → ((b : ℕ) → state_by bits b ≡ row_cell cells b) → (new : Field) → AreOfOneSize old new
@@ -90,10 +90,10 @@ module _ (old : Field) (c k : ℕ) (closed : IsClosed old) (unlisted : IsUnliste
             ∙ ap₂ (λ f w. f w) (ap₂ state_of (other old.heads.items bits.heads is.long_heads u j lt ne) (other old.tails.items bits.tails is.long_tails u j lt ne)) (other old.cells.items bits.cells is.long_cells u j lt ne);
       }
     where
-      by_planes : (u j : ℕ) → state_in new u j ≡ row_state (row_of old.columns old.stride (slice_set old.heads.items spot bits.heads) (j + 1))
-          (row_of old.columns old.stride (slice_set old.tails.items spot bits.tails) (j + 1)) (row_of old.columns old.stride (slice_set old.cells.items spot bits.cells) (j + 1)) u
+      by_planes : (u j : ℕ) → field_state new u j ≡ row_state (row_in_plane old.columns old.stride (slice_set old.heads.items spot bits.heads) (j + 1))
+          (row_in_plane old.columns old.stride (slice_set old.tails.items spot bits.tails) (j + 1)) (row_in_plane old.columns old.stride (slice_set old.cells.items spot bits.cells) (j + 1)) u
       by_planes u j =
-          let f = λ (columns stride : ℕ) (h t w : List ℕ). row_state (row_of columns stride h (j + 1)) (row_of columns stride t (j + 1)) (row_of columns stride w (j + 1)) u in
+          let f = λ (columns stride : ℕ) (h t w : List ℕ). row_state (row_in_plane columns stride h (j + 1)) (row_in_plane columns stride t (j + 1)) (row_in_plane columns stride w (j + 1)) u in
           ap₂ (λ a b. f a b new.heads.items new.tails.items new.cells.items) size.columns size.stride
           ∙ ap₂ (λ h t. f old.columns old.stride h t new.cells.items) heads tails
           ∙ ap (f old.columns old.stride (slice_set old.heads.items spot bits.heads) (slice_set old.tails.items spot bits.tails)) wires

@@ -152,4 +152,4 @@ pub record IsBlank (across down : ℕ) (field : Field) : Type 0 where
   pub unlisted : IsUnlisted field
   pub columns : field.columns ≡ across
   pub rows : field.rows ≡ down
-  pub empty : (x k : ℕ) → k < field.rows → state_in field x k ≡ Empty
+  pub empty : (x k : ℕ) → k < field.rows → field_state field x k ≡ Empty

@@ -63,7 +63,7 @@ fn put_bits(heads: &mut [u64], tails: &mut [u64], cells: &mut [u64], i: usize, b
 }
 
 impl Field {
-    ghost use Rattle.band_rows.specs.Fields.{state_in, AreOfOneSize, IsBlank, IsClosed, IsUnlisted};
+    ghost use Rattle.band_rows.specs.Fields.{field_state, AreOfOneSize, IsBlank, IsClosedField, IsUnlisted};
     ghost use Rattle.band_rows.specs.CellWords.{HasWordPut};
 
     // A field without cells, whose marks have no list.
@@ -89,14 +89,14 @@ impl Field {
         })
     }
 
-    // Gives the cells of row k in column c of words, which are empty, their states.
+    // Gives the cells of row k in word column c, which are empty, their states.
     fn put_word(&mut self, k: usize, c: usize, cells: &[State])
-        requires closed { IsClosed self.old }
+        requires closed { IsClosedField self.old }
         requires unlisted { IsUnlisted self.old }
         requires column { c < self.old.columns }
         requires row { k < self.old.rows }
         requires few { length cells.now ≤ 64 }
-        requires empty { (u : ℕ) → u / 64 ≡ c → state_in self.old u k ≡ Empty }
+        requires empty { (u : ℕ) → u / 64 ≡ c → field_state self.old u k ≡ Empty }
         ensures { HasWordPut cells.now c k self.old self.new }
     {
         if !any_filled(cells) {

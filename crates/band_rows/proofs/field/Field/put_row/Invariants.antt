@@ -11,7 +11,7 @@ invariant-loop-c l =
       closed : IsClosedField l.self;
       unlisted : IsUnlisted l.self;
       size : AreOfOneSize l.fn.self l.self;
-      done : (u : ℕ) → u < 64 * l.c → state_in l.self u l.k ≡ row_cell l.cells u;
-      left : (u : ℕ) → 64 * l.c ≤ u → state_in l.self u l.k ≡ Empty;
-      other : (u j : ℕ) → j < l.fn.self.rows → j ≢ l.k → state_in l.self u j ≡ state_in l.fn.self u j;
+      done : (u : ℕ) → u < 64 * l.c → field_state l.self u l.k ≡ row_cell l.cells u;
+      left : (u : ℕ) → 64 * l.c ≤ u → field_state l.self u l.k ≡ Empty;
+      other : (u j : ℕ) → j < l.fn.self.rows → j ≢ l.k → field_state l.self u j ≡ field_state l.fn.self u j;
     }
