@@ -34,7 +34,7 @@ pub row_unset : (columns s : ℕ) (plane : List ℕ) (r u : ℕ) → columns ≤
 row_unset columns s plane r u le = ap (λ w. has_bit w (u % 64)) (row_past columns s plane r (u / 64) le) ∙ no_bit (u % 64)
 
 -- a bit that was set
-set_here : (w b i : ℕ) → b < 64 → has_bit (bit_or w (1 * 2 ^ b % 2 ^ 64)) i ≡ (i == b || has_bit w i)
+pub set_here : (w b i : ℕ) → b < 64 → has_bit (bit_or w (1 * 2 ^ b % 2 ^ 64)) i ≡ (i == b || has_bit w i)
 set_here w b i lt =
     elim (cases_eq i b) [
       | inl e ↦ ap (has_bit (bit_or w (1 * 2 ^ b % 2 ^ 64))) e ∙ ap (λ n. n == 1) (bit_at_set_same w64 w b lt) ∙ sym (ap (λ t. t || has_bit w i) (eq-eqb i b e))
@@ -87,6 +87,31 @@ module _ (columns s : ℕ) (plane : List ℕ) (x k : ℕ) (west : x / 64 < colum
             | inl e ↦ let q : u ≡ x = omega (arith, same, e) in eq-eqb (u % 64) (x % 64) e ∙ sym (ap₂ (λ a b. a && b) (eq-eqb u x q) (eq-eqb j k row))
             | inr ne ↦ ne_eqb (u % 64) (x % 64) ne ∙ sym (ap (λ t. t && j == k) (ne_eqb u x (λ q. ne (ap (λ n. n % 64) q))))
           ]
+
+-- the bits of a row of a plane into which a word was put
+module _ (columns s : ℕ) (plane : List ℕ) (c k v : ℕ) (west : c < columns) (low : k + 1 < s) (within : place s c (k + 1) < length plane) where
+  abbrev put : List ℕ
+  put = slice_set plane (place s c (k + 1)) v
+
+  pub put_here : (u : ℕ) → u / 64 ≡ c → is_set (row_in_plane columns s put (k + 1)) u ≡ has_bit v (u % 64)
+  put_here u e =
+      row_set columns s put (k + 1) u (omega (arith, e, west))
+      ∙ ap (λ c. has_bit (get_or put (place s c (k + 1)) 0) (u % 64)) e
+      ∙ ap (λ w. has_bit w (u % 64)) (get_or-set_same plane (place s c (k + 1)) v 0 within)
+
+  pub put_other : (u j : ℕ) → j + 1 < s → (u / 64 ≡ c → j ≢ k) → is_set (row_in_plane columns s put (j + 1)) u ≡ is_set (row_in_plane columns s plane (j + 1)) u
+  put_other u j lt ne =
+      elim (cases_lt (u / 64) columns) [
+        | inr past ↦ row_unset columns s put (j + 1) u past ∙ sym (row_unset columns s plane (j + 1) u past)
+        | inl inside ↦
+            row_set columns s put (j + 1) u inside
+            ∙ ap (λ w. has_bit w (u % 64)) (get_or-set_other plane (place s c (k + 1)) (place s (u / 64) (j + 1)) v 0 (λ same.
+            let at = same_place s (u / 64) (j + 1) c (k + 1) lt low same in
+            let r = at.1 in
+            let row : j ≡ k = omega (arith, r) in
+            ne at.0 row))
+            ∙ sym (row_set columns s plane (j + 1) u inside)
+      ]
 
 -- a cell that was made a head
 pub head_state : (b h t c : Bool) → state_of (b || h) t (b || c) ≡ cond b Head (state_of h t c)

@@ -153,11 +153,3 @@ pub record IsBlank (across down : ℕ) (field : Field) : Type 0 where
   pub columns : field.columns ≡ across
   pub rows : field.rows ≡ down
   pub empty : (x k : ℕ) → k < field.rows → field_state field x k ≡ Empty
-
--- a field in which the cell of column x in row k got a state
-pub record HasCellPut (state : State) (x k : ℕ) (old new : Field) : Type 0 where
-  pub closed : IsClosedField new
-  pub size : AreOfOneSize old new
-  pub marks : new.marks ≡ old.marks
-  pub here : field_state new x k ≡ state
-  pub other : (u j : ℕ) → j < old.rows → (u ≡ x → j ≢ k) → field_state new u j ≡ field_state old u j

@@ -1,3 +1,4 @@
 pub mod Fields
 pub mod Facing
 pub mod RowsPut
+pub mod CellWords

@@ -1,13 +1,12 @@
 // Fields of cells.
-ghost use Rattle.std.specs.Prelude.{◌≡◌, ◌≢◌, ◌+◌, ◌*◌, ◌/◌, ◌%◌, ◌^◌, ◌<◌, ◌≤◌, ℕ, [], length, get_or, drop, slice_set, All, IfOk, IfSome};
-ghost use Rattle.std.specs.Int.RustNames.{bit_or};
-ghost use Rattle.lists.specs.Items.{number_at};
-ghost use Rattle.ww_rule.specs.declared.pattern.State.TheVariants.{Conductor, Empty, Head, Tail};
+ghost use Rattle.std.specs.Prelude.{◌≡◌, ◌≢◌, ◌+◌, ◌*◌, ◌/◌, ◌^◌, ◌<◌, ◌≤◌, ℕ, [], length, get_or, drop, slice_set, All, IfOk, IfSome};
+ghost use Rattle.ww_rule.specs.declared.pattern.State.TheVariants.{Empty};
 ghost use Rattle.ww_rule.specs.Grid.{row_cell};
 ghost use Rattle.lane_kernel.specs.Marked.{AreCleared};
 ghost use Rattle.lane_kernel.specs.Spans.{AreZero};
 
-use crate::field::{Field, WAIT, WordMarks, mark_again, set_bits};
+use crate::cell_bits::{CellBits, any_filled, cells_of_word};
+use crate::field::{Field, WAIT, WordMarks, mark_again};
 use std::alloc::{AllocError, Global};
 use ww_rule::{CellRows, State};
 
@@ -49,18 +48,23 @@ fn no_words(alloc: Global, count: usize) -> Result<Vec<u64>, AllocError>
     Ok(vec![in alloc; 0; count]?)
 }
 
-// Sets a bit of a word.
-fn set_bit(words: &mut [u64], i: usize, b: usize)
-    requires place { i < length words.old }
-    requires bit { b < 64 }
-    ensures { words.new
-        ≡ slice_set words.old i (bit_or (number_at words.old i) (1 * 2 ^ b % 2 ^ 64)) }
+// Puts bits of cells into the words at a place of three planes.
+fn put_bits(heads: &mut [u64], tails: &mut [u64], cells: &mut [u64], i: usize, bits: CellBits)
+    requires heads { i < length heads.old }
+    requires tails { i < length tails.old }
+    requires cells { i < length cells.old }
+    ensures heads { heads.new ≡ slice_set heads.old i bits.heads }
+    ensures tails { tails.new ≡ slice_set tails.old i bits.tails }
+    ensures cells { cells.new ≡ slice_set cells.old i bits.cells }
 {
-    words[i] |= 1 << b;
+    heads[i] = bits.heads;
+    tails[i] = bits.tails;
+    cells[i] = bits.cells;
 }
 
 impl Field {
-    ghost use Rattle.band_rows.specs.Fields.{field_state, AreOfOneSize, HasCellPut, IsBlank, IsClosedField, IsUnlisted};
+    ghost use Rattle.band_rows.specs.Fields.{field_state, AreOfOneSize, IsBlank, IsClosedField, IsUnlisted};
+    ghost use Rattle.band_rows.specs.CellWords.{HasWordPut};
 
     // A field without cells, whose marks have no list.
     fn blank(alloc: Global, columns: usize, rows: usize) -> Result<Field, AllocError>
@@ -85,58 +89,22 @@ impl Field {
         })
     }
 
-    // Makes an empty cell a head.
-    fn put_head(&mut self, x: usize, k: usize)
+    // Gives the cells of row k in word column c, which are empty, their states.
+    fn put_word(&mut self, k: usize, c: usize, cells: &[State])
         requires closed { IsClosedField self.old }
         requires unlisted { IsUnlisted self.old }
-        requires column { x / 64 < self.old.columns }
+        requires column { c < self.old.columns }
         requires row { k < self.old.rows }
-        ensures { HasCellPut Head x k self.old self.new }
+        requires few { length cells.now ≤ 64 }
+        requires empty { (u : ℕ) → u / 64 ≡ c → field_state self.old u k ≡ Empty }
+        ensures { HasWordPut cells.now c k self.old self.new }
     {
-        self.make_head(x, k);
-    }
-
-    // Makes an empty cell a tail.
-    fn put_tail(&mut self, x: usize, k: usize)
-        requires closed { IsClosedField self.old }
-        requires unlisted { IsUnlisted self.old }
-        requires column { x / 64 < self.old.columns }
-        requires row { k < self.old.rows }
-        requires empty { field_state self.old x k ≡ Empty }
-        ensures { HasCellPut Tail x k self.old self.new }
-    {
-        let i = (x / 64 + 1) * self.stride + 1 + (k + 1);
-        set_bits(&mut self.tails, &mut self.cells, i, x % 64);
-    }
-
-    // Makes an empty cell a conductor.
-    fn put_conductor(&mut self, x: usize, k: usize)
-        requires closed { IsClosedField self.old }
-        requires unlisted { IsUnlisted self.old }
-        requires column { x / 64 < self.old.columns }
-        requires row { k < self.old.rows }
-        requires empty { field_state self.old x k ≡ Empty }
-        ensures { HasCellPut Conductor x k self.old self.new }
-    {
-        let i = (x / 64 + 1) * self.stride + 1 + (k + 1);
-        set_bit(&mut self.cells, i, x % 64);
-    }
-
-    // Gives an empty cell a state.
-    fn put_cell(&mut self, x: usize, k: usize, state: State)
-        requires closed { IsClosedField self.old }
-        requires unlisted { IsUnlisted self.old }
-        requires column { x / 64 < self.old.columns }
-        requires row { k < self.old.rows }
-        requires empty { field_state self.old x k ≡ Empty }
-        ensures { HasCellPut state x k self.old self.new }
-    {
-        match state {
-            State::Empty => {}
-            State::Head => self.put_head(x, k),
-            State::Tail => self.put_tail(x, k),
-            State::Conductor => self.put_conductor(x, k),
+        if !any_filled(cells) {
+            return;
         }
+        let bits = CellBits::of_cells(cells);
+        let i = (c + 1) * self.stride + 1 + (k + 1);
+        put_bits(&mut self.heads, &mut self.tails, &mut self.cells, i, bits);
     }
 
     // Gives the cells of row k, which are empty, their states.
@@ -155,8 +123,8 @@ impl Field {
             → j ≢ k
             → field_state self.new u j ≡ field_state self.old u j }
     {
-        for (x, state) in cells.iter().enumerate() {
-            self.put_cell(x, k, *state);
+        for c in 0..cells.len().div_ceil(64) {
+            self.put_word(k, c, cells_of_word(cells, c));
         }
     }
 

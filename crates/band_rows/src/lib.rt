@@ -4,6 +4,7 @@
 //! Theorem: `step_between`, `run` (`gone`).
 #![tactic(auto)]
 
+mod cell_bits;
 mod field;
 mod field_facing;
 mod field_light;
