@@ -1,1 +1,2 @@
 pub mod CarriedParts
+pub mod Latched

@@ -4,6 +4,10 @@
 //! Theorem: `carriers_are_parts`, `carriers_answer_each_row`, `parts_carry`.
 #![tactic(auto)]
 
+mod latched;
+
+pub use latched::{latched_runs_agree, wires_are_latches};
+
 ghost use Rattle.carried_parts.specs.CarriedParts.{CarriersAnswerEachRow, CarriersAreParts, PartsCarry};
 
 /// The pattern of a text that carries a design and its nets, whoever wrote it, is a part, and what
