@@ -2,3 +2,4 @@ pub mod Rows
 pub mod AsParts
 pub mod EachRow
 pub mod Carriers
+pub mod LatchedModels
