@@ -27,7 +27,7 @@ not_nil : (place : Place) (number : ℕ) → place ++ number ∷ [] ≢ []
 not_nil [] number e = (let n : 1 ≡ 0 = ap length e in omega (arith, n))
 not_nil (first ∷ place) number e = (let n : suc (length (place ++ number ∷ [])) ≡ 0 = ap length e in omega (arith, n))
 
-map_from : {X Y : Type 0} (f : X → Y) (o : Option X) (y : Y) → option_map f o ≡ Some y → (x : X) × (o ≡ Some x) × (y ≡ f x)
+pub map_from : {X Y : Type 0} (f : X → Y) (o : Option X) (y : Y) → option_map f o ≡ Some y → (x : X) × (o ≡ Some x) × (y ≡ f x)
 map_from f None y e = absurd (none-some y e)
 map_from f (Some x) y e = (x, refl, sym (same_Some _ _ e))
 

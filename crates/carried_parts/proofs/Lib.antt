@@ -3,3 +3,4 @@ pub mod AsParts
 pub mod EachRow
 pub mod Carriers
 pub mod LatchedModels
+pub mod LatchedRuns
