@@ -1,11 +1,11 @@
 -- A design whose main model has the latches of wires: its models, joined nets, latches and clocks.
-use Rattle.std.proofs.Common.{ℕ, zero, suc, ◌≡◌, ◌≢◌, refl, sym, ap, ◌∙◌, subst, inl, inr, ◌⊎◌, Bool, true, false, not, cond, List, [], ◌∷◌, ◌++◌, length, map, arith}
+use Rattle.std.proofs.Common.{ℕ, zero, suc, ◌+◌, ◌<◌, ◌≡◌, ◌≢◌, refl, sym, ap, ◌∙◌, subst, inl, inr, ◌⊎◌, Bool, true, false, not, cond, List, [], ◌∷◌, ◌++◌, length, map, arith}
 use Rattle.std.specs.Prelude.{Contains, Option, Some, None, slice_get, option_map, option_and_then, option_to_list, flat_map, bytes_eq, find}
-use Rattle.std.specs.List.{list_any}
+use Rattle.std.specs.List.{list_any, range_with_len}
 use Rattle.std.proofs.lemmas.Bool.{true≢false, false_from_ne_true}
 use Rattle.std.proofs.lemmas.Option.{none-some, same_Some}
 use Rattle.std.proofs.lemmas.Slice.Eq.{bytes_eq-Decides}
-use Rattle.lists.proofs.Members.{In, in_from, contains_from, in_left, in_right, in_parts, in_map, in_flat, in_got, passes_at}
+use Rattle.lists.proofs.Members.{In, in_from, contains_from, in_left, in_right, in_parts, in_map, in_flat, in_flattened, in_mapped, in_got, got_from, passes_at}
 use Rattle.netlist_core.specs.declared.model.Trigger.{Trigger}
 use Rattle.netlist_core.specs.declared.model.Port.{Port}
 use Rattle.netlist_core.specs.declared.model.Cover.{Cover}
@@ -20,8 +20,8 @@ use Rattle.netlist_meaning.specs.Nets.{Net, net_at, model_names, IsNet, IsPinned
 use Rattle.netlist_meaning.specs.Laws.{IsNotRecursive}
 use Rattle.netlist_meaning.proofs.Names.{and_then-from}
 use Rattle.netlist_meaning.proofs.Depth.{model_at-append}
-use Rattle.netlist_meaning.proofs.Joined.{joined_gives}
-use Rattle.carried_parts.specs.Latched.{NamedWire, wire_latches, wire_covers, unfed_ports, latched_model, change_first, latched}
+use Rattle.netlist_meaning.proofs.Joined.{joined_gives, clock_net-joined}
+use Rattle.carried_parts.specs.Latched.{NamedWire, latch_count, wire_latch, wire_latches, wire_covers, unfed_ports, latched_model, change_first, latched}
 
 not_nil : (place : Place) (number : ℕ) → place ++ number ∷ [] ≢ []
 not_nil [] number e = (let n : 1 ≡ 0 = ap length e in omega (arith, n))
@@ -198,6 +198,30 @@ module _ (kind : Option Trigger) (control : Option Name) (wires : List NamedWire
       go [] i = i
       go (main ∷ others) i = in_unfed name main.clocks free i
 
+  input_stays : (design : Design) (name : Name) → is_fed name ≡ false → In name (main_inputs design) → In name (main_inputs (latched kind control wires design))
+  input_stays design name free i = go design.models i
+    where
+      go : (models : List Model) → In name (main_inputs (record { models = models })) → In name (main_inputs (record { models = change_first (latched_model kind control wires) models }))
+      go [] i = i
+      go (main ∷ others) i = in_unfed name main.ins free i
+
+  unfed_free : (name : Name) (ports : List Port) → In name (port_names (unfed_ports wires ports)) → is_fed name ≡ false
+  unfolding is_fed
+  unfed_free name [] i = absurd i
+  unfed_free name (port ∷ ports) i = go (list_any (λ named. bytes_eq named.input port.name) wires) refl i (λ j. unfed_free name ports j)
+    where
+      go : (b : Bool) → list_any (λ named. bytes_eq named.input port.name) wires ≡ b → In name (port_names (cond (not b) (port ∷ unfed_ports wires ports) (unfed_ports wires ports))) → (In name (port_names (unfed_ports wires ports)) → list_any (λ named. bytes_eq named.input name) wires ≡ false) → list_any (λ named. bytes_eq named.input name) wires ≡ false
+      go false e (inl same) again = ap (λ name. list_any (λ named. bytes_eq named.input name) wires) same ∙ e
+      go false e (inr i) again = again i
+      go true e i again = again i
+
+  clock_was_free : (design : Design) (name : Name) → In name (main_clocks (latched kind control wires design)) → In name (main_clocks design) × (is_fed name ≡ false)
+  clock_was_free design name i = go design.models i
+    where
+      go : (models : List Model) → In name (main_clocks (record { models = change_first (latched_model kind control wires) models })) → In name (main_clocks (record { models = models })) × (is_fed name ≡ false)
+      go [] i = absurd i
+      go (main ∷ others) i = (unfed_in name main.clocks i, unfed_free name main.clocks i)
+
   input_was : (design : Design) (name : Name) → In name (main_inputs (latched kind control wires design)) → In name (main_inputs design)
   input_was design name i = go design.models i
     where
@@ -212,7 +236,7 @@ module _ (kind : Option Trigger) (control : Option Name) (wires : List NamedWire
     pub model_was : (place : Place) (model : Model) → model_at after place ≡ Some model → (before : Model) × (model_at design place ≡ Some before) × (model ≡ there place before)
     model_was place model e = map_from (there place) (model_at design place) model (sym (models_there design alone place) ∙ e)
 
-    model_is : (place : Place) (model : Model) → model_at design place ≡ Some model → model_at after place ≡ Some (there place model)
+    pub model_is : (place : Place) (model : Model) → model_at design place ≡ Some model → model_at after place ≡ Some (there place model)
     model_is place model e = models_there design alone place ∙ ap (option_map (there place)) e
 
     pub pin_was : (outer inner : Net) → IsPinned after outer inner → IsPinned design outer inner
@@ -275,6 +299,10 @@ module _ (kind : Option Trigger) (control : Option Name) (wires : List NamedWire
         let of = and_then-from (λ m. slice_get m.latches number) (model_at design place) latch e in
         ap (option_and_then (λ m. slice_get m.latches number)) (model_is place of.0 of.1) ∙ latch_still place of.0 number latch of.2
 
+    pub covers_still : (place : Place) (model : Model) (cover : Cover) → In cover model.covers → In cover (there place model).covers
+    covers_still [] model cover i = in_left model.covers (flat_map wire_covers wires) cover i
+    covers_still (first ∷ place) model cover i = i
+
     covers_there : (place : Place) (model : Model) (cover : Cover) → In cover (there place model).covers → In cover model.covers ⊎ ((place ≡ []) × In cover (flat_map wire_covers wires))
     covers_there [] model cover i = elim (in_parts model.covers (flat_map wire_covers wires) cover i) [ inl o ↦ inl o | inr n ↦ inr (refl, n) ]
     covers_there (first ∷ place) model cover i = inl i
@@ -289,6 +317,22 @@ module _ (kind : Option Trigger) (control : Option Name) (wires : List NamedWire
 
     -- the clock nets are still clock nets, if what is fed was an input
     module _ (were_inputs : (named : NamedWire) → In named wires → In named.input (main_inputs design)) where
+      -- each latch of a wire stands somewhere in the main model
+      pub main_latch_at : (named : NamedWire) → In named wires → (j : ℕ) → j < latch_count named → (number : ℕ) × (latch_at after [] number ≡ Some (wire_latch kind control named j))
+      main_latch_at named among j low = go design.models (were_inputs named among)
+        where
+          in_range : (a n k : ℕ) → k < n → In (a + k) (range_with_len a n)
+          in_range a zero k l = absurd (omega arith)
+          in_range a (suc n) zero l = inl (omega arith)
+          in_range a (suc n) (suc k) l = inr (let e : a + 1 + k ≡ a + suc k = omega arith in subst (λ m. In m (range_with_len (a + 1) n)) e (in_range (a + 1) n k (omega (arith, l))))
+
+          go : (models : List Model) → In named.input (main_inputs (record { models = models })) → (number : ℕ) × (latch_at (record { models = change_first (latched_model kind control wires) models }) [] number ≡ Some (wire_latch kind control named j))
+          go [] i = absurd i
+          go (main ∷ others) i =
+              let e : 0 + j ≡ j = omega arith in
+              let within : In j (range_with_len 0 (latch_count named)) = subst (λ m. In m (range_with_len 0 (latch_count named))) e (in_range 0 (latch_count named) j low) in
+              got_from (main.latches ++ flat_map (wire_latches kind control) wires) (wire_latch kind control named j) (in_right main.latches (flat_map (wire_latches kind control) wires) _ (in_flat (wire_latches kind control) wires named _ among (in_map (wire_latch kind control named) (range_with_len 0 (latch_count named)) j within)))
+
       is_free : (name : Name) → ¬ Contains (main_inputs design) name → is_fed name ≡ false
       unfolding is_fed
       is_free name no_input =
@@ -305,3 +349,28 @@ module _ (kind : Option Trigger) (control : Option Name) (wires : List NamedWire
 
       pub clock_is : (net : Net) → IsClockNet design net → IsClockNet after net
       clock_is net (source, h, joined) = (source, source_is source h, joined_is source net joined)
+
+    -- and there are no others, if the wires' latches have a clock of the design, or none
+    module _ (clocked : (name : Name) → control ≡ Some name → IsClockNet design (net_at [] name)) where
+      control_was : (net : Net) (h : IsLatchControl after net) → IsClockNet design net
+      control_was net h =
+          elim (latch_was net.place h.number h.latch h.has_latch) [
+            | inl old ↦ (net, inl (record { number = h.number; latch = h.latch; has_latch = old; has_control = h.has_control }), itself)
+            | inr new ↦
+                let (named, among, of) = in_flattened (wire_latches kind control) wires h.latch new.1 in
+                let (j, within, is) = in_mapped (wire_latch kind control named) (range_with_len 0 (latch_count named)) h.latch of in
+                subst (λ place. IsClockNet design (net_at place net.name)) (sym new.0) (clocked net.name (sym (ap (λ latch. latch.control) is) ∙ h.has_control))
+          ]
+
+      main_was : (net : Net) → IsMainClock after net → IsMainClock design net
+      main_was net h =
+          let clock = clock_was_free design net.name (in_from _ net.name h.is_clock) in
+          record {
+            is_main = h.is_main;
+            is_clock = contains_from _ net.name clock.0;
+            is_no_input = λ c. h.is_no_input (contains_from _ net.name (input_stays design net.name clock.1 (in_from _ net.name c)));
+          }
+
+      pub clock_was : (net : Net) → IsClockNet after net → IsClockNet design net
+      clock_was net (source, inl h, joined) = clock_net-joined design source net (joined_was source net joined) (control_was source h)
+      clock_was net (source, inr h, joined) = (source, inr (main_was source h), joined_was source net joined)

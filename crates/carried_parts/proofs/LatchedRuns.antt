@@ -10,7 +10,7 @@ use Rattle.std.proofs.lemmas.List.{length-map, length-append, map-append, get_or
 use Rattle.std.proofs.lemmas.List.FromFn.{length-map-range_with_len, get_or-map-range_with_len}
 use Rattle.std.proofs.lemmas.Slice.Eq.{bytes_eq-Decides}
 use Rattle.lists.specs.Items.{flag_at, list_at, one_if, alone_if}
-use Rattle.lists.proofs.Members.{In, in_from, contains_from, in_left, in_right, in_flattened, in_mapped, in_got, got_from, map_in}
+use Rattle.lists.proofs.Members.{In, in_from, contains_from, in_left, in_right, in_map, in_flattened, in_mapped, in_got, got_from, map_in}
 use Rattle.wire_laws.specs.Rows.{PartMeaning, IsCausalMeaning, row_of_both}
 use Rattle.wire_laws.specs.PortWires.{PortWire, with_fed, FeedsBack}
 use Rattle.netlist_core.specs.declared.model.Trigger.{Trigger}
@@ -103,7 +103,7 @@ halves (x ∷ xs) ys (u ∷ us) vs l e =
     let rest = halves xs ys us vs (omega (arith, l)) (ap rest_of e) in
     (ap₂ (λ y ys. y ∷ ys) (same_Some _ _ (ap (λ l. slice_get l 0) e)) rest.0, rest.1)
 
-got_cases : {X : Type 0} (xs ys : List X) (o : ℕ) (x : X) → slice_get (xs ++ ys) o ≡ Some x → (slice_get xs o ≡ Some x) ⊎ ((k : ℕ) × (o ≡ length xs + k) × (slice_get ys k ≡ Some x))
+pub got_cases : {X : Type 0} (xs ys : List X) (o : ℕ) (x : X) → slice_get (xs ++ ys) o ≡ Some x → (slice_get xs o ≡ Some x) ⊎ ((k : ℕ) × (o ≡ length xs + k) × (slice_get ys k ≡ Some x))
 got_cases [] ys o x e = inr (o, omega arith, e)
 got_cases (y ∷ xs) ys zero x e = inl e
 got_cases (y ∷ xs) ys (suc o) x e =
@@ -117,7 +117,7 @@ in_range a zero j i = absurd i
 in_range a (suc n) j (inl e) = omega (arith, e)
 in_range a (suc n) j (inr i) = (let l : j < a + 1 + n = in_range (a + 1) n j i in omega (arith, l))
 
-one_if_is : (b : Bool) → (one_if b == 1) ≡ b
+pub one_if_is : (b : Bool) → (one_if b == 1) ≡ b
 one_if_is true = refl
 one_if_is false = refl
 
@@ -129,6 +129,15 @@ in_alone : {X : Type 0} (b : Bool) (item x : X) → In x (alone_if b item) → (
 in_alone true item x (inl e) = (refl, e)
 in_alone true item x (inr i) = absurd i
 in_alone false item x i = absurd i
+
+-- what a wire feeds was an input
+pub fed_inputs : (design new : Design) (seen : List Net) (wires : List NamedWire) → HaveNames design new seen wires → (named : NamedWire) → In named wires → In named.input (main_inputs design)
+fed_inputs design new seen wires names named i =
+    left_in design named.input (main_inputs design) names.before_names (in_left (map (λ named. named.input) wires) names.in_names named.input (in_map (λ named. named.input) wires named i))
+
+-- what stands at a place of the outputs
+pub output_at : (design : Design) (o : ℕ) (net : Net) → slice_get (map (net_at []) (main_outputs design)) o ≡ Some net → (name : Name) × (slice_get (main_outputs design) o ≡ Some name) × (net ≡ net_at [] name)
+output_at design o net e = map_from (net_at []) (slice_get (main_outputs design) o) net (sym (slice_get-map (net_at []) (main_outputs design) o) ∙ e)
 
 module _ (design : Design) (seen : List Net) (meaning : PartMeaning) (wires : List NamedWire) (kind : Option Trigger) (control : Option Name) (fed : PartMeaning) (alone : IsNotRecursive design) (names : HaveNames design (latched kind control wires design) seen wires) (means : IsMeaningOf design seen meaning) (feeds : (bits : ℕ → ℕ → Bool) → FeedsBack (wires_of wires) meaning bits (fed bits)) where
   abbrev after : Design
@@ -146,26 +155,16 @@ module _ (design : Design) (seen : List Net) (meaning : PartMeaning) (wires : Li
   wire_at : (i : ℕ) (named : NamedWire) → slice_get wires i ≡ Some named → slice_get (wires_of wires) i ≡ Some named.wire
   wire_at i named at = slice_get-map (λ named. named.wire) wires i ∙ ap (option_map (λ named. named.wire)) at
 
-  -- the ports of wires are nets
   were_inputs : (named : NamedWire) → In named wires → In named.input (main_inputs design)
-  were_inputs named i = left_in design named.input (main_inputs design) names.before_names (in_left fed_names names.in_names named.input (fed_in wires named i))
-    where
-      fed_in : (wires : List NamedWire) (named : NamedWire) → In named wires → In named.input (map (λ named. named.input) wires)
-      fed_in [] named i = absurd i
-      fed_in (first ∷ wires) named (inl e) = inl (ap (λ n. n.input) e)
-      fed_in (first ∷ wires) named (inr i) = inr (fed_in wires named i)
+  were_inputs = fed_inputs design (latched kind control wires design) seen wires names
 
   in_name_net : (name : Name) → In name names.in_names → IsNet design (net_at [] name)
   in_name_net name i = main_input_net design name (left_in design name (main_inputs design) names.before_names (in_right fed_names names.in_names name i))
 
-  -- what stands at a place of the outputs
-  output_at : (o : ℕ) (net : Net) → slice_get (map (net_at []) (main_outputs design)) o ≡ Some net → (name : Name) × (slice_get (main_outputs design) o ≡ Some name) × (net ≡ net_at [] name)
-  output_at o net e = map_from (net_at []) (slice_get (main_outputs design) o) net (sym (slice_get-map (net_at []) (main_outputs design) o) ∙ e)
-
   port_net : (o : ℕ) (net : Net) → slice_get (map (net_at []) (main_outputs design) ++ seen) o ≡ Some net → IsNet design net
   port_net o net e =
       elim (got_cases (map (net_at []) (main_outputs design)) seen o net e) [
-        | inl at ↦ (let of = output_at o net at in subst (IsNet design) (sym of.2) (main_output_net design of.0 (in_got (main_outputs design) o of.0 of.1)))
+        | inl at ↦ (let of = output_at design o net at in subst (IsNet design) (sym of.2) (main_output_net design of.0 (in_got (main_outputs design) o of.0 of.1)))
         | inr at ↦ names.nets net (contains_from seen net (in_got seen at.0 net at.2))
       ]
 
@@ -261,7 +260,7 @@ module _ (design : Design) (seen : List Net) (meaning : PartMeaning) (wires : Li
           sym (ap (λ row. row o) (same_meaning t l))
           ∙ elim (got_cases (map (net_at []) (main_outputs design)) seen o net e) [
             | inl at ↦
-                let of = output_at o net at in
+                let of = output_at design o net at in
                 let got = got_is (main_outputs design) o of.0 [] of.1 in
                 means.outs rows_with fits run is_run t o low got.0 ∙ get_or-map (run t []) (main_outputs design) o [] false got.0 ∙ ap (run t []) got.1 ∙ sym (ap (λ net. run t net.place net.name) of.2)
             | inr at ↦
