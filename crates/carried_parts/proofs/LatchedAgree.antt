@@ -20,10 +20,10 @@ use Rattle.netlist_meaning.specs.Valuation.{Valuation, IsValuation, AreInputRows
 use Rattle.netlist_meaning.specs.Laws.{IsNotRecursive}
 use Rattle.netlist_meaning.proofs.Joined.{in_names_are_one}
 use Rattle.carried_parts.specs.CarriedParts.{bits_of_rows, IsMeaningOf}
-use Rattle.carried_parts.specs.Latched.{NamedWire, latch_count, name_before, wire_latch, wire_latches, latched, HaveNames, RunsAgree, LatchedRunsAgree}
+use Rattle.carried_parts.specs.Latched.{NamedWire, shown_nets, latch_count, name_before, wire_latch, wire_latches, latched, HaveNames, RunsAgree, LatchedRunsAgree}
 use Rattle.carried_parts.proofs.Rows.{got_at, got_is}
 use Rattle.carried_parts.proofs.LatchedModels.{there, outputs_same, model_is, joined_is, latch_is, covers_still, clock_was, main_latch_at}
-use Rattle.carried_parts.proofs.LatchedRuns.{fed_inputs, output_at, got_cases}
+use Rattle.carried_parts.proofs.LatchedRuns.{fed_inputs, shows_net}
 
 module _ (design : Design) (seen : List Net) (meaning : PartMeaning) (wires : List NamedWire) (kind : Option Trigger) (control : Option Name) (alone : IsNotRecursive design) (names : HaveNames design (latched kind control wires design) seen wires) (clocked : (name : Name) → control ≡ Some name → IsClockNet design (net_at [] name)) (means : IsMeaningOf design seen meaning) (rows : List (List Bool)) (are : AreInputRows (latched kind control wires design) rows) where
   abbrev after : Design
@@ -88,17 +88,8 @@ module _ (design : Design) (seen : List Net) (meaning : PartMeaning) (wires : Li
           latches_hold = λ place number latch is_latch. latch_bit t l place number latch (latch_is kind control wires design alone place number latch is_latch) ∙ sym (held_by design t place number latch is_latch);
         }
 
-    shown : (t : ℕ) → t < length rows → (o : ℕ) (net : Net) → slice_get (map (net_at []) (main_outputs design) ++ seen) o ≡ Some net → run t net.place net.name ≡ meaning (bits_of_rows rows_with) t o
-    shown t l o net e =
-        let low : t < length rows_with = omega (arith, l, with_long) in
-        elim (got_cases (map (net_at []) (main_outputs design)) seen o net e) [
-          | inl at ↦
-              let of = output_at design o net at in
-              let got = got_is (main_outputs design) o of.0 [] of.1 in
-              ap (λ net. run t net.place net.name) of.2 ∙ sym (ap (run t []) got.1) ∙ sym (get_or-map (run t []) (main_outputs design) o [] false got.0) ∙ sym (means.outs rows_with fits run is_run t o low got.0)
-          | inr at ↦
-              sym (ap (meaning (bits_of_rows rows_with) t) (at.1 ∙ ap (λ n. n + at.0) (length-map (main_outputs design) (net_at []))) ∙ means.nets rows_with fits run is_run t at.0 net low at.2)
-        ]
+    shown : (t : ℕ) → t < length rows → (o : ℕ) (net : Net) → slice_get (shown_nets design seen) o ≡ Some net → run t net.place net.name ≡ meaning (bits_of_rows rows_with) t o
+    shown t l o net e = sym (shows_net design seen meaning means rows_with fits run is_run t (omega (arith, l, with_long)) o net e)
 
     wire_bit : (t : ℕ) → t < length rows → (named : NamedWire) → In named wires → (j : ℕ) → j < latch_count named → run t [] (name_before named j) ≡ held [] (wire_latch kind control named j) t
     wire_bit t l named among j low =
@@ -123,7 +114,7 @@ module _ (design : Design) (seen : List Net) (meaning : PartMeaning) (wires : Li
     same_meaning : (t : ℕ) → Alike t → t < length rows → meaning (bits_of_rows (rows_with run is)) t ≡ meaning (bits_of_rows (rows_with other is_other)) t
     same_meaning t alike l = means.causal (bits_of_rows (rows_with run is)) (bits_of_rows (rows_with other is_other)) t (λ u le. same_rows t alike u le (omega (arith, l, le)))
 
-    same_shown : (t : ℕ) → Alike t → t < length rows → (o : ℕ) (net : Net) → slice_get (map (net_at []) (main_outputs design) ++ seen) o ≡ Some net → run t net.place net.name ≡ other t net.place net.name
+    same_shown : (t : ℕ) → Alike t → t < length rows → (o : ℕ) (net : Net) → slice_get (shown_nets design seen) o ≡ Some net → run t net.place net.name ≡ other t net.place net.name
     same_shown t alike l o net at = shown run is t l o net at ∙ ap (λ row. row o) (same_meaning t alike l) ∙ sym (shown other is_other t l o net at)
 
     next_same : (t : ℕ) → Alike t → suc t < length rows → (named : NamedWire) → In named wires → (j : ℕ) → j < latch_count named → run t [] (name_before named (suc j)) ≡ other t [] (name_before named (suc j))

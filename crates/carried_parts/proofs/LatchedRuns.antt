@@ -27,7 +27,7 @@ use Rattle.netlist_meaning.specs.Laws.{IsNotRecursive}
 use Rattle.netlist_meaning.proofs.Names.{and_then-from}
 use Rattle.netlist_meaning.proofs.Joined.{in_names_are_one, pins_are_enough}
 use Rattle.carried_parts.specs.CarriedParts.{bits_of_rows, IsMeaningOf}
-use Rattle.carried_parts.specs.Latched.{NamedWire, wires_of, latch_count, name_before, wire_latch, wire_latches, wire_covers, latched, IsBetween, HaveNames, RunsAgree, WiresAreLatches}
+use Rattle.carried_parts.specs.Latched.{NamedWire, wires_of, shown_nets, latch_count, name_before, wire_latch, wire_latches, wire_covers, latched, IsBetween, HaveNames, RunsAgree, WiresAreLatches}
 use Rattle.carried_parts.proofs.Rows.{got_at, got_is}
 use Rattle.carried_parts.proofs.LatchedModels.{map_from, left_in, cover_net, latch_net, pin_net, main_input_net, main_output_net, outputs_same, pin_was, latch_was, cover_was, clock_is}
 
@@ -103,7 +103,7 @@ halves (x ∷ xs) ys (u ∷ us) vs l e =
     let rest = halves xs ys us vs (omega (arith, l)) (ap rest_of e) in
     (ap₂ (λ y ys. y ∷ ys) (same_Some _ _ (ap (λ l. slice_get l 0) e)) rest.0, rest.1)
 
-pub got_cases : {X : Type 0} (xs ys : List X) (o : ℕ) (x : X) → slice_get (xs ++ ys) o ≡ Some x → (slice_get xs o ≡ Some x) ⊎ ((k : ℕ) × (o ≡ length xs + k) × (slice_get ys k ≡ Some x))
+got_cases : {X : Type 0} (xs ys : List X) (o : ℕ) (x : X) → slice_get (xs ++ ys) o ≡ Some x → (slice_get xs o ≡ Some x) ⊎ ((k : ℕ) × (o ≡ length xs + k) × (slice_get ys k ≡ Some x))
 got_cases [] ys o x e = inr (o, omega arith, e)
 got_cases (y ∷ xs) ys zero x e = inl e
 got_cases (y ∷ xs) ys (suc o) x e =
@@ -117,7 +117,7 @@ in_range a zero j i = absurd i
 in_range a (suc n) j (inl e) = omega (arith, e)
 in_range a (suc n) j (inr i) = (let l : j < a + 1 + n = in_range (a + 1) n j i in omega (arith, l))
 
-pub one_if_is : (b : Bool) → (one_if b == 1) ≡ b
+one_if_is : (b : Bool) → (one_if b == 1) ≡ b
 one_if_is true = refl
 one_if_is false = refl
 
@@ -136,8 +136,21 @@ fed_inputs design new seen wires names named i =
     left_in design named.input (main_inputs design) names.before_names (in_left (map (λ named. named.input) wires) names.in_names named.input (in_map (λ named. named.input) wires named i))
 
 -- what stands at a place of the outputs
-pub output_at : (design : Design) (o : ℕ) (net : Net) → slice_get (map (net_at []) (main_outputs design)) o ≡ Some net → (name : Name) × (slice_get (main_outputs design) o ≡ Some name) × (net ≡ net_at [] name)
+output_at : (design : Design) (o : ℕ) (net : Net) → slice_get (map (net_at []) (main_outputs design)) o ≡ Some net → (name : Name) × (slice_get (main_outputs design) o ≡ Some name) × (net ≡ net_at [] name)
 output_at design o net e = map_from (net_at []) (slice_get (main_outputs design) o) net (sym (slice_get-map (net_at []) (main_outputs design) o) ∙ e)
+
+-- an output shows its net
+pub shows_net : (design : Design) (seen : List Net) (meaning : PartMeaning) → IsMeaningOf design seen meaning → (rows : List (List Bool)) → AreInputRows design rows → (run : ℕ → Valuation) → IsRun design rows run → (t : ℕ) → t < length rows
+    → (o : ℕ) (net : Net) → slice_get (shown_nets design seen) o ≡ Some net → meaning (bits_of_rows rows) t o ≡ run t net.place net.name
+shows_net design seen meaning means rows are run is t l o net e =
+    elim (got_cases (map (net_at []) (main_outputs design)) seen o net e) [
+      | inl at ↦
+          let of = output_at design o net at in
+          let got = got_is (main_outputs design) o of.0 [] of.1 in
+          means.outs rows are run is t o l got.0 ∙ get_or-map (run t []) (main_outputs design) o [] false got.0 ∙ ap (run t []) got.1 ∙ sym (ap (λ net. run t net.place net.name) of.2)
+      | inr at ↦
+          ap (meaning (bits_of_rows rows) t) (at.1 ∙ ap (λ n. n + at.0) (length-map (main_outputs design) (net_at []))) ∙ means.nets rows are run is t at.0 net l at.2
+    ]
 
 module _ (design : Design) (seen : List Net) (meaning : PartMeaning) (wires : List NamedWire) (kind : Option Trigger) (control : Option Name) (fed : PartMeaning) (alone : IsNotRecursive design) (names : HaveNames design (latched kind control wires design) seen wires) (means : IsMeaningOf design seen meaning) (feeds : (bits : ℕ → ℕ → Bool) → FeedsBack (wires_of wires) meaning bits (fed bits)) where
   abbrev after : Design
@@ -161,7 +174,7 @@ module _ (design : Design) (seen : List Net) (meaning : PartMeaning) (wires : Li
   in_name_net : (name : Name) → In name names.in_names → IsNet design (net_at [] name)
   in_name_net name i = main_input_net design name (left_in design name (main_inputs design) names.before_names (in_right fed_names names.in_names name i))
 
-  port_net : (o : ℕ) (net : Net) → slice_get (map (net_at []) (main_outputs design) ++ seen) o ≡ Some net → IsNet design net
+  port_net : (o : ℕ) (net : Net) → slice_get (shown_nets design seen) o ≡ Some net → IsNet design net
   port_net o net e =
       elim (got_cases (map (net_at []) (main_outputs design)) seen o net e) [
         | inl at ↦ (let of = output_at design o net at in subst (IsNet design) (sym of.2) (main_output_net design of.0 (in_got (main_outputs design) o of.0 of.1)))
@@ -255,17 +268,9 @@ module _ (design : Design) (seen : List Net) (meaning : PartMeaning) (wires : Li
           ∙ get_or-map-range_with_len (back t) 0 many i i false (omega (arith, short, length-map wires (λ named. named.wire))) (omega arith)
 
       -- the outputs and the nets show the meaning
-      shown : (o : ℕ) (net : Net) → slice_get (map (net_at []) (main_outputs design) ++ seen) o ≡ Some net → meaning all_bits t o ≡ run t net.place net.name
+      shown : (o : ℕ) (net : Net) → slice_get (shown_nets design seen) o ≡ Some net → meaning all_bits t o ≡ run t net.place net.name
       shown o net e =
-          sym (ap (λ row. row o) (same_meaning t l))
-          ∙ elim (got_cases (map (net_at []) (main_outputs design)) seen o net e) [
-            | inl at ↦
-                let of = output_at design o net at in
-                let got = got_is (main_outputs design) o of.0 [] of.1 in
-                means.outs rows_with fits run is_run t o low got.0 ∙ get_or-map (run t []) (main_outputs design) o [] false got.0 ∙ ap (run t []) got.1 ∙ sym (ap (λ net. run t net.place net.name) of.2)
-            | inr at ↦
-                ap (meaning (bits_of_rows rows_with) t) (at.1 ∙ ap (λ n. n + at.0) (length-map (main_outputs design) (net_at []))) ∙ means.nets rows_with fits run is_run t at.0 net low at.2
-          ]
+          sym (ap (λ row. row o) (same_meaning t l)) ∙ shows_net design seen meaning means rows_with fits run is_run t low o net e
 
       source_bit : (i : ℕ) (named : NamedWire) → slice_get wires i ≡ Some named → run_after t [] named.source ≡ back (latch_count named + t) i
       source_bit i named at =

@@ -5,3 +5,4 @@ pub mod Carriers
 pub mod LatchedModels
 pub mod LatchedRuns
 pub mod LatchedAgree
+pub mod TextsByLines

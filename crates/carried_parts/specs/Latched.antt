@@ -30,6 +30,10 @@ pub record NamedWire : Type 0 where
 abbrev pub wires_of : List NamedWire → List PortWire
 wires_of wires = map (λ named. named.wire) wires
 
+-- the nets that a part shows at its outputs: the main outputs, and then these
+abbrev pub shown_nets : Design → List Net → List Net
+shown_nets design seen = map (net_at []) (main_outputs design) ++ seen
+
 -- the wire is a row of so many latches
 abbrev pub latch_count : NamedWire → ℕ
 latch_count named = length named.wire.starts
@@ -102,9 +106,8 @@ abbrev pub IsBetween : NamedWire → ℕ → Type 0
 IsBetween named j = (0 < j) × (j < latch_count named)
 
 -- The names of wires fit two designs, the second of which has the latches. The IN names of the
--- first are the inputs at the wires' ends, and then those of the second. Each wire begins where
--- its output's number says: the outputs are the main outputs and then these nets. The names
--- between latches are new, and differ.
+-- first are the inputs at the wires' ends, and then those of the second. Each wire begins at the net
+-- of its output. The names between latches are new, and differ.
 pub record HaveNames (design after : Design) (seen : List Net)
     (wires : List NamedWire) : Type 0 where
   pub in_names : List Name
@@ -112,8 +115,7 @@ pub record HaveNames (design after : Design) (seen : List Net)
   pub after_names : IsInNames after in_names
   pub nets : (net : Net) → Contains seen net → IsNet design net
   pub sources : (named : NamedWire) → Contains wires named
-      → slice_get (map (net_at []) (main_outputs design) ++ seen) named.wire.output
-      ≡ Some (net_at [] named.source)
+      → slice_get (shown_nets design seen) named.wire.output ≡ Some (net_at [] named.source)
   pub new : (named : NamedWire) → Contains wires named → (j : ℕ) → IsBetween named j
       → ¬ IsNet design (net_at [] (named.inner j))
   pub differ : (i k : ℕ) (named other : NamedWire) → slice_get wires i ≡ Some named
