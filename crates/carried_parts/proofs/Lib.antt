@@ -4,5 +4,3 @@ pub mod EachRow
 pub mod Carriers
 pub mod LatchedModels
 pub mod LatchedRuns
-pub mod LatchedAgree
-pub mod TextsByLines

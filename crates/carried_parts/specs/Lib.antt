@@ -1,3 +1,2 @@
 pub mod CarriedParts
 pub mod Latched
-pub mod WiredTexts

@@ -5,10 +5,8 @@
 #![tactic(auto)]
 
 mod latched;
-mod wired_texts;
 
-pub use latched::{latched_runs_agree, wires_are_latches};
-pub use wired_texts::{parts_carry_by_lines, wired_texts_carry};
+pub use latched::{latched_runs_agree, latches_show_fed, wired_parts_mean_latches, wires_are_latches};
 
 ghost use Rattle.carried_parts.specs.CarriedParts.{CarriersAnswerEachRow, CarriersAreParts, PartsCarry};
 
