@@ -116,7 +116,7 @@ in_range a zero j i = absurd i
 in_range a (suc n) j (inl e) = omega (arith, e)
 in_range a (suc n) j (inr i) = (let l : j < a + 1 + n = in_range (a + 1) n j i in omega (arith, l))
 
-one_if_is : (b : Bool) → (one_if b == 1) ≡ b
+pub one_if_is : (b : Bool) → (one_if b == 1) ≡ b
 one_if_is true = refl
 one_if_is false = refl
 
@@ -219,10 +219,10 @@ module _ (kind : Option Trigger) (control : Option Name) (wires : List NamedWire
     abbrev back : ℕ → ℕ → Bool
     back = fed (bits_of_rows rows)
 
-    abbrev first : ℕ → List Bool
+    abbrev pub first : ℕ → List Bool
     first t = map (back t) (range_with_len 0 many)
 
-    wide : (t : ℕ) → length (first t) ≡ length wires
+    pub wide : (t : ℕ) → length (first t) ≡ length wires
     wide t = length-map-range_with_len (back t) 0 many ∙ length-map wires (λ named. named.wire)
 
     abbrev longer : List (List Bool)
@@ -244,7 +244,7 @@ module _ (kind : Option Trigger) (control : Option Name) (wires : List NamedWire
     same_bits : (u : ℕ) → u < length rows → bits_of_rows longer u ≡ all_bits u
     same_bits u l = fun_ext (λ i. ap (λ row. flag_at row i) (longer_at u l) ∙ flags_both many (back u) (list_at rows u) i)
 
-    same_meaning : (t : ℕ) → t < length rows → meaning (bits_of_rows longer) t ≡ meaning all_bits t
+    pub same_meaning : (t : ℕ) → t < length rows → meaning (bits_of_rows longer) t ≡ meaning all_bits t
     same_meaning t l = means.causal (bits_of_rows longer) all_bits t (λ u le. same_bits u (omega (arith, l, le)))
 
     abbrev run : ℕ → Valuation

@@ -4,3 +4,4 @@ pub mod EachRow
 pub mod Carriers
 pub mod LatchedModels
 pub mod LatchedRuns
+pub mod LatchedAgree
