@@ -5,3 +5,6 @@ pub mod Carriers
 pub mod LatchedModels
 pub mod LatchedRuns
 pub mod LatchedAgree
+pub mod WiredParts
+pub mod TextsByLines
+pub mod WiredTextsCarry

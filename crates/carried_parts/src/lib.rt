@@ -5,8 +5,10 @@
 #![tactic(auto)]
 
 mod latched;
+mod wired_texts;
 
 pub use latched::{latched_runs_agree, latches_show_fed, wired_parts_mean_latches, wires_are_latches};
+pub use wired_texts::{parts_carry_by_lines, wired_texts_carry};
 
 ghost use Rattle.carried_parts.specs.CarriedParts.{CarriersAnswerEachRow, CarriersAreParts, PartsCarry};
 
