@@ -19,7 +19,7 @@ use Rattle.netlist_meaning.specs.Nets.{Net, net_at}
 use Rattle.netlist_meaning.specs.Valuation.{Valuation, IsValuation, AreInputRows, IsRun, start_bit, start_state, data_bit, latches_in, output_bit}
 use Rattle.netlist_meaning.proofs.Joined.{in_names_are_one}
 use Rattle.carried_parts.specs.CarriedParts.{bits_of_rows, IsMeaningOf}
-use Rattle.carried_parts.specs.Latched.{NamedWire, port_wires, shown_nets, wire_cycles, name_before, wire_latch, wire_latches, NamesFit, IsLatched, HaveLatches, RunsAgree, LatchedRunsAgree, LatchesShowFed}
+use Rattle.carried_parts.specs.Latched.{NamedWire, port_wires, shown_nets, wire_cycles, name_before, wire_latch, wire_latches, NamesFit, IsLatched, HaveLatches, LatchedRunsAgree, LatchesShowFed}
 use Rattle.carried_parts.proofs.Rows.{got_at, got_is}
 use Rattle.carried_parts.proofs.LatchedModels.{outputs_same, joined_is, latch_is, wire_latch_at, cover_is, clock_was}
 use Rattle.carried_parts.proofs.LatchedRuns.{shows_net, rows_with, with_long, with_at, fits, one_if_is, first as fed_first, wide as fed_wide, same_meaning as fed_meaning}

@@ -1,9 +1,9 @@
 -- A design whose main model has the latches of wires: its models, joined nets, rows and clocks.
-use Rattle.std.proofs.Common.{ℕ, zero, suc, ◌+◌, ◌<◌, ◌≡◌, ◌≢◌, refl, sym, ap, ◌∙◌, subst, inl, inr, ◌⊎◌, Bool, true, false, not, cond, List, [], ◌∷◌, ◌++◌, length, map, arith}
-use Rattle.std.specs.Prelude.{Contains, Option, Some, None, slice_get, option_map, option_and_then, option_to_list, flat_map, bytes_eq, find}
+use Rattle.std.proofs.Common.{ℕ, suc, ◌≡◌, ◌≢◌, refl, sym, ap, ◌∙◌, subst, inl, inr, ◌⊎◌, Bool, true, false, not, cond, List, [], ◌∷◌, ◌++◌, length, map, arith}
+use Rattle.std.specs.Prelude.{Contains, Option, Some, None, slice_get, option_and_then, option_to_list, flat_map, bytes_eq, find}
 use Rattle.std.specs.List.{list_any, range_with_len}
-use Rattle.std.proofs.lemmas.Bool.{true≢false, false_from_ne_true}
-use Rattle.std.proofs.lemmas.Option.{none-some, same_Some}
+use Rattle.std.proofs.lemmas.Bool.{false_from_ne_true}
+use Rattle.std.proofs.lemmas.Option.{same_Some}
 use Rattle.std.proofs.lemmas.Slice.Eq.{bytes_eq-Decides}
 use Rattle.lists.proofs.Members.{In, in_from, contains_from, in_left, in_right, in_parts, in_map, in_flat, in_flattened, in_mapped, in_got, got_from, passes_at}
 use Rattle.netlist_core.specs.declared.model.Trigger.{Trigger}
@@ -15,10 +15,9 @@ use Rattle.netlist_core.specs.declared.model.Pin.{Pin}
 use Rattle.netlist_core.specs.declared.model.Model.{Model}
 use Rattle.netlist_core.specs.declared.model.Design.{Design}
 use Rattle.netlist_core.specs.Names.{Name, port_names, is_model_named, model_named}
-use Rattle.netlist_meaning.specs.Places.{Place, model_placed, model_below, model_at, latch_at, main_ports, main_inputs, main_outputs, main_clocks}
+use Rattle.netlist_meaning.specs.Places.{Place, model_placed, model_below, model_at, latch_at, main_inputs, main_outputs, main_clocks}
 use Rattle.netlist_meaning.specs.Nets.{Net, net_at, model_names, IsNet, IsPinned, Joined, by_pin, itself, reversed, followed, IsLatchControl, IsMainClock, IsClockNet, WithoutControl, none, kept, left_out}
 use Rattle.netlist_meaning.specs.Laws.{IsNotRecursive}
-use Rattle.netlist_meaning.proofs.Names.{and_then-from}
 use Rattle.netlist_meaning.proofs.Depth.{model_at-append}
 use Rattle.netlist_meaning.proofs.Joined.{joined_gives, clock_net-joined}
 use Rattle.carried_parts.specs.Latched.{NamedWire, wire_cycles, wire_latch, wire_latches, wire_covers, unfed_ports, HasLatches}
@@ -268,7 +267,7 @@ module _ (kind : Option Trigger) (control : Option Name) (wires : List NamedWire
     is_free : (name : Name) → ¬ Contains (main_inputs design) name → list_any (λ named. bytes_eq named.input_name name) wires ≡ false
     is_free name no_input =
         false_from_ne_true _ (λ fed. (let (named, among, same) = passes_at (λ named. bytes_eq named.input_name name) wires fed in
-            no_input (contains_from (main_inputs design) name (subst (λ n. In n (main_inputs design)) ((bytes_eq-Decides named.input_name name).0 same) (were_inputs named among)))))
+        no_input (contains_from (main_inputs design) name (subst (λ n. In n (main_inputs design)) ((bytes_eq-Decides named.input_name name).0 same) (were_inputs named among)))))
 
     main_clock_is : (net : Net) → IsMainClock design net → IsMainClock after net
     main_clock_is net h =

@@ -11,8 +11,8 @@ use Rattle.std.proofs.lemmas.List.FromFn.{length-map-range_with_len, get_or-map-
 use Rattle.std.proofs.lemmas.Slice.Eq.{bytes_eq-Decides}
 use Rattle.lists.specs.Items.{flag_at, list_at, one_if, alone_if}
 use Rattle.lists.proofs.Members.{In, in_from, contains_from, in_left, in_right, in_map, in_flattened, in_mapped, in_got, got_from, map_in}
-use Rattle.wire_laws.specs.Rows.{PartMeaning, IsCausalMeaning, row_of_both}
-use Rattle.wire_laws.specs.PortWires.{PortWire, with_fed, FeedsBack}
+use Rattle.wire_laws.specs.Rows.{PartMeaning, row_of_both}
+use Rattle.wire_laws.specs.PortWires.{with_fed, FeedsBack}
 use Rattle.netlist_core.specs.declared.model.Trigger.{Trigger}
 use Rattle.netlist_core.specs.declared.model.Cover.{Cover}
 use Rattle.netlist_core.specs.declared.model.LatchRow.{LatchRow}
@@ -21,12 +21,12 @@ use Rattle.netlist_core.specs.declared.model.Design.{Design}
 use Rattle.netlist_core.specs.Names.{Name}
 use Rattle.netlist_meaning.specs.CoverValue.{cover_value}
 use Rattle.netlist_meaning.specs.Places.{Place, model_at, latch_at, main_inputs, main_outputs}
-use Rattle.netlist_meaning.specs.Nets.{Net, net_at, IsNet, IsPinned, Joined, by_pin, IsClockNet, IsInNames}
-use Rattle.netlist_meaning.specs.Valuation.{Valuation, LatchState, IsValuation, AreInputRows, IsRun, start_bit, start_state, data_bit, latches_in, output_bit}
+use Rattle.netlist_meaning.specs.Nets.{Net, net_at, IsNet, IsPinned, by_pin, IsClockNet}
+use Rattle.netlist_meaning.specs.Valuation.{Valuation, IsValuation, AreInputRows, IsRun, start_bit, start_state, data_bit, latches_in, output_bit}
 use Rattle.netlist_meaning.proofs.Names.{and_then-from}
 use Rattle.netlist_meaning.proofs.Joined.{in_names_are_one, pins_are_enough}
 use Rattle.carried_parts.specs.CarriedParts.{bits_of_rows, IsMeaningOf}
-use Rattle.carried_parts.specs.Latched.{NamedWire, port_wires, shown_nets, wire_cycles, name_before, wire_latch, wire_latches, wire_covers, IsBetween, NamesFit, IsLatched, RunsAgree, WiresAreLatches}
+use Rattle.carried_parts.specs.Latched.{NamedWire, port_wires, shown_nets, wire_cycles, name_before, wire_latch, wire_latches, wire_covers, IsBetween, NamesFit, IsLatched, WiresAreLatches}
 use Rattle.carried_parts.proofs.Rows.{got_at, got_is}
 use Rattle.carried_parts.proofs.LatchedModels.{left_in, cover_net, latch_net, pin_net, main_input_net, main_output_net, outputs_same, pin_was, latch_was, cover_was, clock_is}
 

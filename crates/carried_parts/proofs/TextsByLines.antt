@@ -1,10 +1,9 @@
 -- A text whose lines are ports of a part carries the design that the part means.
-use Rattle.std.proofs.Common.{pos, ℕ, ◌+◌, ◌<◌, ◌≤◌, ◌≡◌, refl, sym, ap, ap₂, ◌∙◌, subst, inl, inr, Bool, List, [], ◌++◌, length, map, get_or, arith}
+use Rattle.std.proofs.Common.{pos, ℕ, ◌+◌, ◌<◌, ◌≡◌, refl, sym, ap, ◌∙◌, subst, inl, inr, Bool, List, [], ◌++◌, length, get_or, arith}
 use Rattle.std.specs.Prelude.{Contains, Option, Some, None, slice_get}
 use Rattle.std.proofs.lemmas.Option.{none-some, same_Some, get_or_from_slice_get, slice_get_within}
 use Rattle.std.proofs.lemmas.List.{length-map, get_or-map}
-use Rattle.std.proofs.lemmas.List.Elements.{Contains-append_cases}
-use Rattle.lists.proofs.Members.{In, in_from, contains_from, in_left, in_right, in_parts}
+use Rattle.lists.proofs.Members.{In, in_from, contains_from, in_right, in_parts}
 use Rattle.ww_rule.specs.Grid.{Grid, plane_of}
 use Rattle.wire_laws.specs.Signals.{Signal, CarriesSignals}
 use Rattle.wire_laws.specs.Rows.{Port, signals_at, PartMeaning, IsPart, row_of_both}
@@ -12,7 +11,6 @@ use Rattle.wire_laws.proofs.Rows.{port_signal, no_port, port_of_signal, signal_o
 use Rattle.wire_laws.proofs.Early.{both_first, both_rest, signals_both}
 use Rattle.wire_laws.proofs.Order.{order_is_free}
 use Rattle.pattern_reading.specs.declared.ports.Ports.{Ports}
-use Rattle.pattern_reading.specs.declared.ports.PortLine.{PortLine}
 use Rattle.pattern_reading.specs.declared.ports.NetLine.{NetLine}
 use Rattle.netlist_core.specs.declared.model.Design.{Design}
 use Rattle.netlist_meaning.specs.Nets.{Net}
@@ -21,7 +19,7 @@ use Rattle.place_paths.specs.Paths.{name_and_path}
 use Rattle.carried_parts.specs.CarriedParts.{line_ports, net_line_ports, bits_of_rows, IsMeaningOf}
 use Rattle.carried_parts.specs.Latched.{shown_nets}
 use Rattle.carried_parts.specs.WiredTexts.{SpellsTableOf, HasLinesOf, PartsCarryByLines}
-use Rattle.carried_parts.proofs.Rows.{got_at, got_is}
+use Rattle.carried_parts.proofs.Rows.{got_at}
 use Rattle.carried_parts.proofs.AsParts.{no_line, no_net_line, line_port}
 use Rattle.carried_parts.proofs.Carriers.{parts_carry}
 use Rattle.carried_parts.proofs.LatchedRuns.{shows_net}
