@@ -134,7 +134,7 @@ pub fed_inputs : (design new : Design) (seen : List Net) (wires : List NamedWire
 fed_inputs design new seen wires names named i =
     left_in design named.input_name (main_inputs design) names.before_names (in_left (map (λ named. named.input_name) wires) names.in_names named.input_name (in_map (λ named. named.input_name) wires named i))
 
-map_from : {X Y : Type 0} (f : X → Y) (o : Option X) (y : Y) → option_map f o ≡ Some y → (x : X) × (o ≡ Some x) × (y ≡ f x)
+pub map_from : {X Y : Type 0} (f : X → Y) (o : Option X) (y : Y) → option_map f o ≡ Some y → (x : X) × (o ≡ Some x) × (y ≡ f x)
 map_from f None y e = absurd (none-some y e)
 map_from f (Some x) y e = (x, refl, sym (same_Some _ _ e))
 

@@ -8,3 +8,4 @@ pub mod LatchedAgree
 pub mod WiredParts
 pub mod TextsByLines
 pub mod WiredTextsCarry
+pub mod UnlinedRuns

@@ -132,7 +132,8 @@ pub record IsLatched (kind : Option Trigger) (control : Option Name) (wires : Li
 pub record RunsAgree (design : Design) (seen : List Net) : Type 0 where
   pub outs : (rows : List (List Bool)) → AreInputRows design rows → (run other : ℕ → Valuation)
       → IsRun design rows run → IsRun design rows other → (t i : ℕ) → t < length rows
-      → i < length (main_outputs design) → output_bit design (run t) i ≡ output_bit design (other t) i
+      → i < length (main_outputs design)
+      → output_bit design (run t) i ≡ output_bit design (other t) i
   pub nets : (rows : List (List Bool)) → AreInputRows design rows → (run other : ℕ → Valuation)
       → IsRun design rows run → IsRun design rows other → (t : ℕ) (net : Net) → t < length rows
       → Contains seen net → run t net.place net.name ≡ other t net.place net.name

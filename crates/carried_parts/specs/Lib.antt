@@ -1,3 +1,4 @@
 pub mod CarriedParts
 pub mod Latched
 pub mod WiredTexts
+pub mod Unlined

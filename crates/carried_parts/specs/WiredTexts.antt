@@ -29,8 +29,8 @@ pub record SpellsTableOf (design : Design) (text : List ℕ) (grid : Grid) (port
   pub conductors : (line : PortLine) → Contains ports.ins line
       → plane_of grid.rows (pos line.x) (pos line.y) ≡ Conductor
 
--- The lines of a table are ports of a part that shows certain nets at its outputs. The OUT lines are
--- the first outputs, in order. Each NET line is an output that shows the line's net.
+-- The lines of a table are ports of a part that shows certain nets at its outputs. The OUT lines
+-- are the first outputs, in order. Each NET line is an output that shows the line's net.
 pub record HasLinesOf (ports : Ports) (nets : List Net) (outputs : List Port)
     (shown : List Net) : Type 0 where
   pub out_lines : (i : ℕ) (line : PortLine) → slice_get ports.outs i ≡ Some line
@@ -54,9 +54,9 @@ abbrev pub shown_ports : Ports → List Port
 shown_ports ports = line_ports ports.l ports.outs ++ net_line_ports ports.nets
 
 -- Wires turn the pattern of a text that carries a design and its nets into that of a text that
--- carries the design with latches and its nets, if the runs of this agree. The IN lines of the first
--- are the inputs at the wires' ends, and then those of the second, whose other lines are among the
--- first one's.
+-- carries the design with latches and its nets, if the runs of this agree. The IN lines of the
+-- first are the inputs at the wires' ends, and then those of the second, whose other lines are
+-- among the first one's.
 abbrev pub WiredTextsCarry : Type 0
 WiredTextsCarry =
     (kind : Option Trigger) (control : Option Name) (wires : List NamedWire)

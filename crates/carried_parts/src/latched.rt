@@ -21,8 +21,8 @@ pub fn latched_runs_agree()
     ensures { LatchedRunsAgree }
 {}
 
-/// What the nets between latches have in each run of such a netlist: so a cell on a wire shows a net
-/// of the netlist too.
+/// What the nets between latches have in each run of such a netlist: so a cell on a wire shows one
+/// of its nets too.
 pub fn latches_show_fed()
     ensures { LatchesShowFed }
 {}
