@@ -16,11 +16,12 @@ use Rattle.netlist_core.specs.declared.model.Design.{Design}
 use Rattle.netlist_core.specs.Names.{Name}
 use Rattle.netlist_meaning.specs.Places.{Place, latch_at, main_outputs}
 use Rattle.netlist_meaning.specs.Nets.{Net, net_at}
-use Rattle.netlist_meaning.specs.Valuation.{Valuation, IsValuation, AreInputRows, IsRun, start_bit, start_state, data_bit, latches_in, output_bit}
+use Rattle.netlist_meaning.specs.Valuation.{Valuation, IsValuation, AreInputRows, IsRun, start_state, latches_in, output_bit}
 use Rattle.netlist_meaning.proofs.Joined.{in_names_are_one}
 use Rattle.carried_parts.specs.CarriedParts.{bits_of_rows, IsMeaningOf}
 use Rattle.carried_parts.specs.Latched.{NamedWire, port_wires, shown_nets, wire_cycles, name_before, wire_latch, wire_latches, NamesFit, IsLatched, HaveLatches, LatchedRunsAgree, LatchesShowFed}
 use Rattle.carried_parts.proofs.Rows.{got_at, got_is}
+use Rattle.carried_parts.proofs.Held.{held, held_by}
 use Rattle.carried_parts.proofs.LatchedModels.{outputs_same, joined_is, latch_is, wire_latch_at, cover_is, clock_was}
 use Rattle.carried_parts.proofs.LatchedRuns.{shows_net, rows_with, with_long, with_at, fits, one_if_is, first as fed_first, wide as fed_wide, same_meaning as fed_meaning}
 
@@ -73,16 +74,8 @@ module _ (kind : Option Trigger) (control : Option Name) (wires : List NamedWire
     solves : (t : ℕ) → t < length rows → IsValuation after (list_at rows t) (latches_in after (start_state after) run t) (run t)
     solves t l = is t (list_at rows t) (got_at rows t [] l)
 
-    abbrev held : Place → LatchRow → ℕ → Bool
-    held place latch zero = latch.init == 1
-    held place latch (suc t) = run t place latch.input
-
-    held_by : (netlist : Design) (t : ℕ) (place : Place) (number : ℕ) (latch : LatchRow) → latch_at netlist place number ≡ Some latch → latches_in netlist (start_state netlist) run t place number ≡ held place latch t
-    held_by netlist zero place number latch at = ap start_bit at
-    held_by netlist (suc t) place number latch at = ap (data_bit (run t place)) at
-
-    latch_bit : (t : ℕ) → t < length rows → (place : Place) (number : ℕ) (latch : LatchRow) → latch_at after place number ≡ Some latch → run t place latch.output ≡ held place latch t
-    latch_bit t l place number latch at = (solves t l).latches_hold place number latch at ∙ held_by after t place number latch at
+    latch_bit : (t : ℕ) → t < length rows → (place : Place) (number : ℕ) (latch : LatchRow) → latch_at after place number ≡ Some latch → run t place latch.output ≡ held run place latch t
+    latch_bit t l place number latch at = (solves t l).latches_hold place number latch at ∙ held_by after run t place number latch at
 
     is_run : IsRun design own_rows run
     is_run t row at =
@@ -95,13 +88,13 @@ module _ (kind : Option Trigger) (control : Option Name) (wires : List NamedWire
           inputs_given = map-append (run t []) fed_names names.in_names ∙ ap (λ row. own t ++ row) (ap (map (run t [])) (in_names_are_one after names.in_names v.in_names names.after_names v.are_in_names) ∙ v.inputs_given) ∙ sym (longer_at own own_wide t l) ∙ got.1;
           joined_agree = λ a b joined no_clock. v.joined_agree a b (joined_is kind control wires design after made.alone made.rows a b joined) (λ clock. no_clock (clock_was kind control wires design after made.alone made.rows have.clocks a clock));
           covers_hold = λ place model cover is_model among. (let now = cover_is kind control wires design after made.alone made.rows place model cover is_model (in_from model.covers cover among) in v.covers_hold place now.0 cover now.1 (contains_from now.0.covers cover now.2));
-          latches_hold = λ place number latch is_latch. (let now = latch_is kind control wires design after made.alone made.rows place number latch is_latch in latch_bit t l place now.0 latch now.1 ∙ sym (held_by design t place number latch is_latch));
+          latches_hold = λ place number latch is_latch. (let now = latch_is kind control wires design after made.alone made.rows place number latch is_latch in latch_bit t l place now.0 latch now.1 ∙ sym (held_by design run t place number latch is_latch));
         }
 
     shown : (t : ℕ) → t < length rows → (o : ℕ) (net : Net) → slice_get (shown_nets design seen) o ≡ Some net → run t net.place net.name ≡ meaning (bits_of_rows own_rows) t o
     shown t l o net e = sym (shows_net design seen meaning means own_rows own_fits run is_run t (omega (arith, l, own_long)) o net e)
 
-    wire_bit : (t : ℕ) → t < length rows → (i : ℕ) (named : NamedWire) → slice_get wires i ≡ Some named → (j : ℕ) → j < wire_cycles named → run t [] (name_before named j) ≡ held [] (wire_latch kind control named j) t
+    wire_bit : (t : ℕ) → t < length rows → (i : ℕ) (named : NamedWire) → slice_get wires i ≡ Some named → (j : ℕ) → j < wire_cycles named → run t [] (name_before named j) ≡ held run [] (wire_latch kind control named j) t
     wire_bit t l i named is_wire j low =
         let e : 0 + j ≡ j = omega arith in
         let within : In j (range_with_len 0 (wire_cycles named)) = subst (λ m. In m (range_with_len 0 (wire_cycles named))) e (in_range 0 (wire_cycles named) j low) in

@@ -28,6 +28,7 @@ use Rattle.netlist_meaning.proofs.Joined.{in_names_are_one, pins_are_enough}
 use Rattle.carried_parts.specs.CarriedParts.{bits_of_rows, IsMeaningOf}
 use Rattle.carried_parts.specs.Latched.{NamedWire, port_wires, shown_nets, wire_cycles, name_before, wire_latch, wire_latches, wire_covers, IsBetween, NamesFit, IsLatched, WiresAreLatches}
 use Rattle.carried_parts.proofs.Rows.{got_at, got_is}
+use Rattle.carried_parts.proofs.Held.{held, held_by}
 use Rattle.carried_parts.proofs.LatchedModels.{left_in, cover_net, latch_net, pin_net, main_input_net, main_output_net, outputs_same, pin_was, latch_was, cover_was, clock_is}
 
 -- the bits of the nets between the latches of a wire; another name keeps its bit
@@ -348,21 +349,12 @@ module _ (kind : Option Trigger) (control : Option Name) (wires : List NamedWire
             | inr new ↦ subst (λ place. run_after t place cover.out ≡ cover_value cover.rows cover.on (map (run_after t place) cover.ins)) (sym new.0) (copy_holds cover new.1)
           ]
 
-    -- what a latch holds in a cycle
-    abbrev held : Place → LatchRow → ℕ → Bool
-    held place latch zero = latch.init == 1
-    held place latch (suc t) = run_after t place latch.input
-
-    held_after : (t : ℕ) (place : Place) (number : ℕ) (latch : LatchRow) → latch_at after place number ≡ Some latch → latches_in after (start_state after) run_after t place number ≡ held place latch t
-    held_after zero place number latch at = ap start_bit at
-    held_after (suc t) place number latch at = ap (data_bit (run_after t place)) at
-
     old_net : (place : Place) (number : ℕ) (latch : LatchRow) (name : Name) → latch_at design place number ≡ Some latch → In name (latch.input ∷ latch.output ∷ option_to_list latch.control) → IsNet design (net_at place name)
     old_net place number latch name at i =
         let of = and_then-from (λ m. slice_get m.latches number) (model_at design place) latch at in
         latch_net design place of.0 of.1 latch name (in_got of.0.latches number latch of.2) i
 
-    old_latch : (t : ℕ) → t < length rows → (place : Place) (number : ℕ) (latch : LatchRow) → latch_at design place number ≡ Some latch → run_after t place latch.output ≡ held place latch t
+    old_latch : (t : ℕ) → t < length rows → (place : Place) (number : ℕ) (latch : LatchRow) → latch_at design place number ≡ Some latch → run_after t place latch.output ≡ held run_after place latch t
     old_latch zero l place number latch at =
         kept zero place latch.output (old_net place number latch latch.output at (inr (inl refl)))
         ∙ (solves zero l).latches_hold place number latch at
@@ -373,7 +365,7 @@ module _ (kind : Option Trigger) (control : Option Name) (wires : List NamedWire
         ∙ ap (data_bit (run t place)) at
         ∙ sym (kept t place latch.input (old_net place number latch latch.input at (inl refl)))
 
-    wire_bit : (t : ℕ) → t < length rows → (i : ℕ) (named : NamedWire) → slice_get wires i ≡ Some named → (j : ℕ) → j < wire_cycles named → run_after t [] (name_before named j) ≡ held [] (wire_latch kind control named j) t
+    wire_bit : (t : ℕ) → t < length rows → (i : ℕ) (named : NamedWire) → slice_get wires i ≡ Some named → (j : ℕ) → j < wire_cycles named → run_after t [] (name_before named j) ≡ held run_after [] (wire_latch kind control named j) t
     wire_bit zero l i named at j low =
         along_bit zero l i named at j (omega (arith, low))
         ∙ (let e : 0 + j ≡ j = omega arith in ap (λ u. back u i) e)
@@ -384,19 +376,19 @@ module _ (kind : Option Trigger) (control : Option Name) (wires : List NamedWire
         ∙ (let e : suc t + j ≡ t + suc j = omega arith in ap (λ u. back u i) e)
         ∙ sym (along_bit t (omega (arith, l)) i named at (suc j) (omega (arith, low)))
 
-    new_latch : (t : ℕ) → t < length rows → (latch : LatchRow) → In latch (flat_map (wire_latches kind control) wires) → run_after t [] latch.output ≡ held [] latch t
+    new_latch : (t : ℕ) → t < length rows → (latch : LatchRow) → In latch (flat_map (wire_latches kind control) wires) → run_after t [] latch.output ≡ held run_after [] latch t
     new_latch t l latch i =
         let (named, among, of) = in_flattened (wire_latches kind control) wires latch i in
         let (j, within, is) = in_mapped (wire_latch kind control named) (range_with_len 0 (wire_cycles named)) latch of in
         let (k, at) = got_from wires named among in
         let low : j < 0 + wire_cycles named = in_range 0 (wire_cycles named) j within in
-        subst (λ latch. run_after t [] latch.output ≡ held [] latch t) (sym is) (wire_bit t l k named at j (omega (arith, low)))
+        subst (λ latch. run_after t [] latch.output ≡ held run_after [] latch t) (sym is) (wire_bit t l k named at j (omega (arith, low)))
 
-    latches_after : (t : ℕ) → t < length rows → (place : Place) (number : ℕ) (latch : LatchRow) → latch_at after place number ≡ Some latch → run_after t place latch.output ≡ held place latch t
+    latches_after : (t : ℕ) → t < length rows → (place : Place) (number : ℕ) (latch : LatchRow) → latch_at after place number ≡ Some latch → run_after t place latch.output ≡ held run_after place latch t
     latches_after t l place number latch at =
         elim (latch_was kind control wires design after made.alone made.rows place number latch at) [
           | inl old ↦ old_latch t l place old.0 latch old.1
-          | inr new ↦ subst (λ place. run_after t place latch.output ≡ held place latch t) (sym new.0) (new_latch t l latch new.1)
+          | inr new ↦ subst (λ place. run_after t place latch.output ≡ held run_after place latch t) (sym new.0) (new_latch t l latch new.1)
         ]
 
     is_run_after : IsRun after rows run_after
@@ -408,7 +400,7 @@ module _ (kind : Option Trigger) (control : Option Name) (wires : List NamedWire
           inputs_given = inputs_after t l row at;
           joined_agree = (pins_are_enough after (run_after t)).0 (pins_after t l);
           covers_hold = covers_after t l;
-          latches_hold = λ place number latch at. latches_after t l place number latch at ∙ sym (held_after t place number latch at);
+          latches_hold = λ place number latch at. latches_after t l place number latch at ∙ sym (held_by after run_after t place number latch at);
         }
 
     outs_after : (t i : ℕ) → t < length rows → i < length (main_outputs after) → meaning all_bits t i ≡ output_bit after (run_after t) i

@@ -2,6 +2,7 @@ pub mod Rows
 pub mod AsParts
 pub mod EachRow
 pub mod Carriers
+pub mod Held
 pub mod LatchedModels
 pub mod LatchedRuns
 pub mod LatchedAgree

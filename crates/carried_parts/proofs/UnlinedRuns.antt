@@ -1,7 +1,7 @@
 -- Designs that differ in the numbers of their lines alone have the same runs.
-use Rattle.std.proofs.Common.{ℕ, zero, suc, ◌≡◌, ◌<◌, refl, sym, ap, ap₂, ◌∙◌, subst, inl, inr, ◌⊎◌, Bool, true, false, cond, ◌==◌, List, [], ◌∷◌, ◌++◌, length, map, get_or, ◌+◌}
+use Rattle.std.proofs.Common.{ℕ, zero, suc, ◌≡◌, ◌<◌, refl, sym, ap, ◌∙◌, subst, inl, inr, ◌⊎◌, Bool, true, false, cond, ◌==◌, List, [], ◌∷◌, length, map, get_or, ◌+◌}
 use Rattle.std.specs.Prelude.{Contains, Option, Some, None, slice_get, option_map, option_and_then, bytes_eq, find}
-use Rattle.std.proofs.lemmas.Option.{none-some, same_Some, slice_get-map}
+use Rattle.std.proofs.lemmas.Option.{slice_get-map}
 use Rattle.lists.proofs.Members.{In, in_from, contains_from, in_map, in_mapped}
 use Rattle.netlist_core.specs.declared.model.Port.{Port}
 use Rattle.netlist_core.specs.declared.model.Cover.{Cover}
@@ -13,11 +13,12 @@ use Rattle.netlist_core.specs.Names.{Name, port_names, is_model_named, model_nam
 use Rattle.netlist_meaning.specs.CoverValue.{cover_value}
 use Rattle.netlist_meaning.specs.Places.{Place, main_model, model_placed, model_below, model_at, latch_at, main_ports, main_inputs, main_outputs, main_clocks}
 use Rattle.netlist_meaning.specs.Nets.{Net, net_at, IsPinned, Joined, by_pin, itself, reversed, followed, IsLatchControl, IsMainClock, IsControl, IsClockNet, WithoutControl, none, kept, left_out, IsInNames}
-use Rattle.netlist_meaning.specs.Valuation.{Valuation, IsValuation, AreInputRows, IsRun, start_bit, start_state, data_bit, latches_in}
+use Rattle.netlist_meaning.specs.Valuation.{Valuation, AreInputRows, IsRun}
 use Rattle.netlist_meaning.proofs.Names.{and_then-from}
 use Rattle.netlist_meaning.proofs.Joined.{joined_gives}
-use Rattle.carried_parts.specs.CarriedParts.{bits_of_rows, IsMeaningOf}
-use Rattle.carried_parts.specs.Unlined.{unlined_port, unlined_cover, unlined_latch, unlined_subckt, unlined_model, unlined, RunAlike, LinesDecideNoRun}
+use Rattle.carried_parts.specs.CarriedParts.{bits_of_rows}
+use Rattle.carried_parts.specs.Unlined.{unlined_port, unlined_cover, unlined_latch, unlined_subckt, unlined_model, unlined, LinesDecideNoRun}
+use Rattle.carried_parts.proofs.Held.{held, held_by}
 use Rattle.carried_parts.proofs.LatchedRuns.{map_from}
 
 unlined_names : (ports : List Port) → port_names (map unlined_port ports) ≡ port_names ports
@@ -141,15 +142,6 @@ are_names_there design other alike names h = subst (λ inputs. WithoutControl ot
 
 rows_there : (design other : Design) → unlined design ≡ unlined other → (rows : List (List Bool)) → AreInputRows design rows → AreInputRows other rows
 rows_there design other alike rows (names, h, all) = (names, are_names_there design other alike names h, all)
-
--- what a latch holds
-abbrev held : (ℕ → Valuation) → Place → LatchRow → ℕ → Bool
-held run place latch zero = latch.init == 1
-held run place latch (suc t) = run t place latch.input
-
-held_by : (design : Design) (run : ℕ → Valuation) (t : ℕ) (place : Place) (number : ℕ) (latch : LatchRow) → latch_at design place number ≡ Some latch → latches_in design (start_state design) run t place number ≡ held run place latch t
-held_by design run zero place number latch at = ap start_bit at
-held_by design run (suc t) place number latch at = ap (data_bit (run t place)) at
 
 held_alike : (run : ℕ → Valuation) (t : ℕ) (place : Place) (latch now : LatchRow) → unlined_latch latch ≡ unlined_latch now → held run place latch t ≡ held run place now t
 held_alike run zero place latch now e = ap (λ l. l.init == 1) e
