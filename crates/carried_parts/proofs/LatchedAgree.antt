@@ -19,7 +19,7 @@ use Rattle.netlist_meaning.specs.Nets.{Net, net_at}
 use Rattle.netlist_meaning.specs.Valuation.{Valuation, IsValuation, AreInputRows, IsRun, start_state, latches_in, output_bit}
 use Rattle.netlist_meaning.proofs.Joined.{in_names_are_one}
 use Rattle.carried_parts.specs.CarriedParts.{bits_of_rows, IsMeaningOf}
-use Rattle.carried_parts.specs.Latched.{NamedWire, port_wires, shown_nets, wire_cycles, name_before, wire_latch, wire_latches, NamesFit, IsLatched, HaveLatches, LatchedRunsAgree, LatchesShowFed}
+use Rattle.carried_parts.specs.Latched.{NamedWire, port_wires, shown_nets, wire_cycles, name_before, wire_latch, wire_latches, NamesFit, IsLatched, WiresHaveLatches, LatchedRunsAgree, LatchesShowFed}
 use Rattle.carried_parts.proofs.Rows.{got_at, got_is}
 use Rattle.carried_parts.proofs.Held.{held, held_by}
 use Rattle.carried_parts.proofs.LatchedModels.{outputs_same, joined_is, latch_is, wire_latch_at, cover_is, clock_was}
@@ -41,7 +41,7 @@ same_row : (wires : List NamedWire) (f g : Name → Bool) → ((i : ℕ) (named 
 same_row [] f g same = refl
 same_row (named ∷ wires) f g same = ap₂ (λ b row. b ∷ row) (same 0 named refl) (same_row wires f g (λ i n at. same (suc i) n at))
 
-module _ (kind : Option Trigger) (control : Option Name) (wires : List NamedWire) (design after : Design) (seen : List Net) (meaning : PartMeaning) (made : IsLatched kind control wires design after seen) (have : HaveLatches control wires design) (means : IsMeaningOf design seen meaning) (rows : List (List Bool)) (are : AreInputRows after rows) where
+module _ (kind : Option Trigger) (control : Option Name) (wires : List NamedWire) (design after : Design) (seen : List Net) (meaning : PartMeaning) (made : IsLatched kind control wires design after seen) (have : WiresHaveLatches control wires design) (means : IsMeaningOf design seen meaning) (rows : List (List Bool)) (are : AreInputRows after rows) where
   abbrev names : NamesFit design after seen wires
   names = made.names
 

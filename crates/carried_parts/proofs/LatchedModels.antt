@@ -20,7 +20,7 @@ use Rattle.netlist_meaning.specs.Nets.{Net, net_at, model_names, IsNet, IsPinned
 use Rattle.netlist_meaning.specs.Laws.{IsNotRecursive}
 use Rattle.netlist_meaning.proofs.Depth.{model_at-append}
 use Rattle.netlist_meaning.proofs.Joined.{joined_gives, clock_net-joined}
-use Rattle.carried_parts.specs.Latched.{NamedWire, wire_cycles, wire_latch, wire_latches, wire_covers, unfed_ports, HasLatches}
+use Rattle.carried_parts.specs.Latched.{NamedWire, wire_cycles, wire_latch, wire_latches, wire_covers, unfed_ports, HasWireLatches}
 
 not_nil : (place : Place) (number : ℕ) → place ++ number ∷ [] ≢ []
 not_nil [] number e = (let n : 1 ≡ 0 = ap length e in omega (arith, n))
@@ -106,7 +106,7 @@ module _ (wires : List NamedWire) (name : Name) where
       go false j = inr j
       go true j = j
 
-module _ (kind : Option Trigger) (control : Option Name) (wires : List NamedWire) (design after : Design) (alone : IsNotRecursive design) (rows : HasLatches kind control wires design after) where
+module _ (kind : Option Trigger) (control : Option Name) (wires : List NamedWire) (design after : Design) (alone : IsNotRecursive design) (rows : HasWireLatches kind control wires design after) where
   abbrev old : Design
   old = record { models = rows.main ∷ rows.others }
 

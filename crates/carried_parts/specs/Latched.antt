@@ -78,7 +78,7 @@ unfed_ports wires ports =
 -- The second design is the first with the wires' latches and covers in its main model, anywhere
 -- among its rows. All these latches have this type, if any, and this control, if any. The inputs at
 -- the wires' ends are gone from `.inputs` and `.clock`. All else stays, and on its lines.
-pub record HasLatches (kind : Option Trigger) (control : Option Name) (wires : List NamedWire)
+pub record HasWireLatches (kind : Option Trigger) (control : Option Name) (wires : List NamedWire)
     (design after : Design) : Type 0 where
   pub main : Model
   pub latched : Model
@@ -125,7 +125,7 @@ pub record NamesFit (design after : Design) (seen : List Net)
 pub record IsLatched (kind : Option Trigger) (control : Option Name) (wires : List NamedWire)
     (design after : Design) (seen : List Net) : Type 0 where
   pub alone : IsNotRecursive design
-  pub rows : HasLatches kind control wires design after
+  pub rows : HasWireLatches kind control wires design after
   pub names : NamesFit design after seen wires
 
 -- runs of the design on the same rows have the same bits at its outputs and at these nets
@@ -166,7 +166,7 @@ WiredPartsMeanLatches =
     → (new : PartMeaning) × IsMeaningOf after seen new × IsPart period plane ins outs new
 
 -- each wire has a latch, and the latches have no control, or one that is a clock net already
-pub record HaveLatches (control : Option Name) (wires : List NamedWire)
+pub record WiresHaveLatches (control : Option Name) (wires : List NamedWire)
     (design : Design) : Type 0 where
   pub some : (named : NamedWire) → Contains wires named → 0 < wire_cycles named
   pub clocks : (name : Name) → control ≡ Some name → IsClockNet design (net_at [] name)
@@ -176,7 +176,7 @@ abbrev pub LatchedRunsAgree : Type 0
 LatchedRunsAgree =
     (kind : Option Trigger) (control : Option Name) (wires : List NamedWire)
     (design after : Design) (seen : List Net) (meaning : PartMeaning)
-    → IsLatched kind control wires design after seen → HaveLatches control wires design
+    → IsLatched kind control wires design after seen → WiresHaveLatches control wires design
     → IsMeaningOf design seen meaning → RunsAgree after seen
 
 -- If each wire has a latch, the net that comes j latches before an input has in each run the bits
@@ -185,7 +185,7 @@ abbrev pub LatchesShowFed : Type 0
 LatchesShowFed =
     (kind : Option Trigger) (control : Option Name) (wires : List NamedWire)
     (design after : Design) (seen : List Net) (meaning fed : PartMeaning)
-    → IsLatched kind control wires design after seen → HaveLatches control wires design
+    → IsLatched kind control wires design after seen → WiresHaveLatches control wires design
     → IsMeaningOf design seen meaning
     → ((bits : ℕ → ℕ → Bool) → FeedsBack (port_wires wires) meaning bits (fed bits))
     → (rows : List (List Bool)) → AreInputRows after rows → (run : ℕ → Valuation)

@@ -2,7 +2,7 @@
 ghost use Rattle.carried_parts.specs.Unlined.{LinesDecideNoRun};
 
 /// The numbers of lines decide no run: they order the nets of a port table, and faults. So a text
-/// from which latches were cut may have its other lines anywhere, though `HasLatches` keeps them.
+/// from which latches were cut may have its other lines anywhere, though `HasWireLatches` keeps them.
 pub fn lines_decide_no_run()
     ensures { LinesDecideNoRun }
 {}
