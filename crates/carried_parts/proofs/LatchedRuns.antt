@@ -103,7 +103,7 @@ halves (x ∷ xs) ys (u ∷ us) vs l e =
     let rest = halves xs ys us vs (omega (arith, l)) (ap rest_of e) in
     (ap₂ (λ y ys. y ∷ ys) (same_Some _ _ (ap (λ l. slice_get l 0) e)) rest.0, rest.1)
 
-got_cases : {X : Type 0} (xs ys : List X) (o : ℕ) (x : X) → slice_get (xs ++ ys) o ≡ Some x → (slice_get xs o ≡ Some x) ⊎ ((k : ℕ) × (o ≡ length xs + k) × (slice_get ys k ≡ Some x))
+pub got_cases : {X : Type 0} (xs ys : List X) (o : ℕ) (x : X) → slice_get (xs ++ ys) o ≡ Some x → (slice_get xs o ≡ Some x) ⊎ ((k : ℕ) × (o ≡ length xs + k) × (slice_get ys k ≡ Some x))
 got_cases [] ys o x e = inr (o, omega arith, e)
 got_cases (y ∷ xs) ys zero x e = inl e
 got_cases (y ∷ xs) ys (suc o) x e =

@@ -10,3 +10,5 @@ pub mod WiredParts
 pub mod TextsByLines
 pub mod WiredTextsCarry
 pub mod UnlinedRuns
+pub mod OrderedModels
+pub mod OrderedRuns

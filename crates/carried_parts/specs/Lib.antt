@@ -2,3 +2,4 @@ pub mod CarriedParts
 pub mod Latched
 pub mod WiredTexts
 pub mod Unlined
+pub mod Ordered

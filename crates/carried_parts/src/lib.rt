@@ -7,6 +7,7 @@
 
 mod latched;
 mod lines;
+mod ordered;
 mod wired_texts;
 
 ghost use Rattle.carried_parts.specs.CarriedParts.{CarriersAnswerEachRow, CarriersAreParts, PartsCarry};
@@ -15,6 +16,7 @@ pub use latched::{
     latched_runs_agree, latches_show_fed, wired_parts_mean_latches, wires_are_latches,
 };
 pub use lines::lines_decide_no_run;
+pub use ordered::designs_take_order;
 pub use wired_texts::{parts_carry_by_lines, wired_texts_carry};
 
 /// The pattern of a text that carries a design and its nets, whoever wrote it, is a part, and what
