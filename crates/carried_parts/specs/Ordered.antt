@@ -29,14 +29,15 @@ portless_model model =
 abbrev pub portless : Design → Design
 portless design = record { models = map portless_model design.models }
 
--- Two designs differ in `.inputs`, `.outputs` and line numbers alone, and ports have these numbers.
--- The IN names of the second are those of the first that `inputs` numbers, each once: that of
--- number i is at place `home i`. Past these numbers `home` leads past the list. The outputs of the
--- second, and then the nets that it shows, are numbered by `outputs` among the outputs of the
--- first, then the nets that it shows, and then its IN names.
+-- Two designs differ in `.inputs`, `.outputs` and line numbers alone, and these numbers tell how.
+-- `inputs` has the number of each IN name of the first once. The IN names of the second are those
+-- with these numbers, in this order: that of number i is at place `home i`. For a number of no IN
+-- name `home` leads past the list. `outputs` has a number for each output of the second, and then
+-- for each net that it shows: that of its net among the outputs of the first, then the nets that
+-- it shows, and then its IN names.
 --
--- Either may have the control among its `.inputs`, since this is no IN name. So both have the same
--- clock nets.
+-- Either may have the control among its `.inputs`, which is no IN name. A `.clock` name that is an
+-- input of one alone can only be the control, so both have the same clock nets.
 pub record DifferInPorts (design other : Design) (seen shown : List Net)
     (inputs outputs : List ℕ) (home : ℕ → ℕ) : Type 0 where
   pub same : portless (unlined design) ≡ portless (unlined other)
@@ -49,8 +50,8 @@ pub record DifferInPorts (design other : Design) (seen shown : List Net)
       ≡ map Some (shown_nets other shown)
 
 -- If a meaning is that of a design, the meaning in order is that of a design that differs in ports
--- alone. The numbers are those by which the ports of a part are put in order (`PartsTakeOrder`), if
--- its outputs are what `shown_nets` has.
+-- alone. The numbers are those by which a part's ports are put in order (`PartsTakeOrder`), if its
+-- outputs are what `shown_nets` has.
 abbrev pub DesignsTakeOrder : Type 0
 DesignsTakeOrder =
     (design other : Design) (seen shown : List Net) (inputs outputs : List ℕ) (home : ℕ → ℕ)
