@@ -129,10 +129,13 @@ module _ (design other : Design) (same : map bare_model design.models ≡ map ba
       let found = same_found unlined_cover (slice_get model.covers k) (slice_get there.0.covers k) cover (same_got unlined_cover model.covers there.0.covers k (ap (λ model. model.covers) there.2)) got in
       (there.0, found.0, there.1, in_got there.0.covers k found.0 found.1, found.2)
 
-  control_to : (net : Net) → IsLatchControl design net → IsLatchControl other net
-  control_to net h =
+  latch_control_to : (net : Net) → IsLatchControl design net → IsLatchControl other net
+  latch_control_to net h =
       let found = same_found unlined_latch (latch_at design net.place h.number) (latch_at other net.place h.number) h.latch (latch_same net.place h.number) h.has_latch in
       record { number = h.number; latch = found.0; has_latch = found.1; has_control = ap (λ latch. latch.control) (sym found.2) ∙ h.has_control }
+
+  pub control_to : (net : Net) → IsControl design net → IsControl other net
+  control_to net (source, h, joined) = (source, latch_control_to source h, joined_to source net joined)
 
   pub latches_same : (run : ℕ → Valuation) (t : ℕ) (place : Place) (number : ℕ) → latches_in design (start_state design) run t place number ≡ latches_in other (start_state other) run t place number
   latches_same run zero place number = start_bare (latch_at design place number) ∙ ap start_bit (latch_same place number) ∙ sym (start_bare (latch_at other place number))
@@ -166,7 +169,7 @@ module _ (design other : Design) (same : map bare_model design.models ≡ map ba
         ]
 
     source_to : (net : Net) → IsLatchControl design net ⊎ IsMainClock design net → IsClockNet other net
-    source_to net (inl h) = (net, inl (control_to net h), itself)
+    source_to net (inl h) = (net, inl (latch_control_to net h), itself)
     source_to net (inr h) = main_clock_to net h
 
     pub clock_to : (net : Net) → IsClockNet design net → IsClockNet other net
