@@ -12,3 +12,4 @@ pub mod WiredTextsCarry
 pub mod UnlinedRuns
 pub mod OrderedModels
 pub mod OrderedRuns
+pub mod OrderedTextsCarry

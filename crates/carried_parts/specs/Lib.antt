@@ -3,3 +3,4 @@ pub mod Latched
 pub mod WiredTexts
 pub mod Unlined
 pub mod Ordered
+pub mod OrderedTexts

@@ -3,7 +3,7 @@
 //! and with its ports in order the design with these ports.
 //!
 //! Theorem: `carriers_are_parts`, `carriers_answer_each_row`, `parts_carry`,
-//! `wired_parts_mean_latches`, `wired_texts_carry`, `designs_take_order`.
+//! `wired_parts_mean_latches`, `wired_texts_carry`, `ordered_texts_carry`.
 #![tactic(auto)]
 
 mod latched;
@@ -17,7 +17,7 @@ pub use latched::{
     latched_runs_agree, latches_show_fed, wired_parts_mean_latches, wires_are_latches,
 };
 pub use lines::lines_decide_no_run;
-pub use ordered::designs_take_order;
+pub use ordered::{designs_take_order, ordered_parts_mean, ordered_texts_carry};
 pub use wired_texts::{parts_carry_by_lines, wired_texts_carry};
 
 /// The pattern of a text that carries a design and its nets, whoever wrote it, is a part, and what
