@@ -2,3 +2,14 @@ pub mod Rows
 pub mod AsParts
 pub mod EachRow
 pub mod Carriers
+pub mod Held
+pub mod LatchedModels
+pub mod LatchedRuns
+pub mod LatchedAgree
+pub mod WiredParts
+pub mod TextsByLines
+pub mod WiredTextsCarry
+pub mod UnlinedRuns
+pub mod OrderedModels
+pub mod OrderedRuns
+pub mod OrderedTextsCarry

@@ -1,1 +1,6 @@
 pub mod CarriedParts
+pub mod Latched
+pub mod WiredTexts
+pub mod Unlined
+pub mod Ordered
+pub mod OrderedTexts
