@@ -5,3 +5,5 @@ pub mod Carriers
 pub mod LatchedModels
 pub mod LatchedRuns
 pub mod LatchedAgree
+pub mod UnitedModels
+pub mod UnitedDesigns

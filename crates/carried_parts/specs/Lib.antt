@@ -1,2 +1,3 @@
 pub mod CarriedParts
 pub mod Latched
+pub mod United

@@ -5,8 +5,10 @@
 #![tactic(auto)]
 
 mod latched;
+mod united;
 
 pub use latched::{latched_runs_agree, wires_are_latches};
+pub use united::{designed_parts_unite, designs_unite};
 
 ghost use Rattle.carried_parts.specs.CarriedParts.{CarriersAnswerEachRow, CarriersAreParts, PartsCarry};
 

@@ -1,0 +1,150 @@
+-- Two designs with a meaning are one with the meanings of both.
+use Rattle.std.proofs.Common.{ℕ, zero, suc, ◌+◌, ◌<◌, ◌≡◌, refl, sym, ap, ap₂, ◌∙◌, subst, inl, inr, Bool, false, List, [], ◌∷◌, ◌++◌, length, map, get_or, arith}
+use Rattle.std.specs.Prelude.{Some, slice_get, option_map, take, drop}
+use Rattle.std.specs.List.{range_with_len}
+use Rattle.std.proofs.Math.Path.{fun_ext}
+use Rattle.std.proofs.lemmas.Option.{none-some, slice_get-map}
+use Rattle.std.proofs.lemmas.List.{length-map, length-append, get_or-map}
+use Rattle.lists.specs.Items.{list_at, number_at}
+use Rattle.wire_laws.specs.Rows.{Port, PartMeaning, IsCausalMeaning, row_of_both}
+use Rattle.wire_laws.specs.PartLaws.{both_meanings, meaning_in_order}
+use Rattle.wire_laws.proofs.Early.{both_first, both_rest}
+use Rattle.netlist_core.specs.declared.model.Model.{Model}
+use Rattle.netlist_core.specs.declared.model.Design.{Design}
+use Rattle.netlist_core.specs.Names.{Name}
+use Rattle.netlist_meaning.specs.Places.{main_outputs}
+use Rattle.netlist_meaning.specs.Nets.{Net, net_at, IsInNames}
+use Rattle.netlist_meaning.specs.Valuation.{Valuation, AreInputRows, IsRun, output_bit}
+use Rattle.netlist_meaning.proofs.Joined.{in_names_are_one}
+use Rattle.carried_parts.specs.CarriedParts.{bits_of_rows, IsMeaningOf}
+use Rattle.carried_parts.specs.United.{lone_design, united_model, united, AreApart, shown_nets, AreNumbersOf, ReadsInputs, DesignsUnite}
+use Rattle.carried_parts.proofs.Rows.{got_at, got_is}
+use Rattle.carried_parts.proofs.LatchedRuns.{got_cases, output_at}
+use Rattle.carried_parts.proofs.UnitedModels.{IsLoneRun, lone_run, run_of_lone, names_of_both, firsts, lasts, first_bit, last_bit, fits_first, fits_last, run_first, run_last, run_both, both_runs}
+
+got_before : {X : Type 0} (xs ys : List X) (k : ℕ) (x : X) → slice_get xs k ≡ Some x → slice_get (xs ++ ys) k ≡ Some x
+got_before [] ys k x e = absurd (none-some x e)
+got_before (y ∷ xs) ys zero x e = e
+got_before (y ∷ xs) ys (suc k) x e = got_before xs ys k x e
+
+got_after : {X : Type 0} (xs ys : List X) (k : ℕ) → slice_get (xs ++ ys) (length xs + k) ≡ slice_get ys k
+got_after [] ys k = let e : 0 + k ≡ k = omega arith in ap (slice_get ys) e
+got_after (x ∷ xs) ys k = let e : suc (length xs) + k ≡ suc (length xs + k) = omega arith in ap (slice_get (x ∷ xs ++ ys)) e ∙ got_after xs ys k
+
+-- a meaning shows the outputs and the nets, and what shows these is a meaning
+abbrev ShowsNets : Design → List Net → PartMeaning → Type 0
+ShowsNets design seen meaning =
+    (rows : List (List Bool)) → AreInputRows design rows → (run : ℕ → Valuation) → IsRun design rows run → (t o : ℕ) (net : Net) → t < length rows → slice_get (shown_nets design seen) o ≡ Some net → meaning (bits_of_rows rows) t o ≡ run t net.place net.name
+
+shown : (design : Design) (seen : List Net) (meaning : PartMeaning) → IsMeaningOf design seen meaning → ShowsNets design seen meaning
+shown design seen meaning means rows are run is t o net l e =
+    elim (got_cases (map (net_at []) (main_outputs design)) seen o net e) [
+      | inl at ↦
+          let of = output_at design o net at in
+          let got = got_is (main_outputs design) o of.0 [] of.1 in
+          means.outs rows are run is t o l got.0 ∙ get_or-map (run t []) (main_outputs design) o [] false got.0 ∙ ap (run t []) got.1 ∙ sym (ap (λ net. run t net.place net.name) of.2)
+      | inr at ↦
+          ap (meaning (bits_of_rows rows) t) (at.1 ∙ ap (λ n. n + at.0) (length-map (main_outputs design) (net_at []))) ∙ means.nets rows are run is t at.0 net l at.2
+    ]
+
+as_shown : (design : Design) (seen : List Net) (meaning : PartMeaning) → IsCausalMeaning meaning → ((rows : List (List Bool)) → AreInputRows design rows → (run : ℕ → Valuation) × IsRun design rows run) → ShowsNets design seen meaning → IsMeaningOf design seen meaning
+as_shown design seen meaning causal runs shows =
+    record {
+      causal = causal;
+      runs = runs;
+      outs = λ rows are run is t i l low. (
+          let name = get_or (main_outputs design) i [] in
+          let at : slice_get (map (net_at []) (main_outputs design)) i ≡ Some (net_at [] name) = slice_get-map (net_at []) (main_outputs design) i ∙ ap (option_map (net_at [])) (got_at (main_outputs design) i [] low) in
+          shows rows are run is t i (net_at [] name) l (got_before (map (net_at []) (main_outputs design)) seen i (net_at [] name) at)
+          ∙ sym (get_or-map (run t []) (main_outputs design) i [] false low));
+      nets = λ rows are run is t k net l at. (
+          let place : length (main_outputs design) + k ≡ length (map (net_at []) (main_outputs design)) + k = ap (λ n. n + k) (sym (length-map (main_outputs design) (net_at []))) in
+          shows rows are run is t (length (main_outputs design) + k) net l (ap (slice_get (shown_nets design seen)) place ∙ got_after (map (net_at []) (main_outputs design)) seen k ∙ at));
+    }
+
+causal_both : (ins outs count : ℕ) (numbers : List ℕ) (meaning second : PartMeaning) → IsCausalMeaning meaning → IsCausalMeaning second → IsCausalMeaning (meaning_in_order count (λ i. i) numbers (both_meanings ins outs meaning second))
+causal_both ins outs count numbers meaning second one two bits others t same =
+    ap₂ (λ (first : ℕ → Bool) (row : ℕ → Bool). λ (o : ℕ). row_of_both count first row (number_at numbers o))
+    (ap₂ (row_of_both outs) (one bits others t same) (two (λ u i. bits u (ins + i)) (λ u i. others u (ins + i)) t (λ u le. ap (λ row. λ (i : ℕ). row (ins + i)) (same u le))))
+    (same t (omega arith))
+
+module _ (main other : Model) (seen others both : List Net) (numbers : List ℕ) (meaning second : PartMeaning) (names : List Name) (outs count : ℕ) (apart : AreApart main other) (order : AreNumbersOf main other seen others both numbers) (are_names : IsInNames (lone_design main) names) (many : length (shown_nets (lone_design main) seen) ≡ outs) (all : outs + length (shown_nets (lone_design other) others) ≡ count) (reads : ReadsInputs (length names) outs meaning) (means : IsMeaningOf (lone_design main) seen meaning) (means_other : IsMeaningOf (lone_design other) others second) where
+  abbrev meant : PartMeaning
+  meant = meaning_in_order count (λ i. i) numbers (both_meanings (length names) outs meaning second)
+
+  module _ (rows : List (List Bool)) (are : AreInputRows (united main other) rows) where
+    abbrev n : ℕ
+    n = length names
+
+    rest : List Name
+    rest = (names_of_both main other apart names are.0 are_names are.1).0
+
+    rest_names : IsInNames (lone_design other) rest
+    unfolding rest
+    rest_names = (names_of_both main other apart names are.0 are_names are.1).1
+
+    whole_names : are.0 ≡ names ++ rest
+    unfolding rest
+    whole_names = (names_of_both main other apart names are.0 are_names are.1).2
+
+    both_names : IsInNames (united main other) (names ++ rest)
+    both_names = subst (IsInNames (united main other)) whole_names are.1
+
+    wide : (t : ℕ) (d : List Bool) → t < length rows → length (get_or rows t d) ≡ length (names ++ rest)
+    wide t d l = are.2 t d l ∙ ap length whole_names
+
+    first_fits : AreInputRows (lone_design main) (firsts n rows)
+    first_fits = fits_first main other apart names rest are_names rest_names rows wide
+
+    last_fits : AreInputRows (lone_design other) (lasts n rows)
+    last_fits = fits_last main other apart names rest are_names rest_names rows wide
+
+    is_there : (run : ℕ → Valuation) × IsRun (united main other) rows run
+    is_there =
+        let one = means.runs (firsts n rows) first_fits in
+        let two = means_other.runs (lasts n rows) last_fits in
+        let a = lone_run main apart.no_subckts names are_names (firsts n rows) one.0 one.1 in
+        let b = lone_run other apart.no_others rest rest_names (lasts n rows) two.0 two.1 in
+        (both_runs main other apart names rest are_names rest_names rows one.0 two.0 a b, run_of_lone (united_model main other) refl (names ++ rest) both_names rows _ (run_both main other apart names rest are_names rest_names rows one.0 two.0 a b))
+
+    module _ (run : ℕ → Valuation) (is : IsRun (united main other) rows run) (t : ℕ) (l : t < length rows) where
+      lone : IsLoneRun (united_model main other) (names ++ rest) rows run
+      lone = lone_run (united_model main other) refl (names ++ rest) both_names rows run is
+
+      first_shown : (o : ℕ) (net : Net) → slice_get (shown_nets (lone_design main) seen) o ≡ Some net → o < outs → meaning (bits_of_rows rows) t o ≡ run t net.place net.name
+      first_shown o net at low =
+          reads (bits_of_rows rows) (bits_of_rows (firsts n rows)) (λ u i small. first_bit n rows u i small) t o low
+          ∙ shown (lone_design main) seen meaning means (firsts n rows) first_fits run (run_of_lone main apart.no_subckts names are_names (firsts n rows) run (run_first main other apart names rest are_names rest_names rows run lone (λ t l. wide t [] l))) t o net (omega (arith, l, length-map rows (take n))) at
+
+      last_shown : (k : ℕ) (net : Net) → slice_get (shown_nets (lone_design other) others) k ≡ Some net → second (λ u i. bits_of_rows rows u (n + i)) t k ≡ run t net.place net.name
+      last_shown k net at =
+          ap (λ bits. second bits t k) (fun_ext (λ u. fun_ext (λ i. last_bit n rows u i)))
+          ∙ shown (lone_design other) others second means_other (lasts n rows) last_fits run (run_of_lone other apart.no_others rest rest_names (lasts n rows) run (run_last main other apart names rest are_names rest_names rows run lone (λ t l. wide t [] l))) t k net (omega (arith, l, length-map rows (drop n))) at
+
+      abbrev both_bits : ℕ → Bool
+      both_bits = row_of_both outs (meaning (bits_of_rows rows) t) (second (λ u i. bits_of_rows rows u (n + i)) t)
+
+      both_shown : (o : ℕ) (net : Net) → slice_get (shown_nets (united main other) both) o ≡ Some net → meant (bits_of_rows rows) t o ≡ run t net.place net.name
+      both_shown o net e =
+          elim (got_cases (shown_nets (lone_design main) seen) (shown_nets (lone_design other) others) (number_at numbers o) net (order o net e)) [
+            | inl at ↦
+                let low : number_at numbers o < outs = omega (arith, many, (got_is (shown_nets (lone_design main) seen) (number_at numbers o) net net at).0) in
+                both_first count both_bits (bits_of_rows rows t) (number_at numbers o) (omega (arith, low, all))
+                ∙ both_first outs (meaning (bits_of_rows rows) t) (second (λ u i. bits_of_rows rows u (n + i)) t) (number_at numbers o) low
+                ∙ first_shown (number_at numbers o) net at low
+            | inr at ↦
+                let low : at.0 < length (shown_nets (lone_design other) others) = (got_is (shown_nets (lone_design other) others) at.0 net net at.2).0 in
+                let place : number_at numbers o ≡ outs + at.0 = omega (arith, at.1, many) in
+                both_first count both_bits (bits_of_rows rows t) (number_at numbers o) (omega (arith, low, all, place))
+                ∙ ap both_bits place
+                ∙ both_rest outs (meaning (bits_of_rows rows) t) (second (λ u i. bits_of_rows rows u (n + i)) t) at.0
+                ∙ last_shown at.0 net at.2
+          ]
+
+  is_meaning : IsMeaningOf (united main other) both meant
+  is_meaning =
+      as_shown (united main other) both meant (causal_both (length names) outs count numbers meaning second means.causal means_other.causal) is_there (λ rows are run is t o net l e. both_shown rows are run is t l o net e)
+
+pub designs_unite : DesignsUnite
+designs_unite main other seen others both numbers meaning second names ins outs count apart order are_names fits many all reads means means_other =
+    subst (λ ins. ReadsInputs ins outs meaning → IsMeaningOf (united main other) both (meaning_in_order count (λ i. i) numbers (both_meanings ins outs meaning second))) fits (λ reads. is_meaning main other seen others both numbers meaning second names outs count apart order are_names many all reads means means_other) reads
