@@ -7,10 +7,10 @@
 mod latched;
 mod united;
 
+ghost use Rattle.carried_parts.specs.CarriedParts.{CarriersAnswerEachRow, CarriersAreParts, PartsCarry};
+
 pub use latched::{latched_runs_agree, wires_are_latches};
 pub use united::{designed_parts_unite, designs_unite};
-
-ghost use Rattle.carried_parts.specs.CarriedParts.{CarriersAnswerEachRow, CarriersAreParts, PartsCarry};
 
 /// The pattern of a text that carries a design and its nets, whoever wrote it, is a part, and what
 /// it makes of its inputs' bits are the bits of the design's runs, if the period is 3 at least and
