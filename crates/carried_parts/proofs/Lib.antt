@@ -5,5 +5,6 @@ pub mod Carriers
 pub mod LatchedModels
 pub mod LatchedRuns
 pub mod LatchedAgree
+pub mod UnitedPlaces
 pub mod UnitedModels
 pub mod UnitedDesigns

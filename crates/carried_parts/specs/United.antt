@@ -1,6 +1,5 @@
--- The netlist of two patterns side by side. Each of the two netlists is one model without subckt
--- lines: a netlist of more models is flattened first.
-use Rattle.std.specs.Prelude.{ℕ, ◌+◌, ◌<◌, ◌≡◌, not, Bool, List, [], ◌∷◌, ◌++◌, length, map, flat_map, filter, option_to_list, Some, slice_get, Contains}
+-- The netlist of two patterns side by side.
+use Rattle.std.specs.Prelude.{ℕ, ◌+◌, ◌<◌, ◌≡◌, not, Bool, List, [], ◌∷◌, ◌++◌, length, map, flat_map, filter, Some, option_map, unwrap_or, slice_get, Contains}
 use Rattle.lists.specs.Items.{number_at}
 use Rattle.ww_rule.specs.Wireworld.{Plane}
 use Rattle.wire_laws.specs.Rows.{Port, PartMeaning, IsPart}
@@ -10,14 +9,11 @@ use Rattle.wire_laws.specs.PartLaws.{both_meanings, meaning_in_order}
 use Rattle.netlist_core.specs.declared.model.Model.{Model}
 use Rattle.netlist_core.specs.declared.model.Port.{Port as ModelPort}
 use Rattle.netlist_core.specs.declared.model.Design.{Design}
-use Rattle.netlist_core.specs.Names.{Name, port_names, is_named}
-use Rattle.netlist_meaning.specs.Nets.{Net, net_at, model_names, IsInNames}
-use Rattle.netlist_meaning.specs.Places.{main_outputs}
+use Rattle.netlist_core.specs.declared.model.Subckt.{Subckt}
+use Rattle.netlist_core.specs.Names.{Name, port_names, is_named, model_named}
+use Rattle.netlist_meaning.specs.Nets.{Net, net_at, IsNet, IsControl, IsInNames}
+use Rattle.netlist_meaning.specs.Places.{Place, main_model, model_at, IsPlace, main_outputs}
 use Rattle.carried_parts.specs.CarriedParts.{IsMeaningOf}
-
--- the design of this model alone
-abbrev pub lone_design : Model → Design
-lone_design model = record { models = model ∷ [] }
 
 -- the ports of the second list whose names the first does not have
 abbrev pub other_ports : (ports others : List ModelPort) → List ModelPort
@@ -35,11 +31,37 @@ united_model main other =
       clocks = main.clocks ++ other_ports main.clocks other.clocks;
       covers = main.covers ++ other.covers;
       latches = main.latches ++ other.latches;
-      subckts = [];
+      subckts = main.subckts ++ other.subckts;
     }
 
-abbrev pub united : (main other : Model) → Design
-united main other = lone_design (united_model main other)
+-- the two main models become one, and the other models stand behind it
+abbrev pub united_models : (models others : List Model) → List Model
+united_models [] others = others
+united_models (main ∷ models) [] = main ∷ models
+united_models (main ∷ models) (other ∷ others) = united_model main other ∷ models ++ others
+
+abbrev pub united : (first second : Design) → Design
+united first second = record { models = united_models first.models second.models }
+
+-- how many subckt lines the main model has
+abbrev pub main_lines : Design → ℕ
+main_lines design =
+    length (unwrap_or (option_map (λ model. model.subckts) (main_model design)) [])
+
+-- a place, and a net, if so many subckt lines stand before those of the main model
+abbrev pub place_after : (lines : ℕ) → Place → Place
+place_after lines [] = []
+place_after lines (number ∷ place) = (lines + number) ∷ place
+
+abbrev pub net_after : (lines : ℕ) → Net → Net
+net_after lines net = net_at (place_after lines net.place) net.name
+
+-- each subckt line of the one design places the same model in the other
+abbrev pub PlacesAlike : (design other : Design) → Type 0
+PlacesAlike design other =
+    (place : Place) (model : Model) (line : Subckt) → model_at design place ≡ Some model
+    → Contains model.subckts line
+    → model_named other.models line.model ≡ model_named design.models line.model
 
 -- the names that a model's outputs, covers and latches read or drive
 abbrev pub used_names : Model → List Name
@@ -48,32 +70,31 @@ used_names model =
     ++ flat_map (λ cover. cover.ins ++ cover.out ∷ []) model.covers
     ++ flat_map (λ latch. latch.input ∷ latch.output ∷ []) model.latches
 
--- the controls of a model's latches
-abbrev pub latch_controls : Model → List Name
-latch_controls model = flat_map (λ latch. option_to_list latch.control) model.latches
-
--- No model has subckt lines. If a name is one of both models, it is a control in both, and the
--- second neither reads nor drives it.
-pub record AreApart (main other : Model) : Type 0 where
-  pub no_subckts : main.subckts ≡ []
-  pub no_others : other.subckts ≡ []
-  pub controls : (name : Name) → Contains (model_names main) name
-      → Contains (model_names other) name
-      → Contains (latch_controls main) name × Contains (latch_controls other) name
-  pub unused : (name : Name) → Contains (model_names main) name → ¬ Contains (used_names other) name
+-- Two designs whose names fit: models are still found by their names, and a name of both main
+-- models is a control in both designs, which the second main model neither reads nor drives.
+pub record AreApart (first second : Design) : Type 0 where
+  pub main : IsPlace first []
+  pub other : IsPlace second []
+  pub first_lines : PlacesAlike first (united first second)
+  pub second_lines : PlacesAlike second (united first second)
+  pub controls : (name : Name) → IsNet first (net_at [] name) → IsNet second (net_at [] name)
+      → IsControl first (net_at [] name) × IsControl second (net_at [] name)
+  pub unused : (model : Model) → main_model second ≡ Some model → (name : Name)
+      → Contains (used_names model) name → ¬ IsNet first (net_at [] name)
 
 -- what a meaning shows of a design: its outputs, and then these nets
 abbrev pub shown_nets : Design → (seen : List Net) → List Net
 shown_nets design seen = map (net_at []) (main_outputs design) ++ seen
 
--- Number o is the place of the united design's net o among what the first shows, and then what the
--- second shows.
-abbrev pub AreNumbersOf : (main other : Model) → (seen others both : List Net)
+-- Number o is the place of the united design's net o among the nets that the first shows, and then
+-- those that the second shows.
+abbrev pub AreNumbersOf : (first second : Design) → (seen others both : List Net)
     → (numbers : List ℕ) → Type 0
-AreNumbersOf main other seen others both numbers =
-    (o : ℕ) (net : Net) → slice_get (shown_nets (united main other) both) o ≡ Some net
-    → slice_get (shown_nets (lone_design main) seen ++ shown_nets (lone_design other) others)
-    (number_at numbers o) ≡ Some net
+AreNumbersOf first second seen others both numbers =
+    (o : ℕ) (net : Net) → slice_get (shown_nets (united first second) both) o ≡ Some net
+    → slice_get (shown_nets first seen
+    ++ map (net_after (main_lines first)) (shown_nets second others)) (number_at numbers o)
+    ≡ Some net
 
 -- bits that are the same at so many inputs give the same bits at so many outputs, as in each part
 -- (`PartsReadInputs`)
@@ -86,31 +107,29 @@ ReadsInputs ins outs meaning =
 -- (`PartsTakeOrder`), are the meaning of the united design.
 abbrev pub DesignsUnite : Type 0
 DesignsUnite =
-    (main other : Model) (seen others both : List Net) (numbers : List ℕ)
-    (meaning second : PartMeaning) (names : List Name) (ins outs count : ℕ)
-    → AreApart main other → AreNumbersOf main other seen others both numbers
-    → IsInNames (lone_design main) names → length names ≡ ins
-    → length (shown_nets (lone_design main) seen) ≡ outs
-    → outs + length (shown_nets (lone_design other) others) ≡ count
-    → ReadsInputs ins outs meaning → IsMeaningOf (lone_design main) seen meaning
-    → IsMeaningOf (lone_design other) others second
-    → IsMeaningOf (united main other) both
-    (meaning_in_order count (λ i. i) numbers (both_meanings ins outs meaning second))
+    (first second : Design) (seen others both : List Net) (numbers : List ℕ)
+    (meaning other : PartMeaning) (names : List Name) (ins outs count : ℕ)
+    → AreApart first second → AreNumbersOf first second seen others both numbers
+    → IsInNames first names → length names ≡ ins → length (shown_nets first seen) ≡ outs
+    → outs + length (shown_nets second others) ≡ count → ReadsInputs ins outs meaning
+    → IsMeaningOf first seen meaning → IsMeaningOf second others other
+    → IsMeaningOf (united first second) both
+    (meaning_in_order count (λ i. i) numbers (both_meanings ins outs meaning other))
 
 -- If two parts stand apart and mean designs, one part has all their inputs, and these of their
 -- outputs, and means the united design.
 abbrev pub DesignedPartsUnite : Type 0
 DesignedPartsUnite =
-    (main other : Model) (seen others both : List Net) (numbers : List ℕ)
-    (meaning second : PartMeaning) (names : List Name) (period : ℕ) (p q : Plane)
-    (ins outs inputs outputs : List Port) → 0 < period
-    → AreApart main other → AreNumbersOf main other seen others both numbers
-    → IsInNames (lone_design main) names → length names ≡ length ins
-    → length (shown_nets (lone_design main) seen) ≡ length outs
-    → length (shown_nets (lone_design other) others) ≡ length outputs
+    (first second : Design) (seen others both : List Net) (numbers : List ℕ)
+    (meaning other : PartMeaning) (names : List Name) (period : ℕ) (p q : Plane)
+    (ins outs inputs outputs : List Port) → 0 < period → AreApart first second
+    → AreNumbersOf first second seen others both numbers
+    → IsInNames first names → length names ≡ length ins
+    → length (shown_nets first seen) ≡ length outs
+    → length (shown_nets second others) ≡ length outputs
     → ((o : ℕ) → Contains numbers o → o < length (outs ++ outputs))
-    → IsMeaningOf (lone_design main) seen meaning → IsMeaningOf (lone_design other) others second
-    → StandApart p q → IsPart period p ins outs meaning → IsPart period q inputs outputs second
-    → (whole : PartMeaning) × IsMeaningOf (united main other) both whole
+    → IsMeaningOf first seen meaning → IsMeaningOf second others other
+    → StandApart p q → IsPart period p ins outs meaning → IsPart period q inputs outputs other
+    → (whole : PartMeaning) × IsMeaningOf (united first second) both whole
     × IsPart period (side_by_side p q) (ins ++ inputs) (map (nth_port (outs ++ outputs)) numbers)
     whole
