@@ -7,4 +7,5 @@ pub mod LatchedRuns
 pub mod LatchedAgree
 pub mod UnitedPlaces
 pub mod UnitedModels
+pub mod UnitedRuns
 pub mod UnitedDesigns

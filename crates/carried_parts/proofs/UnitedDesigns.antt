@@ -3,6 +3,7 @@ use Rattle.std.proofs.Common.{pos, ℕ, zero, suc, ◌+◌, ◌<◌, ◌≡◌, 
 use Rattle.std.specs.Prelude.{Contains, Some, slice_get, option_map, take, drop}
 use Rattle.std.specs.List.{range_with_len}
 use Rattle.std.proofs.Math.Path.{fun_ext}
+use Rattle.std.proofs.lemmas.Bool.{true≢false}
 use Rattle.std.proofs.lemmas.Option.{none-some, slice_get-map}
 use Rattle.std.proofs.lemmas.List.{length-map, length-append, get_or-map, get_or_append_left}
 use Rattle.std.proofs.lemmas.List.FromFn.{length-range_with_len, get_or-range_with_len}
@@ -18,24 +19,17 @@ use Rattle.wire_laws.proofs.Ordered.{parts_read_inputs, parts_take_order}
 use Rattle.netlist_core.specs.declared.model.Model.{Model}
 use Rattle.netlist_core.specs.declared.model.Design.{Design}
 use Rattle.netlist_core.specs.Names.{Name}
-use Rattle.netlist_meaning.specs.Places.{main_outputs}
+use Rattle.netlist_meaning.specs.Places.{Place, main_outputs}
 use Rattle.netlist_meaning.specs.Nets.{Net, net_at, IsInNames}
 use Rattle.netlist_meaning.specs.Valuation.{Valuation, AreInputRows, IsRun, output_bit}
 use Rattle.netlist_meaning.proofs.Joined.{in_names_are_one}
 use Rattle.carried_parts.specs.CarriedParts.{bits_of_rows, IsMeaningOf}
-use Rattle.carried_parts.specs.United.{lone_design, united_model, united, AreApart, shown_nets, AreNumbersOf, ReadsInputs, DesignsUnite, DesignedPartsUnite}
+use Rattle.carried_parts.specs.United.{united_model, united, place_after, net_after, AreApart, shown_nets, AreNumbersOf, ReadsInputs, DesignsUnite, DesignedPartsUnite}
 use Rattle.carried_parts.proofs.Rows.{got_at, got_is, list_again}
+use Rattle.carried_parts.proofs.LatchedModels.{map_from}
 use Rattle.carried_parts.proofs.LatchedRuns.{got_cases, output_at}
-use Rattle.carried_parts.proofs.UnitedModels.{IsLoneRun, lone_run, run_of_lone, names_of_both, firsts, lasts, first_bit, last_bit, fits_first, fits_last, run_first, run_last, run_both, both_runs}
-
-got_before : {X : Type 0} (xs ys : List X) (k : ℕ) (x : X) → slice_get xs k ≡ Some x → slice_get (xs ++ ys) k ≡ Some x
-got_before [] ys k x e = absurd (none-some x e)
-got_before (y ∷ xs) ys zero x e = e
-got_before (y ∷ xs) ys (suc k) x e = got_before xs ys k x e
-
-got_after : {X : Type 0} (xs ys : List X) (k : ℕ) → slice_get (xs ++ ys) (length xs + k) ≡ slice_get ys k
-got_after [] ys k = let e : 0 + k ≡ k = omega arith in ap (slice_get ys) e
-got_after (x ∷ xs) ys k = let e : suc (length xs) + k ≡ suc (length xs + k) = omega arith in ap (slice_get (x ∷ xs ++ ys)) e ∙ got_after xs ys k
+use Rattle.carried_parts.proofs.UnitedModels.{got_before, got_after, names_of_both, firsts, lasts, first_bit, last_bit}
+use Rattle.carried_parts.proofs.UnitedRuns.{fits_first, fits_last, run_first, run_last, run_both, both_runs}
 
 -- a meaning shows the outputs and the nets, and what shows these is a meaning
 abbrev ShowsNets : Design → List Net → PartMeaning → Type 0
@@ -68,92 +62,110 @@ as_shown design seen meaning causal runs shows =
           shows rows are run is t (length (main_outputs design) + k) net l (ap (slice_get (shown_nets design seen)) place ∙ got_after (map (net_at []) (main_outputs design)) seen k ∙ at));
     }
 
+after_none : (place : Place) → place_after 0 place ≡ place
+after_none [] = refl
+after_none (number ∷ place) = let e : 0 + number ≡ number = omega arith in ap (λ n. n ∷ place) e
+
 causal_both : (ins outs count : ℕ) (numbers : List ℕ) (meaning second : PartMeaning) → IsCausalMeaning meaning → IsCausalMeaning second → IsCausalMeaning (meaning_in_order count (λ i. i) numbers (both_meanings ins outs meaning second))
 causal_both ins outs count numbers meaning second one two bits others t same =
     ap₂ (λ (first : ℕ → Bool) (row : ℕ → Bool). λ (o : ℕ). row_of_both count first row (number_at numbers o))
     (ap₂ (row_of_both outs) (one bits others t same) (two (λ u i. bits u (ins + i)) (λ u i. others u (ins + i)) t (λ u le. ap (λ row. λ (i : ℕ). row (ins + i)) (same u le))))
     (same t (omega arith))
 
-module _ (main other : Model) (seen others both : List Net) (numbers : List ℕ) (meaning second : PartMeaning) (names : List Name) (outs count : ℕ) (apart : AreApart main other) (order : AreNumbersOf main other seen others both numbers) (are_names : IsInNames (lone_design main) names) (many : length (shown_nets (lone_design main) seen) ≡ outs) (all : outs + length (shown_nets (lone_design other) others) ≡ count) (reads : ReadsInputs (length names) outs meaning) (means : IsMeaningOf (lone_design main) seen meaning) (means_other : IsMeaningOf (lone_design other) others second) where
+module _ (main other : Model) (models others : List Model) (apart : AreApart (record { models = main ∷ models }) (record { models = other ∷ others })) (seen after both : List Net) (numbers : List ℕ) (meaning second : PartMeaning) (names : List Name) (outs count : ℕ) (order : AreNumbersOf (record { models = main ∷ models }) (record { models = other ∷ others }) seen after both numbers) (are_names : IsInNames (record { models = main ∷ models }) names) (many : length (shown_nets (record { models = main ∷ models }) seen) ≡ outs) (all : outs + length (shown_nets (record { models = other ∷ others }) after) ≡ count) (reads : ReadsInputs (length names) outs meaning) (means : IsMeaningOf (record { models = main ∷ models }) seen meaning) (means_other : IsMeaningOf (record { models = other ∷ others }) after second) where
+  abbrev one : Design
+  one = record { models = main ∷ models }
+
+  abbrev two : Design
+  two = record { models = other ∷ others }
+
+  abbrev whole : Design
+  whole = record { models = united_model main other ∷ models ++ others }
+
   abbrev meant : PartMeaning
   meant = meaning_in_order count (λ i. i) numbers (both_meanings (length names) outs meaning second)
 
-  module _ (rows : List (List Bool)) (are : AreInputRows (united main other) rows) where
+  module _ (rows : List (List Bool)) (are : AreInputRows (record { models = united_model main other ∷ models ++ others }) rows) where
     abbrev n : ℕ
     n = length names
 
     rest : List Name
-    rest = (names_of_both main other apart names are.0 are_names are.1).0
+    rest = (names_of_both main other models others apart names are.0 are_names are.1).0
 
-    rest_names : IsInNames (lone_design other) rest
+    rest_names : IsInNames two rest
     unfolding rest
-    rest_names = (names_of_both main other apart names are.0 are_names are.1).1
+    rest_names = (names_of_both main other models others apart names are.0 are_names are.1).1
 
     whole_names : are.0 ≡ names ++ rest
     unfolding rest
-    whole_names = (names_of_both main other apart names are.0 are_names are.1).2
+    whole_names = (names_of_both main other models others apart names are.0 are_names are.1).2
 
-    both_names : IsInNames (united main other) (names ++ rest)
-    both_names = subst (IsInNames (united main other)) whole_names are.1
+    both_names : IsInNames whole (names ++ rest)
+    both_names = subst (IsInNames whole) whole_names are.1
 
     wide : (t : ℕ) (d : List Bool) → t < length rows → length (get_or rows t d) ≡ length (names ++ rest)
     wide t d l = are.2 t d l ∙ ap length whole_names
 
-    first_fits : AreInputRows (lone_design main) (firsts n rows)
-    first_fits = fits_first main other apart names rest are_names rest_names rows wide
+    first_fits : AreInputRows one (firsts n rows)
+    first_fits = fits_first main other models others apart names rest are_names rest_names both_names rows wide
 
-    last_fits : AreInputRows (lone_design other) (lasts n rows)
-    last_fits = fits_last main other apart names rest are_names rest_names rows wide
+    last_fits : AreInputRows two (lasts n rows)
+    last_fits = fits_last main other models others apart names rest are_names rest_names both_names rows wide
 
-    is_there : (run : ℕ → Valuation) × IsRun (united main other) rows run
+    is_there : (run : ℕ → Valuation) × IsRun whole rows run
     is_there =
-        let one = means.runs (firsts n rows) first_fits in
-        let two = means_other.runs (lasts n rows) last_fits in
-        let a = lone_run main apart.no_subckts names are_names (firsts n rows) one.0 one.1 in
-        let b = lone_run other apart.no_others rest rest_names (lasts n rows) two.0 two.1 in
-        (both_runs main other apart names rest are_names rest_names rows one.0 two.0 a b, run_of_lone (united_model main other) refl (names ++ rest) both_names rows _ (run_both main other apart names rest are_names rest_names rows one.0 two.0 a b))
+        let a = means.runs (firsts n rows) first_fits in
+        let b = means_other.runs (lasts n rows) last_fits in
+        (both_runs main other models others apart names rest are_names rest_names both_names rows wide a.0 b.0 a.1 b.1, run_both main other models others apart names rest are_names rest_names both_names rows wide a.0 b.0 a.1 b.1)
 
-    module _ (run : ℕ → Valuation) (is : IsRun (united main other) rows run) (t : ℕ) (l : t < length rows) where
-      lone : IsLoneRun (united_model main other) (names ++ rest) rows run
-      lone = lone_run (united_model main other) refl (names ++ rest) both_names rows run is
-
-      first_shown : (o : ℕ) (net : Net) → slice_get (shown_nets (lone_design main) seen) o ≡ Some net → o < outs → meaning (bits_of_rows rows) t o ≡ run t net.place net.name
+    module _ (run : ℕ → Valuation) (is : IsRun whole rows run) (t : ℕ) (l : t < length rows) where
+      first_shown : (o : ℕ) (net : Net) → slice_get (shown_nets one seen) o ≡ Some net → o < outs → meaning (bits_of_rows rows) t o ≡ run t (place_after 0 net.place) net.name
       first_shown o net at low =
           reads (bits_of_rows rows) (bits_of_rows (firsts n rows)) (λ u i small. first_bit n rows u i small) t o low
-          ∙ shown (lone_design main) seen meaning means (firsts n rows) first_fits run (run_of_lone main apart.no_subckts names are_names (firsts n rows) run (run_first main other apart names rest are_names rest_names rows run lone (λ t l. wide t [] l))) t o net (omega (arith, l, length-map rows (take n))) at
+          ∙ shown one seen meaning means (firsts n rows) first_fits (λ t place name. run t (place_after 0 place) name) (run_first main other models others apart names rest are_names rest_names both_names rows wide run is) t o net (omega (arith, l, length-map rows (take n))) at
 
-      last_shown : (k : ℕ) (net : Net) → slice_get (shown_nets (lone_design other) others) k ≡ Some net → second (λ u i. bits_of_rows rows u (n + i)) t k ≡ run t net.place net.name
+      last_shown : (k : ℕ) (net : Net) → slice_get (shown_nets two after) k ≡ Some net → second (λ u i. bits_of_rows rows u (n + i)) t k ≡ run t (place_after (length main.subckts) net.place) net.name
       last_shown k net at =
           ap (λ bits. second bits t k) (fun_ext (λ u. fun_ext (λ i. last_bit n rows u i)))
-          ∙ shown (lone_design other) others second means_other (lasts n rows) last_fits run (run_of_lone other apart.no_others rest rest_names (lasts n rows) run (run_last main other apart names rest are_names rest_names rows run lone (λ t l. wide t [] l))) t k net (omega (arith, l, length-map rows (drop n))) at
+          ∙ shown two after second means_other (lasts n rows) last_fits (λ t place name. run t (place_after (length main.subckts) place) name) (run_last main other models others apart names rest are_names rest_names both_names rows wide run is) t k net (omega (arith, l, length-map rows (drop n))) at
 
       abbrev both_bits : ℕ → Bool
       both_bits = row_of_both outs (meaning (bits_of_rows rows) t) (second (λ u i. bits_of_rows rows u (n + i)) t)
 
-      both_shown : (o : ℕ) (net : Net) → slice_get (shown_nets (united main other) both) o ≡ Some net → meant (bits_of_rows rows) t o ≡ run t net.place net.name
+      both_shown : (o : ℕ) (net : Net) → slice_get (shown_nets whole both) o ≡ Some net → meant (bits_of_rows rows) t o ≡ run t net.place net.name
       both_shown o net e =
-          elim (got_cases (shown_nets (lone_design main) seen) (shown_nets (lone_design other) others) (number_at numbers o) net (order o net e)) [
+          elim (got_cases (shown_nets one seen) (map (net_after (length main.subckts)) (shown_nets two after)) (number_at numbers o) net (order o net e)) [
             | inl at ↦
-                let low : number_at numbers o < outs = omega (arith, many, (got_is (shown_nets (lone_design main) seen) (number_at numbers o) net net at).0) in
+                let low : number_at numbers o < outs = omega (arith, many, (got_is (shown_nets one seen) (number_at numbers o) net net at).0) in
                 both_first count both_bits (bits_of_rows rows t) (number_at numbers o) (omega (arith, low, all))
                 ∙ both_first outs (meaning (bits_of_rows rows) t) (second (λ u i. bits_of_rows rows u (n + i)) t) (number_at numbers o) low
                 ∙ first_shown (number_at numbers o) net at low
+                ∙ ap (λ place. run t place net.name) (after_none net.place)
             | inr at ↦
-                let low : at.0 < length (shown_nets (lone_design other) others) = (got_is (shown_nets (lone_design other) others) at.0 net net at.2).0 in
+                let of = map_from (net_after (length main.subckts)) (slice_get (shown_nets two after) at.0) net (sym (slice_get-map (net_after (length main.subckts)) (shown_nets two after) at.0) ∙ at.2) in
+                let low : at.0 < length (shown_nets two after) = (got_is (shown_nets two after) at.0 of.0 of.0 of.1).0 in
                 let place : number_at numbers o ≡ outs + at.0 = omega (arith, at.1, many) in
                 both_first count both_bits (bits_of_rows rows t) (number_at numbers o) (omega (arith, low, all, place))
                 ∙ ap both_bits place
                 ∙ both_rest outs (meaning (bits_of_rows rows) t) (second (λ u i. bits_of_rows rows u (n + i)) t) at.0
-                ∙ last_shown at.0 net at.2
+                ∙ last_shown at.0 of.0 of.1
+                ∙ sym (ap (λ net. run t net.place net.name) of.2)
           ]
 
-  is_meaning : IsMeaningOf (united main other) both meant
+  is_meaning : IsMeaningOf whole both meant
   is_meaning =
-      as_shown (united main other) both meant (causal_both (length names) outs count numbers meaning second means.causal means_other.causal) is_there (λ rows are run is t o net l e. both_shown rows are run is t l o net e)
+      as_shown whole both meant (causal_both (length names) outs count numbers meaning second means.causal means_other.causal) is_there (λ rows are run is t o net l e. both_shown rows are run is t l o net e)
 
 pub designs_unite : DesignsUnite
-designs_unite main other seen others both numbers meaning second names ins outs count apart order are_names fits many all reads means means_other =
-    subst (λ ins. ReadsInputs ins outs meaning → IsMeaningOf (united main other) both (meaning_in_order count (λ i. i) numbers (both_meanings ins outs meaning second))) fits (λ reads. is_meaning main other seen others both numbers meaning second names outs count apart order are_names many all reads means means_other) reads
+designs_unite one two seen others both numbers meaning second names ins outs count apart order are_names fits many all reads means means_other =
+    subst (λ ins. ReadsInputs ins outs meaning → IsMeaningOf (united one two) both (meaning_in_order count (λ i. i) numbers (both_meanings ins outs meaning second))) fits (go one.models two.models apart order are_names many all means means_other) reads
+  where
+    go : (models rest : List Model) → AreApart (record { models = models }) (record { models = rest }) → AreNumbersOf (record { models = models }) (record { models = rest }) seen others both numbers → IsInNames (record { models = models }) names
+        → length (shown_nets (record { models = models }) seen) ≡ outs → outs + length (shown_nets (record { models = rest }) others) ≡ count → IsMeaningOf (record { models = models }) seen meaning → IsMeaningOf (record { models = rest }) others second
+        → ReadsInputs (length names) outs meaning → IsMeaningOf (united (record { models = models }) (record { models = rest })) both (meaning_in_order count (λ i. i) numbers (both_meanings (length names) outs meaning second))
+    go [] rest apart order are many all means means_other reads = absurd (true≢false (sym apart.main))
+    go (main ∷ models) [] apart order are many all means means_other reads = absurd (true≢false (sym apart.other))
+    go (main ∷ models) (other ∷ rest) apart order are many all means means_other reads = is_meaning main other models rest apart seen others both numbers meaning second names outs count order are many all reads means means_other
 
 -- all numbers in order are an order
 in_order : (count : ℕ) → HasEachOnce count (range_with_len 0 count) (λ i. i)
@@ -171,18 +183,18 @@ in_order count =
     number i l = get_or-range_with_len 0 count i 0 l ∙ (let e : 0 + i ≡ i = omega arith in e)
 
 pub designed_parts_unite : DesignedPartsUnite
-designed_parts_unite main other seen others both numbers meaning second names period p q ins outs inputs outputs some apart order are_names fits many more within means means_other away part beside =
+designed_parts_unite one two seen others both numbers meaning second names period p q ins outs inputs outputs some apart order are_names fits many more within means means_other away part beside =
     let united_parts = parts_unite period p q ins outs inputs outputs meaning second away part beside in
     let all_ins = ins ++ inputs in
     let all_outs = outs ++ outputs in
     let among : (o : ℕ) → Contains numbers o → o < length (all_outs ++ all_ins) = λ o c. (let l = within o c in omega (arith, l, length-append all_outs all_ins)) in
     let ordered = parts_take_order period (side_by_side p q) all_ins all_outs (both_meanings (length ins) (length outs) meaning second) (range_with_len 0 (length all_ins)) numbers (λ i. i) (in_order (length all_ins)) among united_parts.0 in
     let whole : PartMeaning = meaning_in_order (length all_outs) (λ i. i) numbers (both_meanings (length ins) (length outs) meaning second) in
-    let count : length outs + length (shown_nets (lone_design other) others) ≡ length all_outs = ap (λ n. length outs + n) more ∙ sym (length-append outs outputs) in
+    let count : length outs + length (shown_nets two others) ≡ length all_outs = ap (λ n. length outs + n) more ∙ sym (length-append outs outputs) in
     let no_port : Port = ((pos 0, pos 0), 0) in
     let ins_same : map (nth_port all_ins) (range_with_len 0 (length all_ins)) ≡ all_ins = list_again no_port all_ins in
     let outs_same : map (nth_port (all_outs ++ all_ins)) numbers ≡ map (nth_port all_outs) numbers = map_in (nth_port (all_outs ++ all_ins)) (nth_port all_outs) numbers (λ o i. get_or_append_left all_outs all_ins no_port o (within o (contains_from numbers o i))) in (
       whole,
-      designs_unite main other seen others both numbers meaning second names (length ins) (length outs) (length all_outs) apart order are_names fits many count (parts_read_inputs period some p ins outs meaning part) means means_other,
+      designs_unite one two seen others both numbers meaning second names (length ins) (length outs) (length all_outs) apart order are_names fits many count (parts_read_inputs period some p ins outs meaning part) means means_other,
       subst (λ ports. IsPart period (side_by_side p q) ports (map (nth_port all_outs) numbers) whole) ins_same (subst (λ ports. IsPart period (side_by_side p q) (map (nth_port all_ins) (range_with_len 0 (length all_ins))) ports whole) outs_same ordered.0),
     )
