@@ -1,10 +1,10 @@
 -- Two designs with a meaning are one with the meanings of both.
-use Rattle.std.proofs.Common.{pos, ℕ, zero, suc, ◌+◌, ◌<◌, ◌≡◌, refl, sym, ap, ap₂, ◌∙◌, subst, inl, inr, Bool, false, List, [], ◌∷◌, ◌++◌, length, map, get_or, arith}
+use Rattle.std.proofs.Common.{pos, ℕ, ◌+◌, ◌<◌, ◌≡◌, refl, sym, ap, ap₂, ◌∙◌, subst, inl, inr, Bool, false, List, [], ◌∷◌, ◌++◌, length, map, get_or, arith}
 use Rattle.std.specs.Prelude.{Contains, Some, slice_get, option_map, take, drop}
 use Rattle.std.specs.List.{range_with_len}
 use Rattle.std.proofs.Math.Path.{fun_ext}
 use Rattle.std.proofs.lemmas.Bool.{true≢false}
-use Rattle.std.proofs.lemmas.Option.{none-some, slice_get-map}
+use Rattle.std.proofs.lemmas.Option.{slice_get-map}
 use Rattle.std.proofs.lemmas.List.{length-map, length-append, get_or-map, get_or_append_left}
 use Rattle.std.proofs.lemmas.List.FromFn.{length-range_with_len, get_or-range_with_len}
 use Rattle.lists.specs.Items.{number_at}
@@ -21,10 +21,9 @@ use Rattle.netlist_core.specs.declared.model.Design.{Design}
 use Rattle.netlist_core.specs.Names.{Name}
 use Rattle.netlist_meaning.specs.Places.{Place, main_outputs}
 use Rattle.netlist_meaning.specs.Nets.{Net, net_at, IsInNames}
-use Rattle.netlist_meaning.specs.Valuation.{Valuation, AreInputRows, IsRun, output_bit}
-use Rattle.netlist_meaning.proofs.Joined.{in_names_are_one}
+use Rattle.netlist_meaning.specs.Valuation.{Valuation, AreInputRows, IsRun}
 use Rattle.carried_parts.specs.CarriedParts.{bits_of_rows, IsMeaningOf}
-use Rattle.carried_parts.specs.United.{united_model, united, place_after, net_after, AreApart, shown_nets, AreNumbersOf, ReadsInputs, DesignsUnite, DesignedPartsUnite}
+use Rattle.carried_parts.specs.United.{united_model, united, place_after, net_after, CanUnite, shown_nets, AreNumbersOf, ReadsInputs, DesignsUnite, DesignedPartsUnite}
 use Rattle.carried_parts.proofs.Rows.{got_at, got_is, list_again}
 use Rattle.carried_parts.proofs.LatchedModels.{map_from}
 use Rattle.carried_parts.proofs.LatchedRuns.{got_cases, output_at}
@@ -32,11 +31,11 @@ use Rattle.carried_parts.proofs.UnitedModels.{got_before, got_after, names_of_bo
 use Rattle.carried_parts.proofs.UnitedRuns.{fits_first, fits_last, run_first, run_last, run_both, both_runs}
 
 -- a meaning shows the outputs and the nets, and what shows these is a meaning
-abbrev ShowsNets : Design → List Net → PartMeaning → Type 0
-ShowsNets design seen meaning =
+abbrev MeaningShows : Design → List Net → PartMeaning → Type 0
+MeaningShows design seen meaning =
     (rows : List (List Bool)) → AreInputRows design rows → (run : ℕ → Valuation) → IsRun design rows run → (t o : ℕ) (net : Net) → t < length rows → slice_get (shown_nets design seen) o ≡ Some net → meaning (bits_of_rows rows) t o ≡ run t net.place net.name
 
-shown : (design : Design) (seen : List Net) (meaning : PartMeaning) → IsMeaningOf design seen meaning → ShowsNets design seen meaning
+shown : (design : Design) (seen : List Net) (meaning : PartMeaning) → IsMeaningOf design seen meaning → MeaningShows design seen meaning
 shown design seen meaning means rows are run is t o net l e =
     elim (got_cases (map (net_at []) (main_outputs design)) seen o net e) [
       | inl at ↦
@@ -47,7 +46,7 @@ shown design seen meaning means rows are run is t o net l e =
           ap (meaning (bits_of_rows rows) t) (at.1 ∙ ap (λ n. n + at.0) (length-map (main_outputs design) (net_at []))) ∙ means.nets rows are run is t at.0 net l at.2
     ]
 
-as_shown : (design : Design) (seen : List Net) (meaning : PartMeaning) → IsCausalMeaning meaning → ((rows : List (List Bool)) → AreInputRows design rows → (run : ℕ → Valuation) × IsRun design rows run) → ShowsNets design seen meaning → IsMeaningOf design seen meaning
+as_shown : (design : Design) (seen : List Net) (meaning : PartMeaning) → IsCausalMeaning meaning → ((rows : List (List Bool)) → AreInputRows design rows → (run : ℕ → Valuation) × IsRun design rows run) → MeaningShows design seen meaning → IsMeaningOf design seen meaning
 as_shown design seen meaning causal runs shows =
     record {
       causal = causal;
@@ -72,7 +71,7 @@ causal_both ins outs count numbers meaning second one two bits others t same =
     (ap₂ (row_of_both outs) (one bits others t same) (two (λ u i. bits u (ins + i)) (λ u i. others u (ins + i)) t (λ u le. ap (λ row. λ (i : ℕ). row (ins + i)) (same u le))))
     (same t (omega arith))
 
-module _ (main other : Model) (models others : List Model) (apart : AreApart (record { models = main ∷ models }) (record { models = other ∷ others })) (seen after both : List Net) (numbers : List ℕ) (meaning second : PartMeaning) (names : List Name) (outs count : ℕ) (order : AreNumbersOf (record { models = main ∷ models }) (record { models = other ∷ others }) seen after both numbers) (are_names : IsInNames (record { models = main ∷ models }) names) (many : length (shown_nets (record { models = main ∷ models }) seen) ≡ outs) (all : outs + length (shown_nets (record { models = other ∷ others }) after) ≡ count) (reads : ReadsInputs (length names) outs meaning) (means : IsMeaningOf (record { models = main ∷ models }) seen meaning) (means_other : IsMeaningOf (record { models = other ∷ others }) after second) where
+module _ (main other : Model) (models others : List Model) (can : CanUnite (record { models = main ∷ models }) (record { models = other ∷ others })) (seen after both : List Net) (numbers : List ℕ) (meaning second : PartMeaning) (names : List Name) (outs count : ℕ) (order : AreNumbersOf (record { models = main ∷ models }) (record { models = other ∷ others }) seen after both numbers) (are_names : IsInNames (record { models = main ∷ models }) names) (many : length (shown_nets (record { models = main ∷ models }) seen) ≡ outs) (all : outs + length (shown_nets (record { models = other ∷ others }) after) ≡ count) (reads : ReadsInputs (length names) outs meaning) (means : IsMeaningOf (record { models = main ∷ models }) seen meaning) (means_other : IsMeaningOf (record { models = other ∷ others }) after second) where
   abbrev one : Design
   one = record { models = main ∷ models }
 
@@ -90,15 +89,15 @@ module _ (main other : Model) (models others : List Model) (apart : AreApart (re
     n = length names
 
     rest : List Name
-    rest = (names_of_both main other models others apart names are.0 are_names are.1).0
+    rest = (names_of_both main other models others can names are.0 are_names are.1).0
 
     rest_names : IsInNames two rest
     unfolding rest
-    rest_names = (names_of_both main other models others apart names are.0 are_names are.1).1
+    rest_names = (names_of_both main other models others can names are.0 are_names are.1).1
 
     whole_names : are.0 ≡ names ++ rest
     unfolding rest
-    whole_names = (names_of_both main other models others apart names are.0 are_names are.1).2
+    whole_names = (names_of_both main other models others can names are.0 are_names are.1).2
 
     both_names : IsInNames whole (names ++ rest)
     both_names = subst (IsInNames whole) whole_names are.1
@@ -107,27 +106,27 @@ module _ (main other : Model) (models others : List Model) (apart : AreApart (re
     wide t d l = are.2 t d l ∙ ap length whole_names
 
     first_fits : AreInputRows one (firsts n rows)
-    first_fits = fits_first main other models others apart names rest are_names rest_names both_names rows wide
+    first_fits = fits_first main other models others can names rest are_names rest_names both_names rows wide
 
     last_fits : AreInputRows two (lasts n rows)
-    last_fits = fits_last main other models others apart names rest are_names rest_names both_names rows wide
+    last_fits = fits_last main other models others can names rest are_names rest_names both_names rows wide
 
     is_there : (run : ℕ → Valuation) × IsRun whole rows run
     is_there =
         let a = means.runs (firsts n rows) first_fits in
         let b = means_other.runs (lasts n rows) last_fits in
-        (both_runs main other models others apart names rest are_names rest_names both_names rows wide a.0 b.0 a.1 b.1, run_both main other models others apart names rest are_names rest_names both_names rows wide a.0 b.0 a.1 b.1)
+        (both_runs main other models others can names rest are_names rest_names both_names rows wide a.0 b.0 a.1 b.1, run_both main other models others can names rest are_names rest_names both_names rows wide a.0 b.0 a.1 b.1)
 
     module _ (run : ℕ → Valuation) (is : IsRun whole rows run) (t : ℕ) (l : t < length rows) where
       first_shown : (o : ℕ) (net : Net) → slice_get (shown_nets one seen) o ≡ Some net → o < outs → meaning (bits_of_rows rows) t o ≡ run t (place_after 0 net.place) net.name
       first_shown o net at low =
           reads (bits_of_rows rows) (bits_of_rows (firsts n rows)) (λ u i small. first_bit n rows u i small) t o low
-          ∙ shown one seen meaning means (firsts n rows) first_fits (λ t place name. run t (place_after 0 place) name) (run_first main other models others apart names rest are_names rest_names both_names rows wide run is) t o net (omega (arith, l, length-map rows (take n))) at
+          ∙ shown one seen meaning means (firsts n rows) first_fits (λ t place name. run t (place_after 0 place) name) (run_first main other models others can names rest are_names rest_names both_names rows wide run is) t o net (omega (arith, l, length-map rows (take n))) at
 
       last_shown : (k : ℕ) (net : Net) → slice_get (shown_nets two after) k ≡ Some net → second (λ u i. bits_of_rows rows u (n + i)) t k ≡ run t (place_after (length main.subckts) net.place) net.name
       last_shown k net at =
           ap (λ bits. second bits t k) (fun_ext (λ u. fun_ext (λ i. last_bit n rows u i)))
-          ∙ shown two after second means_other (lasts n rows) last_fits (λ t place name. run t (place_after (length main.subckts) place) name) (run_last main other models others apart names rest are_names rest_names both_names rows wide run is) t k net (omega (arith, l, length-map rows (drop n))) at
+          ∙ shown two after second means_other (lasts n rows) last_fits (λ t place name. run t (place_after (length main.subckts) place) name) (run_last main other models others can names rest are_names rest_names both_names rows wide run is) t k net (omega (arith, l, length-map rows (drop n))) at
 
       abbrev both_bits : ℕ → Bool
       both_bits = row_of_both outs (meaning (bits_of_rows rows) t) (second (λ u i. bits_of_rows rows u (n + i)) t)
@@ -157,15 +156,15 @@ module _ (main other : Model) (models others : List Model) (apart : AreApart (re
       as_shown whole both meant (causal_both (length names) outs count numbers meaning second means.causal means_other.causal) is_there (λ rows are run is t o net l e. both_shown rows are run is t l o net e)
 
 pub designs_unite : DesignsUnite
-designs_unite one two seen others both numbers meaning second names ins outs count apart order are_names fits many all reads means means_other =
-    subst (λ ins. ReadsInputs ins outs meaning → IsMeaningOf (united one two) both (meaning_in_order count (λ i. i) numbers (both_meanings ins outs meaning second))) fits (go one.models two.models apart order are_names many all means means_other) reads
+designs_unite one two seen others both numbers meaning second names ins outs count can order are_names fits many all reads means means_other =
+    subst (λ ins. ReadsInputs ins outs meaning → IsMeaningOf (united one two) both (meaning_in_order count (λ i. i) numbers (both_meanings ins outs meaning second))) fits (go one.models two.models can order are_names many all means means_other) reads
   where
-    go : (models rest : List Model) → AreApart (record { models = models }) (record { models = rest }) → AreNumbersOf (record { models = models }) (record { models = rest }) seen others both numbers → IsInNames (record { models = models }) names
-        → length (shown_nets (record { models = models }) seen) ≡ outs → outs + length (shown_nets (record { models = rest }) others) ≡ count → IsMeaningOf (record { models = models }) seen meaning → IsMeaningOf (record { models = rest }) others second
-        → ReadsInputs (length names) outs meaning → IsMeaningOf (united (record { models = models }) (record { models = rest })) both (meaning_in_order count (λ i. i) numbers (both_meanings (length names) outs meaning second))
-    go [] rest apart order are many all means means_other reads = absurd (true≢false (sym apart.main))
-    go (main ∷ models) [] apart order are many all means means_other reads = absurd (true≢false (sym apart.other))
-    go (main ∷ models) (other ∷ rest) apart order are many all means means_other reads = is_meaning main other models rest apart seen others both numbers meaning second names outs count order are many all reads means means_other
+    go : (models more : List Model) → CanUnite (record { models = models }) (record { models = more }) → AreNumbersOf (record { models = models }) (record { models = more }) seen others both numbers → IsInNames (record { models = models }) names
+        → length (shown_nets (record { models = models }) seen) ≡ outs → outs + length (shown_nets (record { models = more }) others) ≡ count → IsMeaningOf (record { models = models }) seen meaning → IsMeaningOf (record { models = more }) others second
+        → ReadsInputs (length names) outs meaning → IsMeaningOf (united (record { models = models }) (record { models = more })) both (meaning_in_order count (λ i. i) numbers (both_meanings (length names) outs meaning second))
+    go [] more can order are many all means means_other reads = absurd (true≢false (sym can.has_main))
+    go (main ∷ models) [] can order are many all means means_other reads = absurd (true≢false (sym can.has_other))
+    go (main ∷ models) (other ∷ more) can order are many all means means_other reads = is_meaning main other models more can seen others both numbers meaning second names outs count order are many all reads means means_other
 
 -- all numbers in order are an order
 in_order : (count : ℕ) → HasEachOnce count (range_with_len 0 count) (λ i. i)
@@ -183,7 +182,7 @@ in_order count =
     number i l = get_or-range_with_len 0 count i 0 l ∙ (let e : 0 + i ≡ i = omega arith in e)
 
 pub designed_parts_unite : DesignedPartsUnite
-designed_parts_unite one two seen others both numbers meaning second names period p q ins outs inputs outputs some apart order are_names fits many more within means means_other away part beside =
+designed_parts_unite one two seen others both numbers meaning second names period p q ins outs inputs outputs some can order are_names fits many more within means means_other away part beside =
     let united_parts = parts_unite period p q ins outs inputs outputs meaning second away part beside in
     let all_ins = ins ++ inputs in
     let all_outs = outs ++ outputs in
@@ -195,6 +194,6 @@ designed_parts_unite one two seen others both numbers meaning second names perio
     let ins_same : map (nth_port all_ins) (range_with_len 0 (length all_ins)) ≡ all_ins = list_again no_port all_ins in
     let outs_same : map (nth_port (all_outs ++ all_ins)) numbers ≡ map (nth_port all_outs) numbers = map_in (nth_port (all_outs ++ all_ins)) (nth_port all_outs) numbers (λ o i. get_or_append_left all_outs all_ins no_port o (within o (contains_from numbers o i))) in (
       whole,
-      designs_unite one two seen others both numbers meaning second names (length ins) (length outs) (length all_outs) apart order are_names fits many count (parts_read_inputs period some p ins outs meaning part) means means_other,
+      designs_unite one two seen others both numbers meaning second names (length ins) (length outs) (length all_outs) can order are_names fits many count (parts_read_inputs period some p ins outs meaning part) means means_other,
       subst (λ ports. IsPart period (side_by_side p q) ports (map (nth_port all_outs) numbers) whole) ins_same (subst (λ ports. IsPart period (side_by_side p q) (map (nth_port all_ins) (range_with_len 0 (length all_ins))) ports whole) outs_same ordered.0),
     )

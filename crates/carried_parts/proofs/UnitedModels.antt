@@ -1,6 +1,6 @@
 -- Two designs in one: their models, controls, clocks and IN names.
-use Rattle.std.proofs.Common.{ℕ, zero, suc, ◌+◌, ◌-◌, ◌<◌, ◌≤◌, ◌≡◌, refl, sym, ap, ap₂, ◌∙◌, subst, inl, inr, ◌⊎◌, Bool, true, false, not, cond, List, [], ◌∷◌, ◌++◌, length, map, get_or, arith}
-use Rattle.std.specs.Prelude.{Contains, Option, Some, None, slice_get, option_and_then, option_to_list, flat_map, take, drop}
+use Rattle.std.proofs.Common.{ℕ, zero, suc, ◌+◌, ◌-◌, ◌<◌, ◌≡◌, refl, sym, ap, ◌∙◌, subst, inl, inr, ◌⊎◌, Bool, true, false, not, cond, List, [], ◌∷◌, ◌++◌, length, map, get_or, arith}
+use Rattle.std.specs.Prelude.{Option, Some, slice_get, option_and_then, option_to_list, take, drop}
 use Rattle.std.proofs.lemmas.Bool.{cases_lt}
 use Rattle.std.proofs.lemmas.Option.{none-some, same_Some}
 use Rattle.std.proofs.lemmas.List.{map-append, length-append, get_or-take, get_or-drop}
@@ -13,15 +13,14 @@ use Rattle.netlist_core.specs.declared.model.Model.{Model}
 use Rattle.netlist_core.specs.declared.model.Design.{Design}
 use Rattle.netlist_core.specs.Names.{Name, port_names, has_name, is_named}
 use Rattle.netlist_meaning.specs.Places.{Place, model_at}
-use Rattle.netlist_meaning.specs.Nets.{Net, net_at, model_names, IsNet, IsPinned, Joined, by_pin, itself, reversed, followed, IsLatchControl, IsMainClock, IsControl, IsClockNet, WithoutControl, none, kept, left_out, IsInNames}
+use Rattle.netlist_meaning.specs.Nets.{Net, net_at, model_names, IsPinned, Joined, by_pin, itself, reversed, followed, IsLatchControl, IsMainClock, IsControl, IsClockNet, WithoutControl, none, kept, left_out, IsInNames}
 use Rattle.netlist_meaning.proofs.Names.{and_then-from}
 use Rattle.netlist_meaning.proofs.Joined.{joined_gives, clock_net-joined, in_names_are_one}
 use Rattle.carried_parts.specs.CarriedParts.{bits_of_rows}
-use Rattle.carried_parts.specs.United.{other_ports, united_model, net_after, place_after, AreApart}
-use Rattle.carried_parts.proofs.Rows.{got_is}
+use Rattle.carried_parts.specs.United.{other_ports, united_model, net_after, place_after, CanUnite}
 use Rattle.carried_parts.proofs.LatchedModels.{input_net, latch_net}
 use Rattle.carried_parts.proofs.LatchedRuns.{got_cases}
-use Rattle.carried_parts.proofs.UnitedPlaces.{one_before, OwnAt, IsOwn, name_in, line_there, StandsIn, IsPinIn, IsPlaceIn, at_same, pin_own, control_is, joined_is, latch_is, top_pin_was, deep_pin_was}
+use Rattle.carried_parts.proofs.UnitedPlaces.{one_before, OwnAt, IsOwn, name_in, line_there, StandsIn, IsPinIn, IsPlaceIn, at_same, pin_own, control_is, joined_is, top_pin_was, deep_pin_was}
 
 pub got_before : {X : Type 0} (xs ys : List X) (k : ℕ) (x : X) → slice_get xs k ≡ Some x → slice_get (xs ++ ys) k ≡ Some x
 got_before [] ys k x e = absurd (none-some x e)
@@ -103,7 +102,6 @@ first_bit n rows t i l = sym (ap (λ row. flag_at row i) (first_row n rows t) �
 pub last_bit : (n : ℕ) (rows : List (List Bool)) (t i : ℕ) → bits_of_rows rows t (n + i) ≡ bits_of_rows (lasts n rows) t i
 last_bit n rows t i = sym (ap (λ row. flag_at row i) (last_row n rows t) ∙ get_or-drop n (list_at rows t) i false)
 
-
 -- the ports that are left of the second list, beside the first
 other_in : (ports others : List Port) (name : Name) → In name (port_names (other_ports ports others)) → In name (port_names others)
 other_in ports [] name i = absurd i
@@ -141,7 +139,7 @@ in_one ports others name i =
       | inr b ↦ inr (other_in ports others name b)
     ]
 
-module _ (main other : Model) (models others : List Model) (apart : AreApart (record { models = main ∷ models }) (record { models = other ∷ others })) where
+module _ (main other : Model) (models others : List Model) (can : CanUnite (record { models = main ∷ models }) (record { models = other ∷ others })) where
   abbrev pub first : Design
   first = record { models = main ∷ models }
 
@@ -161,7 +159,7 @@ module _ (main other : Model) (models others : List Model) (apart : AreApart (re
   first_in =
       record {
         lines = λ number line e. (let n : 0 + number ≡ number = omega arith in ap (slice_get (main.subckts ++ other.subckts)) n ∙ got_before main.subckts other.subckts number line e);
-        alike = apart.first_lines;
+        alike = can.first_places;
         covers = λ cover i. in_left main.covers other.covers cover i;
         latches = λ latch i. in_left main.latches other.latches latch i;
       }
@@ -170,7 +168,7 @@ module _ (main other : Model) (models others : List Model) (apart : AreApart (re
   second_in =
       record {
         lines = λ number line e. got_after main.subckts other.subckts number ∙ e;
-        alike = apart.second_lines;
+        alike = can.second_places;
         covers = λ cover i. in_right main.covers other.covers cover i;
         latches = λ latch i. in_right main.latches other.latches latch i;
       }
@@ -182,12 +180,12 @@ module _ (main other : Model) (models others : List Model) (apart : AreApart (re
       elim (cases_lt number (length main.subckts)) as (λ _. IsPlaceIn first main 0 number place model ⊎ IsPlaceIn second other before number place model) [
         | inl lt ↦
             (let e : number ≡ 0 + number = omega arith in
-                inl (record { line = number; is = e; low = lt; at = sym (at_same main (united_model main other) models (models ++ others) 0 first_in number place lt) ∙ ap (λ n. model_at both (n ∷ place)) (sym e) ∙ at }))
+            inl (record { line = number; is = e; low = lt; at = sym (at_same main (united_model main other) models (models ++ others) 0 first_in number place lt) ∙ ap (λ n. model_at both (n ∷ place)) (sym e) ∙ at }))
         | inr ge ↦
             (let n = number - length main.subckts in
-                let e : number ≡ length main.subckts + n = omega (arith, ge) in
-                let low : n < length other.subckts = omega (arith, long, e, length-append main.subckts other.subckts) in
-                inr (record { line = n; is = e; low = low; at = sym (at_same other (united_model main other) others (models ++ others) (length main.subckts) second_in n place low) ∙ ap (λ n. model_at both (n ∷ place)) (sym e) ∙ at }))
+            let e : number ≡ length main.subckts + n = omega (arith, ge) in
+            let low : n < length other.subckts = omega (arith, long, e, length-append main.subckts other.subckts) in
+            inr (record { line = n; is = e; low = low; at = sym (at_same other (united_model main other) others (models ++ others) (length main.subckts) second_in n place low) ∙ ap (λ n. model_at both (n ∷ place)) (sym e) ∙ at }))
       ]
 
   pin_was_at : (place : Place) (name : Name) (inner : Net) → IsPinned both (net_at place name) inner → IsPinIn first 0 (net_at place name) inner ⊎ IsPinIn second before (net_at place name) inner
@@ -212,7 +210,7 @@ module _ (main other : Model) (models others : List Model) (apart : AreApart (re
   second_pin a b p = pin_own other (united_model main other) others (models ++ others) (length main.subckts) second_in a b p
 
   pub shared : (name : Name) → In name (model_names main) → In name (model_names other) → IsControl first (net_at [] name) × IsControl second (net_at [] name)
-  shared name i j = apart.controls name (main, refl, contains_from (model_names main) name i) (other, refl, contains_from (model_names other) name j)
+  shared name i j = can.controls name (main, refl, contains_from (model_names main) name i) (other, refl, contains_from (model_names other) name j)
 
   -- a net of both is a control in both
   meet_at : (p q : Place) (name : Name) → place_after 0 p ≡ place_after (length main.subckts) q → OwnAt main p name → OwnAt other q name → IsControl first (net_at p name) × IsControl second (net_at q name)
@@ -287,10 +285,10 @@ module _ (main other : Model) (models others : List Model) (apart : AreApart (re
       elim (in_parts main.latches other.latches c.latch (in_got (main.latches ++ other.latches) c.number c.latch c.has_latch)) as (λ _. Was (IsLatchControl first) (IsLatchControl second) (net_at [] name)) [
         | inl i ↦
             (let (n, at) = got_from main.latches c.latch i in
-                inl (net_at [] name, refl, latch_names_in main models c.latch name i (inr (inr (some_in c.latch.control name c.has_control))), record { number = n; latch = c.latch; has_latch = at; has_control = c.has_control }))
+            inl (net_at [] name, refl, latch_names_in main models c.latch name i (inr (inr (some_in c.latch.control name c.has_control))), record { number = n; latch = c.latch; has_latch = at; has_control = c.has_control }))
         | inr i ↦
             (let (n, at) = got_from other.latches c.latch i in
-                inr (net_at [] name, refl, latch_names_in other others c.latch name i (inr (inr (some_in c.latch.control name c.has_control))), record { number = n; latch = c.latch; has_latch = at; has_control = c.has_control }))
+            inr (net_at [] name, refl, latch_names_in other others c.latch name i (inr (inr (some_in c.latch.control name c.has_control))), record { number = n; latch = c.latch; has_latch = at; has_control = c.has_control }))
       ]
   control_at (number ∷ place) name c =
       let (model, at, is) = and_then-from (λ m. slice_get m.latches c.number) (model_at both (number ∷ place)) c.latch c.has_latch in

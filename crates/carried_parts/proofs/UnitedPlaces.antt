@@ -10,11 +10,11 @@ use Rattle.netlist_core.specs.declared.model.Model.{Model}
 use Rattle.netlist_core.specs.declared.model.Design.{Design}
 use Rattle.netlist_core.specs.Names.{Name, model_named}
 use Rattle.netlist_meaning.specs.Places.{Place, model_placed, model_below, model_at, latch_at}
-use Rattle.netlist_meaning.specs.Nets.{Net, net_at, model_names, IsNet, IsPinned, Joined, by_pin, itself, reversed, followed, IsLatchControl, IsControl}
+use Rattle.netlist_meaning.specs.Nets.{Net, net_at, model_names, IsNet, IsPinned, Joined, by_pin, itself, reversed, followed, IsControl}
 use Rattle.netlist_meaning.proofs.Names.{and_then-from}
 use Rattle.netlist_meaning.proofs.Depth.{model_at-append}
 use Rattle.netlist_meaning.proofs.Joined.{joined_gives}
-use Rattle.carried_parts.specs.United.{place_after, net_after, PlacesAlike}
+use Rattle.carried_parts.specs.United.{place_after, net_after, PlacesSameModels}
 use Rattle.carried_parts.proofs.Rows.{got_is}
 use Rattle.carried_parts.proofs.LatchedModels.{pin_net}
 
@@ -63,7 +63,7 @@ line_there main models number place model at =
 -- the first main model stands in the second, whose subckt lines are some others and then its own, and lines place the same models
 pub record StandsIn (own all : Model) (rest more : List Model) (shift : ℕ) : Type 0 where
   pub lines : (number : ℕ) (line : Subckt) → slice_get own.subckts number ≡ Some line → slice_get all.subckts (shift + number) ≡ Some line
-  pub alike : PlacesAlike (record { models = own ∷ rest }) (record { models = all ∷ more })
+  pub alike : PlacesSameModels (record { models = own ∷ rest }) (record { models = all ∷ more })
   pub covers : (cover : Cover) → In cover own.covers → In cover all.covers
   pub latches : (latch : LatchRow) → In latch own.latches → In latch all.latches
 
@@ -106,9 +106,9 @@ module _ (own all : Model) (rest more : List Model) (shift : ℕ) (h : StandsIn 
   at_same number place l =
       let (line, e) = got_within own.subckts number l in
       let placed : model_placed whole all (shift + number) ≡ model_placed part own number =
-          ap (option_and_then (λ line. model_named (all ∷ more) line.model)) (h.lines number line e)
-          ∙ h.alike [] own line refl (contains_from own.subckts line (in_got own.subckts number line e))
-          ∙ sym (ap (option_and_then (λ line. model_named (own ∷ rest) line.model)) e) in
+      ap (option_and_then (λ line. model_named (all ∷ more) line.model)) (h.lines number line e)
+      ∙ h.alike [] own line refl (contains_from own.subckts line (in_got own.subckts number line e))
+      ∙ sym (ap (option_and_then (λ line. model_named (own ∷ rest) line.model)) e) in
       ap (option_and_then (model_below whole place)) placed
       ∙ same_below (model_below whole place) (model_below part place) (model_placed part own number) (λ inner e. below_same place (number ∷ []) inner (placed_at [] own refl number inner e))
 

@@ -1,6 +1,6 @@
 -- Runs of two designs in one: a run of it is one of each, and runs of both make one.
 use Rattle.std.proofs.Common.{ℕ, zero, suc, ◌+◌, ◌-◌, ◌<◌, ◌≤◌, ◌≡◌, refl, sym, ap, ap₂, ◌∙◌, subst, inl, inr, Bool, true, false, cond, ◌==◌, List, [], ◌∷◌, ◌++◌, length, map, get_or, arith}
-use Rattle.std.specs.Prelude.{Contains, Some, slice_get, option_and_then, flat_map, ltb, take, drop}
+use Rattle.std.specs.Prelude.{Some, slice_get, option_and_then, flat_map, ltb, take, drop}
 use Rattle.std.proofs.lemmas.Bool.Decides.{nat_tests}
 use Rattle.std.proofs.lemmas.Option.{same_Some}
 use Rattle.std.proofs.lemmas.List.{map-append, length-map, length-append, get_or-map, length-take-le, length-drop, take-append-drop}
@@ -14,11 +14,11 @@ use Rattle.netlist_core.specs.declared.model.Design.{Design}
 use Rattle.netlist_core.specs.Names.{Name, port_names}
 use Rattle.netlist_meaning.specs.CoverValue.{cover_value}
 use Rattle.netlist_meaning.specs.Places.{Place, model_at, latch_at}
-use Rattle.netlist_meaning.specs.Nets.{Net, net_at, model_names, IsNet, IsPinned, by_pin, IsClockNet, IsInNames}
+use Rattle.netlist_meaning.specs.Nets.{Net, net_at, model_names, IsPinned, by_pin, IsClockNet, IsInNames}
 use Rattle.netlist_meaning.specs.Valuation.{Valuation, IsValuation, AreInputRows, IsRun, start_bit, start_state, data_bit, latches_in}
 use Rattle.netlist_meaning.proofs.Names.{and_then-from}
 use Rattle.netlist_meaning.proofs.Joined.{in_names_are_one, pins_are_enough, no_clock_net-joined}
-use Rattle.carried_parts.specs.United.{net_after, place_after, used_names, united_model, AreApart}
+use Rattle.carried_parts.specs.United.{net_after, place_after, used_names, united_model, CanUnite}
 use Rattle.carried_parts.proofs.Rows.{got_at, got_is}
 use Rattle.carried_parts.proofs.LatchedModels.{left_in, cover_net, latch_net, main_input_net}
 use Rattle.carried_parts.proofs.UnitedPlaces.{OwnAt, IsOwn, name_in, StandsIn, IsPinIn, pin_own, pin_is, model_is, latch_is}
@@ -86,7 +86,7 @@ module _ (own all : Model) (rest more : List Model) (shift : ℕ) (h : StandsIn 
       held_after zero place latch = refl
       held_after (suc t) place latch = refl
 
-module _ (main other : Model) (models others : List Model) (apart : AreApart (record { models = main ∷ models }) (record { models = other ∷ others })) (names rest : List Name) (are : IsInNames (first main other models others apart) names) (are_rest : IsInNames (second main other models others apart) rest) (are_both : IsInNames (both main other models others apart) (names ++ rest)) (rows : List (List Bool)) (wide : (t : ℕ) (d : List Bool) → t < length rows → length (get_or rows t d) ≡ length (names ++ rest)) where
+module _ (main other : Model) (models others : List Model) (can : CanUnite (record { models = main ∷ models }) (record { models = other ∷ others })) (names rest : List Name) (are : IsInNames (first main other models others can) names) (are_rest : IsInNames (second main other models others can) rest) (are_both : IsInNames (both main other models others can) (names ++ rest)) (rows : List (List Bool)) (wide : (t : ℕ) (d : List Bool) → t < length rows → length (get_or rows t d) ≡ length (names ++ rest)) where
   abbrev one : Design
   one = record { models = main ∷ models }
 
@@ -135,11 +135,11 @@ module _ (main other : Model) (models others : List Model) (apart : AreApart (re
 
     pub run_first : IsRun one (firsts (length names) rows) (λ t place name. run t (place_after 0 place) name)
     run_first =
-        run_in main (united_model main other) models (models ++ others) 0 (first_in main other models others apart) names rows (firsts (length names) rows) run are first_long (λ t l. (row_parts t l).0 ∙ sym (first_row (length names) rows t)) (clock_first main other models others apart) is
+        run_in main (united_model main other) models (models ++ others) 0 (first_in main other models others can) names rows (firsts (length names) rows) run are first_long (λ t l. (row_parts t l).0 ∙ sym (first_row (length names) rows t)) (clock_first main other models others can) is
 
     pub run_last : IsRun two (lasts (length names) rows) (λ t place name. run t (place_after (length main.subckts) place) name)
     run_last =
-        run_in other (united_model main other) others (models ++ others) (length main.subckts) (second_in main other models others apart) rest rows (lasts (length names) rows) run are_rest last_long (λ t l. (row_parts t l).1 ∙ sym (last_row (length names) rows t)) (clock_second main other models others apart) is
+        run_in other (united_model main other) others (models ++ others) (length main.subckts) (second_in main other models others can) rest rows (lasts (length names) rows) run are_rest last_long (λ t l. (row_parts t l).1 ∙ sym (last_row (length names) rows t)) (clock_second main other models others can) is
 
   -- runs of both
   module _ (a b : ℕ → Valuation) (is_a : IsRun one (firsts (length names) rows) a) (is_b : IsRun two (lasts (length names) rows) b) where
@@ -169,7 +169,7 @@ module _ (main other : Model) (models others : List Model) (apart : AreApart (re
     latch_own latch name i j = name_in one [] name main refl (latch_net one [] main refl latch name i (in_left (latch.input ∷ latch.output ∷ []) _ name j))
 
     unused : (name : Name) → In name (used_names other) → ¬ In name (model_names main)
-    unused name u i = apart.unused other refl name (contains_from (used_names other) name u) (main, refl, contains_from (model_names main) name i)
+    unused name u i = can.unused other refl name (contains_from (used_names other) name u) (main, refl, contains_from (model_names main) name i)
 
     abbrev cover_uses : List Name
     cover_uses = flat_map (λ cover. cover.ins ++ cover.out ∷ []) other.covers
@@ -189,15 +189,15 @@ module _ (main other : Model) (models others : List Model) (apart : AreApart (re
     rest_free : (name : Name) → In name rest → ¬ In name (model_names main)
     rest_free name i j =
         let mine = name_in two [] name other refl (main_input_net two name (left_in two name (port_names other.ins) are_rest i)) in
-        free_name two name (port_names other.ins) are_rest i (shared main other models others apart name j mine).1
+        free_name two name (port_names other.ins) are_rest i (shared main other models others can name j mine).1
 
     -- pins
     pin_first : (t : ℕ) → t < length rows → (outer inner : Net) (h : IsPinIn one 0 outer inner) → ¬ IsClockNet all outer → both_runs t outer.place outer.name ≡ both_runs t inner.place inner.name
     pin_first t l outer inner h away =
-        let own = first_pin main other models others apart h.a h.b h.pin in
+        let own = first_pin main other models others can h.a h.b h.pin in
         ap (λ net. both_runs t net.place net.name) h.is_outer
         ∙ of_first t h.a.place h.a.name own.0
-        ∙ (solves one (firsts (length names) rows) a is_a t (omega (arith, l, first_long))).joined_agree h.a h.b (by_pin h.pin) (λ c. away (subst (IsClockNet all) (sym h.is_outer) (clock_of_first main other models others apart h.a c)))
+        ∙ (solves one (firsts (length names) rows) a is_a t (omega (arith, l, first_long))).joined_agree h.a h.b (by_pin h.pin) (λ c. away (subst (IsClockNet all) (sym h.is_outer) (clock_of_first main other models others can h.a c)))
         ∙ sym (of_first t h.b.place h.b.name own.1)
         ∙ sym (ap (λ net. both_runs t net.place net.name) h.is_inner)
 
@@ -205,13 +205,13 @@ module _ (main other : Model) (models others : List Model) (apart : AreApart (re
     second_free : (net : Net) → IsOwn other net → ¬ IsClockNet two net → net.place ≡ [] → ¬ In net.name (model_names main)
     second_free net own away top i =
         let mine : In net.name (model_names other) = subst (λ place. OwnAt other place net.name) top own in
-        let (source, c, j) = (shared main other models others apart net.name i mine).1 in
+        let (source, c, j) = (shared main other models others can net.name i mine).1 in
         away (subst (λ place. IsClockNet two (net_at place net.name)) (sym top) (source, inl c, j))
 
     pin_second : (t : ℕ) → t < length rows → (outer inner : Net) (h : IsPinIn two before outer inner) → ¬ IsClockNet all outer → both_runs t outer.place outer.name ≡ both_runs t inner.place inner.name
     pin_second t l outer inner h away =
-        let own = second_pin main other models others apart h.a h.b h.pin in
-        let no : ¬ IsClockNet two h.a = λ c. away (subst (IsClockNet all) (sym h.is_outer) (clock_of_second main other models others apart h.a c)) in
+        let own = second_pin main other models others can h.a h.b h.pin in
+        let no : ¬ IsClockNet two h.a = λ c. away (subst (IsClockNet all) (sym h.is_outer) (clock_of_second main other models others can h.a c)) in
         ap (λ net. both_runs t net.place net.name) h.is_outer
         ∙ of_second t h.a.place h.a.name (second_free h.a own.0 no)
         ∙ (solves two (lasts (length names) rows) b is_b t (omega (arith, l, last_long))).joined_agree h.a h.b (by_pin h.pin) no
@@ -220,7 +220,7 @@ module _ (main other : Model) (models others : List Model) (apart : AreApart (re
 
     pins_both : (t : ℕ) → t < length rows → (outer inner : Net) → IsPinned all outer inner → ¬ IsClockNet all outer → both_runs t outer.place outer.name ≡ both_runs t inner.place inner.name
     pins_both t l outer inner p away =
-        elim (pin_was main other models others apart outer inner p) [
+        elim (pin_was main other models others can outer inner p) [
           | inl h ↦ pin_first t l outer inner h away
           | inr h ↦ pin_second t l outer inner h away
         ]
@@ -251,7 +251,7 @@ module _ (main other : Model) (models others : List Model) (apart : AreApart (re
           | inr j ↦ cover_moved t [] [] (b t) cover (λ name k. of_second t [] name (λ top. cover_free cover name j k)) ((solves two (lasts (length names) rows) b is_b t (omega (arith, l, last_long))).covers_hold [] other cover refl (contains_from other.covers cover j))
         ]
     covers_both t l (number ∷ place) model cover at i =
-        elim (place_was main other models others apart number place model at) [
+        elim (place_was main other models others can number place model at) [
           | inl d ↦ cover_moved t (number ∷ place) (d.line ∷ place) (a t) cover (λ name k. deep_first t number d.line place name d.is d.low) ((solves one (firsts (length names) rows) a is_a t (omega (arith, l, first_long))).covers_hold (d.line ∷ place) model cover d.at (contains_from model.covers cover i))
           | inr d ↦ cover_moved t (number ∷ place) (d.line ∷ place) (b t) cover (λ name k. deep_second t number d.line place name d.is) ((solves two (lasts (length names) rows) b is_b t (omega (arith, l, last_long))).covers_hold (d.line ∷ place) model cover d.at (contains_from model.covers cover i))
         ]
@@ -265,18 +265,18 @@ module _ (main other : Model) (models others : List Model) (apart : AreApart (re
         elim (in_parts main.latches other.latches latch (in_got (main.latches ++ other.latches) number latch at)) [
           | inl j ↦
               (let (n, e) = got_from main.latches latch j in
-                  of_first t [] latch.output (latch_own latch latch.output j (inr (inl refl)))
-                  ∙ latch_bit one (firsts (length names) rows) a is_a t (omega (arith, l, first_long)) [] n latch e
-                  ∙ held_moved t [] [] a latch (λ u. of_first u [] latch.input (latch_own latch latch.input j (inl refl))))
+              of_first t [] latch.output (latch_own latch latch.output j (inr (inl refl)))
+              ∙ latch_bit one (firsts (length names) rows) a is_a t (omega (arith, l, first_long)) [] n latch e
+              ∙ held_moved t [] [] a latch (λ u. of_first u [] latch.input (latch_own latch latch.input j (inl refl))))
           | inr j ↦
               (let (n, e) = got_from other.latches latch j in
-                  of_second t [] latch.output (λ top. latch_free latch latch.output j (inr (inl refl)))
-                  ∙ latch_bit two (lasts (length names) rows) b is_b t (omega (arith, l, last_long)) [] n latch e
-                  ∙ held_moved t [] [] b latch (λ u. of_second u [] latch.input (λ top. latch_free latch latch.input j (inl refl))))
+              of_second t [] latch.output (λ top. latch_free latch latch.output j (inr (inl refl)))
+              ∙ latch_bit two (lasts (length names) rows) b is_b t (omega (arith, l, last_long)) [] n latch e
+              ∙ held_moved t [] [] b latch (λ u. of_second u [] latch.input (λ top. latch_free latch latch.input j (inl refl))))
         ]
     latches_both t l (line ∷ place) number latch at =
         let (model, is_model, is_latch) = and_then-from (λ m. slice_get m.latches number) (model_at all (line ∷ place)) latch at in
-        elim (place_was main other models others apart line place model is_model) [
+        elim (place_was main other models others can line place model is_model) [
           | inl d ↦
               deep_first t line d.line place latch.output d.is d.low
               ∙ latch_bit one (firsts (length names) rows) a is_a t (omega (arith, l, first_long)) (d.line ∷ place) number latch (ap (option_and_then (λ m. slice_get m.latches number)) d.at ∙ is_latch)

@@ -34,12 +34,14 @@ united_model main other =
       subckts = main.subckts ++ other.subckts;
     }
 
--- the two main models become one, and the other models stand behind it
+-- the two main models become one, and the other models of both stand behind it
 abbrev pub united_models : (models others : List Model) → List Model
 united_models [] others = others
 united_models (main ∷ models) [] = main ∷ models
 united_models (main ∷ models) (other ∷ others) = united_model main other ∷ models ++ others
 
+-- The design of both, whose lines keep their numbers. So a text has it if the two designs are cut
+-- from the text with no line moved, and in each model's list the first's lines come first.
 abbrev pub united : (first second : Design) → Design
 united first second = record { models = united_models first.models second.models }
 
@@ -48,7 +50,7 @@ abbrev pub main_lines : Design → ℕ
 main_lines design =
     length (unwrap_or (option_map (λ model. model.subckts) (main_model design)) [])
 
--- a place, and a net, if so many subckt lines stand before those of the main model
+-- a place, and a net, when so many subckt lines stand before those of the main model
 abbrev pub place_after : (lines : ℕ) → Place → Place
 place_after lines [] = []
 place_after lines (number ∷ place) = (lines + number) ∷ place
@@ -57,8 +59,8 @@ abbrev pub net_after : (lines : ℕ) → Net → Net
 net_after lines net = net_at (place_after lines net.place) net.name
 
 -- each subckt line of the one design places the same model in the other
-abbrev pub PlacesAlike : (design other : Design) → Type 0
-PlacesAlike design other =
+abbrev pub PlacesSameModels : (design other : Design) → Type 0
+PlacesSameModels design other =
     (place : Place) (model : Model) (line : Subckt) → model_at design place ≡ Some model
     → Contains model.subckts line
     → model_named other.models line.model ≡ model_named design.models line.model
@@ -70,13 +72,13 @@ used_names model =
     ++ flat_map (λ cover. cover.ins ++ cover.out ∷ []) model.covers
     ++ flat_map (λ latch. latch.input ∷ latch.output ∷ []) model.latches
 
--- Two designs whose names fit: models are still found by their names, and a name of both main
--- models is a control in both designs, which the second main model neither reads nor drives.
-pub record AreApart (first second : Design) : Type 0 where
-  pub main : IsPlace first []
-  pub other : IsPlace second []
-  pub first_lines : PlacesAlike first (united first second)
-  pub second_lines : PlacesAlike second (united first second)
+-- Two designs can unite: their subckt lines still place the same models, and a net of both main
+-- models is a control in both, which the second main model neither reads nor drives.
+pub record CanUnite (first second : Design) : Type 0 where
+  pub has_main : IsPlace first []
+  pub has_other : IsPlace second []
+  pub first_places : PlacesSameModels first (united first second)
+  pub second_places : PlacesSameModels second (united first second)
   pub controls : (name : Name) → IsNet first (net_at [] name) → IsNet second (net_at [] name)
       → IsControl first (net_at [] name) × IsControl second (net_at [] name)
   pub unused : (model : Model) → main_model second ≡ Some model → (name : Name)
@@ -109,7 +111,7 @@ abbrev pub DesignsUnite : Type 0
 DesignsUnite =
     (first second : Design) (seen others both : List Net) (numbers : List ℕ)
     (meaning other : PartMeaning) (names : List Name) (ins outs count : ℕ)
-    → AreApart first second → AreNumbersOf first second seen others both numbers
+    → CanUnite first second → AreNumbersOf first second seen others both numbers
     → IsInNames first names → length names ≡ ins → length (shown_nets first seen) ≡ outs
     → outs + length (shown_nets second others) ≡ count → ReadsInputs ins outs meaning
     → IsMeaningOf first seen meaning → IsMeaningOf second others other
@@ -122,7 +124,7 @@ abbrev pub DesignedPartsUnite : Type 0
 DesignedPartsUnite =
     (first second : Design) (seen others both : List Net) (numbers : List ℕ)
     (meaning other : PartMeaning) (names : List Name) (period : ℕ) (p q : Plane)
-    (ins outs inputs outputs : List Port) → 0 < period → AreApart first second
+    (ins outs inputs outputs : List Port) → 0 < period → CanUnite first second
     → AreNumbersOf first second seen others both numbers
     → IsInNames first names → length names ≡ length ins
     → length (shown_nets first seen) ≡ length outs

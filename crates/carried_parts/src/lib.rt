@@ -1,7 +1,7 @@
 //! A carrier's pattern is a part if its lines are open, and a text whose pattern is a part with a
 //! design's meaning carries it.
 //!
-//! Theorem: `carriers_are_parts`, `carriers_answer_each_row`, `parts_carry`.
+//! Theorem: `carriers_are_parts`, `carriers_answer_each_row`, `parts_carry`, `designs_unite`, `designed_parts_unite`.
 #![tactic(auto)]
 
 mod latched;
