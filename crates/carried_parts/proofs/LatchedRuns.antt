@@ -11,8 +11,8 @@ use Rattle.std.proofs.lemmas.List.FromFn.{length-map-range_with_len, get_or-map-
 use Rattle.std.proofs.lemmas.Slice.Eq.{bytes_eq-Decides}
 use Rattle.lists.specs.Items.{flag_at, list_at, one_if, alone_if}
 use Rattle.lists.proofs.Members.{In, in_from, contains_from, in_left, in_right, in_map, in_flattened, in_mapped, in_got, got_from, map_in}
-use Rattle.wire_laws.specs.Rows.{PartMeaning, IsCausalMeaning, row_of_both}
-use Rattle.wire_laws.specs.PortWires.{PortWire, with_fed, FeedsBack}
+use Rattle.wire_laws.specs.Rows.{PartMeaning, row_of_both}
+use Rattle.wire_laws.specs.PortWires.{with_fed, FeedsBack}
 use Rattle.netlist_core.specs.declared.model.Trigger.{Trigger}
 use Rattle.netlist_core.specs.declared.model.Cover.{Cover}
 use Rattle.netlist_core.specs.declared.model.LatchRow.{LatchRow}
@@ -21,15 +21,15 @@ use Rattle.netlist_core.specs.declared.model.Design.{Design}
 use Rattle.netlist_core.specs.Names.{Name}
 use Rattle.netlist_meaning.specs.CoverValue.{cover_value}
 use Rattle.netlist_meaning.specs.Places.{Place, model_at, latch_at, main_inputs, main_outputs}
-use Rattle.netlist_meaning.specs.Nets.{Net, net_at, IsNet, IsPinned, Joined, by_pin, IsClockNet, IsInNames}
-use Rattle.netlist_meaning.specs.Valuation.{Valuation, LatchState, IsValuation, AreInputRows, IsRun, start_bit, start_state, data_bit, latches_in, output_bit}
-use Rattle.netlist_meaning.specs.Laws.{IsNotRecursive}
+use Rattle.netlist_meaning.specs.Nets.{Net, net_at, IsNet, IsPinned, by_pin, IsClockNet}
+use Rattle.netlist_meaning.specs.Valuation.{Valuation, IsValuation, AreInputRows, IsRun, start_bit, start_state, data_bit, latches_in, output_bit}
 use Rattle.netlist_meaning.proofs.Names.{and_then-from}
 use Rattle.netlist_meaning.proofs.Joined.{in_names_are_one, pins_are_enough}
 use Rattle.carried_parts.specs.CarriedParts.{bits_of_rows, IsMeaningOf}
-use Rattle.carried_parts.specs.Latched.{NamedWire, wires_of, latch_count, name_before, wire_latch, wire_latches, wire_covers, latched, IsBetween, HaveNames, RunsAgree, WiresAreLatches}
+use Rattle.carried_parts.specs.Latched.{NamedWire, port_wires, shown_nets, wire_cycles, name_before, wire_latch, wire_latches, wire_covers, IsBetween, NamesFit, IsLatched, WiresAreLatches}
 use Rattle.carried_parts.proofs.Rows.{got_at, got_is}
-use Rattle.carried_parts.proofs.LatchedModels.{map_from, left_in, cover_net, latch_net, pin_net, main_input_net, main_output_net, outputs_same, pin_was, latch_was, cover_was, clock_is}
+use Rattle.carried_parts.proofs.Held.{held, held_by}
+use Rattle.carried_parts.proofs.LatchedModels.{left_in, cover_net, latch_net, pin_net, main_input_net, main_output_net, outputs_same, pin_was, latch_was, cover_was, clock_is}
 
 -- the bits of the nets between the latches of a wire; another name keeps its bit
 abbrev along : (inner : ℕ → Name) (count : ℕ) (bit : ℕ → Bool) → Name → Bool → Bool
@@ -57,27 +57,27 @@ along_found inner (suc n) bit name old j some le is one = go (bytes_eq (inner (s
         ]
 
 -- the same of all wires, by the number of the net and of the wire
-abbrev between : List NamedWire → (bits : ℕ → ℕ → Bool) → Name → Bool → Bool
-between [] bits name old = old
-between (named ∷ wires) bits name old = along named.inner (latch_count named - 1) (λ j. bits j 0) name (between wires (λ j i. bits j (suc i)) name old)
+abbrev all_between : List NamedWire → (bits : ℕ → ℕ → Bool) → Name → Bool → Bool
+all_between [] bits name old = old
+all_between (named ∷ wires) bits name old = along named.between (wire_cycles named - 1) (λ j. bits j 0) name (all_between wires (λ j i. bits j (suc i)) name old)
 
-between_kept : (wires : List NamedWire) (bits : ℕ → ℕ → Bool) (name : Name) (old : Bool) → ((named : NamedWire) → In named wires → (j : ℕ) → IsBetween named j → named.inner j ≢ name) → between wires bits name old ≡ old
-between_kept [] bits name old other = refl
-between_kept (named ∷ wires) bits name old other =
-    along_kept named.inner (latch_count named - 1) (λ j. bits j 0) name _ (λ j some le. other named (inl refl) j (some, omega (arith, some, le)))
-    ∙ between_kept wires (λ j i. bits j (suc i)) name old (λ n i. other n (inr i))
+all_between_kept : (wires : List NamedWire) (bits : ℕ → ℕ → Bool) (name : Name) (old : Bool) → ((named : NamedWire) → In named wires → (j : ℕ) → IsBetween named j → named.between j ≢ name) → all_between wires bits name old ≡ old
+all_between_kept [] bits name old other = refl
+all_between_kept (named ∷ wires) bits name old other =
+    along_kept named.between (wire_cycles named - 1) (λ j. bits j 0) name _ (λ j some le. other named (inl refl) j (some, omega (arith, some, le)))
+    ∙ all_between_kept wires (λ j i. bits j (suc i)) name old (λ n i. other n (inr i))
 
-between_found : (wires : List NamedWire) (bits : ℕ → ℕ → Bool) (name : Name) (old : Bool) (i : ℕ) (named : NamedWire) (j : ℕ) → slice_get wires i ≡ Some named → IsBetween named j → named.inner j ≡ name
-    → ((k : ℕ) (other : NamedWire) (l : ℕ) → slice_get wires k ≡ Some other → IsBetween other l → other.inner l ≡ name → (k ≡ i) × (l ≡ j)) → between wires bits name old ≡ bits j i
-between_found [] bits name old i named j at here is one = absurd (none-some named at)
-between_found (first ∷ wires) bits name old zero named j at here is one =
+all_between_found : (wires : List NamedWire) (bits : ℕ → ℕ → Bool) (name : Name) (old : Bool) (i : ℕ) (named : NamedWire) (j : ℕ) → slice_get wires i ≡ Some named → IsBetween named j → named.between j ≡ name
+    → ((k : ℕ) (other : NamedWire) (l : ℕ) → slice_get wires k ≡ Some other → IsBetween other l → other.between l ≡ name → (k ≡ i) × (l ≡ j)) → all_between wires bits name old ≡ bits j i
+all_between_found [] bits name old i named j at here is one = absurd (none-some named at)
+all_between_found (first ∷ wires) bits name old zero named j at here is one =
     let same : first ≡ named = same_Some _ _ at in
-    let low : j < latch_count first = subst (λ n. j < latch_count n) (sym same) here.1 in
+    let low : j < wire_cycles first = subst (λ n. j < wire_cycles n) (sym same) here.1 in
     let some : 0 < j = here.0 in
-    along_found first.inner (latch_count first - 1) (λ j. bits j 0) name _ j here.0 (omega (arith, low, some)) (ap (λ n. n.inner j) same ∙ is) (λ k s le. λ e. (one 0 first k refl (s, omega (arith, s, le)) e).1)
-between_found (first ∷ wires) bits name old (suc i) named j at here is one =
-    along_kept first.inner (latch_count first - 1) (λ j. bits j 0) name _ (λ k s le e. (let wrong : 0 ≡ suc i = (one 0 first k refl (s, omega (arith, s, le)) e).0 in omega (arith, wrong)))
-    ∙ between_found wires (λ j i. bits j (suc i)) name old i named j at here is (λ k other l a b e. (let both = one (suc k) other l a b e in ((let n : suc k ≡ suc i = both.0 in omega (arith, n)), both.1)))
+    along_found first.between (wire_cycles first - 1) (λ j. bits j 0) name _ j here.0 (omega (arith, low, some)) (ap (λ n. n.between j) same ∙ is) (λ k s le. λ e. (one 0 first k refl (s, omega (arith, s, le)) e).1)
+all_between_found (first ∷ wires) bits name old (suc i) named j at here is one =
+    along_kept first.between (wire_cycles first - 1) (λ j. bits j 0) name _ (λ k s le e. (let wrong : 0 ≡ suc i = (one 0 first k refl (s, omega (arith, s, le)) e).0 in omega (arith, wrong)))
+    ∙ all_between_found wires (λ j i. bits j (suc i)) name old i named j at here is (λ k other l a b e. (let both = one (suc k) other l a b e in ((let n : suc k ≡ suc i = both.0 in omega (arith, n)), both.1)))
 
 -- a row of bits of the first inputs, and a row
 flags_from : (n a : ℕ) (f : ℕ → Bool) (row : List Bool) (i : ℕ) → flag_at (map f (range_with_len a n) ++ row) i ≡ row_of_both n (λ j. f (a + j)) (flag_at row) i
@@ -131,37 +131,82 @@ in_alone true item x (inr i) = absurd i
 in_alone false item x i = absurd i
 
 -- what a wire feeds was an input
-pub fed_inputs : (design new : Design) (seen : List Net) (wires : List NamedWire) → HaveNames design new seen wires → (named : NamedWire) → In named wires → In named.input (main_inputs design)
+pub fed_inputs : (design new : Design) (seen : List Net) (wires : List NamedWire) → NamesFit design new seen wires → (named : NamedWire) → In named wires → In named.input_name (main_inputs design)
 fed_inputs design new seen wires names named i =
-    left_in design named.input (main_inputs design) names.before_names (in_left (map (λ named. named.input) wires) names.in_names named.input (in_map (λ named. named.input) wires named i))
+    left_in design named.input_name (main_inputs design) names.before_names (in_left (map (λ named. named.input_name) wires) names.in_names named.input_name (in_map (λ named. named.input_name) wires named i))
+
+pub map_from : {X Y : Type 0} (f : X → Y) (o : Option X) (y : Y) → option_map f o ≡ Some y → (x : X) × (o ≡ Some x) × (y ≡ f x)
+map_from f None y e = absurd (none-some y e)
+map_from f (Some x) y e = (x, refl, sym (same_Some _ _ e))
 
 -- what stands at a place of the outputs
-pub output_at : (design : Design) (o : ℕ) (net : Net) → slice_get (map (net_at []) (main_outputs design)) o ≡ Some net → (name : Name) × (slice_get (main_outputs design) o ≡ Some name) × (net ≡ net_at [] name)
+output_at : (design : Design) (o : ℕ) (net : Net) → slice_get (map (net_at []) (main_outputs design)) o ≡ Some net → (name : Name) × (slice_get (main_outputs design) o ≡ Some name) × (net ≡ net_at [] name)
 output_at design o net e = map_from (net_at []) (slice_get (main_outputs design) o) net (sym (slice_get-map (net_at []) (main_outputs design) o) ∙ e)
 
-module _ (design : Design) (seen : List Net) (meaning : PartMeaning) (wires : List NamedWire) (kind : Option Trigger) (control : Option Name) (fed : PartMeaning) (alone : IsNotRecursive design) (names : HaveNames design (latched kind control wires design) seen wires) (means : IsMeaningOf design seen meaning) (feeds : (bits : ℕ → ℕ → Bool) → FeedsBack (wires_of wires) meaning bits (fed bits)) where
-  abbrev after : Design
-  after = latched kind control wires design
+-- an output shows its net
+pub shows_net : (design : Design) (seen : List Net) (meaning : PartMeaning) → IsMeaningOf design seen meaning → (rows : List (List Bool)) → AreInputRows design rows → (run : ℕ → Valuation) → IsRun design rows run → (t : ℕ) → t < length rows
+    → (o : ℕ) (net : Net) → slice_get (shown_nets design seen) o ≡ Some net → meaning (bits_of_rows rows) t o ≡ run t net.place net.name
+shows_net design seen meaning means rows are run is t l o net e =
+    elim (got_cases (map (net_at []) (main_outputs design)) seen o net e) [
+      | inl at ↦
+          let of = output_at design o net at in
+          let got = got_is (main_outputs design) o of.0 [] of.1 in
+          means.outs rows are run is t o l got.0 ∙ get_or-map (run t []) (main_outputs design) o [] false got.0 ∙ ap (run t []) got.1 ∙ sym (ap (λ net. run t net.place net.name) of.2)
+      | inr at ↦
+          ap (meaning (bits_of_rows rows) t) (at.1 ∙ ap (λ n. n + at.0) (length-map (main_outputs design) (net_at []))) ∙ means.nets rows are run is t at.0 net l at.2
+    ]
+
+-- rows of the design with latches, with the bits before them that are fed
+module _ (design after : Design) (seen : List Net) (wires : List NamedWire) (names : NamesFit design after seen wires) (rows : List (List Bool)) (are : AreInputRows after rows) (first : ℕ → List Bool) (wide : (t : ℕ) → length (first t) ≡ length wires) where
+  abbrev pub row_with : ℕ → List Bool
+  row_with t = first t ++ list_at rows t
+
+  abbrev pub rows_with : List (List Bool)
+  rows_with = map row_with (range_with_len 0 (length rows))
+
+  pub with_long : length rows_with ≡ length rows
+  with_long = length-map-range_with_len row_with 0 (length rows)
+
+  pub with_at : (t : ℕ) → t < length rows → get_or rows_with t [] ≡ row_with t
+  with_at t l = get_or-map-range_with_len row_with 0 (length rows) t t [] l (omega arith)
+
+  row_long : (t : ℕ) → t < length rows → length (list_at rows t) ≡ length names.in_names
+  row_long t l = are.2 t [] l ∙ ap length (in_names_are_one after are.0 names.in_names are.1 names.after_names)
+
+  pub fits : AreInputRows design rows_with
+  fits = (map (λ named. named.input_name) wires ++ names.in_names, names.before_names, λ t d l. long t d l)
+    where
+      long : (t : ℕ) (d : List Bool) → t < length rows_with → length (get_or rows_with t d) ≡ length (map (λ named. named.input_name) wires ++ names.in_names)
+      long t d l =
+          let low : t < length rows = omega (arith, l, with_long) in
+          ap length (get_or_default rows_with t d [] l ∙ with_at t low)
+          ∙ length-append (first t) (list_at rows t)
+          ∙ ap₂ (λ a b. a + b) (wide t ∙ sym (length-map wires (λ named. named.input_name))) (row_long t low)
+          ∙ sym (length-append (map (λ named. named.input_name) wires) names.in_names)
+
+module _ (kind : Option Trigger) (control : Option Name) (wires : List NamedWire) (design after : Design) (seen : List Net) (meaning fed : PartMeaning) (made : IsLatched kind control wires design after seen) (means : IsMeaningOf design seen meaning) (feeds : (bits : ℕ → ℕ → Bool) → FeedsBack (port_wires wires) meaning bits (fed bits)) where
+  abbrev names : NamesFit design after seen wires
+  names = made.names
 
   abbrev many : ℕ
-  many = length (wires_of wires)
+  many = length (port_wires wires)
 
   abbrev fed_names : List Name
-  fed_names = map (λ named. named.input) wires
+  fed_names = map (λ named. named.input_name) wires
 
   fed_long : length fed_names ≡ many
-  fed_long = length-map wires (λ named. named.input) ∙ sym (length-map wires (λ named. named.wire))
+  fed_long = length-map wires (λ named. named.input_name) ∙ sym (length-map wires (λ named. named.wire))
 
-  wire_at : (i : ℕ) (named : NamedWire) → slice_get wires i ≡ Some named → slice_get (wires_of wires) i ≡ Some named.wire
+  wire_at : (i : ℕ) (named : NamedWire) → slice_get wires i ≡ Some named → slice_get (port_wires wires) i ≡ Some named.wire
   wire_at i named at = slice_get-map (λ named. named.wire) wires i ∙ ap (option_map (λ named. named.wire)) at
 
-  were_inputs : (named : NamedWire) → In named wires → In named.input (main_inputs design)
-  were_inputs = fed_inputs design (latched kind control wires design) seen wires names
+  were_inputs : (named : NamedWire) → In named wires → In named.input_name (main_inputs design)
+  were_inputs = fed_inputs design after seen wires names
 
   in_name_net : (name : Name) → In name names.in_names → IsNet design (net_at [] name)
   in_name_net name i = main_input_net design name (left_in design name (main_inputs design) names.before_names (in_right fed_names names.in_names name i))
 
-  port_net : (o : ℕ) (net : Net) → slice_get (map (net_at []) (main_outputs design) ++ seen) o ≡ Some net → IsNet design net
+  port_net : (o : ℕ) (net : Net) → slice_get (shown_nets design seen) o ≡ Some net → IsNet design net
   port_net o net e =
       elim (got_cases (map (net_at []) (main_outputs design)) seen o net e) [
         | inl at ↦ (let of = output_at design o net at in subst (IsNet design) (sym of.2) (main_output_net design of.0 (in_got (main_outputs design) o of.0 of.1)))
@@ -175,54 +220,46 @@ module _ (design : Design) (seen : List Net) (meaning : PartMeaning) (wires : Li
     abbrev back : ℕ → ℕ → Bool
     back = fed (bits_of_rows rows)
 
-    abbrev row_with : ℕ → List Bool
-    row_with t = map (back t) (range_with_len 0 many) ++ list_at rows t
+    abbrev pub first : ℕ → List Bool
+    first t = map (back t) (range_with_len 0 many)
 
-    abbrev rows_with : List (List Bool)
-    rows_with = map row_with (range_with_len 0 (length rows))
+    pub wide : (t : ℕ) → length (first t) ≡ length wires
+    wide t = length-map-range_with_len (back t) 0 many ∙ length-map wires (λ named. named.wire)
 
-    with_long : length rows_with ≡ length rows
-    with_long = length-map-range_with_len row_with 0 (length rows)
+    abbrev longer : List (List Bool)
+    longer = rows_with design after seen wires names rows are first wide
 
-    with_at : (t : ℕ) → t < length rows → get_or rows_with t [] ≡ row_with t
-    with_at t l = get_or-map-range_with_len row_with 0 (length rows) t t [] l (omega arith)
+    longer_long : length longer ≡ length rows
+    longer_long = with_long design after seen wires names rows are first wide
 
-    row_long : (t : ℕ) → t < length rows → length (list_at rows t) ≡ length names.in_names
-    row_long t l = are.2 t [] l ∙ ap length (in_names_are_one after are.0 names.in_names are.1 names.after_names)
+    longer_at : (t : ℕ) → t < length rows → get_or longer t [] ≡ first t ++ list_at rows t
+    longer_at = with_at design after seen wires names rows are first wide
 
-    fits : AreInputRows design rows_with
-    fits = (fed_names ++ names.in_names, names.before_names, λ t d l. long t d l)
-      where
-        long : (t : ℕ) (d : List Bool) → t < length rows_with → length (get_or rows_with t d) ≡ length (fed_names ++ names.in_names)
-        long t d l =
-            let low : t < length rows = omega (arith, l, with_long) in
-            ap length (get_or_default rows_with t d [] l ∙ with_at t low)
-            ∙ length-append (map (back t) (range_with_len 0 many)) (list_at rows t)
-            ∙ ap₂ (λ a b. a + b) (length-map-range_with_len (back t) 0 many ∙ sym fed_long) (row_long t low)
-            ∙ sym (length-append fed_names names.in_names)
+    longer_fits : AreInputRows design longer
+    longer_fits = fits design after seen wires names rows are first wide
 
     -- the meaning makes of these rows what it makes of the bits with those that are fed
     abbrev all_bits : ℕ → ℕ → Bool
-    all_bits = with_fed (wires_of wires) (fed (bits_of_rows rows)) (bits_of_rows rows)
+    all_bits = with_fed (port_wires wires) (fed (bits_of_rows rows)) (bits_of_rows rows)
 
-    same_bits : (u : ℕ) → u < length rows → bits_of_rows rows_with u ≡ all_bits u
-    same_bits u l = fun_ext (λ i. ap (λ row. flag_at row i) (with_at u l) ∙ flags_both many (back u) (list_at rows u) i)
+    same_bits : (u : ℕ) → u < length rows → bits_of_rows longer u ≡ all_bits u
+    same_bits u l = fun_ext (λ i. ap (λ row. flag_at row i) (longer_at u l) ∙ flags_both many (back u) (list_at rows u) i)
 
-    same_meaning : (t : ℕ) → t < length rows → meaning (bits_of_rows rows_with) t ≡ meaning all_bits t
-    same_meaning t l = means.causal (bits_of_rows rows_with) all_bits t (λ u le. same_bits u (omega (arith, l, le)))
+    pub same_meaning : (t : ℕ) → t < length rows → meaning (bits_of_rows longer) t ≡ meaning all_bits t
+    same_meaning t l = means.causal (bits_of_rows longer) all_bits t (λ u le. same_bits u (omega (arith, l, le)))
 
     abbrev run : ℕ → Valuation
-    run = (means.runs rows_with fits).0
+    run = (means.runs longer longer_fits).0
 
-    is_run : IsRun design rows_with run
-    is_run = (means.runs rows_with fits).1
+    is_run : IsRun design longer run
+    is_run = (means.runs longer longer_fits).1
 
     abbrev run_after : ℕ → Valuation
-    run_after t [] name = between wires (λ j i. back (t + j) i) name (run t [] name)
+    run_after t [] name = all_between wires (λ j i. back (t + j) i) name (run t [] name)
     run_after t (number ∷ place) name = run t (number ∷ place) name
 
     kept : (t : ℕ) (place : Place) (name : Name) → IsNet design (net_at place name) → run_after t place name ≡ run t place name
-    kept t [] name net = between_kept wires (λ j i. back (t + j) i) name (run t [] name) (λ named i j here e. names.new named (contains_from wires named i) j here (subst (λ name. IsNet design (net_at [] name)) (sym e) net))
+    kept t [] name net = all_between_kept wires (λ j i. back (t + j) i) name (run t [] name) (λ named i j here e. names.new named (contains_from wires named i) j here (subst (λ name. IsNet design (net_at [] name)) (sym e) net))
     kept t (number ∷ place) name net = refl
 
     deeper : (t : ℕ) (place : Place) (number : ℕ) (name : Name) → run_after t (place ++ number ∷ []) name ≡ run t (place ++ number ∷ []) name
@@ -230,11 +267,11 @@ module _ (design : Design) (seen : List Net) (meaning : PartMeaning) (wires : Li
     deeper t (first ∷ place) number name = refl
 
     module _ (t : ℕ) (l : t < length rows) where
-      low : t < length rows_with
-      low = omega (arith, l, with_long)
+      low : t < length longer
+      low = omega (arith, l, longer_long)
 
-      solves : IsValuation design (row_with t) (latches_in design (start_state design) run t) (run t)
-      solves = is_run t (row_with t) (got_at rows_with t [] low ∙ ap Some (with_at t l))
+      solves : IsValuation design (first t ++ list_at rows t) (latches_in design (start_state design) run t) (run t)
+      solves = is_run t (first t ++ list_at rows t) (got_at longer t [] low ∙ ap Some (longer_at t l))
 
       given : map (run t []) fed_names ++ map (run t []) names.in_names ≡ map (back t) (range_with_len 0 many) ++ list_at rows t
       given =
@@ -245,73 +282,65 @@ module _ (design : Design) (seen : List Net) (meaning : PartMeaning) (wires : Li
       given_both : (map (run t []) fed_names ≡ map (back t) (range_with_len 0 many)) × (map (run t []) names.in_names ≡ list_at rows t)
       given_both = halves _ _ _ _ (length-map fed_names (run t []) ∙ fed_long ∙ sym (length-map-range_with_len (back t) 0 many)) given
 
-      input_bit : (i : ℕ) (named : NamedWire) → slice_get wires i ≡ Some named → run t [] named.input ≡ back t i
+      input_bit : (i : ℕ) (named : NamedWire) → slice_get wires i ≡ Some named → run t [] named.input_name ≡ back t i
       input_bit i named at =
           let got = got_is wires i named named at in
           let short : i < length wires = got.0 in
-          let name : get_or fed_names i [] ≡ named.input = get_or-map (λ named. named.input) wires i named [] short ∙ ap (λ n. n.input) got.1 in
-          sym (ap (run t []) name) ∙ sym (get_or-map (run t []) fed_names i [] false (omega (arith, short, length-map wires (λ named. named.input))))
+          let name : get_or fed_names i [] ≡ named.input_name = get_or-map (λ named. named.input_name) wires i named [] short ∙ ap (λ n. n.input_name) got.1 in
+          sym (ap (run t []) name) ∙ sym (get_or-map (run t []) fed_names i [] false (omega (arith, short, length-map wires (λ named. named.input_name))))
           ∙ ap (λ row. get_or row i false) given_both.0
           ∙ get_or-map-range_with_len (back t) 0 many i i false (omega (arith, short, length-map wires (λ named. named.wire))) (omega arith)
 
       -- the outputs and the nets show the meaning
-      shown : (o : ℕ) (net : Net) → slice_get (map (net_at []) (main_outputs design) ++ seen) o ≡ Some net → meaning all_bits t o ≡ run t net.place net.name
+      shown : (o : ℕ) (net : Net) → slice_get (shown_nets design seen) o ≡ Some net → meaning all_bits t o ≡ run t net.place net.name
       shown o net e =
-          sym (ap (λ row. row o) (same_meaning t l))
-          ∙ elim (got_cases (map (net_at []) (main_outputs design)) seen o net e) [
-            | inl at ↦
-                let of = output_at design o net at in
-                let got = got_is (main_outputs design) o of.0 [] of.1 in
-                means.outs rows_with fits run is_run t o low got.0 ∙ get_or-map (run t []) (main_outputs design) o [] false got.0 ∙ ap (run t []) got.1 ∙ sym (ap (λ net. run t net.place net.name) of.2)
-            | inr at ↦
-                ap (meaning (bits_of_rows rows_with) t) (at.1 ∙ ap (λ n. n + at.0) (length-map (main_outputs design) (net_at []))) ∙ means.nets rows_with fits run is_run t at.0 net low at.2
-          ]
+          sym (ap (λ row. row o) (same_meaning t l)) ∙ shows_net design seen meaning means longer longer_fits run is_run t low o net e
 
-      source_bit : (i : ℕ) (named : NamedWire) → slice_get wires i ≡ Some named → run_after t [] named.source ≡ back (latch_count named + t) i
+      source_bit : (i : ℕ) (named : NamedWire) → slice_get wires i ≡ Some named → run_after t [] named.source_name ≡ back (wire_cycles named + t) i
       source_bit i named at =
           let among = contains_from wires named (in_got wires i named at) in
-          kept t [] named.source (port_net named.wire.output (net_at [] named.source) (names.sources named among))
-          ∙ sym (shown named.wire.output (net_at [] named.source) (names.sources named among))
+          kept t [] named.source_name (port_net named.wire.output (net_at [] named.source_name) (names.sources named among))
+          ∙ sym (shown named.wire.output (net_at [] named.source_name) (names.sources named among))
           ∙ sym ((feeds (bits_of_rows rows)).later i named.wire (wire_at i named at) t)
 
-      first_bit : (i : ℕ) (named : NamedWire) → slice_get wires i ≡ Some named → run_after t [] named.input ≡ back t i
-      first_bit i named at = kept t [] named.input (main_input_net design named.input (were_inputs named (in_got wires i named at))) ∙ input_bit i named at
+      first_bit : (i : ℕ) (named : NamedWire) → slice_get wires i ≡ Some named → run_after t [] named.input_name ≡ back t i
+      first_bit i named at = kept t [] named.input_name (main_input_net design named.input_name (were_inputs named (in_got wires i named at))) ∙ input_bit i named at
 
       -- the nets of a wire have the bits that will be fed
-      along_bit : (i : ℕ) (named : NamedWire) → slice_get wires i ≡ Some named → (j : ℕ) → j ≤ latch_count named → run_after t [] (name_before named j) ≡ back (t + j) i
+      along_bit : (i : ℕ) (named : NamedWire) → slice_get wires i ≡ Some named → (j : ℕ) → j ≤ wire_cycles named → run_after t [] (name_before named j) ≡ back (t + j) i
       along_bit i named at zero le = first_bit i named at ∙ (let e : t ≡ t + 0 = omega arith in ap (λ u. back u i) e)
-      along_bit i named at (suc j) le = go (suc j == latch_count named) refl
+      along_bit i named at (suc j) le = go (suc j == wire_cycles named) refl
         where
-          go : (b : Bool) → (suc j == latch_count named) ≡ b → run_after t [] (if b then named.source else named.inner (suc j)) ≡ back (t + suc j) i
-          go true e = source_bit i named at ∙ (let n : suc j ≡ latch_count named = (Decides-eqb (suc j) (latch_count named)).0 e in let m : latch_count named + t ≡ t + suc j = omega (arith, n) in ap (λ u. back u i) m)
+          go : (b : Bool) → (suc j == wire_cycles named) ≡ b → run_after t [] (if b then named.source_name else named.between (suc j)) ≡ back (t + suc j) i
+          go true e = source_bit i named at ∙ (let n : suc j ≡ wire_cycles named = (Decides-eqb (suc j) (wire_cycles named)).0 e in let m : wire_cycles named + t ≡ t + suc j = omega (arith, n) in ap (λ u. back u i) m)
           go false e =
-              let other : suc j ≢ latch_count named = λ n. true≢false (sym ((Decides-eqb (suc j) (latch_count named)).1 n) ∙ e) in
+              let other : suc j ≢ wire_cycles named = λ n. true≢false (sym ((Decides-eqb (suc j) (wire_cycles named)).1 n) ∙ e) in
               let here : IsBetween named (suc j) = (omega arith, omega (arith, le, other)) in
-              between_found wires (λ j i. back (t + j) i) (named.inner (suc j)) (run t [] (named.inner (suc j))) i named (suc j) at here refl (λ k o m a b same. names.differ k i o named a at m (suc j) b here same)
+              all_between_found wires (λ j i. back (t + j) i) (named.between (suc j)) (run t [] (named.between (suc j))) i named (suc j) at here refl (λ k o m a b same. names.differ k i o named a at m (suc j) b here same)
 
       inputs_after : (row : List Bool) → slice_get rows t ≡ Some row → map (run_after t []) names.in_names ≡ row
       inputs_after row at = map_in (run_after t []) (run t []) names.in_names (λ name i. kept t [] name (in_name_net name i)) ∙ given_both.1 ∙ get_or_from_slice_get rows t row [] at
 
       pins_after : (outer inner : Net) → IsPinned after outer inner → ¬ IsClockNet after outer → run_after t outer.place outer.name ≡ run_after t inner.place inner.name
       pins_after outer inner h no_clock =
-          let was = pin_was kind control wires design alone outer inner h in
+          let was = pin_was kind control wires design after made.alone made.rows outer inner h in
           let net : IsNet design (net_at outer.place was.pin.actual) = pin_net design outer.place was.model was.has_model was.line was.pin (in_got was.model.subckts was.number was.line was.has_line) (in_from was.line.pins was.pin was.has_pin) in
           kept t outer.place outer.name (subst (λ name. IsNet design (net_at outer.place name)) (sym was.is_actual) net)
-          ∙ solves.joined_agree outer inner (by_pin was) (λ clock. no_clock (clock_is kind control wires design alone were_inputs outer clock))
+          ∙ solves.joined_agree outer inner (by_pin was) (λ clock. no_clock (clock_is kind control wires design after made.alone made.rows were_inputs outer clock))
           ∙ subst (λ place. run t place inner.name ≡ run_after t place inner.name) (sym was.is_deeper) (sym (deeper t outer.place was.number inner.name))
 
       copy_holds : (cover : Cover) → In cover (flat_map wire_covers wires) → run_after t [] cover.out ≡ cover_value cover.rows cover.on (map (run_after t []) cover.ins)
       copy_holds cover i =
           let (named, among, of) = in_flattened wire_covers wires cover i in
-          let (none, is) = in_alone (latch_count named == 0) _ cover of in
+          let (none, is) = in_alone (wire_cycles named == 0) _ cover of in
           let (k, at) = got_from wires named among in
-          let no_latch : latch_count named ≡ 0 = (Decides-eqb (latch_count named) 0).0 none in
-          let same : latch_count named + t ≡ t = omega (arith, no_latch) in
-          subst (λ cover. run_after t [] cover.out ≡ cover_value cover.rows cover.on (map (run_after t []) cover.ins)) (sym is) (first_bit k named at ∙ sym (source_bit k named at ∙ ap (λ u. back u k) same) ∙ copies (run_after t [] named.source))
+          let no_latch : wire_cycles named ≡ 0 = (Decides-eqb (wire_cycles named) 0).0 none in
+          let same : wire_cycles named + t ≡ t = omega (arith, no_latch) in
+          subst (λ cover. run_after t [] cover.out ≡ cover_value cover.rows cover.on (map (run_after t []) cover.ins)) (sym is) (first_bit k named at ∙ sym (source_bit k named at ∙ ap (λ u. back u k) same) ∙ copies (run_after t [] named.source_name))
 
       covers_after : (place : Place) (model : Model) (cover : Cover) → model_at after place ≡ Some model → Contains model.covers cover → run_after t place cover.out ≡ cover_value cover.rows cover.on (map (run_after t place) cover.ins)
       covers_after place model cover at among =
-          elim (cover_was kind control wires design alone place model cover at (in_from model.covers cover among)) [
+          elim (cover_was kind control wires design after made.alone made.rows place model cover at (in_from model.covers cover among)) [
             | inl old ↦
                 let (before, is, i) = old in
                 kept t place cover.out (cover_net design place before is cover cover.out i (in_right cover.ins (cover.out ∷ []) cover.out (inl refl)))
@@ -320,21 +349,12 @@ module _ (design : Design) (seen : List Net) (meaning : PartMeaning) (wires : Li
             | inr new ↦ subst (λ place. run_after t place cover.out ≡ cover_value cover.rows cover.on (map (run_after t place) cover.ins)) (sym new.0) (copy_holds cover new.1)
           ]
 
-    -- what a latch holds in a cycle
-    abbrev held : Place → LatchRow → ℕ → Bool
-    held place latch zero = latch.init == 1
-    held place latch (suc t) = run_after t place latch.input
-
-    held_after : (t : ℕ) (place : Place) (number : ℕ) (latch : LatchRow) → latch_at after place number ≡ Some latch → latches_in after (start_state after) run_after t place number ≡ held place latch t
-    held_after zero place number latch at = ap start_bit at
-    held_after (suc t) place number latch at = ap (data_bit (run_after t place)) at
-
     old_net : (place : Place) (number : ℕ) (latch : LatchRow) (name : Name) → latch_at design place number ≡ Some latch → In name (latch.input ∷ latch.output ∷ option_to_list latch.control) → IsNet design (net_at place name)
     old_net place number latch name at i =
         let of = and_then-from (λ m. slice_get m.latches number) (model_at design place) latch at in
         latch_net design place of.0 of.1 latch name (in_got of.0.latches number latch of.2) i
 
-    old_latch : (t : ℕ) → t < length rows → (place : Place) (number : ℕ) (latch : LatchRow) → latch_at design place number ≡ Some latch → run_after t place latch.output ≡ held place latch t
+    old_latch : (t : ℕ) → t < length rows → (place : Place) (number : ℕ) (latch : LatchRow) → latch_at design place number ≡ Some latch → run_after t place latch.output ≡ held run_after place latch t
     old_latch zero l place number latch at =
         kept zero place latch.output (old_net place number latch latch.output at (inr (inl refl)))
         ∙ (solves zero l).latches_hold place number latch at
@@ -345,7 +365,7 @@ module _ (design : Design) (seen : List Net) (meaning : PartMeaning) (wires : Li
         ∙ ap (data_bit (run t place)) at
         ∙ sym (kept t place latch.input (old_net place number latch latch.input at (inl refl)))
 
-    wire_bit : (t : ℕ) → t < length rows → (i : ℕ) (named : NamedWire) → slice_get wires i ≡ Some named → (j : ℕ) → j < latch_count named → run_after t [] (name_before named j) ≡ held [] (wire_latch kind control named j) t
+    wire_bit : (t : ℕ) → t < length rows → (i : ℕ) (named : NamedWire) → slice_get wires i ≡ Some named → (j : ℕ) → j < wire_cycles named → run_after t [] (name_before named j) ≡ held run_after [] (wire_latch kind control named j) t
     wire_bit zero l i named at j low =
         along_bit zero l i named at j (omega (arith, low))
         ∙ (let e : 0 + j ≡ j = omega arith in ap (λ u. back u i) e)
@@ -356,19 +376,19 @@ module _ (design : Design) (seen : List Net) (meaning : PartMeaning) (wires : Li
         ∙ (let e : suc t + j ≡ t + suc j = omega arith in ap (λ u. back u i) e)
         ∙ sym (along_bit t (omega (arith, l)) i named at (suc j) (omega (arith, low)))
 
-    new_latch : (t : ℕ) → t < length rows → (latch : LatchRow) → In latch (flat_map (wire_latches kind control) wires) → run_after t [] latch.output ≡ held [] latch t
+    new_latch : (t : ℕ) → t < length rows → (latch : LatchRow) → In latch (flat_map (wire_latches kind control) wires) → run_after t [] latch.output ≡ held run_after [] latch t
     new_latch t l latch i =
         let (named, among, of) = in_flattened (wire_latches kind control) wires latch i in
-        let (j, within, is) = in_mapped (wire_latch kind control named) (range_with_len 0 (latch_count named)) latch of in
+        let (j, within, is) = in_mapped (wire_latch kind control named) (range_with_len 0 (wire_cycles named)) latch of in
         let (k, at) = got_from wires named among in
-        let low : j < 0 + latch_count named = in_range 0 (latch_count named) j within in
-        subst (λ latch. run_after t [] latch.output ≡ held [] latch t) (sym is) (wire_bit t l k named at j (omega (arith, low)))
+        let low : j < 0 + wire_cycles named = in_range 0 (wire_cycles named) j within in
+        subst (λ latch. run_after t [] latch.output ≡ held run_after [] latch t) (sym is) (wire_bit t l k named at j (omega (arith, low)))
 
-    latches_after : (t : ℕ) → t < length rows → (place : Place) (number : ℕ) (latch : LatchRow) → latch_at after place number ≡ Some latch → run_after t place latch.output ≡ held place latch t
+    latches_after : (t : ℕ) → t < length rows → (place : Place) (number : ℕ) (latch : LatchRow) → latch_at after place number ≡ Some latch → run_after t place latch.output ≡ held run_after place latch t
     latches_after t l place number latch at =
-        elim (latch_was kind control wires design alone place number latch at) [
-          | inl old ↦ old_latch t l place number latch old
-          | inr new ↦ subst (λ place. run_after t place latch.output ≡ held place latch t) (sym new.0) (new_latch t l latch new.1)
+        elim (latch_was kind control wires design after made.alone made.rows place number latch at) [
+          | inl old ↦ old_latch t l place old.0 latch old.1
+          | inr new ↦ subst (λ place. run_after t place latch.output ≡ held run_after place latch t) (sym new.0) (new_latch t l latch new.1)
         ]
 
     is_run_after : IsRun after rows run_after
@@ -380,29 +400,29 @@ module _ (design : Design) (seen : List Net) (meaning : PartMeaning) (wires : Li
           inputs_given = inputs_after t l row at;
           joined_agree = (pins_are_enough after (run_after t)).0 (pins_after t l);
           covers_hold = covers_after t l;
-          latches_hold = λ place number latch at. latches_after t l place number latch at ∙ sym (held_after t place number latch at);
+          latches_hold = λ place number latch at. latches_after t l place number latch at ∙ sym (held_by after run_after t place number latch at);
         }
 
     outs_after : (t i : ℕ) → t < length rows → i < length (main_outputs after) → meaning all_bits t i ≡ output_bit after (run_after t) i
     outs_after t i l low =
-        let short : i < length (main_outputs design) = subst (λ names. i < length names) (outputs_same kind control wires design) low in
+        let short : i < length (main_outputs design) = subst (λ names. i < length names) (outputs_same kind control wires design after made.alone made.rows) low in
         sym (ap (λ row. row i) (same_meaning t l))
-        ∙ means.outs rows_with fits run is_run t i (omega (arith, l, with_long)) short
+        ∙ means.outs longer longer_fits run is_run t i (omega (arith, l, longer_long)) short
         ∙ ap (λ row. get_or row i false) (map_in (run t []) (run_after t []) (main_outputs design) (λ name j. sym (kept t [] name (main_output_net design name j))))
-        ∙ ap (λ names. get_or (map (run_after t []) names) i false) (sym (outputs_same kind control wires design))
+        ∙ ap (λ names. get_or (map (run_after t []) names) i false) (sym (outputs_same kind control wires design after made.alone made.rows))
 
     nets_after : (t k : ℕ) (net : Net) → t < length rows → slice_get seen k ≡ Some net → meaning all_bits t (length (main_outputs after) + k) ≡ run_after t net.place net.name
     nets_after t k net l at =
-        ap (λ names. meaning all_bits t (length names + k)) (outputs_same kind control wires design)
+        ap (λ names. meaning all_bits t (length names + k)) (outputs_same kind control wires design after made.alone made.rows)
         ∙ sym (ap (λ row. row (length (main_outputs design) + k)) (same_meaning t l))
-        ∙ means.nets rows_with fits run is_run t k net (omega (arith, l, with_long)) at
+        ∙ means.nets longer longer_fits run is_run t k net (omega (arith, l, longer_long)) at
         ∙ sym (kept t net.place net.name (names.nets net (contains_from seen net (in_got seen k net at))))
 
 pub wires_are_latches : WiresAreLatches
-wires_are_latches design seen meaning wires kind control fed alone names means feeds causal agree =
+wires_are_latches kind control wires design after seen meaning fed made means feeds causal agree =
     record {
       causal = causal;
-      runs = λ rows are. (run_after design seen meaning wires kind control fed alone names means feeds rows are, is_run_after design seen meaning wires kind control fed alone names means feeds rows are);
-      outs = λ rows are run is t i l low. outs_after design seen meaning wires kind control fed alone names means feeds rows are t i l low ∙ agree.outs rows are (run_after design seen meaning wires kind control fed alone names means feeds rows are) run (is_run_after design seen meaning wires kind control fed alone names means feeds rows are) is t i l low;
-      nets = λ rows are run is t k net l at. nets_after design seen meaning wires kind control fed alone names means feeds rows are t k net l at ∙ agree.nets rows are (run_after design seen meaning wires kind control fed alone names means feeds rows are) run (is_run_after design seen meaning wires kind control fed alone names means feeds rows are) is t net l (contains_from seen net (in_got seen k net at));
+      runs = λ rows are. (run_after kind control wires design after seen meaning fed made means feeds rows are, is_run_after kind control wires design after seen meaning fed made means feeds rows are);
+      outs = λ rows are run is t i l low. outs_after kind control wires design after seen meaning fed made means feeds rows are t i l low ∙ agree.outs rows are (run_after kind control wires design after seen meaning fed made means feeds rows are) run (is_run_after kind control wires design after seen meaning fed made means feeds rows are) is t i l low;
+      nets = λ rows are run is t k net l at. nets_after kind control wires design after seen meaning fed made means feeds rows are t k net l at ∙ agree.nets rows are (run_after kind control wires design after seen meaning fed made means feeds rows are) run (is_run_after kind control wires design after seen meaning fed made means feeds rows are) is t net l (contains_from seen net (in_got seen k net at));
     }

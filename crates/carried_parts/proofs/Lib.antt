@@ -2,9 +2,14 @@ pub mod Rows
 pub mod AsParts
 pub mod EachRow
 pub mod Carriers
+pub mod Held
 pub mod LatchedModels
 pub mod LatchedRuns
 pub mod LatchedAgree
+pub mod WiredParts
+pub mod TextsByLines
+pub mod WiredTextsCarry
+pub mod UnlinedRuns
 pub mod UnitedPlaces
 pub mod UnitedModels
 pub mod UnitedRuns

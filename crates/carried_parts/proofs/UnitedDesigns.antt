@@ -4,11 +4,12 @@ use Rattle.std.specs.Prelude.{Contains, Some, slice_get, option_map, take, drop}
 use Rattle.std.specs.List.{range_with_len}
 use Rattle.std.proofs.Math.Path.{fun_ext}
 use Rattle.std.proofs.lemmas.Bool.{true≢false}
-use Rattle.std.proofs.lemmas.Option.{slice_get-map}
+use Rattle.std.proofs.lemmas.Option.{slice_get-map, slice_get_within}
 use Rattle.std.proofs.lemmas.List.{length-map, length-append, get_or-map, get_or_append_left}
 use Rattle.std.proofs.lemmas.List.FromFn.{length-range_with_len, get_or-range_with_len}
 use Rattle.lists.specs.Items.{number_at}
-use Rattle.lists.proofs.Members.{contains_from, map_in}
+use Rattle.lists.proofs.Cuts.{got_left, got_right}
+use Rattle.lists.proofs.Members.{in_from, contains_from, got_from, map_in}
 use Rattle.wire_laws.specs.Rows.{Port, PartMeaning, IsPart, IsCausalMeaning, row_of_both}
 use Rattle.wire_laws.specs.PortWires.{nth_port}
 use Rattle.wire_laws.specs.Laws.{side_by_side}
@@ -23,28 +24,17 @@ use Rattle.netlist_meaning.specs.Places.{Place, main_outputs}
 use Rattle.netlist_meaning.specs.Nets.{Net, net_at, IsInNames}
 use Rattle.netlist_meaning.specs.Valuation.{Valuation, AreInputRows, IsRun}
 use Rattle.carried_parts.specs.CarriedParts.{bits_of_rows, IsMeaningOf}
-use Rattle.carried_parts.specs.United.{united_model, united, place_after, net_after, CanUnite, shown_nets, AreNumbersOf, ReadsInputs, DesignsUnite, DesignedPartsUnite}
+use Rattle.carried_parts.specs.Latched.{shown_nets}
+use Rattle.carried_parts.specs.United.{united_model, united, main_lines, place_after, net_after, CanUnite, AreNumbersOf, ReadsInputs, DesignsUnite, DesignedPartsUnite}
 use Rattle.carried_parts.proofs.Rows.{got_at, got_is, list_again}
-use Rattle.carried_parts.proofs.LatchedModels.{map_from}
-use Rattle.carried_parts.proofs.LatchedRuns.{got_cases, output_at}
-use Rattle.carried_parts.proofs.UnitedModels.{got_before, got_after, names_of_both, firsts, lasts, first_bit, last_bit}
+use Rattle.carried_parts.proofs.LatchedRuns.{got_cases, shows_net, map_from}
+use Rattle.carried_parts.proofs.UnitedModels.{names_of_both, firsts, lasts, first_bit, last_bit}
 use Rattle.carried_parts.proofs.UnitedRuns.{fits_first, fits_last, run_first, run_last, run_both, both_runs}
 
--- a meaning shows the outputs and the nets, and what shows these is a meaning
+-- what shows the outputs and the nets is a meaning
 abbrev MeaningShows : Design → List Net → PartMeaning → Type 0
 MeaningShows design seen meaning =
     (rows : List (List Bool)) → AreInputRows design rows → (run : ℕ → Valuation) → IsRun design rows run → (t o : ℕ) (net : Net) → t < length rows → slice_get (shown_nets design seen) o ≡ Some net → meaning (bits_of_rows rows) t o ≡ run t net.place net.name
-
-shown : (design : Design) (seen : List Net) (meaning : PartMeaning) → IsMeaningOf design seen meaning → MeaningShows design seen meaning
-shown design seen meaning means rows are run is t o net l e =
-    elim (got_cases (map (net_at []) (main_outputs design)) seen o net e) [
-      | inl at ↦
-          let of = output_at design o net at in
-          let got = got_is (main_outputs design) o of.0 [] of.1 in
-          means.outs rows are run is t o l got.0 ∙ get_or-map (run t []) (main_outputs design) o [] false got.0 ∙ ap (run t []) got.1 ∙ sym (ap (λ net. run t net.place net.name) of.2)
-      | inr at ↦
-          ap (meaning (bits_of_rows rows) t) (at.1 ∙ ap (λ n. n + at.0) (length-map (main_outputs design) (net_at []))) ∙ means.nets rows are run is t at.0 net l at.2
-    ]
 
 as_shown : (design : Design) (seen : List Net) (meaning : PartMeaning) → IsCausalMeaning meaning → ((rows : List (List Bool)) → AreInputRows design rows → (run : ℕ → Valuation) × IsRun design rows run) → MeaningShows design seen meaning → IsMeaningOf design seen meaning
 as_shown design seen meaning causal runs shows =
@@ -54,12 +44,30 @@ as_shown design seen meaning causal runs shows =
       outs = λ rows are run is t i l low. (
           let name = get_or (main_outputs design) i [] in
           let at : slice_get (map (net_at []) (main_outputs design)) i ≡ Some (net_at [] name) = slice_get-map (net_at []) (main_outputs design) i ∙ ap (option_map (net_at [])) (got_at (main_outputs design) i [] low) in
-          shows rows are run is t i (net_at [] name) l (got_before (map (net_at []) (main_outputs design)) seen i (net_at [] name) at)
+          shows rows are run is t i (net_at [] name) l (got_left (map (net_at []) (main_outputs design)) seen i (net_at [] name) at)
           ∙ sym (get_or-map (run t []) (main_outputs design) i [] false low));
       nets = λ rows are run is t k net l at. (
           let place : length (main_outputs design) + k ≡ length (map (net_at []) (main_outputs design)) + k = ap (λ n. n + k) (sym (length-map (main_outputs design) (net_at []))) in
-          shows rows are run is t (length (main_outputs design) + k) net l (ap (slice_get (shown_nets design seen)) place ∙ got_after (map (net_at []) (main_outputs design)) seen k ∙ at));
+          shows rows are run is t (length (main_outputs design) + k) net l (ap (slice_get (shown_nets design seen)) place ∙ got_right (map (net_at []) (main_outputs design)) seen k ∙ at));
     }
+
+-- numbers of what is shown
+placed : (one two : Design) (seen others both : List Net) (numbers : List ℕ) → AreNumbersOf one two seen others both numbers → (o : ℕ) (net : Net) → slice_get (shown_nets (united one two) both) o ≡ Some net
+    → slice_get (shown_nets one seen ++ map (net_after (main_lines one)) (shown_nets two others)) (number_at numbers o) ≡ Some net
+placed one two seen others both numbers order o net e =
+    let all = shown_nets one seen ++ map (net_after (main_lines one)) (shown_nets two others) in
+    let at : option_map (slice_get all) (slice_get numbers o) ≡ Some (Some net) = sym (slice_get-map (slice_get all) numbers o) ∙ ap (λ found. slice_get found o) order ∙ slice_get-map Some (shown_nets (united one two) both) o ∙ ap (option_map Some) e in
+    let (number, is, found) = map_from (slice_get all) (slice_get numbers o) (Some net) at in
+    ap (slice_get all) (got_is numbers o number 0 is).1 ∙ sym found
+
+number_low : (one two : Design) (seen others both : List Net) (numbers : List ℕ) → AreNumbersOf one two seen others both numbers → (number : ℕ) → Contains numbers number → number < length (shown_nets one seen) + length (shown_nets two others)
+number_low one two seen others both numbers order number among =
+    let all = shown_nets one seen ++ map (net_after (main_lines one)) (shown_nets two others) in
+    let (place, is) = got_from numbers number (in_from numbers number among) in
+    let at : option_map Some (slice_get (shown_nets (united one two) both) place) ≡ Some (slice_get all number) = sym (slice_get-map Some (shown_nets (united one two) both) place) ∙ ap (λ found. slice_get found place) (sym order) ∙ slice_get-map (slice_get all) numbers place ∙ ap (option_map (slice_get all)) is in
+    let (net, _, found) = map_from Some (slice_get (shown_nets (united one two) both) place) (slice_get all number) at in
+    let low : number < length all = slice_get_within all number net found in
+    omega (arith, low, length-append (shown_nets one seen) (map (net_after (main_lines one)) (shown_nets two others)), length-map (shown_nets two others) (net_after (main_lines one)))
 
 after_none : (place : Place) → place_after 0 place ≡ place
 after_none [] = refl
@@ -121,19 +129,19 @@ module _ (main other : Model) (models others : List Model) (can : CanUnite (reco
       first_shown : (o : ℕ) (net : Net) → slice_get (shown_nets one seen) o ≡ Some net → o < outs → meaning (bits_of_rows rows) t o ≡ run t (place_after 0 net.place) net.name
       first_shown o net at low =
           reads (bits_of_rows rows) (bits_of_rows (firsts n rows)) (λ u i small. first_bit n rows u i small) t o low
-          ∙ shown one seen meaning means (firsts n rows) first_fits (λ t place name. run t (place_after 0 place) name) (run_first main other models others can names rest are_names rest_names both_names rows wide run is) t o net (omega (arith, l, length-map rows (take n))) at
+          ∙ shows_net one seen meaning means (firsts n rows) first_fits (λ t place name. run t (place_after 0 place) name) (run_first main other models others can names rest are_names rest_names both_names rows wide run is) t (omega (arith, l, length-map rows (take n))) o net at
 
       last_shown : (k : ℕ) (net : Net) → slice_get (shown_nets two after) k ≡ Some net → second (λ u i. bits_of_rows rows u (n + i)) t k ≡ run t (place_after (length main.subckts) net.place) net.name
       last_shown k net at =
           ap (λ bits. second bits t k) (fun_ext (λ u. fun_ext (λ i. last_bit n rows u i)))
-          ∙ shown two after second means_other (lasts n rows) last_fits (λ t place name. run t (place_after (length main.subckts) place) name) (run_last main other models others can names rest are_names rest_names both_names rows wide run is) t k net (omega (arith, l, length-map rows (drop n))) at
+          ∙ shows_net two after second means_other (lasts n rows) last_fits (λ t place name. run t (place_after (length main.subckts) place) name) (run_last main other models others can names rest are_names rest_names both_names rows wide run is) t (omega (arith, l, length-map rows (drop n))) k net at
 
       abbrev both_bits : ℕ → Bool
       both_bits = row_of_both outs (meaning (bits_of_rows rows) t) (second (λ u i. bits_of_rows rows u (n + i)) t)
 
       both_shown : (o : ℕ) (net : Net) → slice_get (shown_nets whole both) o ≡ Some net → meant (bits_of_rows rows) t o ≡ run t net.place net.name
       both_shown o net e =
-          elim (got_cases (shown_nets one seen) (map (net_after (length main.subckts)) (shown_nets two after)) (number_at numbers o) net (order o net e)) [
+          elim (got_cases (shown_nets one seen) (map (net_after (length main.subckts)) (shown_nets two after)) (number_at numbers o) net (placed one two seen after both numbers order o net e)) [
             | inl at ↦
                 let low : number_at numbers o < outs = omega (arith, many, (got_is (shown_nets one seen) (number_at numbers o) net net at).0) in
                 both_first count both_bits (bits_of_rows rows t) (number_at numbers o) (omega (arith, low, all))
@@ -182,10 +190,11 @@ in_order count =
     number i l = get_or-range_with_len 0 count i 0 l ∙ (let e : 0 + i ≡ i = omega arith in e)
 
 pub designed_parts_unite : DesignedPartsUnite
-designed_parts_unite one two seen others both numbers meaning second names period p q ins outs inputs outputs some can order are_names fits many more within means means_other away part beside =
+designed_parts_unite one two seen others both numbers meaning second names period p q ins outs inputs outputs some can order are_names fits many more means means_other away part beside =
     let united_parts = parts_unite period p q ins outs inputs outputs meaning second away part beside in
     let all_ins = ins ++ inputs in
     let all_outs = outs ++ outputs in
+    let within : (o : ℕ) → Contains numbers o → o < length all_outs = λ o c. (let l = number_low one two seen others both numbers order o c in omega (arith, l, many, more, length-append outs outputs)) in
     let among : (o : ℕ) → Contains numbers o → o < length (all_outs ++ all_ins) = λ o c. (let l = within o c in omega (arith, l, length-append all_outs all_ins)) in
     let ordered = parts_take_order period (side_by_side p q) all_ins all_outs (both_meanings (length ins) (length outs) meaning second) (range_with_len 0 (length all_ins)) numbers (λ i. i) (in_order (length all_ins)) among united_parts.0 in
     let whole : PartMeaning = meaning_in_order (length all_outs) (λ i. i) numbers (both_meanings (length ins) (length outs) meaning second) in

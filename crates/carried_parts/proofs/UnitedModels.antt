@@ -2,10 +2,11 @@
 use Rattle.std.proofs.Common.{ℕ, zero, suc, ◌+◌, ◌-◌, ◌<◌, ◌≡◌, refl, sym, ap, ◌∙◌, subst, inl, inr, ◌⊎◌, Bool, true, false, not, cond, List, [], ◌∷◌, ◌++◌, length, map, get_or, arith}
 use Rattle.std.specs.Prelude.{Option, Some, slice_get, option_and_then, option_to_list, take, drop}
 use Rattle.std.proofs.lemmas.Bool.{cases_lt}
-use Rattle.std.proofs.lemmas.Option.{none-some, same_Some}
+use Rattle.std.proofs.lemmas.Option.{same_Some}
 use Rattle.std.proofs.lemmas.List.{map-append, length-append, get_or-take, get_or-drop}
 use Rattle.std.proofs.lemmas.Slice.Eq.{bytes_eq-Decides}
 use Rattle.lists.specs.Items.{flag_at, list_at}
+use Rattle.lists.proofs.Cuts.{got_left, got_right}
 use Rattle.lists.proofs.Members.{In, in_from, contains_from, in_left, in_right, in_parts, in_map, in_got, got_from, is_in, passes_at}
 use Rattle.netlist_core.specs.declared.model.Port.{Port}
 use Rattle.netlist_core.specs.declared.model.LatchRow.{LatchRow}
@@ -21,15 +22,6 @@ use Rattle.carried_parts.specs.United.{other_ports, united_model, net_after, pla
 use Rattle.carried_parts.proofs.LatchedModels.{input_net, latch_net}
 use Rattle.carried_parts.proofs.LatchedRuns.{got_cases}
 use Rattle.carried_parts.proofs.UnitedPlaces.{one_before, OwnAt, IsOwn, name_in, line_there, StandsIn, IsPinIn, IsPlaceIn, at_same, pin_own, control_is, joined_is, top_pin_was, deep_pin_was}
-
-pub got_before : {X : Type 0} (xs ys : List X) (k : ℕ) (x : X) → slice_get xs k ≡ Some x → slice_get (xs ++ ys) k ≡ Some x
-got_before [] ys k x e = absurd (none-some x e)
-got_before (y ∷ xs) ys zero x e = e
-got_before (y ∷ xs) ys (suc k) x e = got_before xs ys k x e
-
-pub got_after : {X : Type 0} (xs ys : List X) (k : ℕ) → slice_get (xs ++ ys) (length xs + k) ≡ slice_get ys k
-got_after [] ys k = let e : 0 + k ≡ k = omega arith in ap (slice_get ys) e
-got_after (x ∷ xs) ys k = let e : suc (length xs) + k ≡ suc (length xs + k) = omega arith in ap (slice_get (x ∷ xs ++ ys)) e ∙ got_after xs ys k
 
 -- a list of names without controls has none
 pub free_name : (design : Design) (name : Name) (names : List Name) {rest : List Name} → WithoutControl design names rest → In name rest → ¬ IsControl design (net_at [] name)
@@ -158,7 +150,7 @@ module _ (main other : Model) (models others : List Model) (can : CanUnite (reco
   pub first_in : StandsIn main (united_model main other) models (models ++ others) 0
   first_in =
       record {
-        lines = λ number line e. (let n : 0 + number ≡ number = omega arith in ap (slice_get (main.subckts ++ other.subckts)) n ∙ got_before main.subckts other.subckts number line e);
+        lines = λ number line e. (let n : 0 + number ≡ number = omega arith in ap (slice_get (main.subckts ++ other.subckts)) n ∙ got_left main.subckts other.subckts number line e);
         alike = can.first_places;
         covers = λ cover i. in_left main.covers other.covers cover i;
         latches = λ latch i. in_left main.latches other.latches latch i;
@@ -167,7 +159,7 @@ module _ (main other : Model) (models others : List Model) (can : CanUnite (reco
   pub second_in : StandsIn other (united_model main other) others (models ++ others) (length main.subckts)
   second_in =
       record {
-        lines = λ number line e. got_after main.subckts other.subckts number ∙ e;
+        lines = λ number line e. got_right main.subckts other.subckts number ∙ e;
         alike = can.second_places;
         covers = λ cover i. in_right main.covers other.covers cover i;
         latches = λ latch i. in_right main.latches other.latches latch i;

@@ -1,5 +1,5 @@
 -- Runs of two designs in one: a run of it is one of each, and runs of both make one.
-use Rattle.std.proofs.Common.{ℕ, zero, suc, ◌+◌, ◌-◌, ◌<◌, ◌≤◌, ◌≡◌, refl, sym, ap, ap₂, ◌∙◌, subst, inl, inr, Bool, true, false, cond, ◌==◌, List, [], ◌∷◌, ◌++◌, length, map, get_or, arith}
+use Rattle.std.proofs.Common.{ℕ, zero, suc, ◌+◌, ◌-◌, ◌<◌, ◌≤◌, ◌≡◌, refl, sym, ap, ap₂, ◌∙◌, subst, inl, inr, Bool, true, false, cond, List, [], ◌∷◌, ◌++◌, length, map, get_or, arith}
 use Rattle.std.specs.Prelude.{Some, slice_get, option_and_then, flat_map, ltb, take, drop}
 use Rattle.std.proofs.lemmas.Bool.Decides.{nat_tests}
 use Rattle.std.proofs.lemmas.Option.{same_Some}
@@ -15,29 +15,21 @@ use Rattle.netlist_core.specs.Names.{Name, port_names}
 use Rattle.netlist_meaning.specs.CoverValue.{cover_value}
 use Rattle.netlist_meaning.specs.Places.{Place, model_at, latch_at}
 use Rattle.netlist_meaning.specs.Nets.{Net, net_at, model_names, IsPinned, by_pin, IsClockNet, IsInNames}
-use Rattle.netlist_meaning.specs.Valuation.{Valuation, IsValuation, AreInputRows, IsRun, start_bit, start_state, data_bit, latches_in}
+use Rattle.netlist_meaning.specs.Valuation.{Valuation, IsValuation, AreInputRows, IsRun, start_state, latches_in}
 use Rattle.netlist_meaning.proofs.Names.{and_then-from}
 use Rattle.netlist_meaning.proofs.Joined.{in_names_are_one, pins_are_enough, no_clock_net-joined}
 use Rattle.carried_parts.specs.United.{net_after, place_after, used_names, united_model, CanUnite}
 use Rattle.carried_parts.proofs.Rows.{got_at, got_is}
+use Rattle.carried_parts.proofs.Held.{held, held_by}
 use Rattle.carried_parts.proofs.LatchedModels.{left_in, cover_net, latch_net, main_input_net}
 use Rattle.carried_parts.proofs.UnitedPlaces.{OwnAt, IsOwn, name_in, StandsIn, IsPinIn, pin_own, pin_is, model_is, latch_is}
 use Rattle.carried_parts.proofs.UnitedModels.{free_name, name_bit, name_first, name_second, firsts, lasts, first_row, last_row, first, second, both, first_in, second_in, place_was, pin_was, first_pin, second_pin, shared, clock_first, clock_second, clock_of_first, clock_of_second}
-
--- what a latch holds in a cycle
-abbrev held : Place → LatchRow → (ℕ → Valuation) → ℕ → Bool
-held place latch run zero = latch.init == 1
-held place latch run (suc t) = run t place latch.input
-
-held_by : (design : Design) (run : ℕ → Valuation) (t : ℕ) (place : Place) (number : ℕ) (latch : LatchRow) → latch_at design place number ≡ Some latch → latches_in design (start_state design) run t place number ≡ held place latch run t
-held_by design run zero place number latch at = ap start_bit at
-held_by design run (suc t) place number latch at = ap (data_bit (run t place)) at
 
 module _ (design : Design) (rows : List (List Bool)) (run : ℕ → Valuation) (is : IsRun design rows run) (t : ℕ) (l : t < length rows) where
   solves : IsValuation design (list_at rows t) (latches_in design (start_state design) run t) (run t)
   solves = is t (list_at rows t) (got_at rows t [] l)
 
-  latch_bit : (place : Place) (number : ℕ) (latch : LatchRow) → latch_at design place number ≡ Some latch → run t place latch.output ≡ held place latch run t
+  latch_bit : (place : Place) (number : ℕ) (latch : LatchRow) → latch_at design place number ≡ Some latch → run t place latch.output ≡ held run place latch t
   latch_bit place number latch at = solves.latches_hold place number latch at ∙ held_by design run t place number latch at
 
   inputs_are : (names : List Name) → IsInNames design names → map (run t []) names ≡ list_at rows t
@@ -48,7 +40,7 @@ made_run : (design : Design) (names : List Name) (rows : List (List Bool)) (run 
     → ((t : ℕ) → t < length rows → map (run t []) names ≡ list_at rows t)
     → ((t : ℕ) → t < length rows → (outer inner : Net) → IsPinned design outer inner → ¬ IsClockNet design outer → run t outer.place outer.name ≡ run t inner.place inner.name)
     → ((t : ℕ) → t < length rows → (place : Place) (model : Model) (cover : Cover) → model_at design place ≡ Some model → In cover model.covers → run t place cover.out ≡ cover_value cover.rows cover.on (map (run t place) cover.ins))
-    → ((t : ℕ) → t < length rows → (place : Place) (number : ℕ) (latch : LatchRow) → latch_at design place number ≡ Some latch → run t place latch.output ≡ held place latch run t)
+    → ((t : ℕ) → t < length rows → (place : Place) (number : ℕ) (latch : LatchRow) → latch_at design place number ≡ Some latch → run t place latch.output ≡ held run place latch t)
     → IsRun design rows run
 made_run design names rows run are inputs pins covers latches t row at =
     let got = got_is rows t row [] at in
@@ -82,7 +74,7 @@ module _ (own all : Model) (rest more : List Model) (shift : ℕ) (h : StandsIn 
       (λ t l place model cover at i. (let (m, is_m, covers, _) = model_is own all rest more shift h place model at in (solves whole rows run is t (omega (arith, l, long))).covers_hold (place_after shift place) m cover is_m (contains_from m.covers cover (covers cover i))))
       (λ t l place number latch at. (let (n, e) = latch_is own all rest more shift h place number latch at in latch_bit whole rows run is t (omega (arith, l, long)) (place_after shift place) n latch e ∙ held_after t place latch))
     where
-      held_after : (t : ℕ) (place : Place) (latch : LatchRow) → held (place_after shift place) latch run t ≡ held place latch (part_run run) t
+      held_after : (t : ℕ) (place : Place) (latch : LatchRow) → held run (place_after shift place) latch t ≡ held (part_run run) place latch t
       held_after zero place latch = refl
       held_after (suc t) place latch = refl
 
@@ -256,11 +248,11 @@ module _ (main other : Model) (models others : List Model) (can : CanUnite (reco
           | inr d ↦ cover_moved t (number ∷ place) (d.line ∷ place) (b t) cover (λ name k. deep_second t number d.line place name d.is) ((solves two (lasts (length names) rows) b is_b t (omega (arith, l, last_long))).covers_hold (d.line ∷ place) model cover d.at (contains_from model.covers cover i))
         ]
 
-    held_moved : (t : ℕ) (place at : Place) (run : ℕ → Valuation) (latch : LatchRow) → ((u : ℕ) → both_runs u place latch.input ≡ run u at latch.input) → held at latch run t ≡ held place latch both_runs t
+    held_moved : (t : ℕ) (place at : Place) (run : ℕ → Valuation) (latch : LatchRow) → ((u : ℕ) → both_runs u place latch.input ≡ run u at latch.input) → held run at latch t ≡ held both_runs place latch t
     held_moved zero place at run latch same = refl
     held_moved (suc t) place at run latch same = sym (same t)
 
-    latches_both : (t : ℕ) → t < length rows → (place : Place) (number : ℕ) (latch : LatchRow) → latch_at all place number ≡ Some latch → both_runs t place latch.output ≡ held place latch both_runs t
+    latches_both : (t : ℕ) → t < length rows → (place : Place) (number : ℕ) (latch : LatchRow) → latch_at all place number ≡ Some latch → both_runs t place latch.output ≡ held both_runs place latch t
     latches_both t l [] number latch at =
         elim (in_parts main.latches other.latches latch (in_got (main.latches ++ other.latches) number latch at)) [
           | inl j ↦

@@ -1,3 +1,5 @@
 pub mod CarriedParts
 pub mod Latched
+pub mod WiredTexts
+pub mod Unlined
 pub mod United

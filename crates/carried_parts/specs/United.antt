@@ -1,6 +1,5 @@
 -- The netlist of two patterns side by side.
 use Rattle.std.specs.Prelude.{ℕ, ◌+◌, ◌<◌, ◌≡◌, not, Bool, List, [], ◌∷◌, ◌++◌, length, map, flat_map, filter, Some, option_map, unwrap_or, slice_get, Contains}
-use Rattle.lists.specs.Items.{number_at}
 use Rattle.ww_rule.specs.Wireworld.{Plane}
 use Rattle.wire_laws.specs.Rows.{Port, PartMeaning, IsPart}
 use Rattle.wire_laws.specs.PortWires.{nth_port}
@@ -12,8 +11,9 @@ use Rattle.netlist_core.specs.declared.model.Design.{Design}
 use Rattle.netlist_core.specs.declared.model.Subckt.{Subckt}
 use Rattle.netlist_core.specs.Names.{Name, port_names, is_named, model_named}
 use Rattle.netlist_meaning.specs.Nets.{Net, net_at, IsNet, IsControl, IsInNames}
-use Rattle.netlist_meaning.specs.Places.{Place, main_model, model_at, IsPlace, main_outputs}
+use Rattle.netlist_meaning.specs.Places.{Place, main_model, model_at, IsPlace}
 use Rattle.carried_parts.specs.CarriedParts.{IsMeaningOf}
+use Rattle.carried_parts.specs.Latched.{shown_nets}
 
 -- the ports of the second list whose names the first does not have
 abbrev pub other_ports : (ports others : List ModelPort) → List ModelPort
@@ -40,8 +40,8 @@ united_models [] others = others
 united_models (main ∷ models) [] = main ∷ models
 united_models (main ∷ models) (other ∷ others) = united_model main other ∷ models ++ others
 
--- The design of both, whose lines keep their numbers. So a text has it if the two designs are cut
--- from the text with no line moved, and in each model's list the first's lines come first.
+-- The design of both. A text has it, but for line numbers (which decide no run), if the first's
+-- lines come before the second's in each list of the main model, and the other models behind it.
 abbrev pub united : (first second : Design) → Design
 united first second = record { models = united_models first.models second.models }
 
@@ -84,19 +84,14 @@ pub record CanUnite (first second : Design) : Type 0 where
   pub unused : (model : Model) → main_model second ≡ Some model → (name : Name)
       → Contains (used_names model) name → ¬ IsNet first (net_at [] name)
 
--- what a meaning shows of a design: its outputs, and then these nets
-abbrev pub shown_nets : Design → (seen : List Net) → List Net
-shown_nets design seen = map (net_at []) (main_outputs design) ++ seen
-
--- Number o is the place of the united design's net o among the nets that the first shows, and then
--- those that the second shows.
+-- For each net that the united design shows, the list has the number of this net among those that
+-- the first shows, and then those that the second shows.
 abbrev pub AreNumbersOf : (first second : Design) → (seen others both : List Net)
     → (numbers : List ℕ) → Type 0
 AreNumbersOf first second seen others both numbers =
-    (o : ℕ) (net : Net) → slice_get (shown_nets (united first second) both) o ≡ Some net
-    → slice_get (shown_nets first seen
-    ++ map (net_after (main_lines first)) (shown_nets second others)) (number_at numbers o)
-    ≡ Some net
+    map (slice_get (shown_nets first seen
+    ++ map (net_after (main_lines first)) (shown_nets second others))) numbers
+    ≡ map Some (shown_nets (united first second) both)
 
 -- bits that are the same at so many inputs give the same bits at so many outputs, as in each part
 -- (`PartsReadInputs`)
@@ -129,7 +124,6 @@ DesignedPartsUnite =
     → IsInNames first names → length names ≡ length ins
     → length (shown_nets first seen) ≡ length outs
     → length (shown_nets second others) ≡ length outputs
-    → ((o : ℕ) → Contains numbers o → o < length (outs ++ outputs))
     → IsMeaningOf first seen meaning → IsMeaningOf second others other
     → StandApart p q → IsPart period p ins outs meaning → IsPart period q inputs outputs other
     → (whole : PartMeaning) × IsMeaningOf (united first second) both whole
