@@ -13,3 +13,7 @@ pub mod UnlinedRuns
 pub mod OrderedModels
 pub mod OrderedRuns
 pub mod OrderedTextsCarry
+pub mod UnitedPlaces
+pub mod UnitedModels
+pub mod UnitedRuns
+pub mod UnitedDesigns

@@ -33,19 +33,23 @@ bit_at k n bits u i l low =
     ap (λ row. flag_at row i) (row_at k n bits u l)
     ∙ get_or-map-range_with_len (bits u) 0 k i i false low (omega arith)
 
+-- a list is what stands at its places
+pub list_again : {X : Type 0} (d : X) (xs : List X) → map (λ i. get_or xs i d) (range_with_len 0 (length xs)) ≡ xs
+list_again d xs = go xs
+  where
+    same : (x : _) (xs : List _) (a n : ℕ) → map (λ i. get_or (x ∷ xs) i d) (range_with_len (suc a) n) ≡ map (λ i. get_or xs i d) (range_with_len a n)
+    same x xs a zero = refl
+    same x xs a (suc n) =
+        let e : suc a + 1 ≡ suc (a + 1) = omega arith in
+        ap (λ rest. get_or xs a d ∷ rest) (ap (λ m. map (λ i. get_or (x ∷ xs) i d) (range_with_len m n)) e ∙ same x xs (a + 1) n)
+
+    go : (xs : List _) → map (λ i. get_or xs i d) (range_with_len 0 (length xs)) ≡ xs
+    go [] = refl
+    go (x ∷ xs) = ap (λ rest. x ∷ rest) (same x xs 0 (length xs) ∙ go xs)
+
 -- a row is what its bits make
 pub row_again : (row : List Bool) → map (flag_at row) (range_with_len 0 (length row)) ≡ row
-row_again row = go row 0
-  where
-    same : (b : Bool) (row : List Bool) (a n : ℕ) → map (λ i. get_or (b ∷ row) i false) (range_with_len (suc a) n) ≡ map (λ i. get_or row i false) (range_with_len a n)
-    same b row a zero = refl
-    same b row a (suc n) =
-        let e : suc a + 1 ≡ suc (a + 1) = omega arith in
-        ap (λ rest. get_or row a false ∷ rest) (ap (λ m. map (λ i. get_or (b ∷ row) i false) (range_with_len m n)) e ∙ same b row (a + 1) n)
-
-    go : (row : List Bool) (n : ℕ) → map (flag_at row) (range_with_len 0 (length row)) ≡ row
-    go [] n = refl
-    go (b ∷ row) n = ap (λ rest. b ∷ rest) (same b row 0 (length row) ∙ go row n)
+row_again row = list_again false row
 
 -- the bits up to a cycle
 abbrev pub cut : ℕ → (ℕ → ℕ → Bool) → ℕ → ℕ → Bool

@@ -4,3 +4,4 @@ pub mod WiredTexts
 pub mod Unlined
 pub mod Ordered
 pub mod OrderedTexts
+pub mod United

@@ -3,12 +3,14 @@
 //! and with its ports in order the design with these ports.
 //!
 //! Theorem: `carriers_are_parts`, `carriers_answer_each_row`, `parts_carry`,
-//! `wired_parts_mean_latches`, `wired_texts_carry`, `ordered_texts_carry`.
+//! `wired_parts_mean_latches`, `wired_texts_carry`, `ordered_texts_carry`, `designs_unite`,
+//! `designed_parts_unite`.
 #![tactic(auto)]
 
 mod latched;
 mod lines;
 mod ordered;
+mod united;
 mod wired_texts;
 
 ghost use Rattle.carried_parts.specs.CarriedParts.{CarriersAnswerEachRow, CarriersAreParts, PartsCarry};
@@ -18,6 +20,7 @@ pub use latched::{
 };
 pub use lines::lines_decide_no_run;
 pub use ordered::{designs_take_order, ordered_parts_mean, ordered_texts_carry};
+pub use united::{designed_parts_unite, designs_unite};
 pub use wired_texts::{parts_carry_by_lines, wired_texts_carry};
 
 /// The pattern of a text that carries a design and its nets, whoever wrote it, is a part, and what

@@ -1,0 +1,5 @@
+use Rattle.carried_parts.proofs.UnitedDesigns.{designs_unite}
+use Rattle.carried_parts.proofs.united.designs_unite.Goals as goal
+
+pub returns : goal.returns
+returns c = designs_unite
