@@ -1,5 +1,5 @@
 //! Laws of plans that carry signals: each function does nothing, and its contract is the law.
-ghost use Rattle.plan_signals.specs.Laws.{PlansCarrySignals, PlansAreParts, PlansAnswerEachRow, PortsTakeWires, TilesAreOpen};
+ghost use Rattle.plan_signals.specs.Laws.{PlansCarrySignals, PlansAreParts, PlansAnswerEachRow, PortsAreOpen, PortsTakeWires, TilesAreOpen};
 
 /// The plane of an admissible plan, in one context, carries the signals of its inputs to those of
 /// its outputs.
@@ -17,6 +17,12 @@ pub fn plans_are_parts()
 /// at its outputs and nets, at every multiple of 32 generations.
 pub fn plans_answer_each_row()
     ensures { PlansAnswerEachRow }
+{}
+
+/// At most two cells are beside each input's cell in the plane of an admissible plan, and no cell of
+/// an output or a net is empty.
+pub fn ports_are_open()
+    ensures { PortsAreOpen }
 {}
 
 /// A wire may come to each input of an admissible plan from the west, and leave each output to the

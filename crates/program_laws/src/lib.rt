@@ -6,6 +6,7 @@
 #![tactic(auto)]
 
 ghost use Rattle.program_laws.specs.AigPrints.{AigCarriersRunQuietly, AigsAreLifted, AigsPrintRuns, AigsRunQuietly, CarriersPrintAigRuns};
+ghost use Rattle.program_laws.specs.CompiledParts.{CompiledAreParts, CompiledHaveOpenLines};
 ghost use Rattle.program_laws.specs.DumpsNets.{CarriersDumpNets, CompiledDumpNets};
 ghost use Rattle.program_laws.specs.EvaluatesAlike.{CarriedEvaluateAlike, CompiledEvaluateInOneWay, LiftedEvaluateAlike};
 ghost use Rattle.program_laws.specs.Isolated.{CompiledPrintApart, ContextsPrintApart, NetsPrintApart};
@@ -18,10 +19,12 @@ ghost use Rattle.program_laws.specs.TapePrints.{TapesPrintAlike, TapesPrintRuns}
 
 use aiger_meaning::laws::flats_of_aigs_are_lowered;
 use aiger_text::laws::read_aigs_are_sound;
+use carried_parts::carriers_are_parts;
 use lift_carries::compiled_are_drawings;
 use netlist_plans::names_are_words;
 use netlist_text::laws::texts_are_decided;
 use plan_carries::plans_have_ports;
+use plan_signals::{ports_are_open, tiles_are_open};
 use shown_runs::{
     carriers_are_quiet, carriers_show_contexts, carriers_show_nets, carriers_show_runs,
     runners_show_runs, streams_match,
@@ -110,6 +113,18 @@ pub fn compiled_are_lifted()
     ensures lifted { CompiledAreLifted }
 {
     names_are_words();
+}
+
+/// The text that `compile` writes for one context has open lines, and its period is 32 at least. So
+/// without start words its pattern is a part: what it makes of its inputs' bits are the bits of the
+/// netlist's runs.
+pub fn compiled_are_parts()
+    ensures lines { CompiledHaveOpenLines }
+    ensures parts { CompiledAreParts }
+{
+    ports_are_open();
+    tiles_are_open();
+    carriers_are_parts();
 }
 
 /// `lift` writes one text of a text, and `simulate` prints of the latter what `eval` prints of the
