@@ -4,8 +4,7 @@ use Rattle.std.specs.Prelude.{Contains, ◌↔◌, Option, Some, None, slice_get
 use Rattle.std.specs.List.{range_with_len}
 use Rattle.std.specs.Cmp.{both_ways}
 use Rattle.std.proofs.Math.Nat.{mul-le-mul}
-use Rattle.std.proofs.lemmas.List.{length-map, get_or-map, get_or_default}
-use Rattle.std.proofs.lemmas.List.FromFn.{length-map-range_with_len}
+use Rattle.std.proofs.lemmas.List.{length-map, get_or-map}
 use Rattle.std.proofs.lemmas.List.Elements.{Contains-append_cases}
 use Rattle.lists.specs.Items.{flag_at}
 use Rattle.lists.proofs.Members.{in_from, contains_from, in_got}

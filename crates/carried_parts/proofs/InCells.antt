@@ -1,9 +1,7 @@
 -- The cells of a carrier's IN lines are conductors: a row of ones is due at them at generation 0.
-use Rattle.std.proofs.Common.{pos, ℕ, ◌+◌, ◌<◌, ◌≡◌, refl, ap, ◌∙◌, Bool, true, List, length, get_or, arith}
-use Rattle.std.specs.Prelude.{Contains}
+use Rattle.std.proofs.Common.{pos, ℕ, ◌<◌, ◌≡◌, sym, ap, ◌∙◌, Bool, true, List, [], length, get_or, arith}
 use Rattle.std.proofs.lemmas.List.{length-map, get_or-map, get_or_default}
 use Rattle.std.proofs.lemmas.List.FromFn.{length-map-range_with_len}
-use Rattle.ww_rule.specs.declared.pattern.State.TheVariants.{Conductor}
 use Rattle.ww_rule.specs.Grid.{plane_of}
 use Rattle.ww_rule.proofs.Streams.{streams_injected}
 use Rattle.pattern_reading.specs.declared.ports.Ports.{Ports}
@@ -32,7 +30,7 @@ in_cells_conduct text design c line among =
       (streams_injected c.ports.p (cells_of c.ports.ins) ones 0 (pos line.x) (pos line.y)).1 (record {
         cycle = 0;
         input = i;
-        in_time = refl;
+        in_time = omega arith;
         in_cells = omega (arith, within, length-map c.ports.ins at);
         one = bit_at (length c.ports.ins) 1 all 0 i (omega arith) within;
         column = ap (λ cell. pos cell.0) cell;
