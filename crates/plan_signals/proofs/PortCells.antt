@@ -7,7 +7,7 @@ use Rattle.plan_signals.proofs.Ready.{few_cells}
 use Rattle.plan_signals.proofs.Carried.{exit_drawn}
 use Rattle.plan_signals.proofs.NetCells.{drawn_after}
 
-no_place : NetPlace
+abbrev no_place : NetPlace
 no_place = record { lane = 0; after = None }
 
 pub ports_are_open : PortsAreOpen
