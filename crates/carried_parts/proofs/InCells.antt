@@ -10,7 +10,7 @@ use Rattle.pattern_reading.specs.Ports.{cells_of, names_of}
 use Rattle.netlist_core.specs.declared.model.Design.{Design}
 use Rattle.netlist_meaning.specs.Valuation.{AreInputRows}
 use Rattle.carries.specs.Carries.{NamesPorts, Carries}
-use Rattle.carried_parts.specs.CarriedParts.{HasConductors}
+use Rattle.carried_parts.specs.CarriedParts.{HasInConductors}
 use Rattle.carried_parts.proofs.Rows.{rows_of, long, row_at, bit_at}
 
 -- rows with a bit for each IN line are input rows
@@ -24,7 +24,7 @@ rows_fit ports design names n bits = (names_of ports.ins, names.ins, row_long)
         ∙ length-map-range_with_len (bits u) 0 (length ports.ins)
         ∙ sym (length-map ports.ins (λ line. line.name))
 
-pub in_cells_conduct : (text : List ℕ) (design : Design) (c : Carries text design) → HasConductors c.ports (plane_of c.grid.rows)
+pub in_cells_conduct : (text : List ℕ) (design : Design) (c : Carries text design) → HasInConductors c.ports (plane_of c.grid.rows)
 in_cells_conduct text design c line among =
     c.shows.conductors ones (rows_fit c.ports design c.names 1 all) 0 (pos line.x) (pos line.y) (
       (streams_injected c.ports.p (cells_of c.ports.ins) ones 0 (pos line.x) (pos line.y)).1 (record {

@@ -35,7 +35,8 @@ PlansAreParts =
     (out_ports plan ++ net_ports plan) (plan_meaning plan start)
     × IsCausalMeaning (plan_meaning plan start)
 
--- whichever edges are lit, the plane of an admissible plan has open ports
+-- Drawn with any library of tiles that keep the timing law and have open entries, the plane of an
+-- admissible plan has open ports, whichever edges are lit.
 abbrev pub PortsAreOpen : Type 0
 PortsAreOpen =
     (library : Kind → Drawing) → KeepsLaw library → HasOpenEntries library

@@ -105,14 +105,15 @@ pub record TakesWires (plan : Plan) (p : Plane) : Type 0 where
       → IsFreeBeside p (pos (out_cell_of plan i).0, pos (out_cell_of plan i).1)
       (x, pos (out_cell_of plan i).1)
 
--- at most two cells are beside each entry of the tiles of a plan's body, which is in row 8 or 24 of
--- the tile's cells
+-- at most two drawn cells are beside each entry of the tiles of a plan's body, which is in row 8 or
+-- 24 of the tile's cells
 pub record HasOpenEntries (library : Kind → Drawing) : Type 0 where
   pub east : cells_beside (library East) 7 ≤ 2
   pub upper : (instr : Instr) → cells_beside (library (kind_of instr)) 7 ≤ 2
   pub lower : (instr : Instr) → cells_beside (library (kind_of instr)) 23 ≤ 2
 
--- at most two cells are beside the cell of each input, and no cell of an output or a net is empty
+-- at most two drawn cells are beside the cell of each input, and the cells of outputs and nets are
+-- drawn
 pub record HasOpenPorts (plan : Plan) (p : Plane) : Type 0 where
   pub ins : (i : ℕ) → i < length plan.ins
       → cells_around p (pos (in_cell_of plan i).0) (pos (in_cell_of plan i).1) ≤ 2

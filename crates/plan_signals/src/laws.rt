@@ -19,8 +19,8 @@ pub fn plans_answer_each_row()
     ensures { PlansAnswerEachRow }
 {}
 
-/// At most two cells are beside each input's cell in the plane of an admissible plan, and no cell of
-/// an output or a net is empty.
+/// In the plane of an admissible plan, at most two drawn cells are beside each input's cell, and the
+/// cells of outputs and nets are drawn.
 pub fn ports_are_open()
     ensures { PortsAreOpen }
 {}
@@ -31,8 +31,8 @@ pub fn ports_take_wires()
     ensures { PortsTakeWires }
 {}
 
-/// At most two cells are beside each entry of a body's tile in the kit, and none is above or below
-/// it.
+/// At most two drawn cells are beside each entry of a body's tile in the kit, and none is above or
+/// below it.
 pub fn tiles_are_open()
     ensures { TilesAreOpen }
 {}

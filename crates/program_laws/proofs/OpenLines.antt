@@ -1,29 +1,28 @@
 -- The table and the drawing of a plan that is made of a design have open lines.
 use Rattle.std.proofs.Common.{◌≡◌, ◌≢◌, refl, sym, ◌∙◌, ap, ap₂, subst, pos, ℕ, ◌+◌, ◌*◌, ◌<◌, ◌≤◌, ◌==◌, Bool, true, false, not, cond, inl, inr, List, [], ◌∷◌, filter, length, map, get_or, arith}
-use Rattle.std.specs.Prelude.{Some, None, slice_get, slice_index, Contains}
-use Rattle.std.proofs.lemmas.Bool.{eqb-false}
+use Rattle.std.specs.Prelude.{Some, None, slice_get, Contains}
+use Rattle.std.proofs.lemmas.Bool.{eqb-true, eqb-false}
 use Rattle.std.proofs.lemmas.Option.{slice_get-get_or, slice_get_within, get_or_from_slice_get}
 use Rattle.std.proofs.lemmas.List.{length-map, get_or-map, get_or_default}
-use Rattle.std.proofs.lemmas.List.Elements.{All-get_or}
 use Rattle.lists.proofs.Members.{In, in_got, got_from}
 use Rattle.ww_rule.specs.declared.pattern.State.TheVariants.{Empty}
 use Rattle.ww_rule.specs.Wireworld.{Plane}
-use Rattle.ww_rule.specs.Grid.{Grid, plane_of}
+use Rattle.ww_rule.specs.Grid.{plane_of}
 use Rattle.wire_laws.specs.PartLaws.{cells_around}
 use Rattle.tile_library.specs.Drawings.{shipped_drawing}
 use Rattle.lane_core.specs.declared.plan.NetPlace.{NetPlace}
 use Rattle.lane_core.specs.declared.plan.Plan.{Plan}
-use Rattle.lane_core.specs.Plans.{IsAdmissible, left_of, row_of, period_of, cell_after, in_cell_of, out_cell_of, net_cell_of, net_cells}
+use Rattle.lane_core.specs.Plans.{IsAdmissible, left_of, row_of, period_of, cell_after}
 use Rattle.plan_layout.specs.Planes.{start_plane}
-use Rattle.plan_layout.specs.Starts.{start_edges}
+use Rattle.plan_layout.proofs.Bare.{bare}
 use Rattle.grid_assembly.specs.PlanDrawing.{start_grid}
+use Rattle.grid_assembly.proofs.Pattern.{patterns_are_planes}
 use Rattle.netlist_core.specs.declared.model.Design.{Design}
 use Rattle.netlist_core.specs.declared.flat.Net.{Net as FlatNet}
 use Rattle.netlist_core.specs.declared.flat.FlatPort.{FlatPort}
 use Rattle.netlist_core.specs.declared.flat.Flat.{Flat}
-use Rattle.netlist_core.specs.Names.{Name}
 use Rattle.netlist_meaning.specs.Nets.{Net}
-use Rattle.netlist_meaning.specs.Flat.{no_net, IsNetId, IsSound, IsNamed, IsClockClass, FlatDriver, FlatDrives, class_of, name_of_net, names_of_ports, is_clock_class, nets_but_clocks, listed_nets}
+use Rattle.netlist_meaning.specs.Flat.{no_net, IsSound, IsNamed, FlatDriver, FlatDrives, class_of, name_of_net, is_clock_class, nets_but_clocks, listed_nets}
 use Rattle.netlist_meaning.specs.InOrder.{nets_in_order}
 use Rattle.netlist_meaning.specs.FlatOf.{IsFlatOf, flat_net}
 use Rattle.netlist_meaning.proofs.ClockTest.{is_clock_class-Decides}
@@ -32,24 +31,33 @@ use Rattle.netlist_rules.specs.Clocks.{HasNoClockFault}
 use Rattle.pattern_reading.specs.declared.ports.Ports.{Ports}
 use Rattle.pattern_reading.specs.declared.ports.PortLine.{PortLine}
 use Rattle.pattern_reading.specs.declared.ports.NetLine.{NetLine}
-use Rattle.pattern_reading.specs.Ports.{cells_of, names_of}
 use Rattle.place_paths.specs.Paths.{name_and_path}
 use Rattle.plan_ports.specs.Tables.{IsTableOf}
-use Rattle.plan_carries.proofs.Bare.{bare_grid, bare_in_names, bare_in_cells, bare_out_cells, bare_net_cells, lane_cell}
-use Rattle.plan_carries.proofs.Pictures.{pictures_are_planes}
+use Rattle.plan_carries.proofs.Bare.{bare_in_names, bare_in_cells, bare_out_cells, bare_net_cells, lane_cell}
 use Rattle.plan_carries.proofs.SeenNets.{seen_nets, are_seen, seen_are_flat}
 use Rattle.netlist_plans.specs.NetPlaces.{IsEntry, HasNetPlaces}
 use Rattle.carries.specs.Nets.{WithoutClocks, AreSeenNets}
 use Rattle.carried_parts.specs.CarriedParts.{IsOpenInput, HasOpenLines}
 use Rattle.plan_signals.specs.Ports.{HasOpenPorts}
 
--- a period has 32 generations at least
+-- a period has 32 generations at least, and more if there are loops
+pub no_loops : (plan : Plan) → period_of plan ≡ 32 → plan.latches ≡ 0
+no_loops plan short = go (plan.latches == 0) refl short
+  where
+    go : (b : Bool) → (plan.latches == 0) ≡ b → cond b 32 (32 * (2 * length plan.columns + 4 * plan.latches)) ≡ 32 → plan.latches ≡ 0
+    go true none e = eqb-true plan.latches 0 none
+    go false some e = let loops : plan.latches ≢ 0 = eqb-false plan.latches 0 some in absurd (omega (arith, loops, e))
+
 pub period_long : (plan : Plan) → 32 ≤ period_of plan
 period_long plan = go (plan.latches == 0) refl
   where
     go : (b : Bool) → (plan.latches == 0) ≡ b → 32 ≤ cond b 32 (32 * (2 * length plan.columns + 4 * plan.latches))
     go true none = omega arith
     go false some = let loops : plan.latches ≢ 0 = eqb-false plan.latches 0 some in omega (arith, loops)
+
+-- the plane of the written pattern of a plan without a tape
+pub bare_plane : (plan : Plan) → IsAdmissible plan → plan.tape ≡ [] → plane_of (start_grid plan).rows ≡ start_plane shipped_drawing plan
+bare_plane plan admissible no_tape = (patterns_are_planes plan admissible).plane ∙ (bare plan no_tape).plane shipped_drawing
 
 -- the nets but the clock nets are one list
 seen_alike : (design : Design) (nets a b : List Net) → WithoutClocks design nets a → WithoutClocks design nets b → a ≡ b
@@ -206,8 +214,5 @@ module _ (design : Design) (flat : Flat) (faultless : AreFaultless design.models
       let at = made_alike net_line_cell place_cell ports.nets plan.nets (bare_net_cells plan no_tape flat 1 ports table) i line (record { lane = 0; after = None }) within is in
       subst (λ (cell : ℕ × ℕ × ℕ). p (pos cell.0) (pos cell.1) ≢ Empty) (sym at.1) (open_ports.nets i at.0)
 
-  plane_is : plane_of (start_grid plan).rows ≡ p
-  plane_is = ap (λ (grid : Grid). plane_of grid.rows) (bare_grid plan no_tape) ∙ (pictures_are_planes plan admissible (start_edges plan)).plane
-
   pub open_lines : HasOpenLines ports seen (plane_of (start_grid plan).rows)
-  open_lines = subst (HasOpenLines ports seen) (sym plane_is) (record { ins = in_line; outs = out_line; nets = net_line })
+  open_lines = subst (HasOpenLines ports seen) (sym (bare_plane plan admissible no_tape)) (record { ins = in_line; outs = out_line; nets = net_line })

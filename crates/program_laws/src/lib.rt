@@ -6,7 +6,7 @@
 #![tactic(auto)]
 
 ghost use Rattle.program_laws.specs.AigPrints.{AigCarriersRunQuietly, AigsAreLifted, AigsPrintRuns, AigsRunQuietly, CarriersPrintAigRuns};
-ghost use Rattle.program_laws.specs.CompiledParts.{CompiledAreParts, CompiledHaveOpenLines};
+ghost use Rattle.program_laws.specs.CompiledParts.{CompiledAreParts, CompiledHaveNoElectrons, CompiledHaveOpenLines};
 ghost use Rattle.program_laws.specs.DumpsNets.{CarriersDumpNets, CompiledDumpNets};
 ghost use Rattle.program_laws.specs.EvaluatesAlike.{CarriedEvaluateAlike, CompiledEvaluateInOneWay, LiftedEvaluateAlike};
 ghost use Rattle.program_laws.specs.Isolated.{CompiledPrintApart, ContextsPrintApart, NetsPrintApart};
@@ -115,11 +115,13 @@ pub fn compiled_are_lifted()
     names_are_words();
 }
 
-/// The text that `compile` writes for one context has open lines, and its period is 32 at least. So
-/// without start words its pattern is a part: what it makes of its inputs' bits are the bits of the
-/// netlist's runs.
+/// The text that `compile` writes for one context has open lines, and its period is 32 at least; if
+/// it is 32, the pattern has no electrons. So without start words the pattern is a part: what it
+/// makes of its inputs' bits are the bits of the netlist's runs. The cells of its IN lines are
+/// conductors.
 pub fn compiled_are_parts()
     ensures lines { CompiledHaveOpenLines }
+    ensures still { CompiledHaveNoElectrons }
     ensures parts { CompiledAreParts }
 {
     ports_are_open();
