@@ -27,15 +27,15 @@ rows_fit ports design names n bits = (names_of ports.ins, names.ins, row_long)
 pub in_cells_conduct : (text : List ℕ) (design : Design) (c : Carries text design) → HasInConductors c.ports (plane_of c.grid.rows)
 in_cells_conduct text design c line among =
     c.shows.conductors ones (rows_fit c.ports design c.names 1 all) 0 (pos line.x) (pos line.y) (
-      (streams_injected c.ports.p (cells_of c.ports.ins) ones 0 (pos line.x) (pos line.y)).1 (record {
-        cycle = 0;
-        input = i;
-        in_time = omega arith;
-        in_cells = omega (arith, within, length-map c.ports.ins at);
-        one = bit_at (length c.ports.ins) 1 all 0 i (omega arith) within;
-        column = ap (λ cell. pos cell.0) cell;
-        line = ap (λ cell. pos cell.1) cell;
-      })
+    (streams_injected c.ports.p (cells_of c.ports.ins) ones 0 (pos line.x) (pos line.y)).1 (record {
+      cycle = 0;
+      input = i;
+      in_time = omega arith;
+      in_cells = omega (arith, within, length-map c.ports.ins at);
+      one = bit_at (length c.ports.ins) 1 all 0 i (omega arith) within;
+      column = ap (λ cell. pos cell.0) cell;
+      line = ap (λ cell. pos cell.1) cell;
+    })
     )
   where
     all : ℕ → ℕ → Bool

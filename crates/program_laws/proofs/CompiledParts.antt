@@ -19,7 +19,7 @@ use Rattle.tile_library.proofs.Kept.{shipped_keeps_law}
 use Rattle.plan_layout.specs.Starts.{start_edges}
 use Rattle.grid_assembly.specs.PlanDrawing.{start_grid}
 use Rattle.pattern_reading.specs.declared.ports.Ports.{Ports}
-use Rattle.rle_write.specs.PlanText.{text_of_plan}
+use Rattle.pattern_writing.specs.WrittenText.{pattern_text}
 use Rattle.plan_ports.specs.Tables.{IsTableOf}
 use Rattle.lift_carries.specs.Compiled.{IsWrittenDrawing}
 use Rattle.carries.specs.Cells.{Spells}
@@ -53,6 +53,7 @@ module _ (starts : List (List ℕ)) (netlist text : List ℕ) (compiled : Compil
   flat = (flat_is_there design faultless).0
 
   is_flat : IsFlatOf design flat
+  unfolding flat
   is_flat = (flat_is_there design faultless).1
 
   table : IsTableOf flat plan 1 own
@@ -107,8 +108,8 @@ compiled_are_parts open_lines law netlist text compiled design is =
     same = one_design netlist compiled.design design compiled.has.netlist.is.design_of is.is.design_of
 
     -- the text is that of the plan of one context
-    text_is : text_of_plan compiled.base compiled.base_ports ≡ text
-    text_is = let alone = compiled.alone refl refl in ap₂ text_of_plan (sym alone.0) (sym alone.1) ∙ sym compiled.written
+    text_is : pattern_text (start_grid compiled.base) compiled.base_ports ≡ text
+    text_is = let alone = compiled.alone refl refl in ap₂ (λ (plan : Plan) (ports : Ports). pattern_text (start_grid plan) ports) (sym alone.0) (sym alone.1) ∙ sym compiled.written
 
     c : CarriesNets text design
     c = subst (CarriesNets text) same (subst (λ (t : List ℕ). CarriesNets t compiled.design) text_is compiled.is_carried.nets)

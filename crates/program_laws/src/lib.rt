@@ -1,8 +1,9 @@
-//! What the commands print of one another's outputs: the laws between them.
+//! What the commands print of one another's outputs: the laws between them. What `compile` writes is
+//! a part.
 //!
 //! The functions here do nothing: their clauses are the laws.
 //!
-//! Theorem: `carriers_print_alike`, `carriers_print_runs`, `compiled_are_lifted`, `carried_evaluate_alike`.
+//! Theorem: `carriers_print_alike`, `carriers_print_runs`, `compiled_are_lifted`, `compiled_are_parts`, `carried_evaluate_alike`.
 #![tactic(auto)]
 
 ghost use Rattle.program_laws.specs.AigPrints.{AigCarriersRunQuietly, AigsAreLifted, AigsPrintRuns, AigsRunQuietly, CarriersPrintAigRuns};
