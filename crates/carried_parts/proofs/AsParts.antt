@@ -269,7 +269,7 @@ module _ (text : List ℕ) (design : Design) (c : CarriesNets text design) (long
         let own = λ (g t : ℕ) (l : t < suc g). ap₂ (run_on (suc g) bits t) o.place o.name ∙ own_bit (suc g) t i line l of.2 in
         subst IsShown (sym of.3) (
           subst (λ cell. cell_state plane cell ≢ Empty) cell full,
-          λ g. subst (λ (port : Port). (cell_state (driven due plane g) port.0 ≡ Head) ↔ (is_lit period (signal_of port (λ t. bits t i)) g ≡ true)) (ap₂ (λ cell first. (cell, first)) cell o.offset) (net_shown o.number o.net o.net_line (λ t. bits t i) o.has_net o.has_line g (own g)),
+          λ g. subst (λ (port : Port). (cell_state (driven due plane g) port.0 ≡ Head) ↔ (is_lit period (signal_of port (λ t. bits t i)) g ≡ true)) {x = ((pos o.net_line.x, pos o.net_line.y), o.net_line.offset)} (ap₂ (λ cell first. (cell, first)) cell o.offset) (net_shown o.number o.net o.net_line (λ t. bits t i) o.has_net o.has_line g (own g)),
         )
 
     outer_shown : (s : Signal) → Contains outs s → IsShown s
