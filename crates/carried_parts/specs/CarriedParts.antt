@@ -81,8 +81,8 @@ MeansDesign {text} {design} c =
     meaning
     × HasInConductors c.carried.ports (plane_of c.carried.grid.rows)
 
--- The pattern of a text that carries a design and its nets is a part, if its lines are open and its
--- period is 3 at least: its meaning is the design's.
+-- The pattern of a text that carries a design and its nets is a part with the design's meaning, if
+-- its lines are open and its period is 3 at least.
 abbrev pub CarriersAreParts : Type 0
 CarriersAreParts =
     (text : List ℕ) (design : Design) (c : CarriesNets text design) → 3 ≤ c.carried.ports.p

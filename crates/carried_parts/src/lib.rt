@@ -8,7 +8,8 @@ ghost use Rattle.carried_parts.specs.CarriedParts.{CarriersAnswerEachRow, Carrie
 
 /// The pattern of a text that carries a design and its nets, whoever wrote it, is a part, and what
 /// it makes of its inputs' bits are the bits of the design's runs, if the period is 3 at least and
-/// its lines are open (an input's NET line has its IN cell). The cells of its IN lines are conductors.
+/// its lines are open (an input's NET line has its IN cell). The cells of its IN lines are
+/// conductors.
 pub fn carriers_are_parts()
     ensures { CarriersAreParts }
 {}
