@@ -22,8 +22,9 @@ CompiledHaveOpenLines =
     → (grid : Grid) (ports : Ports) → Spells text grid ports
     → (32 ≤ ports.p) × HasOpenLines ports seen (plane_of grid.rows)
 
--- If its period is 32, its pattern has no electrons. So it may begin later (`PartsStartLater`), and
--- without latches it goes at each multiple of 32 (`CarriersAnswerEachRow`, `AnswersGoSlower`).
+-- If the period of such a text is 32, its pattern has no electrons. So it may begin later
+-- (`PartsStartLater`), and without latches it goes at each multiple of 32 (`CarriersAnswerEachRow`,
+-- `AnswersGoSlower`).
 abbrev pub CompiledHaveNoElectrons : Type 0
 CompiledHaveNoElectrons =
     (starts : List (List ℕ)) (netlist text : List ℕ) → Prints (compile 1 starts) netlist text
