@@ -19,3 +19,5 @@ pub mod AigQuiet
 pub mod ShownAigs
 pub mod OpenLines
 pub mod CompiledParts
+pub mod LooplessFlats
+pub mod NetlistRuns

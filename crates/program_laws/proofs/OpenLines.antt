@@ -113,7 +113,7 @@ own_net flat sound named listed i within =
     at = got_from (listed_nets flat) net (subst (λ b. In net (cond b (nets_but_clocks flat) [])) (sym listed) (stays_in (λ (n : FlatNet). not (is_clock_class flat n.class)) flat.nets net here (passes (is_clock_class flat net.class) refl)))
 
 -- lists that are made alike have like items
-made_alike : {X Y Z : Type 0} (f : X → Z) (g : Y → Z) (xs : List X) (ys : List Y) → map f xs ≡ map g ys → (i : ℕ) (x : X) (d : Y) → i < length xs → get_or xs i x ≡ x → (i < length ys) × (f x ≡ g (get_or ys i d))
+pub made_alike : {X Y Z : Type 0} (f : X → Z) (g : Y → Z) (xs : List X) (ys : List Y) → map f xs ≡ map g ys → (i : ℕ) (x : X) (d : Y) → i < length xs → get_or xs i x ≡ x → (i < length ys) × (f x ≡ g (get_or ys i d))
 made_alike f g xs ys same i x d within is =
     let many : length xs ≡ length ys = sym (length-map xs f) ∙ ap length same ∙ length-map ys g in
     let low : i < length ys = omega (arith, within, many) in

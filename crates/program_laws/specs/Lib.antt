@@ -9,3 +9,4 @@ pub mod Onward
 pub mod OneAnswer
 pub mod ShownAigs
 pub mod CompiledParts
+pub mod NetlistRuns

@@ -12,6 +12,7 @@ ghost use Rattle.program_laws.specs.DumpsNets.{CarriersDumpNets, CompiledDumpNet
 ghost use Rattle.program_laws.specs.EvaluatesAlike.{CarriedEvaluateAlike, CompiledEvaluateInOneWay, LiftedEvaluateAlike};
 ghost use Rattle.program_laws.specs.Isolated.{CompiledPrintApart, ContextsPrintApart, NetsPrintApart};
 ghost use Rattle.program_laws.specs.LiftsBack.{CompiledAreLifted, CompiledNamesAreGood, LiftedInOneWay, LiftedPrintAlike};
+ghost use Rattle.program_laws.specs.NetlistRuns.{NetlistRunsAgree};
 ghost use Rattle.program_laws.specs.OneAnswer.{DumpsAreProbed, ProbePrintsOne, SimulatePrintsOne, VcdPrintsOne, WindowPrintsOne};
 ghost use Rattle.program_laws.specs.Onward.{ContextsGoOn, ContextsShowEachFront, NetsGoOn, NetsShowEachFront};
 ghost use Rattle.program_laws.specs.PrintsAlike.{CarriersPrintAlike, CarriersPrintNets, CarriersPrintNetsInContexts, CarriersPrintRuns, CarriersRunQuietly, CompiledPrintAlike, CompiledPrintNets, CompiledPrintRuns, CompiledRunQuietly};
@@ -129,6 +130,12 @@ pub fn compiled_are_parts()
     tiles_are_open();
     carriers_are_parts();
 }
+
+/// The runs of a netlist on the same rows of input bits have the same bits at its outputs, and at its
+/// nets but the clock nets.
+pub fn netlist_runs_agree()
+    ensures { NetlistRunsAgree }
+{}
 
 /// `lift` writes one text of a text, and `simulate` prints of the latter what `eval` prints of the
 /// former under the same words.
