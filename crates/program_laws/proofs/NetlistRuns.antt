@@ -23,7 +23,6 @@ use Rattle.flat_designs.proofs.Loops.{loops_are_flat}
 use Rattle.flat_designs.proofs.Sound.{has_driver, flat_is_sound}
 use Rattle.flat_designs.proofs.Valuations.{is_flat, same_bit}
 use Rattle.flat_designs.proofs.Whole.{flat_is_there}
-use Rattle.netlist_text.specs.NetlistText.{IsNetlist}
 use Rattle.plan_carries.proofs.Alike.{outputs_alike, latches_alike}
 use Rattle.carries.specs.Nets.{WithoutClocks}
 use Rattle.program_laws.specs.NetlistRuns.{NetlistRunsAgree}
