@@ -7,32 +7,32 @@ use Rattle.ww_rule.specs.declared.pattern.State.TheVariants.{Head}
 use Rattle.ww_rule.specs.Wireworld.{Plane, Due, next_plane}
 use Rattle.ww_rule.proofs.Due.{from_earlier}
 use Rattle.band_rows.specs.Fields.{GoOnAlone, ShowsField, TailsShow}
-use Rattle.band_rows.specs.Rows.{ShowsHeads}
+use Rattle.lane_kernel.specs.PlaneRows.{ShowsHeads}
 use Rattle.band_core.specs.declared.band.Band.{Band}
 use Rattle.band_core.specs.Band.{AreDueIn, AreInRows, IsBand, IsEvolution, ShowsBand, generation_at, rows_in_band}
-use Rattle.band_core.specs.Together.{CanMoveOn, HasRun, HaveMovedOn, IsCalm}
+use Rattle.band_core.specs.Together.{CanMoveOn, HasBandRun, HaveMovedOn, HasNoneDueFor}
 use Rattle.band_core.proofs.Dark.{below, none_due}
 use Rattle.band_core.proofs.Facing.{ends, nothing}
 use Rattle.band_core.proofs.MovedOn.{calm_for, own_generation, still_left}
 use Rattle.band_core.proofs.NextRows.{west}
 use Rattle.band_core.proofs.Putting.{put_one}
 
-ran_is : (columns y many n : ℕ) (old new : Band) → HasRun n old new → IsBand columns y many old → IsBand columns y many new
+ran_is : (columns y many n : ℕ) (old new : Band) → HasBandRun n old new → IsBand columns y many old → IsBand columns y many new
 ran_is columns y many n old new r is =
     let done = is.done in
     let le = ap (λ v. length v.items) r.injections in
     let same = r.done in
     record {
-      closed = r.closed;
-      wide = r.size.columns ∙ is.wide;
-      high = r.size.rows ∙ is.high;
+      closed = r.field.closed;
+      wide = r.field.size.columns ∙ is.wide;
+      high = r.field.size.rows ∙ is.high;
       some = is.some;
       inside = subst (λ v. AreInRows columns y many v.items) (sym r.injections) is.inside;
       done = omega (arith, done, le, same);
     }
 
 -- all rows of the evolution are in the band
-module _ (e : ℕ → Plane) (due : Due) (width rows columns y many n : ℕ) (evo : IsEvolution e due width rows) (old : Band) (is : IsBand columns y many old) (shows : ShowsBand e due y many old) (first : y ≡ 0) (all : y + many ≡ rows) (calm : IsCalm n old) where
+module _ (e : ℕ → Plane) (due : Due) (width rows columns y many n : ℕ) (evo : IsEvolution e due width rows) (old : Band) (is : IsBand columns y many old) (shows : ShowsBand e due y many old) (first : y ≡ 0) (all : y + many ≡ rows) (calm : HasNoneDueFor n old) where
   abbrev g : ℕ
   g = old.generation
 
@@ -68,20 +68,20 @@ module _ (e : ℕ → Plane) (due : Due) (width rows columns y many n : ℕ) (ev
         below = λ k lt. under (g + k);
       }
 
-  pub ran_shows : (new : Band) → 0 < n → HasRun n old new → ShowsBand e due y many new
+  pub ran_shows : (new : Band) → 0 < n → HasBandRun n old new → ShowsBand e due y many new
   ran_shows new some r =
       let gen = r.generation in
       let start : ShowsField old.field (e (g + 0)) (pos y) = subst (λ h. ShowsField old.field (e h) (pos y)) (let q : g ≡ g + 0 = omega arith in q) shows.cells in
       record {
-        cells = subst (λ h. ShowsField new.field (e h) (pos y)) (sym gen) (r.shows (λ k. e (g + k)) (pos y) goes_on start);
+        cells = subst (λ h. ShowsField new.field (e h) (pos y)) (sym gen) (r.field.shows (λ k. e (g + k)) (pos y) goes_on start);
         before = λ h q.
             subst (λ h. TailsShow new.field (e h) (pos y)) (let s : g + (n - 1) ≡ h = omega (arith, q, gen, some) in s)
-            (r.tails (λ k. e (g + k)) (pos y) (n - 1) (omega (arith, some)) goes_on start);
+            (r.field.tails (λ k. e (g + k)) (pos y) (n - 1) (omega (arith, some)) goes_on start);
         own = subst (λ v. AreDueIn v.items due y many) (sym r.injections) shows.own;
         left = still_left n old new gen r.injections r.done calm shows.left;
       }
 
-pub ran_moved_on : (n most columns height rows : ℕ) (old : List Band) (d new : Band) → length old ≡ 1 → 0 < n → n ≤ most → CanMoveOn most columns height rows old → All (IsCalm most) old → HasRun n (get_or old 0 d) new → HaveMovedOn n columns height rows old (slice_set old 0 new)
+pub ran_moved_on : (n most columns height rows : ℕ) (old : List Band) (d new : Band) → length old ≡ 1 → 0 < n → n ≤ most → CanMoveOn most columns height rows old → All (HasNoneDueFor most) old → HasBandRun n (get_or old 0 d) new → HaveMovedOn n columns height rows old (slice_set old 0 new)
 ran_moved_on n most columns height rows old d new one some few can calm run =
     let after = slice_set old 0 new in
     let long = length-set old 0 new in

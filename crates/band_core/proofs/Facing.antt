@@ -12,8 +12,8 @@ use Rattle.std.proofs.lemmas.Option.{none-some}
 use Rattle.ww_rule.specs.declared.pattern.State.TheVariants.{Empty}
 use Rattle.ww_rule.specs.Wireworld.{Plane, Due, count_head}
 use Rattle.lane_kernel.specs.Rows.{state_of}
-use Rattle.band_rows.specs.Fields.{heads_of, tails_of}
-use Rattle.band_rows.specs.Rows.{ShowsHeads}
+use Rattle.band_rows.specs.Fields.{field_heads, field_tails}
+use Rattle.lane_kernel.specs.PlaneRows.{ShowsHeads}
 use Rattle.band_rows.proofs.Parts.{IsParted, many, at_before, at_after}
 use Rattle.band_rows.proofs.Marks.{none_set}
 use Rattle.band_core.specs.declared.band.Band.{Band}
@@ -35,8 +35,8 @@ bottom_shows e due columns y many g band is shows (inl q) =
     let last : n - 1 < n = omega (arith, high, some) in
     let here = heads_show field (e band.generation) (pos y) (n - 1) last shows.cells in
     subst (λ h. ShowsHeads h (e g) (pos y +ℤ pos (many - 1))) (bottom_now band g (omega (arith, high, some)) q)
-    (subst (λ m. ShowsHeads (heads_of field (n - 1 + 1)) (e g) (pos y +ℤ pos (m - 1))) high
-    (subst (λ g. ShowsHeads (heads_of field (n - 1 + 1)) (e g) (pos y +ℤ pos (n - 1))) q here))
+    (subst (λ m. ShowsHeads (field_heads field (n - 1 + 1)) (e g) (pos y +ℤ pos (m - 1))) high
+    (subst (λ g. ShowsHeads (field_heads field (n - 1 + 1)) (e g) (pos y +ℤ pos (n - 1))) q here))
 bottom_shows e due columns y many g band is shows (inr q) =
     let field = band.field in
     let n = field.rows in
@@ -44,7 +44,7 @@ bottom_shows e due columns y many g band is shows (inr q) =
     let some = is.some in
     let last : n - 1 < n = omega (arith, high, some) in
     subst (λ h. ShowsHeads h (e g) (pos y +ℤ pos (many - 1))) (bottom_before band g (omega (arith, high, some)) (λ r. omega (arith, q, r)))
-    (subst (λ m. ShowsHeads (tails_of field (n - 1 + 1)) (e g) (pos y +ℤ pos (m - 1))) high (shows.before g q (n - 1) last))
+    (subst (λ m. ShowsHeads (field_tails field (n - 1 + 1)) (e g) (pos y +ℤ pos (m - 1))) high (shows.before g q (n - 1) last))
 
 pub top_shows : (e : ℕ → Plane) (due : Due) (columns y many g : ℕ) (band : Band) → IsBand columns y many band → ShowsBand e due y many band → IsAtOrAfter g band.generation → ShowsHeads (top_at g band) (e g) (pos y)
 top_shows e due columns y many g band is shows (inl q) =
@@ -54,14 +54,14 @@ top_shows e due columns y many g band is shows (inl q) =
     let here = heads_show field (e band.generation) (pos y) 0 (omega (arith, high, some)) shows.cells in
     let z : pos y +ℤ pos 0 ≡ pos y = omega (arith, ints) in
     subst (λ h. ShowsHeads h (e g) (pos y)) (top_now band g q)
-    (subst (ShowsHeads (heads_of field 1) (e g)) z (subst (λ g. ShowsHeads (heads_of field 1) (e g) (pos y +ℤ pos 0)) q here))
+    (subst (ShowsHeads (field_heads field 1) (e g)) z (subst (λ g. ShowsHeads (field_heads field 1) (e g) (pos y +ℤ pos 0)) q here))
 top_shows e due columns y many g band is shows (inr q) =
     let field = band.field in
     let high = is.high in
     let some = is.some in
     let z : pos y +ℤ pos 0 ≡ pos y = omega (arith, ints) in
     subst (λ h. ShowsHeads h (e g) (pos y)) (top_before band g (λ r. omega (arith, q, r)))
-    (subst (ShowsHeads (tails_of field 1) (e g)) z (shows.before g q 0 (omega (arith, high, some))))
+    (subst (ShowsHeads (field_tails field 1) (e g)) z (shows.before g q 0 (omega (arith, high, some))))
 
 chosen : (t : Bool) (a b : List ℕ) (n : ℕ) → length a ≡ n → length b ≡ n → length (if t then a else b) ≡ n
 chosen true a b n p q = p

@@ -9,7 +9,7 @@ use Rattle.ww_rule.specs.declared.pattern.State.TheVariants.{Head}
 use Rattle.ww_rule.specs.Wireworld.{Plane, injected}
 use Rattle.ww_rule.specs.Injections.{has_cell}
 use Rattle.band_rows.specs.declared.field.Field.{Field}
-use Rattle.band_rows.specs.Fields.{AreOfOneSize, ShowsField, state_in}
+use Rattle.band_rows.specs.Fields.{AreOfOneSize, ShowsField, field_state}
 use Rattle.ww_rule.proofs.Integers.{other_int}
 
 column_is : (x u : ℕ) → int_eq (pos x) (pos u) ≡ (u == x)
@@ -41,7 +41,7 @@ is_there x v u k j y e =
     ]
 
 -- a field of which a cell was made a head
-pub head_put : (old new : Field) (x k v y : ℕ) (p : Plane) → v ≡ y + k → AreOfOneSize old new → ((u j : ℕ) → j < old.rows → state_in new u j ≡ cond (u == x && j == k) Head (state_in old u j)) → ShowsField old p (pos y) → ShowsField new (injected (has_cell ((x, v) ∷ [])) p) (pos y)
+pub head_put : (old new : Field) (x k v y : ℕ) (p : Plane) → v ≡ y + k → AreOfOneSize old new → ((u j : ℕ) → j < old.rows → field_state new u j ≡ cond (u == x && j == k) Head (field_state old u j)) → ShowsField old p (pos y) → ShowsField new (injected (has_cell ((x, v) ∷ [])) p) (pos y)
 head_put old new x k v y p e size cells shows j u lt =
     let rows = size.rows in
     let within : j < old.rows = omega (arith, lt, rows) in

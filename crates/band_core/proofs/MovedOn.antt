@@ -16,7 +16,7 @@ use Rattle.band_rows.specs.Fields.{ShowsField, TailsShow}
 use Rattle.band_core.specs.declared.band.Band.{Band}
 use Rattle.band_core.specs.Bands.{not_ready, unready_neighbour, upper_not_ready}
 use Rattle.band_core.specs.Band.{AllShow, AreBands, AreDueIn, CanMove, IsBand, IsEvolution, ShowsBand, generation_at, generations_of, rows_in_band}
-use Rattle.band_core.specs.Together.{AreBandsAt, CanMoveOn, HasNoneLit, HasRested, HaveMovedOn, HaveRested, IsCalm}
+use Rattle.band_core.specs.Together.{AreBandsAt, CanMoveOn, HasNoneDueFor, HasNoneLit, HasRested, HaveMovedOn, HaveRested}
 use Rattle.band_core.proofs.Dark.{IsDark, below, none_due, stays_dark}
 use Rattle.band_core.proofs.Evolution.{in_bands}
 use Rattle.band_core.proofs.BandFields.{cell_set, dark_state}
@@ -201,7 +201,7 @@ module _ (e : ℕ → Plane) (due : Due) (width columns height rows g : ℕ) (ba
           ap (λ g. e g (pos x) (pos y)) (sym its_generation) ∙ ap (e band.generation (pos x)) (sym place) ∙ sym (shown.cells k x l) ∙ dark_state band.field x k l none,
         )
 
-    none_due_there : (n : ℕ) → IsCalm n band → (h x : ℕ) → g < h → h ≤ g + n → due h (pos x) (pos y) ≡ false
+    none_due_there : (n : ℕ) → HasNoneDueFor n band → (h x : ℕ) → g < h → h ≤ g + n → due h (pos x) (pos y) ≡ false
     none_due_there n calm h x later early =
         let gen = its_generation in
         let left = shown.left in
@@ -224,13 +224,13 @@ module _ (e : ℕ → Plane) (due : Due) (width columns height rows g : ℕ) (ba
   is_dark none (pos x) (negsuc y) = let it = evo.empty g (pos x) (negsuc y) refl in (λ q. empty_head (sym it ∙ q), λ q. empty_tail (sym it ∙ q))
   is_dark none (negsuc x) y = let it = evo.empty g (negsuc x) y refl in (λ q. empty_head (sym it ∙ q), λ q. empty_tail (sym it ∙ q))
 
-  pub plane_stays : (n : ℕ) → All HasNoneLit bands → All (IsCalm n) bands → (k : ℕ) → k ≤ n → e (g + k) ≡ e g
+  pub plane_stays : (n : ℕ) → All HasNoneLit bands → All (HasNoneDueFor n) bands → (k : ℕ) → k ≤ n → e (g + k) ≡ e g
   plane_stays n none calm = stays_dark e due width rows g evo (is_dark none) n (λ h x y later early lt. none_due_there y lt n (calm (b y lt) _ (inside y lt)) h x later early)
 
 -- ---- bands that rest
 
 -- what a band knows of its own injections stays, if it comes n calm generations further
-pub still_left : (n : ℕ) (old new : Band) → new.generation ≡ old.generation + n → new.injections ≡ old.injections → new.done ≡ old.done → IsCalm n old → AreLeftAt (old.generation + 1) old.injections.items (drop old.done old.injections.items) → AreLeftAt (new.generation + 1) new.injections.items (drop new.done new.injections.items)
+pub still_left : (n : ℕ) (old new : Band) → new.generation ≡ old.generation + n → new.injections ≡ old.injections → new.done ≡ old.done → HasNoneDueFor n old → AreLeftAt (old.generation + 1) old.injections.items (drop old.done old.injections.items) → AreLeftAt (new.generation + 1) new.injections.items (drop new.done new.injections.items)
 still_left n old new gen injections done calm left =
     let own = old.injections.items in
     let after : AreLeftAt (new.generation + 1) own (drop old.done own) = record {
@@ -241,7 +241,7 @@ still_left n old new gen injections done calm left =
     } in
     subst (λ v. AreLeftAt (new.generation + 1) v.items (drop new.done v.items)) (sym injections) (subst (λ d. AreLeftAt (new.generation + 1) own (drop d own)) (sym done) after)
 
-rested_shows : (e : ℕ → Plane) (due : Due) (y many n : ℕ) (old new : Band) → 0 < n → ShowsBand e due y many old → HasRested n old new → HasNoneLit old → IsDark (e old.generation) → ((k : ℕ) → k ≤ n → e (old.generation + k) ≡ e old.generation) → IsCalm n old → ShowsBand e due y many new
+rested_shows : (e : ℕ → Plane) (due : Due) (y many n : ℕ) (old new : Band) → 0 < n → ShowsBand e due y many old → HasRested n old new → HasNoneLit old → IsDark (e old.generation) → ((k : ℕ) → k ≤ n → e (old.generation + k) ≡ e old.generation) → HasNoneDueFor n old → ShowsBand e due y many new
 rested_shows e due y many n old new some shows r unlit dark stays calm =
     let g = old.generation in
     let gen = r.generation in
@@ -271,7 +271,7 @@ module _ (n columns height rows : ℕ) (old new : List Band) (some : 0 < n) (res
       sym (own_generation new b d lt) ∙ (rested.each b d l).generation ∙ ap (λ h. h + n) (own_generation old b d l ∙ at b l)
 
   -- where none is lit and none is due, they have moved on
-  pub rested_moved_on : (g : ℕ) → AreBandsAt g old → 0 < height → All HasNoneLit old → All (IsCalm n) old → HaveMovedOn n columns height rows old new
+  pub rested_moved_on : (g : ℕ) → AreBandsAt g old → 0 < height → All HasNoneLit old → All (HasNoneDueFor n) old → HaveMovedOn n columns height rows old new
   rested_moved_on g at high none calm =
       record {
         are = record {
@@ -289,7 +289,7 @@ module _ (n columns height rows : ℕ) (old new : List Band) (some : 0 < n) (res
       }
 
 -- where all bands can move on, and none is lit
-pub dark_moved_on : (n most columns height rows : ℕ) (old new : List Band) → 0 < n → CanMoveOn most columns height rows old → All HasNoneLit old → All (IsCalm n) old → HaveRested n old new → HaveMovedOn n columns height rows old new
+pub dark_moved_on : (n most columns height rows : ℕ) (old new : List Band) → 0 < n → CanMoveOn most columns height rows old → All HasNoneLit old → All (HasNoneDueFor n) old → HaveRested n old new → HaveMovedOn n columns height rows old new
 dark_moved_on n most columns height rows old new some can none calm rested =
     rested_moved_on n columns height rows old new some rested can.are can.generation can.at can.high none calm
 
@@ -327,5 +327,5 @@ has_room n m columns height rows bands le can b d lt =
     omega (arith, own, at, room, le)
 
 -- a longer time without injections begins with a shorter one
-pub calm_for : (n m : ℕ) (band : Band) → m ≤ n → IsCalm n band → IsCalm m band
+pub calm_for : (n m : ℕ) (band : Band) → m ≤ n → HasNoneDueFor n band → HasNoneDueFor m band
 calm_for n m band le calm order = from_earlier (band.generation + m + 1) (band.generation + n + 1) (drop band.done band.injections.items) (omega (arith, le)) (calm order)

@@ -7,7 +7,7 @@ use Rattle.ww_rule.specs.Wireworld.{Plane, Due, next_plane, injected}
 use Rattle.ww_rule.specs.Injections.{has_cell}
 use Rattle.band_rows.specs.declared.field.Field.{Field}
 use Rattle.band_rows.specs.Fields.{ShowsField}
-use Rattle.band_rows.specs.Rows.{IsEmptyWest}
+use Rattle.lane_kernel.specs.PlaneRows.{IsEmptyWest}
 use Rattle.band_core.specs.Band.{AreDueIn, IsEvolution, injected_cells}
 use Rattle.ww_rule.proofs.Due.{front_cells}
 

@@ -11,8 +11,8 @@ use Rattle.ww_rule.specs.Grid.{in_box}
 use Rattle.lane_kernel.specs.Rows.{is_set, state_of}
 use Rattle.lane_kernel.proofs.Counting.{count_is}
 use Rattle.band_rows.specs.declared.field.Field.{Field}
-use Rattle.band_rows.specs.Fields.{IsClosed, ShowsField, TailsShow, heads_of, tails_of}
-use Rattle.band_rows.specs.Rows.{ShowsHeads}
+use Rattle.band_rows.specs.Fields.{IsClosedField, ShowsField, TailsShow, field_heads, field_tails}
+use Rattle.lane_kernel.specs.PlaneRows.{ShowsHeads}
 use Rattle.band_core.specs.declared.band.Band.{Band}
 use Rattle.band_core.specs.Band.{AreUnlit, AreDueIn, AreInRows, HasNoneDue, IsBand, IsEvolution, IsQuiet, ShowsBand}
 use Rattle.band_core.proofs.BandFields.{cell_set, dark_state}
@@ -23,7 +23,7 @@ rests columns y many band next ef ei ed is =
     let done = is.done in
     let li = ap (λ v. length v.items) ei in
     record {
-      closed = subst IsClosed (sym ef) is.closed;
+      closed = subst IsClosedField (sym ef) is.closed;
       wide = ap (λ (field : Field). field.columns) ef ∙ is.wide;
       high = ap (λ (field : Field). field.rows) ef ∙ is.high;
       some = is.some;
@@ -32,7 +32,7 @@ rests columns y many band next ef ei ed is =
     }
 
 -- the tails of a dark field show a plane that has no heads there
-pub nothing_shown : (field : Field) (p : Plane) (y : ℤ) → ((k x : ℕ) → k < field.rows → is_set (tails_of field (k + 1)) x ≡ false) → ((x k : ℕ) → k < field.rows → count_head (p (pos x) (y +ℤ pos k)) ≡ 0) → TailsShow field p y
+pub nothing_shown : (field : Field) (p : Plane) (y : ℤ) → ((k x : ℕ) → k < field.rows → is_set (field_tails field (k + 1)) x ≡ false) → ((x k : ℕ) → k < field.rows → count_head (p (pos x) (y +ℤ pos k)) ≡ 0) → TailsShow field p y
 nothing_shown field p y none dark k lt x = ap (λ h. count_head (state_of h false false)) (none k x lt) ∙ sym (dark x k lt)
 
 -- a cell that is no head and stays as it is has no tail
@@ -44,11 +44,11 @@ no_tail_stays false true w n c e = absurd (tail_moves n e)
     tail_moves n e = cc
 no_tail_stays false false w n c e = refl
 
-quiet_tails : (e : ℕ → Plane) (due : Due) (g y : ℕ) (field : Field) → ShowsField field (e g) (pos y) → IsQuiet e due g y field.rows → (k x : ℕ) → k < field.rows → is_set (tails_of field (k + 1)) x ≡ false
+quiet_tails : (e : ℕ → Plane) (due : Due) (g y : ℕ) (field : Field) → ShowsField field (e g) (pos y) → IsQuiet e due g y field.rows → (k x : ℕ) → k < field.rows → is_set (field_tails field (k + 1)) x ≡ false
 quiet_tails e due g y field shows quiet k x lt =
     let z = pos y +ℤ pos k in
     let here = sym (shows k x lt) in
-    no_tail_stays (is_set (heads_of field (k + 1)) x) (is_set (tails_of field (k + 1)) x) (cell_set field x k) (heads_around (e g) (pos x) z)
+    no_tail_stays (is_set (field_heads field (k + 1)) x) (is_set (field_tails field (k + 1)) x) (cell_set field x k) (heads_around (e g) (pos x) z)
     (sym (ap count_head here) ∙ quiet.dark x k lt)
     (sym (ap (λ s. next_state s (heads_around (e g) (pos x) z)) here) ∙ quiet.still x k lt ∙ here)
 

@@ -12,7 +12,7 @@ use Rattle.ww_rule.specs.Grid.{plane_of}
 use Rattle.ww_rule.specs.Injections.{due_of_list}
 use Rattle.lane_kernel.specs.Rows.{is_set, state_of}
 use Rattle.band_rows.specs.declared.field.Field.{Field}
-use Rattle.band_rows.specs.Fields.{IsDarkField, IsLitInField, heads_of, state_in, tails_of}
+use Rattle.band_rows.specs.Fields.{IsDarkField, IsLitInField, field_heads, field_state, field_tails}
 use Rattle.band_core.specs.declared.band.Band.{Band}
 use Rattle.band_core.specs.declared.bands.Bands.TheInside.{Inside}
 use Rattle.band_core.specs.Bands.{AreLevel, IsCellOf, IsLit, IsUnlit, band_at, generation_of}
@@ -51,7 +51,7 @@ module _ (held : Inside) (is_held : IsHeld held) where
     shown : ShowsBand plane (due_of_list held.injections.items) y (rows_in_band held.height total b) band
     shown = is_held.shows b d lt
 
-    state_is : (k x : ℕ) → k < band.field.rows → band_at (held_pattern held) b x (y + k) ≡ state_in band.field x k
+    state_is : (k x : ℕ) → k < band.field.rows → band_at (held_pattern held) b x (y + k) ≡ field_state band.field x k
     state_is k x l =
         let place : pos (y + k) ≡ pos y +ℤ pos k = omega (arith, ints) in
         ap (λ g. plane g (pos x) (pos (y + k))) (sym (own_generation held.bands.items b d lt))
@@ -69,18 +69,18 @@ module _ (held : Inside) (is_held : IsHeld held) where
         }
 
     module _ (unlit : IsUnlit (held_pattern held)) where
-      no_head_here : (k x : ℕ) → k < band.field.rows → is_set (heads_of band.field (k + 1)) x ≡ false
+      no_head_here : (k x : ℕ) → k < band.field.rows → is_set (field_heads band.field (k + 1)) x ≡ false
       no_head_here k x l =
-          elim (cases_Bool (is_set (heads_of band.field (k + 1)) x)) [
+          elim (cases_Bool (is_set (field_heads band.field (k + 1)) x)) [
             | inl e ↦
-                let at = state_is k x l ∙ ap (λ h. state_of h (is_set (tails_of band.field (k + 1)) x) (cell_set band.field x k)) e in
+                let at = state_is k x l ∙ ap (λ h. state_of h (is_set (field_tails band.field (k + 1)) x) (cell_set band.field x k)) e in
                 absurd (unlit b x (y + k) (head (cell_is k x Head l head_there at) at))
             | inr e ↦ e
           ]
 
-      no_tail_here : (k x : ℕ) → k < band.field.rows → is_set (tails_of band.field (k + 1)) x ≡ false
+      no_tail_here : (k x : ℕ) → k < band.field.rows → is_set (field_tails band.field (k + 1)) x ≡ false
       no_tail_here k x l =
-          elim (cases_Bool (is_set (tails_of band.field (k + 1)) x)) [
+          elim (cases_Bool (is_set (field_tails band.field (k + 1)) x)) [
             | inl e ↦
                 let at = state_is k x l ∙ ap₂ (λ h t. state_of h t (cell_set band.field x k)) (no_head_here k x l) e in
                 absurd (unlit b x (y + k) (tail (cell_is k x Tail l tail_there at) at))

@@ -13,7 +13,7 @@ use Rattle.ww_rule.specs.Injections.{has_cell, due_of_list}
 use Rattle.ww_rule.proofs.Lists.{lists_are_injected}
 use Rattle.lane_kernel.specs.Rows.{is_set, state_of}
 use Rattle.band_rows.specs.Fields.{IsLitInField}
-use Rattle.band_rows.specs.Rows.{ShowsHeads}
+use Rattle.lane_kernel.specs.PlaneRows.{ShowsHeads}
 use Rattle.band_core.specs.declared.band.Band.{Band}
 use Rattle.band_core.specs.Band.{HasNoneDue, IsBand, IsNextDue, IsWaking, ShowsBand}
 use Rattle.band_core.specs.Band.IsWaking.{head, tail, above, below, due}

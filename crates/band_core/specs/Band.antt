@@ -8,7 +8,7 @@ use Rattle.ww_rule.specs.Injections.{due_of_list}
 use Rattle.ww_rule.specs.declared.pattern.State.TheVariants.{Head, Tail}
 use Rattle.lane_kernel.specs.Rows.{is_set}
 use Rattle.band_rows.specs.declared.field.Field.{Field}
-use Rattle.band_rows.specs.Fields.{IsClosed, IsDarkField, ShowsField, TailsShow, heads_of, tails_of}
+use Rattle.band_rows.specs.Fields.{IsClosedField, IsDarkField, ShowsField, TailsShow, field_heads, field_tails}
 use Rattle.band_core.specs.declared.band.Band.{Band}
 use Rattle.band_core.specs.Bands.{bands_in, unready_neighbour}
 
@@ -21,14 +21,14 @@ pub record IsEvolution (e : ℕ → Plane) (due : Due) (width rows : ℕ) : Type
 abbrev pub injected_cells : List Injection → List (ℕ × ℕ)
 injected_cells injections = map (λ i. (i.x, i.y)) injections
 
--- the injections are at cells of `many` rows from row y on, within so many columns of words
+-- the injections are at cells of `many` rows from row y on, within so many word columns
 abbrev pub AreInRows : (columns y many : ℕ) → List Injection → Type 0
 AreInRows columns y many injections =
     All (λ i. (y ≤ i.y) × (i.y < y + many) × (i.x / 64 < columns)) injections
 
--- a band of `many` rows, from row y on, in so many columns of words
+-- a band of `many` rows, from row y on, in so many word columns
 pub record IsBand (columns y many : ℕ) (band : Band) : Type 0 where
-  pub closed : IsClosed band.field
+  pub closed : IsClosedField band.field
   pub wide : band.field.columns ≡ columns
   pub high : band.field.rows ≡ many
   pub some : 0 < many
@@ -54,34 +54,34 @@ pub record ShowsBand (e : ℕ → Plane) (due : Due) (y many : ℕ) (band : Band
 -- before
 abbrev pub bottom_at : ℕ → Band → List ℕ
 bottom_at g band =
-    if band.generation == g then heads_of band.field band.field.rows
-    else tails_of band.field band.field.rows
+    if band.generation == g then field_heads band.field band.field.rows
+    else field_tails band.field band.field.rows
 
 abbrev pub top_at : ℕ → Band → List ℕ
-top_at g band = if band.generation == g then heads_of band.field 1 else tails_of band.field 1
+top_at g band = if band.generation == g then field_heads band.field 1 else field_tails band.field 1
+
+-- the number of rows of band b, if bands of a height cover so many rows
+abbrev pub rows_in_band : (height rows b : ℕ) → ℕ
+rows_in_band height rows b = min height (rows - b * height)
 
 -- the bands are all the bands of a height over so many rows
 pub record AreBands (columns height rows : ℕ) (bands : List Band) : Type 0 where
   pub many : length bands ≡ bands_in rows height
   pub each : (b : ℕ) (d : Band) → b < length bands
-      → IsBand columns (b * height) (min height (rows - b * height)) (get_or bands b d)
+      → IsBand columns (b * height) (rows_in_band height rows b) (get_or bands b d)
 
 -- the bands show an evolution, each at its own generation
 abbrev pub AllShow : (e : ℕ → Plane) (due : Due) (height rows : ℕ) → List Band → Type 0
 AllShow e due height rows bands =
     (b : ℕ) (d : Band) → b < length bands
-    → ShowsBand e due (b * height) (min height (rows - b * height)) (get_or bands b d)
+    → ShowsBand e due (b * height) (rows_in_band height rows b) (get_or bands b d)
 
 abbrev pub generations_of : List Band → List ℕ
 generations_of bands = map (λ band. band.generation) bands
 
--- the generation of band b; and below, the number of its rows, if the bands of this height cover so
--- many rows
+-- the generation of band b
 abbrev pub generation_at : List Band → ℕ → ℕ
 generation_at bands b = get_or (generations_of bands) b 0
-
-abbrev pub rows_in_band : (height rows b : ℕ) → ℕ
-rows_in_band height rows b = min height (rows - b * height)
 
 -- no cell of a field from row y on is lit, nor one of the rows beside it; the row above is not
 -- looked at if y is 0

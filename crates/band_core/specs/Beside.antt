@@ -3,14 +3,14 @@ use Rattle.std.specs.Prelude.{ℤ, pos, ◌+ℤ◌, ◌-ℤ◌, ℕ, ◌-◌, �
 use Rattle.ww_rule.specs.Wireworld.{Plane}
 use Rattle.band_rows.specs.declared.plane_row.FacingRows.{FacingRows}
 use Rattle.band_rows.specs.Facing.{words_in}
-use Rattle.band_rows.specs.Fields.{IsField}
-use Rattle.band_rows.specs.Rows.{ShowsHeads}
+use Rattle.band_rows.specs.Fields.{IsPlaneField}
+use Rattle.lane_kernel.specs.PlaneRows.{ShowsHeads}
 use Rattle.band_core.specs.declared.band.Band.{Band}
 use Rattle.band_core.specs.Band.{bottom_at, top_at}
 
--- a band whose field has rows
+-- a band whose field has its form, and has rows
 pub record HasRows (band : Band) : Type 0 where
-  pub is : IsField band.field
+  pub is : IsPlaneField band.field
   pub some : 0 < band.field.rows
 
 -- the rows beside `many` rows from row y on show the heads of a plane
@@ -29,7 +29,7 @@ pub record IsRowBelow (after : List Band) (g : ℕ) (down : List ℕ) : Type 0 w
   pub last : length after ≡ 0 → down ≡ []
   pub earlier : (d : Band) → 0 < length after → down ≡ top_at g (get_or after 0 d)
 
--- the bands before and after a band have rows, in no more than so many columns
+-- the bands before and after a band have rows, in no more than so many word columns
 pub record HaveRows (before after : List Band) (g columns : ℕ) : Type 0 where
   pub some_above : (d : Band) → 0 < length before
       → HasRows (get_or before (length before - 1) d)

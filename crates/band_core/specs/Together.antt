@@ -1,8 +1,8 @@
 -- Bands that all move on together.
-use Rattle.std.specs.Prelude.{ℤ, ℕ, ◌+◌, ◌≤◌, ◌<◌, ◌≡◌, ◌^◌, List, length, get_or, drop}
+use Rattle.std.specs.Prelude.{ℕ, ◌+◌, ◌≤◌, ◌<◌, ◌≡◌, ◌^◌, List, length, get_or, drop}
 use Rattle.ww_rule.specs.Due.{AreInOrderFrom}
 use Rattle.ww_rule.specs.Wireworld.{Plane, Due}
-use Rattle.band_rows.specs.Fields.{AreOfOneSize, GoOnAlone, IsClosed, IsDarkField, ShowsField, TailsShow}
+use Rattle.band_rows.specs.Fields.{HasRunAlone, IsClosedField, IsDarkField}
 use Rattle.band_core.specs.declared.band.Band.{Band}
 use Rattle.band_core.specs.Band.{AllShow, AreBands, IsEvolution, generation_at}
 
@@ -39,27 +39,22 @@ pub record HaveRested (n : ℕ) (old new : List Band) : Type 0 where
   pub each : (b : ℕ) (d : Band) → b < length old → HasRested n (get_or old b d) (get_or new b d)
 
 -- an injection of a band that is left is not due in the next n generations
-abbrev pub IsCalm : ℕ → Band → Type 0
-IsCalm n band =
+abbrev pub HasNoneDueFor : ℕ → Band → Type 0
+HasNoneDueFor n band =
     AreInOrderFrom (band.generation + 1) (drop band.done band.injections.items)
     → AreInOrderFrom (band.generation + n + 1) (drop band.done band.injections.items)
 
--- a band's field has few columns
+-- a band's field is closed, and has few word columns
 pub record IsNarrowBand (band : Band) : Type 0 where
-  pub closed : IsClosed band.field
+  pub closed : IsClosedField band.field
   pub few : band.field.columns ≤ 2 ^ 58
 
 -- a band has moved on by n generations, in which no head lies beside it and no injection is due
-pub record HasRun (n : ℕ) (old new : Band) : Type 0 where
+pub record HasBandRun (n : ℕ) (old new : Band) : Type 0 where
   pub generation : new.generation ≡ old.generation + n
   pub done : new.done ≡ old.done
   pub injections : new.injections ≡ old.injections
-  pub closed : IsClosed new.field
-  pub size : AreOfOneSize old.field new.field
-  pub shows : (e : ℕ → Plane) (y : ℤ) → GoOnAlone e y old.field.rows n
-      → ShowsField old.field (e 0) y → ShowsField new.field (e n) y
-  pub tails : (e : ℕ → Plane) (y : ℤ) (g : ℕ) → n ≡ g + 1 → GoOnAlone e y old.field.rows n
-      → ShowsField old.field (e 0) y → TailsShow new.field (e g) y
+  pub field : HasRunAlone n old.field new.field
 
 -- no cell of a band's field is lit
 abbrev pub HasNoneLit : Band → Type 0

@@ -4,16 +4,17 @@ ghost use Rattle.std.specs.Prelude.{◌≡◌, ◌+◌, ◌<◌, ◌≤◌, ◌^
 ghost use Rattle.ww_rule.specs.Wireworld.{Plane, Due, injected};
 ghost use Rattle.ww_rule.specs.Injections.{has_cell};
 ghost use Rattle.band_rows.specs.Facing.{words_in};
-ghost use Rattle.band_rows.specs.Fields.{AreOfOneSize, IsClosed, ShowsField};
+ghost use Rattle.band_rows.specs.Fields.{AreOfOneSize, IsClosedField, ShowsField};
 ghost use Rattle.band_core.specs.Band.{AreInRows, IsBand, IsEvolution, ShowsBand, bottom_at, top_at, injected_cells};
 ghost use Rattle.band_core.specs.Beside.{HasRows, ShowBeside};
-ghost use Rattle.band_core.specs.Together.{HasRun};
+ghost use Rattle.band_core.specs.Together.{HasBandRun, HasRested};
 
 use band_rows::{FacingRows, Field, PlaneRow};
 use ww_rule::Injection;
 
 /// A band: a field of its rows at a generation, and the band's injections, of which the first
-/// `done` are done. The tails are the heads that the rows had one generation ago.
+/// `done` are done. The tails are the heads that the rows had one generation ago; at generation 0
+/// they are the drawn ones.
 #[derive(Drop)]
 pub struct Band {
     pub field: Field,
@@ -33,8 +34,8 @@ pub fn due_count(generation: u128, injections: &[Injection]) -> usize
         .count()
 }
 
-/// Returns in how many of the generations after this one, of `most`, no injection of a list is due,
-/// if the first `done` are done and the others are of later generations, in order.
+/// Returns a number of generations after this one, at most `most`, in none of which an injection of
+/// a list is due, if the first `done` are done and the others are of later generations, in order.
 pub fn calm_count(generation: u64, injections: &[Injection], done: usize, most: u64) -> u64
     ensures few { result ≤ most }
     ensures later { AreInOrderFrom (generation + 1) (drop done injections.now)
@@ -50,9 +51,9 @@ pub fn calm_count(generation: u64, injections: &[Injection], done: usize, most: 
 
 /// Makes the cells of injections heads, in a field from row y on. It takes no memory.
 pub fn inject(field: &mut Field, y: usize, due: &[Injection])
-    requires closed { IsClosed field.old }
+    requires closed { IsClosedField field.old }
     requires inside { AreInRows field.old.columns y field.old.rows due.now }
-    ensures closed { IsClosed field.new }
+    ensures closed { IsClosedField field.new }
     ensures size { AreOfOneSize field.old field.new }
     ensures tails { field.new.tails.items ≡ field.old.tails.items }
     ensures shows { (p : Plane)
@@ -111,7 +112,8 @@ impl Band {
         self.done += count;
     }
 
-    /// Returns in how many of the next generations, of `most`, no injection of the band is due.
+    /// Returns a number of generations, at most `most`; in none of the next so many an injection of
+    /// the band is due.
     pub fn calm_generations(&self, most: u64) -> u64
         ensures few { result ≤ most }
         ensures later { AreInOrderFrom (self.now.generation + 1)
@@ -125,10 +127,7 @@ impl Band {
     /// Goes on by `n` generations, if in them nothing in the band changes: its field stays.
     pub fn rest(&mut self, n: u64)
         requires room { self.old.generation + n < 2 ^ 64 }
-        ensures generation { self.new.generation ≡ self.old.generation + n }
-        ensures field { self.new.field ≡ self.old.field }
-        ensures done { self.new.done ≡ self.old.done }
-        ensures injections { self.new.injections ≡ self.old.injections }
+        ensures { HasRested n self.old self.new }
     {
         self.generation += n;
     }
@@ -136,12 +135,12 @@ impl Band {
     /// Goes on by at least one generation, and at most `most`, if in them no head lies beside the
     /// band and no injection is due, and returns by how many.
     pub fn run(&mut self, most: u64) -> u64
-        requires closed { IsClosed self.old.field }
+        requires closed { IsClosedField self.old.field }
         requires some { 0 < most }
         requires room { self.old.generation + most < 2 ^ 64 }
         ensures some { 0 < result }
         ensures few { result ≤ most }
-        ensures run { HasRun result self.old self.new }
+        ensures run { HasBandRun result self.old self.new }
     {
         let n = self.field.run(most);
         self.generation += n;

@@ -39,7 +39,7 @@ impl Model for Bands {
     ghost invariant = { IsHeld };
 }
 
-// How many columns of words rows of cells take, if all rows have one length.
+// How many word columns rows of cells take, if all rows have one length.
 fn columns_for(rows: &CellRows) -> usize
     ensures few { result ≤ 2 ^ 58 }
     ensures wide { (width : ℕ)
@@ -138,7 +138,7 @@ impl Bands {
 
     /// Moves all bands, which are at one generation, on by `n` generations, and returns whether no
     /// cell is a head or a tail then. Where none is, the bands come to the generation before the next
-    /// injection at once.
+    /// injection in one step, at the latest after 64 others or so.
     pub fn advance_all(&mut self, n: u64) -> bool
         requires level { AreLevel self.old }
         requires room { generation_of self.old 0 + n < 2 ^ 64 }

@@ -1,9 +1,9 @@
 // Bands that all move on together.
 ghost use Rattle.std.specs.Prelude.{◌≡◌, ◌+◌, ◌<◌, ◌≤◌, ◌^◌, ◌↔◌, ℕ, All, true, length, slice_set};
 ghost use Rattle.ww_rule.specs.Wireworld.{Plane, Due};
-ghost use Rattle.band_rows.specs.Fields.{IsClosed};
+ghost use Rattle.band_rows.specs.Fields.{IsClosedField};
 ghost use Rattle.band_core.specs.Band.{AllShow, AreBands, CanMove, IsEvolution, generation_at, generations_of};
-ghost use Rattle.band_core.specs.Together.{CanMoveOn, HasNoneLit, HaveMovedOn, HaveRested, IsCalm, IsNarrowBand};
+ghost use Rattle.band_core.specs.Together.{CanMoveOn, HasNoneDueFor, HasNoneLit, HaveMovedOn, HaveRested, IsNarrowBand};
 
 use crate::band::Band;
 use crate::moving::{awake_cell, move_band, rest_band};
@@ -47,9 +47,9 @@ fn rest_all(bands: &mut [Band], n: u64)
     }
 }
 
-// Returns whether all bands are dark.
+// Returns true only if no cell of the bands is a head or a tail. It looks at the lists of marks.
 fn are_dark(bands: &[Band]) -> bool
-    requires { All (λ band. IsClosed band.field) bands.now }
+    requires { All (λ band. IsClosedField band.field) bands.now }
     ensures { result ≡ true → All HasNoneLit bands.now }
 {
     for band in bands {
@@ -60,10 +60,10 @@ fn are_dark(bands: &[Band]) -> bool
     true
 }
 
-// Returns in how many of the next generations, of `most`, no injection is due.
+// Returns a number of generations, at most `most`; in none of the next so many an injection is due.
 fn calm_generations(bands: &[Band], most: u64) -> u64
     ensures few { result ≤ most }
-    ensures calm { All (IsCalm result) bands.now }
+    ensures calm { All (HasNoneDueFor result) bands.now }
 {
     let mut calm = most;
     for band in bands {
@@ -90,8 +90,8 @@ fn run_alone(bands: &mut [Band], most: u64, columns: usize, height: usize, rows:
     bands[0].run(calm)
 }
 
-// Moves all bands on, by at least one generation and at most `most`, and returns by how many. Bands
-// without a lit cell come to the generation before the next injection at once.
+// Moves all bands on, by at least one generation and at most `most`, and returns by how many. Where
+// no list has an entry, the bands come to the generation before the next injection at once.
 fn move_further(bands: &mut [Band], most: u64, columns: usize, height: usize, rows: usize) -> u64
     requires some { 0 < most }
     requires can_move { CanMoveOn most columns height rows bands.old }

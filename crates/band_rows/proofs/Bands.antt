@@ -7,15 +7,9 @@ use Rattle.std.proofs.lemmas.List.{get_or-set_same, get_or-set_other, map-set, g
 use Rattle.ww_rule.specs.Wireworld.{Plane, count_head}
 use Rattle.lane_kernel.specs.Rows.{is_set, state_of, row_state}
 use Rattle.lists.specs.Bits.{has_bit}
-use Rattle.band_rows.specs.Rows.{Shows, ShowsHeads}
+use Rattle.lane_kernel.specs.PlaneRows.{ShowsHeads}
 use Rattle.lane_kernel.proofs.Counting.{count_is}
 use Rattle.lists.specs.Items.{one_if}
 
 pub words_show : (a b : List ℕ) (p : Plane) (y : ℤ) → ((j : ℕ) → get_or a j 0 ≡ get_or b j 0) → ShowsHeads b p y → ShowsHeads a p y
 words_show a b p y e h x = ap (λ w. count_head (state_of (has_bit w (x % 64)) false false)) (e (x / 64)) ∙ h x
-
-pub heads_shown : (h t w : List ℕ) (p : Plane) (y : ℤ) → Shows h t w p y → ShowsHeads h p y
-heads_shown h t w p y shows x = count_is (is_set h x) false false ∙ sym (count_is (is_set h x) (is_set t x) (is_set w x)) ∙ ap count_head (shows x)
-
-pub as_num : (h : List ℕ) (p : Plane) (y : ℤ) → ShowsHeads h p y → (x : ℕ) → one_if (is_set h x) ≡ count_head (p (pos x) y)
-as_num h p y s x = sym (count_is (is_set h x) false false) ∙ s x

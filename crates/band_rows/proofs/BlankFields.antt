@@ -7,20 +7,20 @@ use Rattle.ww_rule.specs.declared.pattern.State.TheVariants.{Empty}
 use Rattle.lane_kernel.specs.Rows.{is_set, state_of}
 use Rattle.lane_kernel.specs.Spans.{AreZero}
 use Rattle.lane_kernel.specs.Marked.{AreCleared}
-use Rattle.lane_kernel.specs.PlaneRows.{row_of, size_of, stride_of}
+use Rattle.lane_kernel.specs.PlaneRows.{row_in_plane, plane_size, stride_of}
 use Rattle.band_rows.specs.declared.field.Field.{Field}
 use Rattle.band_rows.specs.Fields.{IsBlank}
 use Rattle.band_rows.proofs.ClosedFields.{dark_row, unset}
 
 pub blank_field : (columns rows : ℕ) (field : Field) → field.columns ≡ columns → field.rows ≡ rows → field.stride ≡ rows + 2
-    → length field.heads.items ≡ size_of columns rows → length field.tails.items ≡ size_of columns rows → length field.cells.items ≡ size_of columns rows
-    → length field.marks.bytes.items ≡ size_of columns rows → length field.spare.bytes.items ≡ size_of columns rows
+    → length field.heads.items ≡ plane_size columns rows → length field.tails.items ≡ plane_size columns rows → length field.cells.items ≡ plane_size columns rows
+    → length field.marks.bytes.items ≡ plane_size columns rows → length field.spare.bytes.items ≡ plane_size columns rows
     → AreZero field.heads.items → AreZero field.tails.items → AreZero field.cells.items → AreCleared field.marks.bytes.items → AreCleared field.spare.bytes.items
     → field.marks.many ≡ 0 → field.marks.list.items ≡ [] → IsBlank columns rows field
 blank_field columns rows field is_columns is_rows stride heads tails cells marks spare no_heads no_tails no_cells unmarked cleared none unlisted =
-    let size : size_of columns rows ≡ size_of field.columns field.rows = sym (ap₂ size_of is_columns is_rows) in
+    let size : plane_size columns rows ≡ plane_size field.columns field.rows = sym (ap₂ plane_size is_columns is_rows) in
     let room = ap length unlisted in
-    let dark = λ (plane : List ℕ) (zero : AreZero plane) (k x : ℕ). unset (row_of field.columns field.stride plane (k + 1)) (dark_row field.columns field.stride plane (k + 1) (λ c lt. zero _)) x in
+    let dark = λ (plane : List ℕ) (zero : AreZero plane) (k x : ℕ). unset (row_in_plane field.columns field.stride plane (k + 1)) (dark_row field.columns field.stride plane (k + 1) (λ c lt. zero _)) x in
     record {
       closed = record {
         is = record {

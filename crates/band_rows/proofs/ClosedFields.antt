@@ -14,14 +14,13 @@ use Rattle.lane_kernel.specs.Around.{Way, beside, free_of, near_heads, next_word
 use Rattle.lane_kernel.specs.Around.Way.{north, south, west, east, north_west, north_east, south_west, south_east}
 use Rattle.lane_kernel.specs.Words.{fires, from_east, from_west, ones_of, twos_of}
 use Rattle.lane_kernel.specs.Marked.{AreOn, IsMarked}
-use Rattle.lane_kernel.specs.PlaneRows.{place, row_of, stride_of, HasDarkSides, IsInRow}
+use Rattle.lane_kernel.specs.PlaneRows.{place, row_in_plane, stride_of, HasDarkSides, IsInRow, ShowsHeads}
 use Rattle.lane_kernel.proofs.Bits.{differ, no_bit, xor_bit}
 use Rattle.lane_kernel.proofs.Places.{Fit}
 use Rattle.lane_kernel.proofs.PlaneRows.{row_past, row_word}
 use Rattle.lane_kernel.proofs.UnderWay.{no_tails}
 use Rattle.band_rows.specs.declared.field.Field.{Field}
-use Rattle.band_rows.specs.Rows.{ShowsHeads}
-use Rattle.band_rows.specs.Fields.{AreOfOneSize, IsClosed, IsDarkField, IsFieldStepped}
+use Rattle.band_rows.specs.Fields.{AreOfOneSize, IsClosedField, IsDarkField, IsFieldStepped}
 use Rattle.band_rows.proofs.Bands.{words_show}
 use Rattle.band_rows.proofs.HeadPlaced.{same_bits}
 use Rattle.band_rows.proofs.PlaceCells.{same_place}
@@ -58,14 +57,14 @@ module _ (columns rows s : ℕ) (e : s ≡ stride_of rows) (cells : List ℕ) (i
 
 -- ---- rows of words
 
-pub dark_row : (columns s : ℕ) (plane : List ℕ) (r : ℕ) → ((c : ℕ) → c < columns → get_or plane (place s c r) 0 ≡ 0) → (j : ℕ) → get_or (row_of columns s plane r) j 0 ≡ 0
+pub dark_row : (columns s : ℕ) (plane : List ℕ) (r : ℕ) → ((c : ℕ) → c < columns → get_or plane (place s c r) 0 ≡ 0) → (j : ℕ) → get_or (row_in_plane columns s plane r) j 0 ≡ 0
 dark_row columns s plane r dark j =
     elim (cases_lt j columns) [
       | inl lt ↦ row_word columns s plane r j lt ∙ dark j lt
       | inr ge ↦ row_past columns s plane r j ge
     ]
 
-pub same_row_words : (columns s : ℕ) (a b : List ℕ) (r : ℕ) → ((c : ℕ) → c < columns → get_or a (place s c r) 0 ≡ get_or b (place s c r) 0) → (j : ℕ) → get_or (row_of columns s a r) j 0 ≡ get_or (row_of columns s b r) j 0
+pub same_row_words : (columns s : ℕ) (a b : List ℕ) (r : ℕ) → ((c : ℕ) → c < columns → get_or a (place s c r) 0 ≡ get_or b (place s c r) 0) → (j : ℕ) → get_or (row_in_plane columns s a r) j 0 ≡ get_or (row_in_plane columns s b r) j 0
 same_row_words columns s a b r same j =
     elim (cases_lt j columns) [
       | inl lt ↦ row_word columns s a r j lt ∙ same j lt ∙ sym (row_word columns s b r j lt)
@@ -109,7 +108,7 @@ stepped_on old new stepped i =
     ∙ next_on old.stride old.heads.items old.tails.items old.cells.items i
     ∙ sym (stepped.heads i)
 
-pub stepped_closed : (old new : Field) → IsClosed old → IsFieldStepped old new → IsClosed new
+pub stepped_closed : (old new : Field) → IsClosedField old → IsFieldStepped old new → IsClosedField new
 stepped_closed old new closed stepped =
     record {
       is = stepped.is;
@@ -124,7 +123,7 @@ fit_heads cells heads fit on j =
     let e = on j in
     omega (arith, f, le, e)
 
-module _ (field : Field) (closed : IsClosed field) where
+module _ (field : Field) (closed : IsClosedField field) where
   no_cell_no_head : (i : ℕ) → get_or field.cells.items i 0 ≡ 0 → get_or field.heads.items i 0 ≡ 0
   no_cell_no_head i none = no_tails field.cells.items field.heads.items i closed.heads none
 
@@ -134,18 +133,18 @@ module _ (field : Field) (closed : IsClosed field) where
   pub dark_margin : (c r : ℕ) → r < field.stride → ((k : ℕ) → k < field.rows → r ≢ k + 1) → get_or field.heads.items (place field.stride c r) 0 ≡ 0
   dark_margin c r lt apart = no_cell_no_head (place field.stride c r) (empty_margin field.columns field.rows field.stride closed.is.stride field.cells.items closed.is.cells_in_rows c r lt apart)
 
-  pub dark_above : (j : ℕ) → get_or (row_of field.columns field.stride field.heads.items 0) j 0 ≡ 0
+  pub dark_above : (j : ℕ) → get_or (row_in_plane field.columns field.stride field.heads.items 0) j 0 ≡ 0
   dark_above = dark_row field.columns field.stride field.heads.items 0 (λ c lt. dark_margin c 0 (let e = closed.is.stride in omega (arith, e)) (λ k low same. omega (arith, same)))
 
-  pub dark_below : (j : ℕ) → get_or (row_of field.columns field.stride field.heads.items (field.rows + 1)) j 0 ≡ 0
+  pub dark_below : (j : ℕ) → get_or (row_in_plane field.columns field.stride field.heads.items (field.rows + 1)) j 0 ≡ 0
   dark_below = dark_row field.columns field.stride field.heads.items (field.rows + 1) (λ c lt. dark_margin c (field.rows + 1) (let e = closed.is.stride in omega (arith, e)) (λ k low same. omega (arith, low, same)))
 
 -- a field whose words are all 0
 pub dark_field : (field : Field) → ((i : ℕ) → get_or field.heads.items i 0 ≡ 0) → ((i : ℕ) → get_or field.tails.items i 0 ≡ 0) → IsDarkField field
 dark_field field heads tails =
     record {
-      heads = λ k x low. unset (row_of field.columns field.stride field.heads.items (k + 1)) (dark_row field.columns field.stride field.heads.items (k + 1) (λ c lt. heads (place field.stride c (k + 1)))) x;
-      tails = λ k x low. unset (row_of field.columns field.stride field.tails.items (k + 1)) (dark_row field.columns field.stride field.tails.items (k + 1) (λ c lt. tails (place field.stride c (k + 1)))) x;
+      heads = λ k x low. unset (row_in_plane field.columns field.stride field.heads.items (k + 1)) (dark_row field.columns field.stride field.heads.items (k + 1) (λ c lt. heads (place field.stride c (k + 1)))) x;
+      tails = λ k x low. unset (row_in_plane field.columns field.stride field.tails.items (k + 1)) (dark_row field.columns field.stride field.tails.items (k + 1) (λ c lt. tails (place field.stride c (k + 1)))) x;
     }
 
 -- ---- marks

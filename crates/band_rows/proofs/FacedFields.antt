@@ -11,14 +11,14 @@ use Rattle.ww_rule.specs.Wireworld.{Plane, next_plane}
 use Rattle.lane_kernel.specs.Rows.{row_state, state_of}
 use Rattle.lane_kernel.specs.Around.{Way, beside, free_of, near_heads, IsFramed, IsInner}
 use Rattle.lane_kernel.specs.Marked.{AreMore, AreOn, AreTold, IsMarked, IsTold, opposite}
-use Rattle.lane_kernel.specs.PlaneRows.{place, row_of, HasDarkSides}
+use Rattle.lane_kernel.specs.PlaneRows.{place, row_in_plane, HasDarkSides, IsEmptyWest, ShowsHeads}
 use Rattle.lane_kernel.proofs.PlaneRows.{row_past, row_word}
 use Rattle.lane_kernel.proofs.Ways.{there_and_back, back_again}
 use Rattle.band_rows.specs.declared.field.Field.{Field}
 use Rattle.band_rows.specs.RowsPut.{HasRowPut}
-use Rattle.band_rows.specs.Rows.{IsEmptyWest, ShowsHeads}
-use Rattle.band_rows.specs.Fields.{heads_of, state_in, tails_of, AreOfOneSize, HasForgotten, HasSteppedBetween, HasTaken, IsBesideRows, IsClosed, IsField, IsFieldStepped, ShowsField, TailsShow}
-use Rattle.band_rows.proofs.Bands.{heads_shown, words_show}
+use Rattle.band_rows.specs.Fields.{field_heads, field_state, field_tails, AreOfOneSize, HasForgotten, HasSteppedBetween, HasTaken, IsBesideRows, IsClosedField, IsPlaneField, IsFieldStepped, ShowsField, TailsShow}
+use Rattle.lane_kernel.proofs.Places.{heads_of_row}
+use Rattle.band_rows.proofs.Bands.{words_show}
 use Rattle.band_rows.proofs.ClosedFields.{dark_margin, dark_sides, same_row_words, stepped_on}
 use Rattle.band_rows.proofs.GoneOn.{same_size}
 use Rattle.band_rows.proofs.PlaceCells.{same_place}
@@ -122,18 +122,18 @@ abbrev pub AreSameInRows : Field → List ℕ → List ℕ → Type 0
 AreSameInRows field a b = (c k : ℕ) → c < field.columns → k < field.rows → get_or b (place field.stride c (k + 1)) 0 ≡ get_or a (place field.stride c (k + 1)) 0
 
 pub same_states : (old new : Field) → AreOfOneSize old new → AreSameInRows old old.heads.items new.heads.items → AreSameInRows old old.tails.items new.tails.items → new.cells.items ≡ old.cells.items
-    → (x k : ℕ) → k < old.rows → state_in new x k ≡ state_in old x k
+    → (x k : ℕ) → k < old.rows → field_state new x k ≡ field_state old x k
 same_states old new size heads tails cells x k low =
-    let f = λ (columns stride : ℕ). row_state (row_of columns stride new.heads.items (k + 1)) (row_of columns stride new.tails.items (k + 1)) (row_of columns stride new.cells.items (k + 1)) x in
+    let f = λ (columns stride : ℕ). row_state (row_in_plane columns stride new.heads.items (k + 1)) (row_in_plane columns stride new.tails.items (k + 1)) (row_in_plane columns stride new.cells.items (k + 1)) x in
     ap₂ f size.columns size.stride
-    ∙ same_words_state (heads_of old (k + 1)) (tails_of old (k + 1)) (row_of old.columns old.stride old.cells.items (k + 1)) _ _ _ x
+    ∙ same_words_state (field_heads old (k + 1)) (field_tails old (k + 1)) (row_in_plane old.columns old.stride old.cells.items (k + 1)) _ _ _ x
     (same_row_words old.columns old.stride new.heads.items old.heads.items (k + 1) (λ c lt. heads c k lt low))
     (same_row_words old.columns old.stride new.tails.items old.tails.items (k + 1) (λ c lt. tails c k lt low))
-    (λ j. ap (λ l. get_or (row_of old.columns old.stride l (k + 1)) j 0) cells)
+    (λ j. ap (λ l. get_or (row_in_plane old.columns old.stride l (k + 1)) j 0) cells)
 
 -- ---- one generation between two rows
 
-module _ (above below : List ℕ) (na nb : ℕ) (old one two three four five : Field) (closed : IsClosed old)
+module _ (above below : List ℕ) (na nb : ℕ) (old one two three four five : Field) (closed : IsClosedField old)
     (long_above : length above ≡ na) (long_below : length below ≡ nb) (narrow_above : na ≤ old.columns) (narrow_below : nb ≤ old.columns)
     (first : HasTaken above 0 old one) (second : HasTaken below (old.rows + 1) one two) (stepped : IsFieldStepped two three)
     (third : HasForgotten na 0 three four) (last : HasForgotten nb (old.rows + 1) four five) where
@@ -197,7 +197,7 @@ module _ (above below : List ℕ) (na nb : ℕ) (old one two three four five : F
   tails_kept i off = below_gone.other i off.1 ∙ above_gone.other i off.0 ∙ ap (λ l. get_or l i 0) stepped.tails ∙ heads_kept i off
 
   -- the rows before the step
-  same_two : (x k : ℕ) → k < old.rows → state_in two x k ≡ state_in old x k
+  same_two : (x k : ℕ) → k < old.rows → field_state two x k ≡ field_state old x k
   same_two = same_states old two to_two (λ c k lt low. heads_kept (place s c (k + 1)) (off_row c k low)) (λ c k lt low. ap (λ l. get_or l (place s c (k + 1)) 0) (second.tails ∙ first.tails)) cells_two
 
   dark_two : HasDarkSides two.columns two.stride two.heads.items
@@ -226,7 +226,7 @@ module _ (above below : List ℕ) (na nb : ℕ) (old one two three four five : F
           )
 
   -- the rows beside, before the step
-  row_above : (j : ℕ) → get_or (row_of old.columns s two.heads.items 0) j 0 ≡ get_or above j 0
+  row_above : (j : ℕ) → get_or (row_in_plane old.columns s two.heads.items 0) j 0 ≡ get_or above j 0
   row_above j =
       let t = tall in
       elim (cases_lt j na) [
@@ -245,7 +245,7 @@ module _ (above below : List ℕ) (na nb : ℕ) (old one two three four five : F
             ∙ sym (get_or_past above j 0 (omega (arith, ge, long_above)))
       ]
 
-  row_below : (j : ℕ) → get_or (row_of old.columns s two.heads.items (old.rows + 1)) j 0 ≡ get_or below j 0
+  row_below : (j : ℕ) → get_or (row_in_plane old.columns s two.heads.items (old.rows + 1)) j 0 ≡ get_or below j 0
   row_below j =
       let t = tall in
       elim (cases_lt j nb) [
@@ -284,7 +284,7 @@ module _ (above below : List ℕ) (na nb : ℕ) (old one two three four five : F
             ap (bit_and (get_or old.cells.items i 0)) kept ∙ closed.heads i ∙ sym kept
       ]
 
-  pub closed_five : IsClosed five
+  pub closed_five : IsClosedField five
   closed_five =
       record {
         is = last.is;
@@ -292,7 +292,7 @@ module _ (above below : List ℕ) (na nb : ℕ) (old one two three four five : F
         tails = subst (λ c. AreOn c five.tails.items) (sym cells_five) tails_on;
       }
 
-  same_five : (x k : ℕ) → k < three.rows → state_in five x k ≡ state_in three x k
+  same_five : (x k : ℕ) → k < three.rows → field_state five x k ≡ field_state three x k
   same_five =
       same_states three five (same_size third.size last.size)
       (λ c k lt low. ap (λ l. get_or l (place three.stride c (k + 1)) 0) (last.heads ∙ third.heads))
@@ -306,8 +306,8 @@ module _ (above below : List ℕ) (na nb : ℕ) (old one two three four five : F
 
   abbrev Shows : Type 0
   Shows =
-      (p : Plane) (y : ℤ) → IsEmptyWest p → HasDarkSides two.columns two.stride two.heads.items → ShowsHeads (heads_of two 0) p (y -ℤ pos 1) → ShowsField two p y
-      → ShowsHeads (heads_of two (two.rows + 1)) p (y +ℤ pos two.rows) → ShowsField three (next_plane p) y
+      (p : Plane) (y : ℤ) → IsEmptyWest p → HasDarkSides two.columns two.stride two.heads.items → ShowsHeads (field_heads two 0) p (y -ℤ pos 1) → ShowsField two p y
+      → ShowsHeads (field_heads two (two.rows + 1)) p (y +ℤ pos two.rows) → ShowsField three (next_plane p) y
 
   pub stepped_between : Shows → HasSteppedBetween above below old five
   stepped_between shows =
@@ -317,17 +317,17 @@ module _ (above below : List ℕ) (na nb : ℕ) (old one two three four five : F
         tails = λ p y shown k low.
             let rows = to_five.rows in
             let k_low : k < old.rows = omega (arith, low, rows) in
-            words_show (tails_of five (k + 1)) (heads_of old (k + 1)) p (y +ℤ pos k)
-            (λ j. ap₂ (λ c s. get_or (row_of c s five.tails.items (k + 1)) j 0) to_five.columns to_five.stride
+            words_show (field_tails five (k + 1)) (field_heads old (k + 1)) p (y +ℤ pos k)
+            (λ j. ap₂ (λ c s. get_or (row_in_plane c s five.tails.items (k + 1)) j 0) to_five.columns to_five.stride
             ∙ same_row_words old.columns s five.tails.items old.heads.items (k + 1) (λ c lt. tails_kept (place s c (k + 1)) (off_row c k k_low)) j)
-            (heads_shown (heads_of old (k + 1)) (tails_of old (k + 1)) (row_of old.columns s old.cells.items (k + 1)) p (y +ℤ pos k) (λ x. shown k x k_low));
+            (heads_of_row (field_heads old (k + 1)) (field_tails old (k + 1)) (row_in_plane old.columns s old.cells.items (k + 1)) p (y +ℤ pos k) (λ x. shown k x k_low));
         shows = λ p y bare up shown down k x low.
             let rows = to_five.rows in
             let rows_three = to_three.rows in
             let rows_two = to_two.rows in
-            let over = words_show (heads_of two 0) above p (y -ℤ pos 1) (λ j. ap₂ (λ c s. get_or (row_of c s two.heads.items 0) j 0) to_two.columns to_two.stride ∙ row_above j) up in
-            let under_old = words_show (heads_of two (old.rows + 1)) below p (y +ℤ pos old.rows) (λ j. ap₂ (λ c s. get_or (row_of c s two.heads.items (old.rows + 1)) j 0) to_two.columns to_two.stride ∙ row_below j) down in
-            let under = subst (λ n. ShowsHeads (heads_of two (n + 1)) p (y +ℤ pos n)) (sym rows_two) under_old in
+            let over = words_show (field_heads two 0) above p (y -ℤ pos 1) (λ j. ap₂ (λ c s. get_or (row_in_plane c s two.heads.items 0) j 0) to_two.columns to_two.stride ∙ row_above j) up in
+            let under_old = words_show (field_heads two (old.rows + 1)) below p (y +ℤ pos old.rows) (λ j. ap₂ (λ c s. get_or (row_in_plane c s two.heads.items (old.rows + 1)) j 0) to_two.columns to_two.stride ∙ row_below j) down in
+            let under = subst (λ n. ShowsHeads (field_heads two (n + 1)) p (y +ℤ pos n)) (sym rows_two) under_old in
             same_five x k (omega (arith, low, rows, rows_three))
             ∙ shows p y bare dark_two over (λ k x low. same_two x k (omega (arith, low, rows_two)) ∙ shown k x (omega (arith, low, rows_two))) under k x (omega (arith, low, rows, rows_three));
       }

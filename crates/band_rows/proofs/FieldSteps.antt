@@ -6,13 +6,11 @@ use Rattle.ww_rule.specs.Wireworld.{Plane, next_plane}
 use Rattle.lane_kernel.specs.Rows.{row_state}
 use Rattle.lane_kernel.specs.Around.{next_word, IsFramed, IsInner}
 use Rattle.lane_kernel.specs.Marked.{AreOn, IsMarked}
-use Rattle.lane_kernel.specs.PlaneRows.{place, row_of, size_of, stride_of, HasDarkSides, IsInRow}
+use Rattle.lane_kernel.specs.PlaneRows.{place, row_in_plane, plane_size, stride_of, HasDarkSides, IsInRow, IsEmptyWest, ShowsHeads}
 use Rattle.lane_kernel.proofs.Places.{Fit}
-use Rattle.lane_kernel.proofs.PlaneRows.{planes_step}
+use Rattle.lane_kernel.proofs.PlaneRows.{is_next_plane}
 use Rattle.band_rows.specs.declared.field.Field.{Field}
-use Rattle.band_rows.specs.Rows.{IsEmptyWest, ShowsHeads}
-use Rattle.band_rows.specs.Fields.{heads_of, state_in, IsField, IsFieldStepped, ShowsField}
-use Rattle.band_rows.proofs.Bands.{as_num}
+use Rattle.band_rows.specs.Fields.{field_heads, field_state, IsPlaneField, IsFieldStepped, ShowsField}
 
 -- the words of rows are inner words
 pub inner_place : (columns rows s c k many : ℕ) → s ≡ rows + 2 → c < columns → k < rows → many ≡ (columns + 2) * s + 2 → IsInner s many (place s c (k + 1))
@@ -27,7 +25,7 @@ inner_place columns rows s c k many e west low size =
     let first : (c + 1) * s ≡ c * s + s = omega (arith, m) in
     record { from = omega (arith, first); to = omega (arith, most, third, second, low, e, size) }
 
-pub framed_of : (columns rows s : ℕ) (cells : List ℕ) → s ≡ stride_of rows → length cells ≡ size_of columns rows → ((i : ℕ) → get_or cells i 0 ≢ 0 → IsInRow columns rows i) → IsFramed s cells
+pub framed_of : (columns rows s : ℕ) (cells : List ℕ) → s ≡ stride_of rows → length cells ≡ plane_size columns rows → ((i : ℕ) → get_or cells i 0 ≢ 0 → IsInRow columns rows i) → IsFramed s cells
 framed_of columns rows s cells e long in_rows i some =
     let r = in_rows i some in
     let size : length cells ≡ (columns + 2) * s + 2 = long ∙ sym (ap (λ s. (columns + 2) * s + 2) e) in
@@ -41,31 +39,13 @@ same_marked s {h} {h'} {t} {t'} {c} {c'} {b} {b'} p q r u m =
 pub same_word : (s : ℕ) {h h' t t' c c' : List ℕ} (i : ℕ) → h ≡ h' → t ≡ t' → c ≡ c' → next_word s h t c i ≡ next_word s h' t' c' i
 same_word s {h} {h'} {t} {t'} {c} {c'} i p q r = ap₂ (λ h t. next_word s h t c i) p q ∙ ap (λ c. next_word s h' t' c i) r
 
--- planes with this stride
-module _ (columns rows : ℕ) (heads tails cells new : List ℕ) (fits : Fit heads) (on : AreOn cells tails) (p : Plane) (y : ℤ) (bare : IsEmptyWest p) where
-  abbrev Steps : ℕ → Type 0
-  Steps s =
-      ((i : ℕ) → get_or new i 0 ≡ next_word s heads tails cells i) → HasDarkSides columns s heads
-      → ShowsHeads (row_of columns s heads 0) p (y -ℤ pos 1)
-      → ((k x : ℕ) → k < rows → row_state (row_of columns s heads (k + 1)) (row_of columns s tails (k + 1)) (row_of columns s cells (k + 1)) x ≡ p (pos x) (y +ℤ pos k))
-      → ShowsHeads (row_of columns s heads (rows + 1)) p (y +ℤ pos rows)
-      → (k x : ℕ) → k < rows → row_state (row_of columns s new (k + 1)) (row_of columns s heads (k + 1)) (row_of columns s cells (k + 1)) x ≡ next_plane p (pos x) (y +ℤ pos k)
-
-  steps : Steps (stride_of rows)
-  steps next dark over shown under =
-      planes_step columns rows heads tails cells new dark next fits on p y bare
-      (as_num (row_of columns (stride_of rows) heads 0) p (y -ℤ pos 1) over) shown (as_num (row_of columns (stride_of rows) heads (rows + 1)) p (y +ℤ pos rows) under)
-
-  pub steps_at : (s : ℕ) → s ≡ stride_of rows → Steps s
-  steps_at s e = subst Steps (sym e) steps
-
-pub field_shows : (old new : Field) → IsField old → AreOn old.cells.items old.tails.items → Fit old.heads.items → IsFieldStepped old new → (p : Plane) (y : ℤ) → IsEmptyWest p
-    → HasDarkSides old.columns old.stride old.heads.items → ShowsHeads (heads_of old 0) p (y -ℤ pos 1) → ShowsField old p y → ShowsHeads (heads_of old (old.rows + 1)) p (y +ℤ pos old.rows)
+pub field_shows : (old new : Field) → IsPlaneField old → AreOn old.cells.items old.tails.items → Fit old.heads.items → IsFieldStepped old new → (p : Plane) (y : ℤ) → IsEmptyWest p
+    → HasDarkSides old.columns old.stride old.heads.items → ShowsHeads (field_heads old 0) p (y -ℤ pos 1) → ShowsField old p y → ShowsHeads (field_heads old (old.rows + 1)) p (y +ℤ pos old.rows)
     → ShowsField new (next_plane p) y
 field_shows old new is on fits stepped p y bare dark over shown under k x low =
     let size = stepped.size in
     let rows = size.rows in
-    let f = λ (columns stride : ℕ) (t c : List ℕ). row_state (row_of columns stride new.heads.items (k + 1)) (row_of columns stride t (k + 1)) (row_of columns stride c (k + 1)) x in
+    let f = λ (columns stride : ℕ) (t c : List ℕ). row_state (row_in_plane columns stride new.heads.items (k + 1)) (row_in_plane columns stride t (k + 1)) (row_in_plane columns stride c (k + 1)) x in
     ap₂ (λ a b. f a b new.tails.items new.cells.items) size.columns size.stride
     ∙ ap₂ (f old.columns old.stride) stepped.tails stepped.cells
-    ∙ steps_at old.columns old.rows old.heads.items old.tails.items old.cells.items new.heads.items fits on p y bare old.stride is.stride stepped.heads dark over shown under k x (omega (arith, low, rows))
+    ∙ is_next_plane old.stride old.heads.items old.tails.items old.cells.items new.heads.items fits on stepped.heads old.columns old.rows p y is.stride bare dark over shown under k x (omega (arith, low, rows))

@@ -2,12 +2,10 @@
 use Rattle.std.proofs.Common.{ℤ, pos, ◌-ℤ◌, ◌+ℤ◌, ℕ, ◌+◌, ◌-◌, ◌<◌, ◌≤◌, ◌≡◌, refl, sym, ap, ap₂, subst, ◌∙◌, List, [], arith}
 use Rattle.std.proofs.Math.Nat.{add-zero, zero-add, add_assoc}
 use Rattle.ww_rule.specs.Wireworld.{Plane, next_plane}
-use Rattle.lane_kernel.specs.PlaneRows.{row_of}
-use Rattle.lane_kernel.proofs.Places.{Fit}
+use Rattle.lane_kernel.specs.PlaneRows.{row_in_plane, IsEmptyWest, ShowsHeads}
+use Rattle.lane_kernel.proofs.Places.{Fit, heads_of_row}
 use Rattle.band_rows.specs.declared.field.Field.{Field}
-use Rattle.band_rows.specs.Rows.{IsEmptyWest, ShowsHeads}
-use Rattle.band_rows.specs.Fields.{AreOfOneSize, GoOnAlone, HasRunAlone, IsClosed, IsFieldStepped, ShowsField, TailsShow, heads_of, tails_of}
-use Rattle.band_rows.proofs.Bands.{heads_shown}
+use Rattle.band_rows.specs.Fields.{AreOfOneSize, GoOnAlone, HasRunAlone, IsClosedField, IsFieldStepped, ShowsField, TailsShow, field_heads, field_tails}
 use Rattle.band_rows.proofs.ClosedFields.{dark_above, dark_below, dark_sides, fit_heads, none_shown, stepped_closed}
 use Rattle.band_rows.proofs.FieldSteps.{field_shows}
 
@@ -18,12 +16,12 @@ same_size p q = record { columns = q.columns ∙ p.columns; rows = q.rows ∙ p.
 pub tails_shown : (old new : Field) (p : Plane) (y : ℤ) → AreOfOneSize old new → new.tails.items ≡ old.heads.items → ShowsField old p y → TailsShow new p y
 tails_shown old new p y size tails shown k low =
     let rows = size.rows in
-    let e : tails_of new (k + 1) ≡ heads_of old (k + 1) = ap₂ (λ c s. row_of c s new.tails.items (k + 1)) size.columns size.stride ∙ ap (λ l. row_of old.columns old.stride l (k + 1)) tails in
+    let e : field_tails new (k + 1) ≡ field_heads old (k + 1) = ap₂ (λ c s. row_in_plane c s new.tails.items (k + 1)) size.columns size.stride ∙ ap (λ l. row_in_plane old.columns old.stride l (k + 1)) tails in
     subst (λ l. ShowsHeads l p (y +ℤ pos k)) (sym e)
-    (heads_shown (heads_of old (k + 1)) (tails_of old (k + 1)) (row_of old.columns old.stride old.cells.items (k + 1)) p (y +ℤ pos k) (λ x. shown k x (omega (arith, low, rows))))
+    (heads_of_row (field_heads old (k + 1)) (field_tails old (k + 1)) (row_in_plane old.columns old.stride old.cells.items (k + 1)) p (y +ℤ pos k) (λ x. shown k x (omega (arith, low, rows))))
 
 -- one generation
-pub gone_one : (old new : Field) → Fit old.cells.items → IsClosed old → IsFieldStepped old new → HasRunAlone 1 old new
+pub gone_one : (old new : Field) → Fit old.cells.items → IsClosedField old → IsFieldStepped old new → HasRunAlone 1 old new
 gone_one old new fits closed stepped =
     record {
       closed = stepped_closed old new closed stepped;
@@ -32,9 +30,9 @@ gone_one old new fits closed stepped =
           let rows = stepped.size.rows in
           let h = fit_heads old.cells.items old.heads.items fits closed.heads in
           field_shows old new closed.is closed.tails h stepped (e 0) y (alone.west 0 (omega arith)) (dark_sides old closed)
-          (none_shown (heads_of old 0) (e 0) (y -ℤ pos 1) (dark_above old closed) (alone.above 0 (omega arith)))
+          (none_shown (field_heads old 0) (e 0) (y -ℤ pos 1) (dark_above old closed) (alone.above 0 (omega arith)))
           shown
-          (none_shown (heads_of old (old.rows + 1)) (e 0) (y +ℤ pos old.rows) (dark_below old closed) (alone.below 0 (omega arith)))
+          (none_shown (field_heads old (old.rows + 1)) (e 0) (y +ℤ pos old.rows) (dark_below old closed) (alone.below 0 (omega arith)))
           k x low
           ∙ sym (alone.next 0 x k (omega arith) (omega (arith, low, rows)));
       tails = λ e y g is alone shown.

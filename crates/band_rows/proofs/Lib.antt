@@ -11,5 +11,6 @@ pub mod ClosedFields
 pub mod GoneOn
 pub mod LitFields
 pub mod FacedFields
+pub mod WordStates
 pub mod PutCells
 pub mod BlankFields

@@ -8,17 +8,17 @@ use Rattle.lists.specs.Bits.{has_bit}
 use Rattle.lists.proofs.WordBits.{or_bit}
 use Rattle.ww_rule.specs.declared.pattern.State.TheVariants.{Head, Tail}
 use Rattle.lane_kernel.specs.Rows.{is_set, state_of}
-use Rattle.lane_kernel.specs.PlaneRows.{place, row_of, IsInRow}
+use Rattle.lane_kernel.specs.PlaneRows.{place, row_in_plane, IsInRow}
 use Rattle.lane_kernel.proofs.UnderWay.{no_tails}
 use Rattle.band_rows.specs.declared.field.Field.{Field}
-use Rattle.band_rows.specs.Fields.{state_in, IsClosed, IsDarkField, IsLitInField}
+use Rattle.band_rows.specs.Fields.{field_state, IsClosedField, IsDarkField, IsLitInField}
 use Rattle.band_rows.proofs.ClosedFields.{dark_field}
 use Rattle.band_rows.proofs.FieldSteps.{inner_place}
 use Rattle.band_rows.proofs.PlaceCells.{row_set}
 use Rattle.band_rows.proofs.Zeros.{zero_left, zero_right}
 
 -- a field with no mark
-pub unmarked_dark : (field : Field) → IsClosed field → field.marks.many ≡ 0 → 0 < length field.marks.list.items → IsDarkField field
+pub unmarked_dark : (field : Field) → IsClosedField field → field.marks.many ≡ 0 → 0 < length field.marks.list.items → IsDarkField field
 unmarked_dark field closed none room = dark_field field (λ i. (words i).0) (λ i. (words i).1)
   where
     bytes : (i : ℕ) → get_or field.marks.bytes.items i 0 ≡ 0
@@ -43,7 +43,7 @@ lit_of true t c e = inl refl
 lit_of false true c e = inr refl
 lit_of false false c e = absurd (true≢false (sym e))
 
-module _ (field : Field) (closed : IsClosed field) (i : ℕ) (lit : bit_or (get_or field.heads.items i 0) (get_or field.tails.items i 0) ≢ 0) where
+module _ (field : Field) (closed : IsClosedField field) (i : ℕ) (lit : bit_or (get_or field.heads.items i 0) (get_or field.tails.items i 0) ≢ 0) where
   abbrev pub s : ℕ
   s = field.stride
 
@@ -96,12 +96,12 @@ module _ (field : Field) (closed : IsClosed field) (i : ℕ) (lit : bit_or (get_
       let here : place s (x / 64) (k + 1) ≡ i = ap₂ (λ c k. place s c (k + 1)) c row ∙ sym at in
       let inside : x / 64 < field.columns = omega (arith, c, west) in
       let word = λ (plane : List ℕ). row_set field.columns s plane (k + 1) x inside ∙ ap₂ (λ p b. has_bit (get_or plane p 0) b) here q in
-      let both : (is_set (row_of field.columns s field.heads.items (k + 1)) x || is_set (row_of field.columns s field.tails.items (k + 1)) x) ≡ true =
+      let both : (is_set (row_in_plane field.columns s field.heads.items (k + 1)) x || is_set (row_in_plane field.columns s field.tails.items (k + 1)) x) ≡ true =
       ap₂ (λ p q. p || q) (word field.heads.items) (word field.tails.items) ∙ sym (or_bit (get_or field.heads.items i 0) (get_or field.tails.items i 0) b) ∙ set in
       record {
         column = inside;
         row = omega (arith, row, above);
-        lit = lit_of (is_set (row_of field.columns s field.heads.items (k + 1)) x) (is_set (row_of field.columns s field.tails.items (k + 1)) x) _ both;
+        lit = lit_of (is_set (row_in_plane field.columns s field.heads.items (k + 1)) x) (is_set (row_in_plane field.columns s field.tails.items (k + 1)) x) _ both;
       }
 
 -- a field none of whose words is lit

@@ -6,20 +6,19 @@ use Rattle.ww_rule.specs.Wireworld.{Plane, next_plane}
 use Rattle.lane_kernel.specs.Rows.{is_set, row_state}
 use Rattle.lane_kernel.specs.Around.{next_word}
 use Rattle.lane_kernel.specs.Marked.{AreCleared, AreListed, AreOn, IsMarked}
-use Rattle.lane_kernel.specs.PlaneRows.{place, row_of, size_of, stride_of, IsInRow, PlanesShow}
+use Rattle.lane_kernel.specs.PlaneRows.{place, row_in_plane, plane_size, stride_of, IsInRow, PlanesShow, IsEmptyWest, ShowsHeads}
 use Rattle.band_rows.specs.declared.field.Field.{Field}
 use Rattle.band_rows.specs.RowsPut.{HasRowPut}
-use Rattle.band_rows.specs.Rows.{IsEmptyWest, ShowsHeads}
 
 -- The planes and the bytes have their sizes. Cells lie in rows. Unless the list is full, the marks
 -- promise what `IsMarked` says. The marks of the next generation are cleared.
-pub record IsField (field : Field) : Type 0 where
+pub record IsPlaneField (field : Field) : Type 0 where
   pub stride : field.stride ≡ stride_of field.rows
-  pub long_heads : length field.heads.items ≡ size_of field.columns field.rows
-  pub long_tails : length field.tails.items ≡ size_of field.columns field.rows
-  pub long_cells : length field.cells.items ≡ size_of field.columns field.rows
-  pub long_marks : length field.marks.bytes.items ≡ size_of field.columns field.rows
-  pub long_spare : length field.spare.bytes.items ≡ size_of field.columns field.rows
+  pub long_heads : length field.heads.items ≡ plane_size field.columns field.rows
+  pub long_tails : length field.tails.items ≡ plane_size field.columns field.rows
+  pub long_cells : length field.cells.items ≡ plane_size field.columns field.rows
+  pub long_marks : length field.marks.bytes.items ≡ plane_size field.columns field.rows
+  pub long_spare : length field.spare.bytes.items ≡ plane_size field.columns field.rows
   pub cells_in_rows : (i : ℕ) → get_or field.cells.items i 0 ≢ 0
       → IsInRow field.columns field.rows i
   pub listed : AreListed field.stride
@@ -30,8 +29,8 @@ pub record IsField (field : Field) : Type 0 where
   pub cleared : AreCleared field.spare.bytes.items
 
 -- a field without heads of other fields beside it: heads and tails lie on its cells
-pub record IsClosed (field : Field) : Type 0 where
-  pub is : IsField field
+pub record IsClosedField (field : Field) : Type 0 where
+  pub is : IsPlaneField field
   pub heads : AreOn field.cells.items field.heads.items
   pub tails : AreOn field.cells.items field.tails.items
 
@@ -43,7 +42,7 @@ pub record AreOfOneSize (old new : Field) : Type 0 where
 
 -- a field one generation later
 pub record IsFieldStepped (old new : Field) : Type 0 where
-  pub is : IsField new
+  pub is : IsPlaneField new
   pub size : AreOfOneSize old new
   pub cells : new.cells.items ≡ old.cells.items
   pub tails : new.tails.items ≡ old.heads.items
@@ -52,36 +51,38 @@ pub record IsFieldStepped (old new : Field) : Type 0 where
 
 -- the r-th words of a field's heads from west to east (r = 0 above the first row), and below, those
 -- of its tails
-abbrev pub heads_of : Field → ℕ → List ℕ
-heads_of field r = row_of field.columns field.stride field.heads.items r
+abbrev pub field_heads : Field → ℕ → List ℕ
+field_heads field r = row_in_plane field.columns field.stride field.heads.items r
 
-abbrev pub tails_of : Field → ℕ → List ℕ
-tails_of field r = row_of field.columns field.stride field.tails.items r
+abbrev pub field_tails : Field → ℕ → List ℕ
+field_tails field r = row_in_plane field.columns field.stride field.tails.items r
 
 -- the state of the cell of column x in row k
-abbrev pub state_in : Field → (x k : ℕ) → State
-state_in field x k =
-    row_state (heads_of field (k + 1)) (tails_of field (k + 1))
-    (row_of field.columns field.stride field.cells.items (k + 1)) x
+abbrev pub field_state : Field → (x k : ℕ) → State
+field_state field x k =
+    row_state (field_heads field (k + 1)) (field_tails field (k + 1))
+    (row_in_plane field.columns field.stride field.cells.items (k + 1)) x
 
 -- a field shows a plane from row y on; its tails show the heads of a plane there
 abbrev pub ShowsField : Field → Plane → ℤ → Type 0
-ShowsField field p y = (k x : ℕ) → k < field.rows → state_in field x k ≡ p (pos x) (y +ℤ pos k)
+ShowsField field p y =
+    PlanesShow field.columns field.rows field.stride
+    field.heads.items field.tails.items field.cells.items p y
 
 abbrev pub TailsShow : Field → Plane → ℤ → Type 0
 TailsShow field p y =
-    (k : ℕ) → k < field.rows → ShowsHeads (tails_of field (k + 1)) p (y +ℤ pos k)
+    (k : ℕ) → k < field.rows → ShowsHeads (field_tails field (k + 1)) p (y +ℤ pos k)
 
 -- no cell of a field's rows is a head or a tail
 pub record IsDarkField (field : Field) : Type 0 where
-  pub heads : (k x : ℕ) → k < field.rows → is_set (heads_of field (k + 1)) x ≡ false
-  pub tails : (k x : ℕ) → k < field.rows → is_set (tails_of field (k + 1)) x ≡ false
+  pub heads : (k x : ℕ) → k < field.rows → is_set (field_heads field (k + 1)) x ≡ false
+  pub tails : (k x : ℕ) → k < field.rows → is_set (field_tails field (k + 1)) x ≡ false
 
 -- the cell of column x in row k is a head or a tail
 pub record IsLitInField (field : Field) (x k : ℕ) : Type 0 where
   pub column : x / 64 < field.columns
   pub row : k < field.rows
-  pub lit : (state_in field x k ≡ Head) ⊎ (state_in field x k ≡ Tail)
+  pub lit : (field_state field x k ≡ Head) ⊎ (field_state field x k ≡ Tail)
 
 -- For n generations planes follow the rule in so many rows from row y on, and have no heads in the
 -- rows beside these.
@@ -94,7 +95,7 @@ pub record GoOnAlone (e : ℕ → Plane) (y : ℤ) (rows n : ℕ) : Type 0 where
 
 -- n generations have passed in a field with no heads beside it
 pub record HasRunAlone (n : ℕ) (old new : Field) : Type 0 where
-  pub closed : IsClosed new
+  pub closed : IsClosedField new
   pub size : AreOfOneSize old new
   pub shows : (e : ℕ → Plane) (y : ℤ) → GoOnAlone e y old.rows n → ShowsField old (e 0) y
       → ShowsField new (e n) y
@@ -115,18 +116,18 @@ crossed field =
 abbrev pub IsBesideRows : (rows r : ℕ) → Type 0
 IsBesideRows rows r = (r ≡ 0) ⊎ (r ≡ rows + 1)
 
--- a field that has taken over words of heads into the r-th places of its columns
+-- a field that has taken over words of heads into the r-th places of its word columns
 pub record HasTaken (words : List ℕ) (r : ℕ) (old new : Field) : Type 0 where
-  pub is : IsField new
+  pub is : IsPlaneField new
   pub size : AreOfOneSize old new
   pub cells : new.cells.items ≡ old.cells.items
   pub tails : new.tails.items ≡ old.tails.items
   pub heads : HasRowPut old.stride r (length words) (λ c. get_or words c 0)
       old.heads.items new.heads.items
 
--- a field that has no tails any more in the r-th words of so many columns
+-- a field that has no tails any more in the r-th words of so many word columns
 pub record HasForgotten (columns r : ℕ) (old new : Field) : Type 0 where
-  pub is : IsField new
+  pub is : IsPlaneField new
   pub size : AreOfOneSize old new
   pub cells : new.cells.items ≡ old.cells.items
   pub heads : new.heads.items ≡ old.heads.items
@@ -134,7 +135,7 @@ pub record HasForgotten (columns r : ℕ) (old new : Field) : Type 0 where
 
 -- a field that has gone on by one generation between two rows of heads
 pub record HasSteppedBetween (above below : List ℕ) (old new : Field) : Type 0 where
-  pub closed : IsClosed new
+  pub closed : IsClosedField new
   pub size : AreOfOneSize old new
   pub tails : (p : Plane) (y : ℤ) → ShowsField old p y → TailsShow new p y
   pub shows : (p : Plane) (y : ℤ) → IsEmptyWest p → ShowsHeads above p (y -ℤ pos 1)
@@ -147,16 +148,8 @@ IsUnlisted field = length field.marks.list.items ≤ field.marks.many
 
 -- a field of this size without cells, and without a list of marks
 pub record IsBlank (across down : ℕ) (field : Field) : Type 0 where
-  pub closed : IsClosed field
+  pub closed : IsClosedField field
   pub unlisted : IsUnlisted field
   pub columns : field.columns ≡ across
   pub rows : field.rows ≡ down
-  pub empty : (x k : ℕ) → k < field.rows → state_in field x k ≡ Empty
-
--- a field in which the cell of column x in row k got a state
-pub record HasCellPut (state : State) (x k : ℕ) (old new : Field) : Type 0 where
-  pub closed : IsClosed new
-  pub size : AreOfOneSize old new
-  pub marks : new.marks ≡ old.marks
-  pub here : state_in new x k ≡ state
-  pub other : (u j : ℕ) → j < old.rows → (u ≡ x → j ≢ k) → state_in new u j ≡ state_in old u j
+  pub empty : (x k : ℕ) → k < field.rows → field_state field x k ≡ Empty

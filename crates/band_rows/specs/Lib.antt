@@ -1,4 +1,4 @@
-pub mod Rows
 pub mod Fields
 pub mod Facing
 pub mod RowsPut
+pub mod CellWords

@@ -5,21 +5,21 @@ ghost use Rattle.ww_rule.specs.Wireworld.{Plane, next_plane};
 ghost use Rattle.std.specs.Int.RustNames.{bit_or};
 ghost use Rattle.ww_rule.specs.declared.pattern.State.TheVariants.{Head};
 ghost use Rattle.lane_kernel.specs.Around.{next_word, IsFramed, IsInner};
-ghost use Rattle.lane_kernel.specs.Marked.{AreCleared, AreListed, AreMore, AreOn, AreTold, IsMarked};
+ghost use Rattle.lane_kernel.specs.Marked.{AreCleared, AreListed, AreMore, AreOn, AreTold, IsMarked, beside_mark};
 ghost use Rattle.lists.specs.Bits.{has_bit};
 ghost use Rattle.lane_kernel.specs.Rows.{state_of};
-ghost use Rattle.lane_kernel.specs.PlaneRows.{HasDarkSides};
-ghost use Rattle.band_rows.specs.Rows.{IsEmptyWest, ShowsHeads};
+ghost use Rattle.lane_kernel.specs.PlaneRows.{HasDarkSides, IsEmptyWest, ShowsHeads};
 
-use lane_kernel::{BESIDE, Free, mark, mark_all, step_all, step_listed, tell_around};
+use lane_kernel::{BESIDE, Free, mark, mark_words, step_all, step_listed, tell_around};
 use std::mem;
 use ww_rule::State;
 
-/// After so many generations with a full list the marks are made again.
+/// After so many calls with a full list the marks are made again, if few words are lit.
 pub const WAIT: u32 = 64;
 
-/// Marks of the words of a plane: a byte for each word, and the first `many` numbers of `list` are
-/// places of words with a mark. If the list is full, neither says anything.
+/// Marks of the words of a plane: a byte for each word, and places of words, of which the first
+/// `many` of `list` count. Unless the list is full, each word with a mark is among them. If it is
+/// full, some words that may change may have no mark.
 #[derive(Drop)]
 pub struct WordMarks {
     pub bytes: Vec<u8>,
@@ -27,11 +27,13 @@ pub struct WordMarks {
     pub many: usize,
 }
 
-/// Rows of cells in columns of words, 64 cells to a word: planes of heads, of tails, and of all
-/// cells that are not empty. Each column has a word above its rows and one below them, which makes
-/// `stride` words, and the planes have a column more on each side. `marks` are those of the words
-/// that may change, and the spare ones are cleared. While the list is full, `wait` counts the
-/// generations until the marks are made again.
+/// Rows of cells in word columns, 64 cells to a word: planes of heads, of tails, and of all cells
+/// that are not empty. Each word column has a word above its rows and one below them, which makes
+/// `stride` words. The planes have a word column more on each side, and a word before and one after
+/// all of them. A cell with the bits of a head and of a tail is a head. `marks` are those of the
+/// words that may change. The bytes of the spare marks are cleared, and their list does not count.
+/// While the list of `marks` is full, `wait` counts the calls of `settle` until these are made
+/// again, if few words are lit then.
 #[derive(Drop)]
 pub struct Field {
     pub columns: usize,
@@ -129,7 +131,7 @@ pub fn set_bits(heads: &mut [u64], cells: &mut [u64], i: usize, b: usize)
     cells[i] |= 1 << b;
 }
 
-// WordMarks a word that got a head, and those beside which its heads stand.
+// Marks a word that got a head, and those beside which its heads stand.
 fn mark_head(
     heads: &[u64],
     tails: &[u64],
@@ -148,7 +150,7 @@ fn mark_head(
     ensures long_list { length now.new.list.items ≡ length now.old.list.items }
     ensures listed { AreListed stride now.new.bytes.items now.new.list.items now.new.many }
     ensures more { AreMore now.old.bytes.items now.new.bytes.items }
-    ensures here { 2 ≤ number_at now.new.bytes.items i }
+    ensures here { beside_mark ≤ number_at now.new.bytes.items i }
     ensures told { AreTold stride (number_at heads.now i) i tails.now cells.now now.new.bytes.items }
 {
     let free = Free {
@@ -237,7 +239,7 @@ pub fn mark_again(heads: &[u64], tails: &[u64], cells: &[u64], stride: usize, ma
         cells,
         stride,
     };
-    marks.many = mark_all(&free, heads, &mut marks.bytes, &mut marks.list);
+    marks.many = mark_words(&free, heads, &mut marks.bytes, &mut marks.list);
 }
 
 // Whether a bit of a word is set.
@@ -266,11 +268,11 @@ fn state_of(head: bool, tail: bool, cell: bool) -> State
 }
 
 impl Field {
-    ghost use Rattle.band_rows.specs.Fields.{heads_of, state_in, AreOfOneSize, IsClosed, IsField, IsFieldStepped, ShowsField};
+    ghost use Rattle.band_rows.specs.Fields.{field_heads, field_state, AreOfOneSize, IsClosedField, IsPlaneField, IsFieldStepped, ShowsField};
 
     // Steps the marked words.
     fn step_by_list(&mut self)
-        requires is { IsField self.old }
+        requires is { IsPlaneField self.old }
         requires on_cells { AreOn self.old.cells.items self.old.tails.items }
         requires room { self.old.marks.many < length self.old.marks.list.items }
         ensures { IsFieldStepped self.old self.new }
@@ -289,7 +291,7 @@ impl Field {
 
     // Steps all words, if the list is full.
     fn step_by_plane(&mut self)
-        requires is { IsField self.old }
+        requires is { IsPlaneField self.old }
         requires on_cells { AreOn self.old.cells.items self.old.tails.items }
         requires full { length self.old.marks.list.items ≤ self.old.marks.many }
         ensures { IsFieldStepped self.old self.new }
@@ -301,15 +303,15 @@ impl Field {
     /// Goes on by one generation. The words above the first row and below the last may hold the
     /// heads of rows that face the field; afterwards they stand in the tails' plane.
     pub fn step(&mut self)
-        requires is { IsField self.old }
+        requires is { IsPlaneField self.old }
         requires on_cells { AreOn self.old.cells.items self.old.tails.items }
         ensures stepped { IsFieldStepped self.old self.new }
         ensures shows { (p : Plane) (y : ℤ)
             → IsEmptyWest p
             → HasDarkSides self.old.columns self.old.stride self.old.heads.items
-            → ShowsHeads (heads_of self.old 0) p (y -ℤ pos 1)
+            → ShowsHeads (field_heads self.old 0) p (y -ℤ pos 1)
             → ShowsField self.old p y
-            → ShowsHeads (heads_of self.old (self.old.rows + 1)) p (y +ℤ pos self.old.rows)
+            → ShowsHeads (field_heads self.old (self.old.rows + 1)) p (y +ℤ pos self.old.rows)
             → ShowsField self.new (next_plane p) y }
     {
         all_fit(&self.heads);
@@ -322,18 +324,18 @@ impl Field {
 
     /// Makes the cell of column x in row k a head, whatever it was. All tails stay.
     pub fn make_head(&mut self, x: usize, k: usize)
-        requires closed { IsClosed self.old }
+        requires closed { IsClosedField self.old }
         requires column { x / 64 < self.old.columns }
         requires row { k < self.old.rows }
-        ensures closed { IsClosed self.new }
+        ensures closed { IsClosedField self.new }
         ensures size { AreOfOneSize self.old self.new }
         ensures tails { self.new.tails.items ≡ self.old.tails.items }
         ensures full { length self.old.marks.list.items ≤ self.old.marks.many
             → self.new.marks ≡ self.old.marks }
         ensures cells { (u j : ℕ)
             → j < self.old.rows
-            → state_in self.new u j
-            ≡ (if u == x && j == k then Head else state_in self.old u j) }
+            → field_state self.new u j
+            ≡ (if u == x && j == k then Head else field_state self.old u j) }
     {
         let i = (x / 64 + 1) * self.stride + 1 + (k + 1);
         set_bits(&mut self.heads, &mut self.cells, i, x % 64);
@@ -352,10 +354,10 @@ impl Field {
 
     /// Returns the state of the cell of column x in row k.
     pub fn state(&self, x: usize, k: usize) -> State
-        requires is { IsField self.now }
+        requires is { IsPlaneField self.now }
         requires column { x / 64 < self.now.columns }
         requires row { k < self.now.rows }
-        ensures { result ≡ state_in self.now x k }
+        ensures { result ≡ field_state self.now x k }
     {
         let i = (x / 64 + 1) * self.stride + 1 + (k + 1);
         let b = x % 64;
@@ -365,10 +367,11 @@ impl Field {
         state_of(head, tail, cell)
     }
 
-    /// Makes the marks again, if the list has been full for some generations and few words are lit.
+    /// Makes the marks again, if the list has been full in some calls and few words are lit. No cell
+    /// changes.
     pub fn settle(&mut self)
-        requires closed { IsClosed self.old }
-        ensures closed { IsClosed self.new }
+        requires closed { IsClosedField self.old }
+        ensures closed { IsClosedField self.new }
         ensures size { AreOfOneSize self.old self.new }
         ensures heads { self.new.heads ≡ self.old.heads }
         ensures tails { self.new.tails ≡ self.old.tails }
@@ -396,7 +399,7 @@ impl Field {
 
     /// Returns the place of a word that has a head or a tail, if there is one.
     pub fn lit_word(&self) -> Option<usize>
-        requires closed { IsClosed self.now }
+        requires closed { IsClosedField self.now }
         ensures some { IfSome result (λ i.
             bit_or (number_at self.now.heads.items i) (number_at self.now.tails.items i) ≢ 0
             ) }

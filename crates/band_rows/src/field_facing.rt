@@ -1,12 +1,10 @@
 // Generations of a field between rows of heads.
-ghost use Rattle.std.specs.Prelude.{◌≡◌, ◌+◌, ◌<◌, ◌≤◌, ◌+ℤ◌, ◌-ℤ◌, ℤ, ℕ, pos, length, slice_set};
+ghost use Rattle.std.specs.Prelude.{◌≡◌, ◌<◌, ◌≤◌, ℕ, length, slice_set};
 ghost use Rattle.lists.specs.Items.{number_at};
-ghost use Rattle.ww_rule.specs.Wireworld.{Plane, next_plane};
 ghost use Rattle.lane_kernel.specs.Around.{IsFramed, IsInner};
 ghost use Rattle.lane_kernel.specs.Marked.{AreListed, AreMore, AreOn, AreTold, IsMarked};
 ghost use Rattle.lane_kernel.specs.PlaneRows.{place};
 ghost use Rattle.band_rows.specs.Facing.{words_in};
-ghost use Rattle.band_rows.specs.Rows.{IsEmptyWest, ShowsHeads};
 ghost use Rattle.band_rows.specs.RowsPut.{HasRowPut};
 
 use crate::field::{Field, WordMarks};
@@ -82,7 +80,7 @@ fn take_word(
     tell_word(tails, cells, stride, marks, i, word);
 }
 
-// Puts the words of a row into the r-th words of columns, which have no cells.
+// Puts the words of a row into the r-th words of word columns, which have no cells.
 fn take_row(
     heads: &mut [u64],
     tails: &[u64],
@@ -118,7 +116,7 @@ fn take_row(
     }
 }
 
-// Removes the r-th words of so many columns.
+// Removes the r-th words of so many word columns.
 fn clear_row(words: &mut [u64], columns: usize, stride: usize, r: usize)
     requires low { r < stride }
     requires within { (c : ℕ) → c < columns → place stride c r < length words.old }
@@ -131,11 +129,12 @@ fn clear_row(words: &mut [u64], columns: usize, stride: usize, r: usize)
 }
 
 impl Field {
-    ghost use Rattle.band_rows.specs.Fields.{AreOfOneSize, HasForgotten, HasSteppedBetween, HasTaken, IsBesideRows, IsClosed, IsField, ShowsField, TailsShow};
+    ghost use Rattle.band_rows.specs.Fields.{HasForgotten, HasSteppedBetween, HasTaken, IsBesideRows, IsClosedField, IsPlaneField};
 
-    // Takes over the heads of a row that faces the field into the r-th words of its columns.
+    // Takes over the heads of a row that faces the field into the r-th words of its word
+    // columns.
     fn face(&mut self, row: &PlaneRow<'_>, r: usize)
-        requires is { IsField self.old }
+        requires is { IsPlaneField self.old }
         requires narrow { row.now.columns ≤ self.old.columns }
         requires beside { IsBesideRows self.old.rows r }
         ensures { HasTaken (words_in row.now) r self.old self.new }
@@ -151,9 +150,9 @@ impl Field {
         );
     }
 
-    // Removes the tails in the r-th words of so many columns.
+    // Removes the tails in the r-th words of so many word columns.
     fn forget(&mut self, columns: usize, r: usize)
-        requires is { IsField self.old }
+        requires is { IsPlaneField self.old }
         requires narrow { columns ≤ self.old.columns }
         requires beside { IsBesideRows self.old.rows r }
         ensures { HasForgotten columns r self.old self.new }
@@ -163,7 +162,7 @@ impl Field {
 
     // Goes on as `step_between` does, from marks that were looked at.
     fn step_faced(&mut self, facing: &FacingRows<'_>)
-        requires closed { IsClosed self.old }
+        requires closed { IsClosedField self.old }
         requires above { facing.now.above.columns ≤ self.old.columns }
         requires below { facing.now.below.columns ≤ self.old.columns }
         ensures { HasSteppedBetween
@@ -181,18 +180,11 @@ impl Field {
     /// Goes on by one generation between two rows of heads. The tails are then the heads that the
     /// field had.
     pub fn step_between(&mut self, facing: &FacingRows<'_>)
-        requires closed { IsClosed self.old }
+        requires closed { IsClosedField self.old }
         requires above { facing.now.above.columns ≤ self.old.columns }
         requires below { facing.now.below.columns ≤ self.old.columns }
-        ensures closed { IsClosed self.new }
-        ensures size { AreOfOneSize self.old self.new }
-        ensures tails { (p : Plane) (y : ℤ) → ShowsField self.old p y → TailsShow self.new p y }
-        ensures shows { (p : Plane) (y : ℤ)
-            → IsEmptyWest p
-            → ShowsHeads (words_in facing.now.above) p (y -ℤ pos 1)
-            → ShowsField self.old p y
-            → ShowsHeads (words_in facing.now.below) p (y +ℤ pos self.old.rows)
-            → ShowsField self.new (next_plane p) y }
+        ensures { HasSteppedBetween
+            (words_in facing.now.above) (words_in facing.now.below) self.old self.new }
     {
         self.settle();
         self.step_faced(facing);

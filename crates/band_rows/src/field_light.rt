@@ -17,15 +17,15 @@ fn set_place(word: u64) -> usize
 }
 
 impl Field {
-    ghost use Rattle.band_rows.specs.Fields.{heads_of, tails_of, IsClosed, IsDarkField, IsField, IsLitInField};
+    ghost use Rattle.band_rows.specs.Fields.{field_heads, field_tails, IsClosedField, IsDarkField, IsPlaneField, IsLitInField};
     ghost use Rattle.band_rows.specs.Facing.{words_in};
 
     /// Returns the heads of row k.
     pub fn heads_in_row(&self, k: usize) -> PlaneRow<'_>
-        requires is { IsField self.now }
+        requires is { IsPlaneField self.now }
         requires row { k < self.now.rows }
         ensures columns { result.columns ≡ self.now.columns }
-        ensures words { words_in result ≡ heads_of self.now (k + 1) }
+        ensures words { words_in result ≡ field_heads self.now (k + 1) }
     {
         PlaneRow {
             plane: &self.heads,
@@ -35,12 +35,12 @@ impl Field {
         }
     }
 
-    /// Returns the tails of row k.
+    /// Returns the tails of row k. A cell that has a head's bit too is a head.
     pub fn tails_in_row(&self, k: usize) -> PlaneRow<'_>
-        requires is { IsField self.now }
+        requires is { IsPlaneField self.now }
         requires row { k < self.now.rows }
         ensures columns { result.columns ≡ self.now.columns }
-        ensures words { words_in result ≡ tails_of self.now (k + 1) }
+        ensures words { words_in result ≡ field_tails self.now (k + 1) }
     {
         PlaneRow {
             plane: &self.tails,
@@ -50,9 +50,9 @@ impl Field {
         }
     }
 
-    /// Returns whether no word has a mark; then no cell is a head or a tail.
+    /// Returns true only if no cell is a head or a tail: if the list has room and no entry.
     pub fn is_dark(&self) -> bool
-        requires closed { IsClosed self.now }
+        requires closed { IsClosedField self.now }
         ensures { result ≡ true → IsDarkField self.now }
     {
         self.marks.many == 0 && self.marks.list.len() > 0
@@ -60,7 +60,7 @@ impl Field {
 
     // A head or a tail in a word that has one.
     fn cell_in_word(&self, i: usize) -> (usize, usize)
-        requires closed { IsClosed self.now }
+        requires closed { IsClosedField self.now }
         requires few { self.now.columns ≤ 2 ^ 58 }
         requires lit { bit_or (number_at self.now.heads.items i) (number_at self.now.tails.items i)
             ≢ 0 }
@@ -74,7 +74,7 @@ impl Field {
 
     /// Returns the column and row of a head or a tail, if there is one.
     pub fn lit_cell(&self) -> Option<(usize, usize)>
-        requires closed { IsClosed self.now }
+        requires closed { IsClosedField self.now }
         requires few { self.now.columns ≤ 2 ^ 58 }
         ensures some { IfSome result (λ cell. IsLitInField self.now cell.0 cell.1) }
         ensures none { result ≡ None → IsDarkField self.now }

@@ -1,13 +1,12 @@
 // Fields of cells.
-ghost use Rattle.std.specs.Prelude.{◌≡◌, ◌≢◌, ◌+◌, ◌*◌, ◌/◌, ◌%◌, ◌^◌, ◌<◌, ◌≤◌, ℕ, [], length, get_or, drop, slice_set, All, IfOk, IfSome};
-ghost use Rattle.std.specs.Int.RustNames.{bit_or};
-ghost use Rattle.lists.specs.Items.{number_at};
-ghost use Rattle.ww_rule.specs.declared.pattern.State.TheVariants.{Conductor, Empty, Head, Tail};
+ghost use Rattle.std.specs.Prelude.{◌≡◌, ◌≢◌, ◌+◌, ◌*◌, ◌/◌, ◌^◌, ◌<◌, ◌≤◌, ℕ, [], length, get_or, drop, slice_set, All, IfOk, IfSome};
+ghost use Rattle.ww_rule.specs.declared.pattern.State.TheVariants.{Empty};
 ghost use Rattle.ww_rule.specs.Grid.{row_cell};
 ghost use Rattle.lane_kernel.specs.Marked.{AreCleared};
 ghost use Rattle.lane_kernel.specs.Spans.{AreZero};
 
-use crate::field::{Field, WAIT, WordMarks, mark_again, set_bits};
+use crate::cell_bits::{CellBits, any_filled, cells_of_word};
+use crate::field::{Field, WAIT, WordMarks, mark_again};
 use std::alloc::{AllocError, Global};
 use ww_rule::{CellRows, State};
 
@@ -49,18 +48,23 @@ fn no_words(alloc: Global, count: usize) -> Result<Vec<u64>, AllocError>
     Ok(vec![in alloc; 0; count]?)
 }
 
-// Sets a bit of a word.
-fn set_bit(words: &mut [u64], i: usize, b: usize)
-    requires place { i < length words.old }
-    requires bit { b < 64 }
-    ensures { words.new
-        ≡ slice_set words.old i (bit_or (number_at words.old i) (1 * 2 ^ b % 2 ^ 64)) }
+// Puts bits of cells into the words at a place of three planes.
+fn put_bits(heads: &mut [u64], tails: &mut [u64], cells: &mut [u64], i: usize, bits: CellBits)
+    requires heads { i < length heads.old }
+    requires tails { i < length tails.old }
+    requires cells { i < length cells.old }
+    ensures heads { heads.new ≡ slice_set heads.old i bits.heads }
+    ensures tails { tails.new ≡ slice_set tails.old i bits.tails }
+    ensures cells { cells.new ≡ slice_set cells.old i bits.cells }
 {
-    words[i] |= 1 << b;
+    heads[i] = bits.heads;
+    tails[i] = bits.tails;
+    cells[i] = bits.cells;
 }
 
 impl Field {
-    ghost use Rattle.band_rows.specs.Fields.{state_in, AreOfOneSize, HasCellPut, IsBlank, IsClosed, IsUnlisted};
+    ghost use Rattle.band_rows.specs.Fields.{field_state, AreOfOneSize, IsBlank, IsClosedField, IsUnlisted};
+    ghost use Rattle.band_rows.specs.CellWords.{HasWordPut};
 
     // A field without cells, whose marks have no list.
     fn blank(alloc: Global, columns: usize, rows: usize) -> Result<Field, AllocError>
@@ -85,95 +89,63 @@ impl Field {
         })
     }
 
-    // Makes an empty cell a head.
-    fn put_head(&mut self, x: usize, k: usize)
-        requires closed { IsClosed self.old }
+    // Gives the cells of row k in word column c, which are empty, their states.
+    fn put_word(&mut self, k: usize, c: usize, cells: &[State])
+        requires closed { IsClosedField self.old }
         requires unlisted { IsUnlisted self.old }
-        requires column { x / 64 < self.old.columns }
+        requires column { c < self.old.columns }
         requires row { k < self.old.rows }
-        ensures { HasCellPut Head x k self.old self.new }
+        requires few { length cells.now ≤ 64 }
+        requires empty { (u : ℕ) → u / 64 ≡ c → field_state self.old u k ≡ Empty }
+        ensures { HasWordPut cells.now c k self.old self.new }
     {
-        self.make_head(x, k);
-    }
-
-    // Makes an empty cell a tail.
-    fn put_tail(&mut self, x: usize, k: usize)
-        requires closed { IsClosed self.old }
-        requires unlisted { IsUnlisted self.old }
-        requires column { x / 64 < self.old.columns }
-        requires row { k < self.old.rows }
-        requires empty { state_in self.old x k ≡ Empty }
-        ensures { HasCellPut Tail x k self.old self.new }
-    {
-        let i = (x / 64 + 1) * self.stride + 1 + (k + 1);
-        set_bits(&mut self.tails, &mut self.cells, i, x % 64);
-    }
-
-    // Makes an empty cell a conductor.
-    fn put_conductor(&mut self, x: usize, k: usize)
-        requires closed { IsClosed self.old }
-        requires unlisted { IsUnlisted self.old }
-        requires column { x / 64 < self.old.columns }
-        requires row { k < self.old.rows }
-        requires empty { state_in self.old x k ≡ Empty }
-        ensures { HasCellPut Conductor x k self.old self.new }
-    {
-        let i = (x / 64 + 1) * self.stride + 1 + (k + 1);
-        set_bit(&mut self.cells, i, x % 64);
-    }
-
-    // Gives an empty cell a state.
-    fn put_cell(&mut self, x: usize, k: usize, state: State)
-        requires closed { IsClosed self.old }
-        requires unlisted { IsUnlisted self.old }
-        requires column { x / 64 < self.old.columns }
-        requires row { k < self.old.rows }
-        requires empty { state_in self.old x k ≡ Empty }
-        ensures { HasCellPut state x k self.old self.new }
-    {
-        match state {
-            State::Empty => {}
-            State::Head => self.put_head(x, k),
-            State::Tail => self.put_tail(x, k),
-            State::Conductor => self.put_conductor(x, k),
+        if !any_filled(cells) {
+            return;
         }
+        let bits = CellBits::of_cells(cells);
+        let i = (c + 1) * self.stride + 1 + (k + 1);
+        put_bits(&mut self.heads, &mut self.tails, &mut self.cells, i, bits);
     }
 
-    // Gives the cells of row k, which are empty, their states.
+    // Gives the cells of row k, which are empty, their states. A row of empty cells is passed over
+    // at once, and so is a word of them.
     fn put_row(&mut self, k: usize, cells: &[State])
-        requires closed { IsClosed self.old }
+        requires closed { IsClosedField self.old }
         requires unlisted { IsUnlisted self.old }
         requires wide { length cells.now ≤ 64 * self.old.columns }
         requires row { k < self.old.rows }
-        requires empty { (u : ℕ) → state_in self.old u k ≡ Empty }
-        ensures closed { IsClosed self.new }
+        requires empty { (u : ℕ) → field_state self.old u k ≡ Empty }
+        ensures closed { IsClosedField self.new }
         ensures unlisted { IsUnlisted self.new }
         ensures size { AreOfOneSize self.old self.new }
-        ensures here { (u : ℕ) → state_in self.new u k ≡ row_cell cells.now u }
+        ensures here { (u : ℕ) → field_state self.new u k ≡ row_cell cells.now u }
         ensures other { (u j : ℕ)
             → j < self.old.rows
             → j ≢ k
-            → state_in self.new u j ≡ state_in self.old u j }
+            → field_state self.new u j ≡ field_state self.old u j }
     {
-        for (x, state) in cells.iter().enumerate() {
-            self.put_cell(x, k, *state);
+        if !any_filled(cells) {
+            return;
+        }
+        for c in 0..cells.len().div_ceil(64) {
+            self.put_word(k, c, cells_of_word(cells, c));
         }
     }
 
     // Gives the cells of all rows, which are empty, their states: those of rows from row y on.
     fn put_rows(&mut self, cells: &CellRows, y: usize)
-        requires closed { IsClosed self.old }
+        requires closed { IsClosedField self.old }
         requires unlisted { IsUnlisted self.old }
         requires few { length cells.now < 2 ^ 63 }
         requires within { y + self.old.rows ≤ length cells.now }
         requires wide { All (λ row. length row ≤ 64 * self.old.columns) cells.now }
-        requires empty { (u j : ℕ) → j < self.old.rows → state_in self.old u j ≡ Empty }
-        ensures closed { IsClosed self.new }
+        requires empty { (u j : ℕ) → j < self.old.rows → field_state self.old u j ≡ Empty }
+        ensures closed { IsClosedField self.new }
         ensures unlisted { IsUnlisted self.new }
         ensures size { AreOfOneSize self.old self.new }
         ensures shows { (u j : ℕ)
             → j < self.old.rows
-            → state_in self.new u j ≡ get_or (get_or (drop y cells.now) j []) u Empty }
+            → field_state self.new u j ≡ get_or (get_or (drop y cells.now) j []) u Empty }
     {
         for k in 0..self.rows {
             self.put_row(k, cells.row(y + k));
@@ -182,8 +154,8 @@ impl Field {
 
     // Makes the marks, and their lists.
     fn mark_first(&mut self, list: Vec<usize>, spare: Vec<usize>)
-        requires closed { IsClosed self.old }
-        ensures closed { IsClosed self.new }
+        requires closed { IsClosedField self.old }
+        ensures closed { IsClosedField self.new }
         ensures size { AreOfOneSize self.old self.new }
         ensures heads { self.new.heads ≡ self.old.heads }
         ensures tails { self.new.tails ≡ self.old.tails }
@@ -200,7 +172,7 @@ impl Field {
         );
     }
 
-    /// Makes a field of `rows` rows of cells from row y on, each in so many columns of words.
+    /// Makes a field of `rows` rows of cells from row y on, each in so many word columns.
     /// `AllocError` also comes if the number of words is over the greatest `usize`.
     pub fn of_cells(
         alloc: Global,
@@ -212,13 +184,13 @@ impl Field {
         requires few { length cells.now < 2 ^ 63 }
         requires within { y + rows ≤ length cells.now }
         requires wide { All (λ row. length row ≤ 64 * columns) cells.now }
-        ensures closed { IfOk result (λ field. IsClosed field) }
+        ensures closed { IfOk result (λ field. IsClosedField field) }
         ensures columns { IfOk result (λ field. field.columns ≡ columns) }
         ensures rows { IfOk result (λ field. field.rows ≡ rows) }
         ensures shows { IfOk result (λ field.
             (k x : ℕ)
             → k < rows
-            → state_in field x k ≡ get_or (get_or (drop y cells.now) k []) x Empty
+            → field_state field x k ≡ get_or (get_or (drop y cells.now) k []) x Empty
             ) }
     {
         let mut field = Field::blank(alloc, columns, rows)?;

@@ -1,18 +1,17 @@
 // Generations of a field that stands alone.
-ghost use Rattle.std.specs.Prelude.{◌≡◌, ◌+◌, ◌*◌, ◌<◌, ◌≤◌, ◌+ℤ◌, ℤ, ℕ, pos, length};
-ghost use Rattle.ww_rule.specs.Wireworld.{Plane};
+ghost use Rattle.std.specs.Prelude.{◌≡◌, ◌*◌, ◌<◌, ◌≤◌, length};
 ghost use Rattle.lane_kernel.specs.Marked.{AreOn};
 
 use crate::field::{Field, all_fit, step_marked};
 use std::mem;
 
 impl Field {
-    ghost use Rattle.band_rows.specs.Fields.{crossed, AreOfOneSize, GoOnAlone, HasRunAlone, IsClosed, IsField, IsFieldStepped, ShowsField, TailsShow};
+    ghost use Rattle.band_rows.specs.Fields.{crossed, HasRunAlone, IsClosedField, IsPlaneField, IsFieldStepped};
 
     // Steps the marked words. The new heads stand in the tails' plane then, and their marks are the
     // spare ones.
     fn step_over(&mut self)
-        requires is { IsField self.old }
+        requires is { IsPlaneField self.old }
         requires on_cells { AreOn self.old.cells.items self.old.tails.items }
         requires room { self.old.marks.many < length self.old.marks.list.items }
         ensures { IsFieldStepped self.old (crossed self.new) }
@@ -29,7 +28,7 @@ impl Field {
 
     // Steps the marked words of a field that has stepped over.
     fn step_back(&mut self)
-        requires is { IsField (crossed self.old) }
+        requires is { IsPlaneField (crossed self.old) }
         requires on_cells { AreOn self.old.cells.items self.old.heads.items }
         requires room { self.old.spare.many < length self.old.spare.list.items }
         ensures { IsFieldStepped (crossed self.old) self.new }
@@ -54,7 +53,7 @@ impl Field {
 
     // Goes on by two generations, from the marked words. Most often nothing is exchanged.
     fn step_pair(&mut self)
-        requires closed { IsClosed self.old }
+        requires closed { IsClosedField self.old }
         requires room { self.old.marks.many < length self.old.marks.list.items }
         ensures { HasRunAlone 2 self.old self.new }
     {
@@ -70,7 +69,7 @@ impl Field {
 
     // Goes on by one generation.
     fn step_alone(&mut self)
-        requires closed { IsClosed self.old }
+        requires closed { IsClosedField self.old }
         ensures { HasRunAlone 1 self.old self.new }
     {
         all_fit(&self.cells);
@@ -80,7 +79,7 @@ impl Field {
     // Goes on by pairs of generations, by at least one, while there are marked words and the list
     // has room, and returns by how many.
     fn run_pairs(&mut self, pairs: u64) -> u64
-        requires closed { IsClosed self.old }
+        requires closed { IsClosedField self.old }
         requires some { 0 < pairs }
         requires room { self.old.marks.many < length self.old.marks.list.items }
         ensures some { 0 < result }
@@ -98,7 +97,7 @@ impl Field {
 
     // Goes on as `run` does, from marks that were looked at.
     fn run_settled(&mut self, most: u64) -> u64
-        requires closed { IsClosed self.old }
+        requires closed { IsClosedField self.old }
         requires some { 0 < most }
         ensures some { 0 < result }
         ensures few { result ≤ most }
@@ -112,23 +111,14 @@ impl Field {
     }
 
     /// Goes on by at least one generation, and at most `most`, with no heads beside the field, and
-    /// returns by how many. It stops where the field is dark.
+    /// returns by how many. It may stop earlier: where the field is dark, where the list is full, and
+    /// where one generation is left.
     pub fn run(&mut self, most: u64) -> u64
-        requires closed { IsClosed self.old }
+        requires closed { IsClosedField self.old }
         requires some { 0 < most }
         ensures some { 0 < result }
         ensures few { result ≤ most }
-        ensures closed { IsClosed self.new }
-        ensures size { AreOfOneSize self.old self.new }
-        ensures shows { (e : ℕ → Plane) (y : ℤ)
-            → GoOnAlone e y self.old.rows result
-            → ShowsField self.old (e 0) y
-            → ShowsField self.new (e result) y }
-        ensures tails { (e : ℕ → Plane) (y : ℤ) (g : ℕ)
-            → result ≡ g + 1
-            → GoOnAlone e y self.old.rows result
-            → ShowsField self.old (e 0) y
-            → TailsShow self.new (e g) y }
+        ensures gone { HasRunAlone result self.old self.new }
     {
         self.settle();
         self.run_settled(most)

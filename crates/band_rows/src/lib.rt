@@ -1,9 +1,10 @@
 //! Fields of cells in planes of words, with marks of the words that may change, and generations of a field between rows
 //! of heads and alone.
 //!
-//! Theorem: `step_between`, `run` (`shows`, `tails`).
+//! Theorem: `step_between`, `run` (`gone`).
 #![tactic(auto)]
 
+mod cell_bits;
 mod field;
 mod field_facing;
 mod field_light;

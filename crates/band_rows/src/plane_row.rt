@@ -7,8 +7,8 @@ ghost use Rattle.lane_kernel.specs.Rows.{is_set};
 /// No words.
 const NONE: &[u64] = &[];
 
-/// A row of a plane whose columns have `stride` words each: the r-th words of so many columns. A
-/// row of no columns stands for one that has no heads.
+/// A row of a plane whose word columns have `stride` words each: the r-th words of `columns` of
+/// them. A row of no word columns stands for one that has no heads.
 #[derive(Clone, Copy)]
 pub struct PlaneRow<'a> {
     pub plane: &'a [u64],
@@ -28,7 +28,7 @@ pub struct FacingRows<'a> {
 impl<'a> PlaneRow<'a> {
     ghost use Rattle.band_rows.specs.Facing.{words_in};
 
-    /// Returns a row of no columns.
+    /// Returns a row of no word columns.
     pub fn none() -> PlaneRow<'a>
         ensures { words_in result ≡ [] }
     {
@@ -40,7 +40,7 @@ impl<'a> PlaneRow<'a> {
         }
     }
 
-    /// Returns the word in column c.
+    /// Returns the word in word column c.
     pub fn word(&self, c: usize) -> u64
         requires { c < self.now.columns }
         ensures { result ≡ number_at (words_in self.now) c }

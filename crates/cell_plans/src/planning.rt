@@ -63,7 +63,7 @@ fn planned_by(alloc: Global, list: &CellList, other: &CellList) -> Result<Plan, 
     planned(alloc, other)
 }
 
-// A plan of a list, made from another list that computes alike, at a layout that climbing found.
+// A plan of a list, made from another list that computes alike, at a draft that climbing found.
 #[tactic(auto, using(crate::proofs::Alike::plan_by))]
 fn planned_by_at(
     alloc: Global,
@@ -79,7 +79,7 @@ fn planned_by_at(
     planned_at(alloc, other, found.spare, &found.lanes)
 }
 
-/// The plan of a list at a layout that climbing found, if the cells can be put in its order.
+/// The plan of a list at a draft that climbing found, if the cells can be put in its order.
 pub fn climbed_plan(
     alloc: Global,
     list: &CellList,

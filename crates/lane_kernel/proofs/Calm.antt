@@ -8,7 +8,7 @@ use Rattle.std.specs.Int.Bits.{or_zero_r}
 use Rattle.std.specs.Int.RustNames.{bit_and, bit_or, bit_xor}
 use Rattle.lists.specs.Bits.{has_bit}
 use Rattle.lists.proofs.WordBits.{by_digits, or_bit, and_bit}
-use Rattle.lane_kernel.specs.Around.{Way, beside, free_of, wires_of, heads_alone, next_word, IsCalm}
+use Rattle.lane_kernel.specs.Around.{Way, beside, free_of, wires_of, heads_alone, next_word, StepsAlone}
 use Rattle.lane_kernel.specs.Around.Way.{north, south, west, east, north_west, north_east, south_west, south_east}
 use Rattle.lane_kernel.specs.Words.{ones_of, twos_of, from_west, from_east, fires, new_heads_of, spread_of}
 use Rattle.lane_kernel.proofs.Bits.{differ, odd, most, fire_bit, ones_bit, twos_bit, fires_bit, xor_bit, no_bit, west_bit, east_bit, west_is, east_is, not_last, low_bit, moved_high}
@@ -152,7 +152,7 @@ module _ (a0 a a2 h0 h h2 b0 b b2 c t : ℕ) (f : AreWords a0 a a2 h0 h h2 b0 b 
       (let e = and_le_l (wires_of c h t) (bit_or (h * 2 ^ 1 % 2 ^ 64) (h / 2 ^ 1)) in omega (arith, e, w)) bits_alone
 
 -- the next word of a calm word is its own doing
-pub alone : (stride : ℕ) (heads tails cells : List ℕ) (i : ℕ) → Fit heads → Fit cells → IsCalm stride heads tails cells i
+pub alone : (stride : ℕ) (heads tails cells : List ℕ) (i : ℕ) → Fit heads → Fit cells → StepsAlone stride heads tails cells i
     → next_word stride heads tails cells i ≡ heads_alone (get_or heads i 0) (wires_of (get_or cells i 0) (get_or heads i 0) (get_or tails i 0))
 alone stride heads tails cells i fh fc calm =
     let at = λ (way : Way). get_or heads (beside stride way i) 0 in

@@ -6,9 +6,10 @@ use Rattle.std.proofs.lemmas.List.{get_or_past}
 use Rattle.std.proofs.lemmas.Nat.{and_le_l, or_lt, xor_lt}
 use Rattle.std.specs.Int.RustNames.{bit_and, bit_xor}
 use Rattle.ww_rule.specs.declared.pattern.State.{State}
-use Rattle.ww_rule.specs.declared.pattern.State.TheVariants.{Empty, Head, Conductor}
+use Rattle.ww_rule.specs.declared.pattern.State.TheVariants.{Head, Conductor}
 use Rattle.ww_rule.specs.Wireworld.{count_head, heads_around, next_plane, next_state}
 use Rattle.lane_kernel.specs.Rows.{is_set, state_of, row_state, plane_of_rows, AreDisjoint}
+use Rattle.lane_kernel.specs.PlaneRows.{IsEmptyWest, ShowsHeads}
 use Rattle.lists.specs.Bits.{has_bit}
 use Rattle.lane_kernel.specs.Words.{ones_of, twos_of, from_west, from_east, before, new_heads_of, new_wires_of, heads_word, wires_word}
 use Rattle.lane_kernel.proofs.Bits.{differ, odd, most, ones_bit, twos_bit, fires_bit, xor_bit, no_bit, west_bit, east_bit, west_is, east_is, not_last, fire_bit}
@@ -205,22 +206,15 @@ everywhere_wires above heads below tails wires new_wires lw lt ln h j =
           ∙ sym (ap₂ (λ w t. new_wires_of w t (new_heads_of (before above j) (get_or above j 0) (get_or above (j + 1) 0) (before heads j) (get_or heads j 0) (get_or heads (j + 1) 0) (before below j) (get_or below j 0) (get_or below (j + 1) 0) w)) (get_or_past wires j 0 (omega (arith, lw, ge))) (get_or_past tails j 0 (omega (arith, lt, ge))))
     ]
 
--- a row of words shows the row y of a plane; its heads show the plane's heads there
+-- a row of words shows the row y of a plane
 abbrev pub Shows : List ℕ → List ℕ → List ℕ → (ℤ → ℤ → State) → ℤ → Type 0
 Shows heads tails wires p y = (x : ℕ) → row_state heads tails wires x ≡ p (pos x) y
 
-abbrev pub ShowsHeads : List ℕ → (ℤ → ℤ → State) → ℤ → Type 0
-ShowsHeads heads p y = (x : ℕ) → one_if (is_set heads x) ≡ count_head (p (pos x) y)
-
--- west of its first column the plane is empty
-abbrev pub IsEmptyWest : (ℤ → ℤ → State) → Type 0
-IsEmptyWest p = (x : ℕ) (y : ℤ) → p (negsuc x) y ≡ Empty
-
 pub heads_of_row : (heads tails wires : List ℕ) (p : ℤ → ℤ → State) (y : ℤ) → Shows heads tails wires p y → ShowsHeads heads p y
-heads_of_row heads tails wires p y shows x = sym (count_is (is_set heads x) (is_set tails x) (is_set wires x)) ∙ ap count_head (shows x)
+heads_of_row heads tails wires p y shows x = count_is (is_set heads x) false false ∙ sym (count_is (is_set heads x) (is_set tails x) (is_set wires x)) ∙ ap count_head (shows x)
 
 heads_at : (heads : List ℕ) (p : ℤ → ℤ → State) (y : ℤ) → IsEmptyWest p → ShowsHeads heads p y → (z : ℤ) → one_if (row_bit heads z) ≡ count_head (p z y)
-heads_at heads p y west shows (pos x) = shows x
+heads_at heads p y west shows (pos x) = sym (count_is (is_set heads x) false false) ∙ shows x
 heads_at heads p y west shows (negsuc x) = sym (ap count_head (west x y))
 
 -- three rows that show a plane: the middle one's next row shows the next plane

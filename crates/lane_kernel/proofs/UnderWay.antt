@@ -5,7 +5,7 @@ use Rattle.std.proofs.lemmas.Bool.{cases_eq}
 use Rattle.std.proofs.lemmas.List.{get_or-set_same, get_or-set_other}
 use Rattle.std.proofs.lemmas.Nat.{and_comm}
 use Rattle.std.specs.Int.RustNames.{bit_and}
-use Rattle.lane_kernel.specs.Around.{Way, beside, near_heads, free_of, wires_of, heads_alone, next_word, IsCalm, IsFramed}
+use Rattle.lane_kernel.specs.Around.{Way, beside, near_heads, free_of, wires_of, heads_alone, next_word, StepsAlone, IsFramed}
 use Rattle.lane_kernel.specs.Around.Way.{north, south, west, east, north_west, north_east, south_west, south_east}
 use Rattle.lane_kernel.specs.Words.{new_heads_of}
 use Rattle.lane_kernel.proofs.Calm.{alone, same_next}
@@ -21,7 +21,7 @@ none_without_cells stride heads tails cells i none =
     ap (λ c. new_heads_of (at north_west) (at north) (at north_east) (at west) (get_or heads i 0) (at east) (at south_west) (at south) (at south_east) (wires_of c (get_or heads i 0) (get_or tails i 0))) none
 
 -- nor does a calm word without heads
-pub none_alone : (stride : ℕ) (heads tails cells : List ℕ) (i : ℕ) → Fit heads → Fit cells → IsCalm stride heads tails cells i → get_or heads i 0 ≡ 0 → next_word stride heads tails cells i ≡ 0
+pub none_alone : (stride : ℕ) (heads tails cells : List ℕ) (i : ℕ) → Fit heads → Fit cells → StepsAlone stride heads tails cells i → get_or heads i 0 ≡ 0 → next_word stride heads tails cells i ≡ 0
 none_alone stride heads tails cells i fh fc calm none =
     let w = wires_of (get_or cells i 0) (get_or heads i 0) (get_or tails i 0) in
     alone stride heads tails cells i fh fc calm ∙ ap (λ h. heads_alone h w) none ∙ and_comm w 0

@@ -1,5 +1,5 @@
--- The words around a word of a plane. A plane's words are numbered column by column, down each column; a column has `stride`
--- words, so the word at place i has its western neighbour at place i - stride.
+-- The words around a word of a plane. A plane's words are numbered word column by word column, down each of them.
+-- A word column has `stride` words, so the word at place i has its western neighbour at place i - stride.
 use Rattle.std.specs.Prelude.{ℕ, ◌+◌, ◌-◌, ◌*◌, ◌/◌, ◌%◌, ◌^◌, ◌<◌, ◌≤◌, ◌≡◌, ◌≢◌, List, length, get_or}
 use Rattle.std.specs.Int.RustNames.{bit_and, bit_or, bit_xor}
 use Rattle.lane_kernel.specs.Words.{new_heads_of, spread_of}
@@ -45,9 +45,10 @@ free_of cells tails = bit_xor cells (bit_and cells tails)
 abbrev pub wires_of : (cells heads tails : ℕ) → ℕ
 wires_of cells heads tails = free_of cells (bit_or heads tails)
 
--- no head of another word stands beside a cell of word i that is no tail
-abbrev pub IsCalm : (stride : ℕ) (heads tails cells : List ℕ) → ℕ → Type 0
-IsCalm stride heads tails cells i =
+-- No head of another word stands beside a free cell of word i (one that is no tail). So its next
+-- heads need no other word.
+abbrev pub StepsAlone : (stride : ℕ) (heads tails cells : List ℕ) → ℕ → Type 0
+StepsAlone stride heads tails cells i =
     (way : Way) → bit_and (near_heads way (get_or heads (beside stride way i) 0))
     (free_of (get_or cells i 0) (get_or tails i 0)) ≡ 0
 
@@ -61,7 +62,7 @@ next_word stride heads tails cells i =
     (get_or heads (beside stride south_east i) 0)
     (wires_of (get_or cells i 0) (get_or heads i 0) (get_or tails i 0))
 
--- the new heads of a word, if no others count
+-- the new heads of a word, if no other word has a head beside its wires
 abbrev pub heads_alone : (heads wires : ℕ) → ℕ
 heads_alone heads wires = bit_and wires (bit_or (heads * 2 ^ 1 % 2 ^ 64) (heads / 2 ^ 1))
 

@@ -1,8 +1,16 @@
 -- Marks of the words of a plane that may change: a byte for each word, and a list of the marked words.
 use Rattle.std.specs.Prelude.{ℕ, ◌<◌, ◌≤◌, ◌≡◌, ◌≢◌, ◌⊎◌, Bool, true, false, List, length, get_or}
 use Rattle.std.specs.Int.RustNames.{bit_and}
-use Rattle.lane_kernel.specs.Around.{Way, beside, near_heads, free_of, next_word, IsCalm, IsInner}
+use Rattle.lane_kernel.specs.Around.{Way, beside, near_heads, free_of, next_word, StepsAlone, IsInner}
 use Rattle.lane_kernel.specs.Around.Way.{north, south, west, east, north_west, north_east, south_west, south_east}
+
+-- the mark of a word whose next heads need no other word, and below, of one whose next heads need
+-- the words around it
+abbrev pub lit_mark : ℕ
+lit_mark = 1
+
+abbrev pub beside_mark : ℕ
+beside_mark = 2
 
 -- a number stands in a list, from one place up to another
 pub record IsAmong (list : List ℕ) (from to i : ℕ) : Type 0 where
@@ -18,12 +26,12 @@ pub record AreListed (stride : ℕ) (bytes list : List ℕ) (many : ℕ) : Type 
   pub inner : (k : ℕ) → k < many → IsInner stride (length bytes) (get_or list k 0)
   pub each : many < length list → (i : ℕ) → get_or bytes i 0 ≢ 0 → IsAmong list 0 many i
 
--- What the bytes promise. A word whose byte is 0 has no cells, or neither a head nor a tail. Beside
--- the free cells of a word whose byte is 0 or 1 no head of another word stands.
+-- What the bytes promise. A word whose byte is 0 has no cells, or neither a head nor a tail. A word
+-- whose byte is less than the mark 'beside' steps alone.
 pub record IsMarked (stride : ℕ) (heads tails cells bytes : List ℕ) : Type 0 where
   pub dark : (i : ℕ) → get_or bytes i 0 ≡ 0
       → (get_or cells i 0 ≡ 0) ⊎ ((get_or heads i 0 ≡ 0) × (get_or tails i 0 ≡ 0))
-  pub calm : (i : ℕ) → get_or bytes i 0 < 2 → IsCalm stride heads tails cells i
+  pub calm : (i : ℕ) → get_or bytes i 0 < beside_mark → StepsAlone stride heads tails cells i
 
 -- all marks are cleared
 abbrev pub AreCleared : List ℕ → Type 0
@@ -40,10 +48,10 @@ opposite north_east = south_west
 opposite south_west = north_east
 opposite south_east = north_west
 
--- word i has the mark 2, if one of its free cells is among those that lie beside heads
+-- word i has the mark 'beside', or none of its free cells is among those that lie beside heads
 abbrev pub IsTold : (near : ℕ) (tails cells bytes : List ℕ) → ℕ → Type 0
 IsTold near tails cells bytes i =
-    (2 ≤ get_or bytes i 0)
+    (beside_mark ≤ get_or bytes i 0)
     ⊎ (bit_and near (free_of (get_or cells i 0) (get_or tails i 0)) ≡ 0)
 
 -- the words beside word i, by these heads of word i; and below, those to the west and to the east
@@ -75,7 +83,7 @@ AreOn cells words = (i : ℕ) → bit_and (get_or cells i 0) (get_or words i 0) 
 pub record IsUnderWay (stride : ℕ) (heads old_tails cells entries : List ℕ) (entry : ℕ)
     (tails bytes soon : List ℕ) : Type 0 where
   pub old : (i : ℕ) → get_or bytes i 0 ≢ 0 → get_or tails i 0 ≡ get_or old_tails i 0
-  pub calm : (i : ℕ) → get_or bytes i 0 ≡ 1 → IsCalm stride heads old_tails cells i
+  pub calm : (i : ℕ) → get_or bytes i 0 ≡ lit_mark → StepsAlone stride heads old_tails cells i
   pub left : (i : ℕ) → get_or bytes i 0 ≢ 0 → IsAmong entries entry (length entries) i
   pub done : (i : ℕ) → get_or bytes i 0 ≡ 0
       → get_or tails i 0 ≡ next_word stride heads old_tails cells i

@@ -1,7 +1,7 @@
 //! The rule on rows of cells in words of bits: bit i of word j is cell 64 j + i of a row; and one generation of the
 //! marked words of a plane.
 //!
-//! Theorem: `step_rows` (`heads`, `wires`, `cells`), `step_listed` (`next`, `marked`).
+//! Theorem: `step_rows` (`heads`, `wires`, `cells`), `step_listed` (`shows`, `marked`).
 #![tactic(auto)]
 
 mod lanes;
@@ -12,5 +12,5 @@ mod word_marks;
 mod words;
 
 pub use rows::step_rows;
-pub use stepping::{mark_all, step_all, step_listed};
+pub use stepping::{mark_words, step_all, step_listed};
 pub use word_marks::{BESIDE, Free, mark, tell_around};

@@ -1,4 +1,4 @@
-// Words of a plane, in columns.
+// Words of a plane, in word columns.
 ghost use Rattle.std.specs.Prelude.{◌≡◌, ◌+◌, ◌-◌, ◌<◌, ◌≤◌, ◌≢◌, ℕ, length};
 ghost use Rattle.lists.specs.Items.{number_at};
 ghost use Rattle.lane_kernel.specs.Around.{free_of, heads_alone, next_word, wires_of, AreNextWords, IsInner};
@@ -50,7 +50,7 @@ pub fn next_word(heads: &[u64], tails: &[u64], cells: &[u64], i: usize, stride: 
     )
 }
 
-/// Returns the new heads of a word, if no others count.
+/// Returns the new heads of a word, if no other word has a head beside its wires.
 pub fn heads_alone(heads: u64, wires: u64) -> u64
     ensures { result ≡ heads_alone heads wires }
 {

@@ -1,8 +1,9 @@
 // One generation of the marked words of a plane.
 ghost use Rattle.std.specs.Prelude.{◌≡◌, ◌≢◌, ◌⊎◌, ◌+◌, ◌<◌, ◌≤◌, ◌^◌, ℕ, List, length};
 ghost use Rattle.lists.specs.Items.{number_at};
-ghost use Rattle.lane_kernel.specs.Around.{next_word, IsCalm, IsFramed, IsInner};
-ghost use Rattle.lane_kernel.specs.Marked.{AreCleared, AreListed, AreMore, AreOn, AreTold, IsAmong, IsMarked, IsUnderWay};
+ghost use Rattle.lane_kernel.specs.Around.{next_word, StepsAlone, IsFramed, IsInner};
+ghost use Rattle.lane_kernel.specs.Marked.{AreCleared, AreListed, AreMore, AreOn, AreTold, IsAmong, IsMarked, IsUnderWay, lit_mark};
+ghost use Rattle.lane_kernel.specs.PlaneRows.{IsNextPlane};
 
 use crate::planes::{heads_alone, next_word, next_words, wires_of};
 use crate::word_marks::{Free, LIT, mark, tell_around};
@@ -26,7 +27,7 @@ fn stepped_word(
     requires inner { IsInner stride (length heads.now) i }
     requires tails { length tails.now ≡ length heads.now }
     requires cells { length cells.now ≡ length heads.now }
-    requires calm { byte ≡ 1 → IsCalm stride heads.now tails.now cells.now i }
+    requires calm { byte ≡ lit_mark → StepsAlone stride heads.now tails.now cells.now i }
     ensures { result ≡ next_word stride heads.now tails.now cells.now i }
 {
     if byte == LIT {
@@ -85,8 +86,8 @@ fn step_entry(
     requires tails { length tails.old ≡ length coming.now.cells.now }
     requires bytes { length bytes.old ≡ length coming.now.cells.now }
     requires soon { length soon.old ≡ length coming.now.cells.now }
-    requires calm { number_at bytes.old (number_at entries.now k) ≡ 1
-        → IsCalm coming.now.stride
+    requires calm { number_at bytes.old (number_at entries.now k) ≡ lit_mark
+        → StepsAlone coming.now.stride
         coming.now.tails.now tails.old coming.now.cells.now (number_at entries.now k) }
     requires listed { AreListed coming.now.stride soon.old list.old many }
     ensures tails { length tails.new ≡ length tails.old }
@@ -111,8 +112,8 @@ fn step_entry(
 }
 
 /// Steps the listed words of a plane by one generation; the new heads take the tails' place, all
-/// marks are cleared, and the words that may change next are marked in `soon`. Returns how many of
-/// these are listed.
+/// marks are cleared, and the words that may change next are marked in `soon`. `coming` has the
+/// heads as tails, which they are then. Returns how many of the words marked in `soon` are listed.
 pub fn step_listed(
     coming: &Free<'_>,
     tails: &mut [u64],
@@ -140,6 +141,8 @@ pub fn step_listed(
     ensures next { (i : ℕ)
         → number_at tails.new i
         ≡ next_word coming.now.stride coming.now.tails.now tails.old coming.now.cells.now i }
+    ensures shows { IsNextPlane coming.now.stride
+        coming.now.tails.now tails.old coming.now.cells.now tails.new }
     ensures cleared { AreCleared bytes.new }
     ensures marked { IsMarked coming.now.stride
         tails.new coming.now.tails.now coming.now.cells.now soon.new }
@@ -155,7 +158,7 @@ pub fn step_listed(
 }
 
 /// Steps all words of a plane by one generation; the new heads take the tails' place. `coming` has
-/// the heads as tails.
+/// the heads as tails, which they are then.
 pub fn step_all(coming: &Free<'_>, tails: &mut [u64])
     requires tails { length tails.old ≡ length coming.now.cells.now }
     requires size { coming.now.stride + coming.now.stride + 2 ≤ length coming.now.cells.now }
@@ -164,14 +167,17 @@ pub fn step_all(coming: &Free<'_>, tails: &mut [u64])
     ensures next { (i : ℕ)
         → number_at tails.new i
         ≡ next_word coming.now.stride coming.now.tails.now tails.old coming.now.cells.now i }
+    ensures shows { IsNextPlane coming.now.stride
+        coming.now.tails.now tails.old coming.now.cells.now tails.new }
 {
+    all_fit(coming.tails);
     let first = coming.stride + 1;
     let end = tails.len() - first;
     next_words(coming.tails, tails, coming.cells, coming.stride, first, end);
 }
 
 /// Marks the words of a plane that may change, and returns how many are listed.
-pub fn mark_all(free: &Free<'_>, heads: &[u64], bytes: &mut [u8], list: &mut [usize]) -> usize
+pub fn mark_words(free: &Free<'_>, heads: &[u64], bytes: &mut [u8], list: &mut [usize]) -> usize
     requires heads { length heads.now ≡ length free.now.cells.now }
     requires bytes { length bytes.old ≡ length free.now.cells.now }
     requires size { free.now.stride + free.now.stride + 2 ≤ length free.now.cells.now }

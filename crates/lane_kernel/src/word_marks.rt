@@ -8,13 +8,15 @@ ghost use Rattle.lane_kernel.specs.Marked.{AreListed, AreMore, AreTold, AreToldA
 use crate::planes::free_of;
 use crate::words::{alone, spread};
 
-/// The mark of a word that has a head or a tail.
+/// The mark of a word whose next heads need no other word.
 pub const LIT: u8 = 1;
 
-/// The mark of a word beside one of whose cells a head of another word stands.
+/// The mark of a word whose next heads need the words around it.
 pub const BESIDE: u8 = 2;
 
-/// The cells of a plane and those that are tails; a column has `stride` words.
+/// The cells of a plane and its tails, the cells that are not free. Where the words of the next
+/// generation are marked, `tails` has the heads, which are its tails. A word column has `stride`
+/// words.
 #[derive(Clone, Copy)]
 pub struct Free<'a> {
     pub tails: &'a [u64],

@@ -1,10 +1,9 @@
 // Climbing: small changes are kept if they do not make the drawing much larger, and less and less
-// so as it goes on; the best layout is kept besides.
+// so as it goes on; the best draft is kept besides.
 use crate::cooling::{Cooling, loss};
-use crate::gates::Gates;
-use crate::layout::{Homes, Layout};
 use crate::placing::{Change, Placer};
 use cell_core::{CellError, Draws};
+use order_drafts::{Draft, Gates, Homes};
 use std::alloc::Global;
 use std::mem;
 use std::ops::Range;
@@ -20,35 +19,35 @@ const OF_BLOCKS: usize = 40;
 
 const LONGEST_BLOCK: usize = 13;
 
-/// A layout of a list, the list's number, and how many tiles the layout's drawing has.
+/// A draft of a list, the list's number, and how many tiles the draft's drawing has.
 #[derive(Drop)]
 pub struct Camp {
     pub list: usize,
-    pub layout: Layout,
+    pub draft: Draft,
     pub tiles: u64,
 }
 
 impl Camp {
-    // Makes this camp one of another layout of its list.
-    fn move_to(&mut self, layout: &Layout, tiles: u64) -> Result<(), CellError> {
+    // Makes this camp one of another draft of its list.
+    fn move_to(&mut self, draft: &Draft, tiles: u64) -> Result<(), CellError> {
         self.tiles = tiles;
-        self.layout.copy(layout)
+        self.draft.copy(draft)
     }
 }
 
-/// A climber: it changes a layout, keeps the changes that bring no much larger drawing, and leaves
-/// the best layout at a camp.
+/// A climber: it changes a draft, keeps the changes that bring no much larger drawing, and leaves
+/// the best draft at a camp.
 #[derive(Drop)]
 pub struct Climber<'a> {
     alloc: Global,
     gates: &'a Gates,
     placer: Placer<'a>,
     draws: Draws,
-    layout: Layout,
+    draft: Draft,
     tiles: u64,
     // the most tiles that the next change may bring
     most: u64,
-    // the homes of the layout before a change, or after it
+    // the homes of the draft before a change, or after it
     other: Homes,
 }
 
@@ -65,14 +64,14 @@ impl<'a> Climber<'a> {
             gates,
             placer: Placer::new(alloc, gates)?,
             draws: Draws::new(seed),
-            layout: camp.layout.copied(alloc)?,
+            draft: camp.draft.copied(alloc)?,
             tiles: camp.tiles,
             most: u64::MAX,
             other: Homes::new(alloc),
         })
     }
 
-    /// Tries changes until so many lanes were passed, and moves the camp to the best layout.
+    /// Tries changes until so many lanes were passed, and moves the camp to the best draft.
     pub fn climb(
         &mut self,
         camp: &mut Camp,
@@ -85,25 +84,18 @@ impl<'a> Climber<'a> {
                 break;
             }
             self.most = self.most_tiles(cooling.heat(self.placer.work, work));
-            self.placer.count(1, self.layout.homes.lanes);
+            self.placer.count(1, self.draft.homes.lanes);
             self.change()?;
-            if self.tiles < camp.tiles && self.has_room()? {
-                camp.move_to(&self.layout, self.tiles)?;
+            if self.tiles < camp.tiles && self.draft.has_room(self.alloc, self.gates)? {
+                camp.move_to(&self.draft, self.tiles)?;
             }
         }
         Ok(())
     }
 
-    // Whether the placer takes as many lanes as the layout has.
-    fn has_room(&self) -> Result<bool, CellError> {
-        let fewest = self.gates.fewest_lanes(self.alloc, &self.layout.order)?;
-        let most = fewest.saturating_add(self.gates.most_spare());
-        Ok(self.layout.homes.lanes <= most)
-    }
-
     // The most tiles that a change may bring if the temperature is so many 256ths of a column.
     fn most_tiles(&mut self, heat: u64) -> u64 {
-        let rows = self.layout.homes.lanes.saturating_add(self.gates.loops) as u64;
+        let rows = self.draft.homes.lanes.saturating_add(self.gates.loops) as u64;
         let more = heat
             .saturating_mul(loss(&mut self.draws))
             .saturating_mul(rows);
@@ -127,13 +119,13 @@ impl<'a> Climber<'a> {
         let inputs = OF_INPUTS
             .saturating_mul(8)
             .saturating_mul(self.gates.read.len());
-        let share = inputs / self.layout.order.len().max(1);
+        let share = inputs / self.draft.order.len().max(1);
         share.saturating_add(1).min(OF_INPUTS)
     }
 
-    // Whether the changed layout's drawing is small enough; if so, it is accepted.
+    // Whether the changed draft's drawing is small enough; if so, it is accepted.
     fn accept_if_small(&mut self, change: Change) -> Result<bool, CellError> {
-        match self.placer.tiles(&self.layout, change, self.most)? {
+        match self.placer.tiles(&self.draft, change, self.most)? {
             Some(tiles) => {
                 self.tiles = tiles;
                 self.placer.accept();
@@ -145,7 +137,7 @@ impl<'a> Climber<'a> {
 
     // The cell at a random place of the order, or a block of cells that ends there.
     fn random_block(&mut self) -> Range<usize> {
-        let last = self.draws.below(self.layout.order.len());
+        let last = self.draws.below(self.draft.order.len());
         let mut count = 1;
         if self.draws.below(100) < OF_BLOCKS {
             count = self.draws.below(LONGEST_BLOCK - 1).saturating_add(2);
@@ -157,7 +149,7 @@ impl<'a> Climber<'a> {
     // Tries a block of cells at another place of the order.
     fn try_order(&mut self) -> Result<(), CellError> {
         let block = self.random_block();
-        let range = self.layout.range(self.gates, &block);
+        let range = self.draft.range(self.gates, &block);
         let places = range.end.saturating_sub(range.start);
         let to = range.start.saturating_add(self.draws.below(places));
         if places == 0 || to == block.start {
@@ -169,11 +161,11 @@ impl<'a> Climber<'a> {
     // Tries a block of cells with its first cell at place `to`.
     fn try_shift(&mut self, block: &Range<usize>, to: usize) -> Result<(), CellError> {
         let count = block.end.saturating_sub(block.start);
-        let changed = self.layout.shift(self.gates, block, to);
+        let changed = self.draft.shift(self.gates, block, to);
         let last = changed.end.saturating_sub(1);
         if !self.accept_if_small(Change::Order(changed.start, last))? {
             let moved = to..to.saturating_add(count);
-            self.layout.shift(self.gates, &moved, block.start);
+            self.draft.shift(self.gates, &moved, block.start);
         }
         Ok(())
     }
@@ -189,9 +181,9 @@ impl<'a> Climber<'a> {
     fn other_lane(&mut self) -> Option<usize> {
         if self.draws.coin() {
             let other = self.random_input()?;
-            return self.layout.homes.ins.get(other).copied();
+            return self.draft.homes.ins.get(other).copied();
         }
-        let above = self.layout.homes.lanes.saturating_sub(self.gates.loops);
+        let above = self.gates.above(self.draft.homes.lanes);
         let first = self.gates.unread();
         let lane = self.draws.below(above.saturating_sub(first));
         Some(first.saturating_add(lane))
@@ -203,21 +195,21 @@ impl<'a> Climber<'a> {
             return Ok(());
         };
         match self.other_lane() {
-            Some(lane) if !self.layout.homes.is_home(input, lane) => self.try_place(input, lane),
+            Some(lane) if !self.draft.homes.is_home(input, lane) => self.try_place(input, lane),
             _ => Ok(()),
         }
     }
 
     // Tries an input on a lane.
     fn try_place(&mut self, input: usize, lane: usize) -> Result<(), CellError> {
-        self.other.copy(&self.layout.homes)?;
+        self.other.copy(&self.draft.homes)?;
         self.other.place(input, lane);
         self.try_other(Change::Inputs)
     }
 
     // Tries one or two lanes more, or one less.
     fn try_lanes(&mut self) -> Result<(), CellError> {
-        let old = self.layout.homes.lanes;
+        let old = self.draft.homes.lanes;
         let lanes = match self.draws.below(4) {
             0 => old.saturating_add(1),
             1 | 2 => old.saturating_sub(1),
@@ -226,9 +218,8 @@ impl<'a> Climber<'a> {
         if lanes < self.gates.fewest_homes() {
             return Ok(());
         }
-        self.other.copy(&self.layout.homes)?;
-        let above = lanes.saturating_sub(self.gates.loops);
-        if !self.other.resize(lanes, above)? {
+        self.other.copy(&self.draft.homes)?;
+        if !self.other.resize(lanes, self.gates.above(lanes))? {
             return Ok(());
         }
         self.try_other(Change::Lanes)
@@ -236,9 +227,9 @@ impl<'a> Climber<'a> {
 
     // Tries the other homes.
     fn try_other(&mut self, change: Change) -> Result<(), CellError> {
-        mem::swap(&mut self.layout.homes, &mut self.other);
+        mem::swap(&mut self.draft.homes, &mut self.other);
         if !self.accept_if_small(change)? {
-            mem::swap(&mut self.layout.homes, &mut self.other);
+            mem::swap(&mut self.draft.homes, &mut self.other);
         }
         Ok(())
     }

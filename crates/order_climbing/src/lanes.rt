@@ -1,16 +1,12 @@
 // Lanes as the placer sees them, without instructions: what stands on each, and the column from
 // which it is idle.
 use cell_core::CellError;
+use order_drafts::as_small;
 use std::alloc::Global;
 use std::ops::Range;
 
 // More columns than any settling of loops takes.
 const MOST_TURNS: usize = 1 << 20;
-
-/// Returns a number in 32 bits, or the greatest of these.
-pub fn as_small(number: usize) -> u32 {
-    u32::try_from(number).unwrap_or(u32::MAX)
-}
 
 /// What stands on lanes: the number of a value, of a port or of an operand in hand, or `nothing`;
 /// and the column from which each lane is idle.
@@ -255,6 +251,7 @@ impl Lanes {
         }
     }
 
+    // Brings two lanes to lane `at` and the next one.
     fn meet(&mut self, upper: usize, lower: usize, at: usize) {
         self.bring(upper, at);
         self.bring(lower, at.saturating_add(1));
@@ -307,25 +304,26 @@ impl Lanes {
     /// Makes a second copy of what stands on a lane, on the free lane that it can meet first.
     /// Returns the upper one of the two lanes that then have it, or `None` if no lane is free.
     pub fn copy(&mut self, lane: usize) -> Option<usize> {
-        let below = self.copy_below(lane);
-        let above = self.copy_above(lane);
-        let at = match first_way(below, above)? {
-            Way::Down(copying) => self.copy_down(lane, copying.free, copying.meeting.at),
-            Way::Up(copying) => self.copy_up(lane, copying.free, copying.meeting.at),
-        };
+        let way = first_way(self.copy_below(lane), self.copy_above(lane))?;
+        let at = self.copy_by(way, lane);
         self.tick(at);
         Some(at)
     }
 
-    fn copy_down(&mut self, lane: usize, free: usize, at: usize) -> usize {
-        self.meet(lane, free, at);
-        at
-    }
-
-    fn copy_up(&mut self, lane: usize, free: usize, at: usize) -> usize {
-        self.meet(free, lane, at);
-        self.swap(at);
-        at
+    // Brings a lane and a free one side by side, the lane above. Returns where the lane stands
+    // then.
+    fn copy_by(&mut self, way: Way, lane: usize) -> usize {
+        match way {
+            Way::Down(Copying { free, meeting }) => {
+                self.meet(lane, free, meeting.at);
+                meeting.at
+            }
+            Way::Up(Copying { free, meeting }) => {
+                self.meet(free, lane, meeting.at);
+                self.swap(meeting.at);
+                meeting.at
+            }
+        }
     }
 
     // Which of the loops' data, whose numbers these are, stands on a lane: the greater the answer,
@@ -398,7 +396,7 @@ impl Lanes {
                     self.note_datum(datum, lane);
                     next = Some(time.saturating_add(1));
                 }
-                Some(idle) => next = Some(earlier(next, idle)),
+                Some(idle) => next = Some(next.unwrap_or(idle).min(idle)),
                 None => {}
             }
         }
@@ -418,13 +416,5 @@ impl Lanes {
             }
         }
         Ok(())
-    }
-}
-
-// The earlier of two columns.
-fn earlier(first: Option<usize>, second: usize) -> usize {
-    match first {
-        Some(first) => first.min(second),
-        None => second,
     }
 }

@@ -1,4 +1,4 @@
-//! Climbs through orders of cells: a bare copy of the placer answers how many columns an order takes, and small changes
+//! Climbs through drafts of lists: a bare copy of the placer answers how many columns a draft takes, and small changes
 //! that do not make the box larger are kept. Only the range of what is found is promised: whoever takes it checks it.
 //!
 //! Theorem: `climb`.
@@ -6,9 +6,7 @@
 
 mod climbing;
 mod cooling;
-mod gates;
 mod lanes;
-mod layout;
 mod placing;
 mod starting;
 

@@ -1,10 +1,9 @@
 // How many columns the placer takes for an order of the cells: the placer's own steps, without
-// their instructions. States of the accepted layout are kept, so that a changed layout is placed
+// their instructions. States of the accepted draft are kept, so that a changed draft is placed
 // from its first change on alone.
-use crate::gates::{Gate, Gates};
 use crate::lanes::{Lanes, State};
-use crate::layout::{Homes, Layout};
 use cell_core::CellError;
+use order_drafts::{Draft, Gate, Gates, Homes};
 use std::alloc::Global;
 use std::mem;
 use std::ops::Range;
@@ -16,14 +15,14 @@ const FEWEST_BETWEEN: usize = 2;
 
 const MOST_BETWEEN: usize = 16;
 
-// How many columns a layout may fall behind the accepted one's pace before it is given up, besides
+// How many columns a draft may fall behind the accepted one's pace before it is given up, besides
 // those that it may have more.
 const SLACK: usize = 2;
 
 // What a gate costs besides the lanes that it passes, in lanes.
 const GATE: usize = 24;
 
-/// What a layout has changed of the accepted one.
+/// What a draft has changed of the accepted one.
 #[derive(Clone, Copy)]
 pub enum Change {
     /// The number of lanes, or all.
@@ -34,11 +33,11 @@ pub enum Change {
     Order(usize, usize),
 }
 
-// What a kept place tells of a layout.
+// What a kept place tells of a draft.
 #[derive(Clone, Copy)]
 enum Outlook {
     Open,
-    // from here on the layout is the accepted one
+    // from here on the draft is the accepted one
     Same,
     // it is too far behind
     Hopeless,
@@ -54,12 +53,12 @@ pub struct Placer<'a> {
     second: usize,
     // so many gates stand between kept states
     between: usize,
-    // the states of the accepted layout
+    // the states of the accepted draft
     kept: Vec<State>,
-    // those of the layout that was placed last, and which of them it has
+    // those of the draft that was placed last, and which of them it has
     tried: Vec<State>,
     own: Range<usize>,
-    // the columns of the accepted layout, and of the one that was placed last
+    // the columns of the accepted draft, and of the one that was placed last
     columns: usize,
     found: usize,
     /// What was placed so far, in lanes passed.
@@ -88,16 +87,16 @@ impl<'a> Placer<'a> {
         })
     }
 
-    /// Returns how many tiles the drawing of a layout has, or `None` if these are more than `most`
-    /// or the lanes are not enough. It gives up if the layout falls behind the accepted one's pace.
+    /// Returns how many tiles the drawing of a draft has, or `None` if these are more than `most`
+    /// or the lanes are not enough. It gives up if the draft falls behind the accepted one's pace.
     pub fn tiles(
         &mut self,
-        layout: &Layout,
+        draft: &Draft,
         change: Change,
         most: u64,
     ) -> Result<Option<u64>, CellError> {
-        let lanes = layout.homes.lanes;
-        let Some(columns) = self.place(layout, change, self.gates.most_columns(most, lanes))? else {
+        let lanes = draft.homes.lanes;
+        let Some(columns) = self.place(draft, change, self.gates.most_columns(most, lanes))? else {
             return Ok(None);
         };
         let tiles = self.gates.tiles(columns, lanes);
@@ -107,7 +106,7 @@ impl<'a> Placer<'a> {
         Ok(Some(tiles))
     }
 
-    /// Accepts the layout that was placed last.
+    /// Accepts the draft that was placed last.
     pub fn accept(&mut self) {
         for number in self.own.start..self.own.end {
             exchange(&mut self.kept, &mut self.tried, number);
@@ -122,38 +121,35 @@ impl<'a> Placer<'a> {
         self.work = self.work.saturating_add(cost);
     }
 
-    // Places a layout; how many columns it takes, or `None` if it is given up.
+    // Places a draft; how many columns it takes, or `None` if it is given up.
     fn place(
         &mut self,
-        layout: &Layout,
+        draft: &Draft,
         change: Change,
         most: usize,
     ) -> Result<Option<usize>, CellError> {
-        let start = self.begin(layout, change)?;
+        let start = self.begin(draft, change)?;
         self.own = start..start;
         for number in start..self.tried.len() {
             let latest = self.lanes.columns();
             match self.outlook(number, latest, change, most) {
                 Outlook::Open => {}
-                Outlook::Same => return Ok(Some(self.same())),
+                Outlook::Same => {
+                    self.found = self.columns;
+                    return Ok(Some(self.found));
+                }
                 Outlook::Hopeless => return Ok(None),
             }
             self.keep(number, latest)?;
-            if self.place_gates(layout, number).is_none() {
+            if self.place_gates(draft, number).is_none() {
                 return Ok(None);
             }
         }
-        self.finish(layout.homes.lanes)
-    }
-
-    // The columns of the accepted layout, which are found again.
-    fn same(&mut self) -> usize {
-        self.found = self.columns;
-        self.found
+        self.finish(draft.homes.lanes)
     }
 
     // Puts the lanes into the last kept state before a change. Returns its number.
-    fn begin(&mut self, layout: &Layout, change: Change) -> Result<usize, CellError> {
+    fn begin(&mut self, draft: &Draft, change: Change) -> Result<usize, CellError> {
         if let Change::Order(first, _) = change {
             let number = first / self.between.max(1);
             if let Some(kept) = self.kept.get(number) {
@@ -161,7 +157,7 @@ impl<'a> Placer<'a> {
                 return Ok(number);
             }
         }
-        self.start_all(layout)?;
+        self.start_all(draft)?;
         Ok(0)
     }
 
@@ -184,7 +180,7 @@ impl<'a> Placer<'a> {
     }
 
     // Whether the lanes, which are idle from column `latest`, are too far behind those of the
-    // accepted layout, which were so from column `before`.
+    // accepted draft, which were so from column `before`.
     fn pace(&self, latest: usize, before: usize, most: usize) -> Outlook {
         let behind = latest.saturating_add(self.columns);
         if behind > most.saturating_add(SLACK).saturating_add(before) {
@@ -194,7 +190,7 @@ impl<'a> Placer<'a> {
         }
     }
 
-    // Keeps a state of the layout that is placed.
+    // Keeps a state of the draft that is placed.
     fn keep(&mut self, number: usize, latest: usize) -> Result<(), CellError> {
         if let Some(tried) = self.tried.get_mut(number) {
             self.lanes.keep(tried, latest)?;
@@ -204,11 +200,11 @@ impl<'a> Placer<'a> {
     }
 
     // Sets the lanes as they are at the start.
-    fn start_all(&mut self, layout: &Layout) -> Result<(), CellError> {
-        self.lanes.clear(layout.homes.lanes)?;
-        self.start_inputs(&layout.homes.ins);
-        self.start_loops(layout.homes.lanes);
-        self.start_zero(&layout.homes);
+    fn start_all(&mut self, draft: &Draft) -> Result<(), CellError> {
+        self.lanes.clear(draft.homes.lanes)?;
+        self.start_inputs(&draft.homes.ins);
+        self.start_loops(draft.homes.lanes);
+        self.start_zero(&draft.homes);
         Ok(())
     }
 
@@ -221,7 +217,7 @@ impl<'a> Placer<'a> {
 
     // Puts the loops on the lowest of so many lanes.
     fn start_loops(&mut self, lanes: usize) {
-        let above = lanes.saturating_sub(self.gates.loops);
+        let above = self.gates.above(lanes);
         for number in 0..self.gates.loops {
             let value = self.gates.inputs.saturating_add(number);
             self.start(value, above.saturating_add(number));
@@ -245,24 +241,24 @@ impl<'a> Placer<'a> {
     }
 
     // Places the gates from a kept state to the next.
-    fn place_gates(&mut self, layout: &Layout, number: usize) -> Option<()> {
+    fn place_gates(&mut self, draft: &Draft, number: usize) -> Option<()> {
         let start = number.saturating_mul(self.between);
-        let end = start.saturating_add(self.between).min(layout.order.len());
+        let end = start.saturating_add(self.between).min(draft.order.len());
         for place in start..end {
-            self.place_gate(layout, layout.order[place])?;
+            self.place_gate(draft, draft.order[place])?;
         }
-        self.count(end.saturating_sub(start), layout.homes.lanes);
+        self.count(end.saturating_sub(start), draft.homes.lanes);
         Some(())
     }
 
     // Places a cell.
-    fn place_gate(&mut self, layout: &Layout, cell: usize) -> Option<()> {
+    fn place_gate(&mut self, draft: &Draft, cell: usize) -> Option<()> {
         let gate = *self.gates.gates.get(cell)?;
         let partner = self.lanes.place(gate.second);
-        let is_last = gate.first != gate.second && layout.reads_last(cell, gate.first);
+        let is_last = gate.first != gate.second && draft.reads_last(cell, gate.first);
         self.fetch(gate.first, self.first, is_last, Some(partner))?;
         let partner = self.lanes.place(self.first);
-        let is_last = layout.reads_last(cell, gate.second);
+        let is_last = draft.reads_last(cell, gate.second);
         self.fetch(gate.second, self.second, is_last, Some(partner))?;
         self.make(gate, self.gates.made_by(cell));
         Some(())

@@ -37,7 +37,7 @@ fn climbed(alloc: Global, list: &CellList) -> Result<Option<Climbed>, Fail> {
     Ok(climb(alloc, from_ref(list), from_ref(&start))?)
 }
 
-// Whether the plan at the layout that climbing finds has as many tiles as climbing counted.
+// Whether the plan at the draft that climbing finds has as many tiles as climbing counted.
 fn is_counted(alloc: Global, list: &CellList) -> Result<bool, Fail>
     requires { IsPlannable list.now }
 {

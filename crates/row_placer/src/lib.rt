@@ -1,5 +1,8 @@
 //! The placer: turns a list of cells into a program on lanes.
 //!
+//! Where a lane is chosen: at the start by `homes_of` of `lane_homes`; in src/lanes.rt for a copy by `choose_free`, and
+//! for two lanes that come side by side by `meeting`.
+//!
 //! Theorem: `place` (`computes`, `lanes`, `instrs`).
 #![tactic(auto)]
 

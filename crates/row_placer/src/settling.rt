@@ -128,8 +128,8 @@ pub fn settling_swaps(
     Ok(settling.swaps)
 }
 
-/// Returns whether exchanges are at most as many as so many loops times the lanes, and bring the
-/// loops' data to their lanes.
+/// Returns `true` only if exchanges are at most as many as so many loops times the lanes, and bring
+/// the loops' data to their lanes.
 pub fn settles(
     alloc: Global,
     job: &Job,

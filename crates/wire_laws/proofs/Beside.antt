@@ -18,7 +18,7 @@ use Rattle.wire_laws.proofs.Unite.{planes_unite}
 use Rattle.wire_laws.proofs.Early.{signals_both}
 
 -- the signals of ports, and of those after them
-signals_after : (ports others : List Port) (bits : ℕ → ℕ → Bool) → signals_at (ports ++ others) bits ≡ signals_at ports bits ++ signals_at others (λ t i. bits t (length ports + i))
+pub signals_after : (ports others : List Port) (bits : ℕ → ℕ → Bool) → signals_at (ports ++ others) bits ≡ signals_at ports bits ++ signals_at others (λ t i. bits t (length ports + i))
 signals_after [] others bits =
     ap (signals_at others) (fun_ext (λ t. fun_ext (λ i. (let e : i ≡ 0 + i = omega arith in ap (bits t) e))))
 signals_after (port ∷ ports) others bits =

@@ -21,7 +21,7 @@ got_within [] i x e = absurd (none-some x e)
 got_within (y ∷ ys) zero x e = omega arith
 got_within (y ∷ ys) (suc i) x e = let l : i < length ys = got_within ys i x e in omega arith
 
-not_none : {X : Type 0} (xs : List X) (i : ℕ) → i < length xs → slice_get xs i ≡ None → ⊥
+pub not_none : {X : Type 0} (xs : List X) (i : ℕ) → i < length xs → slice_get xs i ≡ None → ⊥
 not_none [] i l e = omega arith
 not_none (y ∷ ys) zero l e = none-some y (sym e)
 not_none (y ∷ ys) (suc i) l e = not_none ys i (omega arith) e

@@ -18,3 +18,5 @@ pub mod Alike
 pub mod Later
 pub mod Beside
 pub mod Ordered
+pub mod PartTimes
+pub mod PartJoins

@@ -5,3 +5,5 @@ pub mod Laws
 pub mod Moved
 pub mod PortWires
 pub mod PartLaws
+pub mod PartTimes
+pub mod PartJoins

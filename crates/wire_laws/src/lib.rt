@@ -1,7 +1,8 @@
 //! Laws of planes that carry signals, and of parts, which carry whatever bits come to their inputs:
 //! side by side, joined by wires, begun later, run more slowly.
 //!
-//! Theorem: `parts_feed`, `parts_unite`, `parts_start_later`, `answers_go_slower`.
+//! Theorem: `parts_feed`, `parts_unite`, `parts_join`, `parts_start_later`, `parts_begin_later`,
+//! `answers_go_slower`.
 #![tactic(auto)]
 
 mod laws;
@@ -13,6 +14,7 @@ pub use laws::{
     stretched_are_slower, wires_delay, wires_feed,
 };
 pub use parts::{
-    parts_feed, parts_move, parts_read_inputs, parts_start_later, parts_take_order, parts_unite,
-    ready_by_count, unused_inputs_go,
+    lone_cells_are_parts, lone_cells_end_wires, outputs_begin_earlier, parts_begin_later,
+    parts_feed, parts_join, parts_lit_alike, parts_move, parts_read_inputs, parts_start_later,
+    parts_take_order, parts_unite, ready_by_count, unused_inputs_go,
 };

@@ -34,7 +34,7 @@ returns c =
           let w2 = c.west_lanes-west2.ensures.each k lt ∙ ap₂ from_west (c.twos_lanes.ensures.each k lt ∙ of3 twos_of a0 b0 h0) two in
           let e1 = c.east_lanes-east1.ensures.each k lt ∙ ap₂ from_east one (c.ones_lanes-2.ensures.each k lt ∙ of3 ones_of a2 b2 h2) in
           let e2 = c.east_lanes-east2.ensures.each k lt ∙ ap₂ from_east two (c.twos_lanes-2.ensures.each k lt ∙ of3 twos_of a2 b2 h2) in
-          let wires = c.free_lanes.ensures.each k lt ∙ of3 wires_of (c.lanes_at.ensures.each k lt) h (c.lanes_at-2.ensures.each k lt) in
+          let wires = c.wires_lanes.ensures.each k lt ∙ of3 wires_of (c.lanes_at.ensures.each k lt) h (c.lanes_at-2.ensures.each k lt) in
           c.and_lanes.ensures.each k lt
           ∙ ap₂ bit_and wires (c.fires_lanes.ensures.each k lt ∙ of6 fires w1 w2 (c.xor_lanes-odd.ensures.each k lt ∙ ap₂ bit_xor a b) (c.and_lanes-both.ensures.each k lt ∙ ap₂ bit_and a b) e1 e2);
     }

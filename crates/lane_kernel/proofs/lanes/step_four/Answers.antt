@@ -26,7 +26,7 @@ returns c =
     let wires = c.args.wires.now in
     let j = c.args.j in
     let fired = c.next_heads_lanes-fired.ensures in
-    let next = c.wires_lanes-next_wires.ensures in
+    let next = c.new_wires_lanes-next_wires.ensures in
     let put_tails = c.put_lanes.ensures in
     let put_wires = c.put_lanes-2.ensures in
     record {

@@ -1,5 +1,6 @@
 use Rattle.std.proofs.Common.{◌+◌, ◌-◌, sym, ◌∙◌, inl, inr, get_or, length, arith}
 use Rattle.std.proofs.lemmas.Bool.{cases_eq, cases_lt}
+use Rattle.lane_kernel.proofs.PlaneRows.{is_next_plane}
 use Rattle.lane_kernel.proofs.UnderWay.{no_tails, none_without_cells}
 use Rattle.lane_kernel.proofs.stepping.step_all.Goals as goal
 
@@ -22,3 +23,8 @@ returns-clause-next c i =
                 ]
           ]
     ]
+
+pub returns-clause-shows : goal.returns-clause-shows
+returns-clause-shows c =
+    let free = c.args.coming.now in
+    is_next_plane free.stride free.tails.now c.args.tails.now free.cells.now c.next_words.new.tails c.all_fit.ensures c.requires.on_cells (returns-clause-next c)

@@ -1,11 +1,12 @@
 use Rattle.std.proofs.Common.{ℕ, ◌≡◌, refl, ap, subst, ◌∙◌, List, length, get_or, arith}
 use Rattle.std.specs.Int.RustNames.{bit_and}
-use Rattle.lane_kernel.specs.Around.{beside, free_of, near_heads, IsCalm}
+use Rattle.lane_kernel.specs.Around.{beside, free_of, near_heads, StepsAlone}
 use Rattle.lane_kernel.specs.Marked.{IsUnderWay}
+use Rattle.lane_kernel.proofs.PlaneRows.{is_next_plane}
 use Rattle.lane_kernel.proofs.UnderWay.{begun, ended, none_left}
 use Rattle.lane_kernel.proofs.stepping.step_listed.Goals as goal
 
-same_calm : (stride : ℕ) (heads t t' cells : List ℕ) (i : ℕ) → get_or t i 0 ≡ get_or t' i 0 → IsCalm stride heads t' cells i → IsCalm stride heads t cells i
+same_calm : (stride : ℕ) (heads t t' cells : List ℕ) (i : ℕ) → get_or t i 0 ≡ get_or t' i 0 → StepsAlone stride heads t' cells i → StepsAlone stride heads t cells i
 same_calm stride heads t t' cells i e calm way = ap (λ w. bit_and (near_heads way (get_or heads (beside stride way i) 0)) (free_of (get_or cells i 0) w)) e ∙ calm way
 
 pub loop-k-init : goal.loop-k-init
@@ -49,6 +50,11 @@ returns-clause-next c i =
     let end : l.k ≡ length c.args.entries.now = omega (arith, c.loop-k-test.false, l.auto.k-end) in
     let u = subst (λ k. IsUnderWay free.stride free.tails.now c.args.tails.now free.cells.now c.args.entries.now k l.tails l.bytes l.soon) end l.invariant.under_way in
     u.done i (none_left free.stride free.tails.now c.args.tails.now free.cells.now c.args.entries.now l.tails l.bytes l.soon u i)
+
+pub returns-clause-shows : goal.returns-clause-shows
+returns-clause-shows c =
+    let free = c.args.coming.now in
+    is_next_plane free.stride free.tails.now c.args.tails.now free.cells.now c.loop-k.tails c.all_fit.ensures c.requires.on_cells (returns-clause-next c)
 
 pub returns-clause-cleared : goal.returns-clause-cleared
 returns-clause-cleared c =

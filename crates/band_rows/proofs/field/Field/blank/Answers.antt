@@ -1,12 +1,12 @@
 use Rattle.std.proofs.Common.{◌≡◌, ◌+◌, ◌*◌, refl, ap, ◌∙◌, length, arith}
-use Rattle.lane_kernel.specs.PlaneRows.{size_of}
+use Rattle.lane_kernel.specs.PlaneRows.{plane_size}
 use Rattle.band_rows.proofs.BlankFields.{blank_field}
 use Rattle.band_rows.proofs.field.Field.blank.Goals as goal
 
 pub returns : goal.returns
 returns c =
     let stride : c.in-Some.stride ≡ c.args.rows + 2 = omega (arith, c.in-Some.ensures) in
-    let size : c.in-Some-plane_size.size ≡ size_of c.args.columns c.args.rows = c.in-Some-plane_size.ensures ∙ ap (λ s. (c.args.columns + 2) * s + 2) stride in
+    let size : c.in-Some-plane_size.size ≡ plane_size c.args.columns c.args.rows = c.in-Some-plane_size.ensures ∙ ap (λ s. (c.args.columns + 2) * s + 2) stride in
     let heads = c.in_ok-no_words.ensures in
     let tails = c.in_ok-no_words-2.ensures in
     let cells = c.in_ok-no_words-3.ensures in

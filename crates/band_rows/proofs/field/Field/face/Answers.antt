@@ -2,7 +2,7 @@ use Rattle.std.proofs.Common.{ℕ, ◌+◌, ◌*◌, ◌<◌, ◌≡◌, refl, s
 use Rattle.std.specs.Vec.{with_items}
 use Rattle.std.proofs.lemmas.List.{with_items_is}
 use Rattle.lane_kernel.specs.Around.{IsFramed, IsInner}
-use Rattle.lane_kernel.specs.PlaneRows.{place, stride_of, size_of}
+use Rattle.lane_kernel.specs.PlaneRows.{place, stride_of, plane_size}
 use Rattle.lane_kernel.proofs.PlaneRows.{length_row}
 use Rattle.band_rows.specs.Facing.{words_in}
 use Rattle.band_rows.specs.Fields.{IsBesideRows}

@@ -3,7 +3,7 @@ use Rattle.std.specs.Prelude.{◌≢◌}
 use Rattle.std.proofs.lemmas.Bool.{cases_eq}
 use Rattle.std.proofs.lemmas.List.{get_or-drop}
 use Rattle.ww_rule.specs.declared.pattern.State.TheVariants.{Empty}
-use Rattle.band_rows.specs.Fields.{state_in}
+use Rattle.band_rows.specs.Fields.{field_state}
 use Rattle.band_rows.proofs.GoneOn.{same_size}
 use Rattle.band_rows.proofs.field.Field.put_rows.Goals as goal
 
@@ -39,7 +39,7 @@ loop-k-preserved c =
       done = λ u j lt.
           elim (cases_eq j n) [
             | inl q ↦
-                ap (state_in c.put_row.new.self u) q ∙ e.here u ∙ ap (λ row. get_or row u Empty) row
+                ap (field_state c.put_row.new.self u) q ∙ e.here u ∙ ap (λ row. get_or row u Empty) row
                 ∙ sym (ap (λ j. get_or (get_or (drop c.args.y c.args.cells.now) j []) u Empty) q)
             | inr ne ↦ e.other u j (omega (arith, lt, ne, rows, test)) ne ∙ v.done u j (omega (arith, lt, ne))
           ];

@@ -9,4 +9,4 @@ returns c =
     let r = c.run_settled.ensures in
     let gone = gone_same c.run_settled.result c.args.self.now c.settle.new.self c.run_settled.new.self s.size
     (settled_shows c.args.self.now c.settle.new.self s.size (same_items s.heads) (same_items s.tails) (same_items s.cells)) r.gone in
-    record { some = r.some; few = r.few; closed = gone.closed; size = gone.size; shows = gone.shows; tails = gone.tails }
+    record { some = r.some; few = r.few; gone = gone }

@@ -1,143 +1,15 @@
-// What climbing changes: an order of the cells, the lanes of the inputs, and how many lanes there
+// What a search changes: an order of the cells, the lanes of the inputs, and how many lanes there
 // are.
 use crate::gates::{Gate, Gates};
+use crate::homes::Homes;
+use crate::numbers::{as_small, push_small};
 use cell_core::CellError;
 use std::alloc::Global;
 use std::ops::Range;
 
-/// The lane of each input, all distinct and above the loops, and how many lanes there are.
-/// `standing` has the input that stands on each lane above the loops.
+/// A draft. `order` has the numbers of the cells, each after those that it reads.
 #[derive(Drop)]
-pub struct Homes {
-    pub ins: Vec<usize>,
-    standing: Vec<Option<usize>>,
-    pub lanes: usize,
-}
-
-impl Homes {
-    /// Returns no homes.
-    pub fn new(alloc: Global) -> Homes {
-        Homes {
-            ins: Vec::new(alloc),
-            standing: Vec::new(alloc),
-            lanes: 0,
-        }
-    }
-
-    /// Makes these homes equal to others.
-    pub fn copy(&mut self, other: &Homes) -> Result<(), CellError> {
-        self.ins.clear();
-        self.ins.extend_from_slice(&other.ins)?;
-        self.standing.clear();
-        self.standing.extend_from_slice(&other.standing)?;
-        self.lanes = other.lanes;
-        Ok(())
-    }
-
-    // The input that stands on a lane.
-    fn input_on(&self, lane: usize) -> Option<usize> {
-        match self.standing.get(lane) {
-            Some(input) => *input,
-            None => None,
-        }
-    }
-
-    /// Returns whether an input stands on a lane.
-    pub fn is_home(&self, input: usize, lane: usize) -> bool {
-        match self.input_on(lane) {
-            Some(other) => other == input,
-            None => false,
-        }
-    }
-
-    /// Moves an input to a lane. Another input that stands there moves to the first one's old lane.
-    pub fn place(&mut self, input: usize, lane: usize) {
-        let Some(old) = self.ins.get(input).copied() else {
-            return;
-        };
-        let other = self.input_on(lane);
-        self.leave(old);
-        if let Some(other) = other {
-            self.put(other, old);
-        }
-        self.put(input, lane);
-    }
-
-    // Makes the lane free.
-    fn leave(&mut self, lane: usize) {
-        if let Some(standing) = self.standing.get_mut(lane) {
-            *standing = None;
-        }
-    }
-
-    // Puts the input on a free lane.
-    fn put(&mut self, input: usize, lane: usize) {
-        if let Some(home) = self.ins.get_mut(input) {
-            *home = lane;
-        }
-        if let Some(standing) = self.standing.get_mut(lane) {
-            *standing = Some(input);
-        }
-    }
-
-    /// Returns the highest lane above the loops on which no input stands.
-    pub fn dark_lane(&self) -> Option<usize> {
-        for (lane, input) in self.standing.iter().enumerate() {
-            if input.is_none() {
-                return Some(lane);
-            }
-        }
-        None
-    }
-
-    // Returns the lowest lane above `end` on which no input stands.
-    fn free_lane(&self, end: usize) -> Option<usize> {
-        for lane in (0..end.min(self.standing.len())).rev() {
-            if self.standing[lane].is_none() {
-                return Some(lane);
-            }
-        }
-        None
-    }
-
-    // Spreads the inputs by their ranks over the lanes above the loops.
-    fn spread(&mut self, ranked: &[(usize, usize)]) {
-        let above = self.standing.len();
-        let inputs = self.ins.len().max(1);
-        for (rank, (_, input)) in ranked.iter().enumerate() {
-            self.put(*input, rank.saturating_mul(above) / inputs);
-        }
-    }
-
-    /// Sets the number of lanes, of which `above` stand above the loops. Inputs that would stand on
-    /// loops' lanes go to free ones. Returns whether there are enough.
-    pub fn resize(&mut self, lanes: usize, above: usize) -> Result<bool, CellError> {
-        self.lanes = lanes;
-        self.standing.resize(above, None)?;
-        Ok(self.lift(above))
-    }
-
-    // Puts inputs that stand on loops' lanes on the lowest free ones above. Returns whether there
-    // are enough. No lane from `end` on is free.
-    fn lift(&mut self, above: usize) -> bool {
-        let mut end = above;
-        for input in 0..self.ins.len() {
-            let home = self.ins.get(input).copied().unwrap_or(0);
-            if home >= above {
-                let Some(lane) = self.free_lane(end) else {
-                    return false;
-                };
-                self.put(input, lane);
-                end = lane;
-            }
-        }
-        true
-    }
-}
-
-/// A layout. `order` has the numbers of the cells, each after those that it reads.
-#[derive(Drop)]
-pub struct Layout {
+pub struct Draft {
     pub order: Vec<usize>,
     // the place of each cell in the order
     places: Vec<usize>,
@@ -146,10 +18,10 @@ pub struct Layout {
     pub homes: Homes,
 }
 
-impl Layout {
-    // Returns a layout of nothing.
-    fn new(alloc: Global) -> Layout {
-        Layout {
+impl Draft {
+    // Returns a draft of nothing.
+    fn new(alloc: Global) -> Draft {
+        Draft {
             order: Vec::new(alloc),
             places: Vec::new(alloc),
             last_readers: Vec::new(alloc),
@@ -157,25 +29,25 @@ impl Layout {
         }
     }
 
-    /// Returns a layout of an order. Its inputs are spread over the lanes above the loops, those
+    /// Returns a draft of an order. Its inputs are spread over the lanes above the loops, those
     /// whose first reader comes latest at the top.
     pub fn spread(
         alloc: Global,
         gates: &Gates,
         order: &[u32],
         lanes: usize,
-    ) -> Result<Layout, CellError> {
-        let mut layout = Layout::new(alloc);
-        layout.fill(gates, order, lanes)?;
-        layout.renumber(0, order.len());
-        layout.find_last_readers(gates);
-        let ranked = by_first_reader(alloc, gates, &layout.order)?;
-        layout.homes.spread(&ranked);
-        Ok(layout)
+    ) -> Result<Draft, CellError> {
+        let mut draft = Draft::new(alloc);
+        draft.fill(gates, order)?;
+        draft.renumber(0, order.len());
+        draft.find_last_readers(gates);
+        let ranked = by_first_reader(alloc, gates, &draft.order)?;
+        draft.homes.spread(&ranked, lanes, gates.above(lanes))?;
+        Ok(draft)
     }
 
-    /// Makes this layout equal to another one.
-    pub fn copy(&mut self, other: &Layout) -> Result<(), CellError> {
+    /// Makes this draft equal to another one.
+    pub fn copy(&mut self, other: &Draft) -> Result<(), CellError> {
         self.order.clear();
         self.order.extend_from_slice(&other.order)?;
         self.places.clear();
@@ -185,26 +57,48 @@ impl Layout {
         self.homes.copy(&other.homes)
     }
 
-    /// Returns a copy of this layout.
-    pub fn copied(&self, alloc: Global) -> Result<Layout, CellError> {
-        let mut layout = Layout::new(alloc);
-        layout.copy(self)?;
-        Ok(layout)
+    /// Returns a copy of this draft.
+    pub fn copied(&self, alloc: Global) -> Result<Draft, CellError> {
+        let mut draft = Draft::new(alloc);
+        draft.copy(self)?;
+        Ok(draft)
     }
 
-    // Sets the order and the number of lanes. No input has its own lane yet.
-    fn fill(&mut self, gates: &Gates, order: &[u32], lanes: usize) -> Result<(), CellError> {
+    // Sets the order, and makes room for what is noted of it.
+    fn fill(&mut self, gates: &Gates, order: &[u32]) -> Result<(), CellError> {
         self.order.reserve(order.len())?;
         for cell in order {
             self.order.push(*cell as usize)?;
         }
         self.places.resize(order.len(), 0)?;
         self.last_readers.resize(gates.uses.len(), None)?;
-        self.homes.ins.resize(gates.inputs, 0)?;
-        let above = lanes.saturating_sub(gates.loops);
-        self.homes.standing.resize(above, None)?;
-        self.homes.lanes = lanes;
         Ok(())
+    }
+
+    /// Adds the numbers of the cells in the draft's order, in 32 bits each.
+    pub fn push_order(&self, order: &mut Vec<u32>) -> Result<(), CellError> {
+        push_small(order, &self.order)
+    }
+
+    /// Adds the lanes of the inputs, and then the dark one if constant 0 needs one, in 32 bits
+    /// each.
+    pub fn push_lanes(&self, gates: &Gates, lanes: &mut Vec<u32>) -> Result<(), CellError> {
+        push_small(lanes, &self.homes.ins)?;
+        if gates.is_dark {
+            lanes.push(as_small(self.homes.dark_lane().unwrap_or(0)))?;
+        }
+        Ok(())
+    }
+
+    /// Returns how many lanes more there are than the order's fewest.
+    pub fn spare_lanes(&self, alloc: Global, gates: &Gates) -> Result<usize, CellError> {
+        let fewest = gates.fewest_lanes(alloc, &self.order)?;
+        Ok(self.homes.lanes.saturating_sub(fewest))
+    }
+
+    /// Returns whether the placer takes as many lanes as the draft has.
+    pub fn has_room(&self, alloc: Global, gates: &Gates) -> Result<bool, CellError> {
+        Ok(self.spare_lanes(alloc, gates)? <= gates.most_spare())
     }
 
     fn place_of(&self, cell: usize) -> usize {
@@ -214,8 +108,8 @@ impl Layout {
     /// Returns whether a cell is the last to read a value, and no port shows the value.
     pub fn reads_last(&self, cell: usize, value: usize) -> bool {
         match self.last_readers.get(value) {
-            Some(Some(last)) => *last == cell,
-            _ => false,
+            Some(last) => *last == Some(cell),
+            None => false,
         }
     }
 
@@ -238,10 +132,11 @@ impl Layout {
     }
 
     fn find_last_reader(&mut self, gates: &Gates, value: usize) {
-        let mut last = None;
-        if gates.last_port(value).is_none() {
-            last = self.last_of(gates.readers_of(value));
-        }
+        let last = if gates.last_port(value).is_none() {
+            self.last_of(gates.readers_of(value))
+        } else {
+            None
+        };
         if let Some(reader) = self.last_readers.get_mut(value) {
             *reader = last;
         }

@@ -4,7 +4,7 @@ use Rattle.lane_kernel.specs.Around.{beside, near_heads}
 use Rattle.lane_kernel.specs.Marked.{AreTold, opposite}
 use Rattle.lane_kernel.proofs.Listing.{still_told}
 use Rattle.lane_kernel.proofs.Marking.{all_marked}
-use Rattle.lane_kernel.proofs.stepping.mark_all.Goals as goal
+use Rattle.lane_kernel.proofs.stepping.mark_words.Goals as goal
 
 pub loop-i-preserved : goal.loop-i-preserved
 loop-i-preserved c =

@@ -1,6 +1,6 @@
 use Rattle.std.proofs.Common.{ℕ, ◌+◌, ◌<◌, ◌≤◌, ◌≡◌, length, get_or}
 use Rattle.lane_kernel.specs.Marked.{AreListed, AreTold}
-use Rattle.lane_kernel.proofs.stepping.mark_all.Given as goal
+use Rattle.lane_kernel.proofs.stepping.mark_words.Given as goal
 
 abbrev pub invariant-loop-i : goal.invariant-loop-i
 invariant-loop-i l =

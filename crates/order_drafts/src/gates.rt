@@ -23,22 +23,22 @@ pub struct Gates {
     pub gates: Vec<Gate>,
     pub ports: Vec<usize>,
     pub uses: Vec<usize>,
-    /// The cells that read each value, each of them once.
-    pub readers: Vec<Vec<usize>>,
-    /// The last port that shows each value.
-    pub last_ports: Vec<Option<usize>>,
-    /// Whether a lane stays dark, for constant 0.
-    pub is_dark: bool,
+    // the cells that read each value, each of them once
+    readers: Vec<Vec<usize>>,
+    // the last port that shows each value
+    last_ports: Vec<Option<usize>>,
+    // whether a lane stays dark, for constant 0
+    pub(crate) is_dark: bool,
 }
 
 impl Gates {
     /// Returns the gates of a list.
     pub fn of(alloc: Global, list: &CellList) -> Result<Gates, CellError> {
-        let one = if list.names_one() { 1 } else { 0 };
+        let ones = usize::from(list.names_one());
         let mut gates = Gates {
             inputs: list.inputs as usize,
             read: Vec::new(alloc),
-            loops: list.starts.len().saturating_add(one),
+            loops: list.starts.len().saturating_add(ones),
             gates: Vec::new(alloc),
             ports: Vec::new(alloc),
             uses: Vec::new(alloc),
@@ -78,7 +78,7 @@ impl Gates {
         self.gates.reserve(list.cells.len())?;
         self.read_cells(list.cells.as_slice(), list.starts.len())?;
         self.read_ports(list)?;
-        self.is_dark = self.uses_of(self.zero()) > 0 || names_zero(list.nets.as_slice());
+        self.is_dark = self.uses_of(self.zero()) > 0 || list.nets.as_slice().contains(&Src::Zero);
         Ok(())
     }
 
@@ -110,13 +110,12 @@ impl Gates {
         let mut live = count_used(left.get(..self.made_by(0)).unwrap_or(&[]));
         let mut most = live;
         for cell in order {
-            let cell = *cell;
-            if let Some(gate) = self.gates.get(cell) {
+            if let Some(gate) = self.gates.get(*cell) {
                 let ended = end_operands(left, *gate);
                 most = most.max(live.saturating_add(2).saturating_sub(ended));
                 live = live
                     .saturating_sub(ended)
-                    .saturating_add(self.lanes_of(cell));
+                    .saturating_add(self.lanes_of(*cell));
                 most = most.max(live);
             }
         }
@@ -125,15 +124,11 @@ impl Gates {
 
     // How many lanes the value of a cell takes: none if it is not read.
     fn lanes_of(&self, cell: usize) -> usize {
-        if self.uses_of(self.made_by(cell)) > 0 {
-            1
-        } else {
-            0
-        }
+        usize::from(self.uses_of(self.made_by(cell)) > 0)
     }
 
-    /// Returns the cells that read a value.
-    pub fn readers_of(&self, value: usize) -> &[usize] {
+    // The cells that read a value.
+    pub(crate) fn readers_of(&self, value: usize) -> &[usize] {
         match self.readers.get(value) {
             Some(readers) => readers.as_slice(),
             None => &[],
@@ -142,14 +137,11 @@ impl Gates {
 
     /// Returns the last port that shows a value.
     pub fn last_port(&self, value: usize) -> Option<usize> {
-        match self.last_ports.get(value) {
-            Some(port) => *port,
-            None => None,
-        }
+        *self.last_ports.get(value)?
     }
 
-    /// Returns the cell that makes a value.
-    pub fn maker(&self, value: usize) -> Option<usize> {
+    // The cell that makes a value.
+    pub(crate) fn maker(&self, value: usize) -> Option<usize> {
         value.checked_sub(self.made_by(0))
     }
 
@@ -160,8 +152,12 @@ impl Gates {
 
     /// Returns how many lanes the inputs, the loops and a dark lane take.
     pub fn fewest_homes(&self) -> usize {
-        let dark = if self.is_dark { 1 } else { 0 };
-        self.zero().saturating_add(dark)
+        self.zero().saturating_add(usize::from(self.is_dark))
+    }
+
+    /// Returns how many of so many lanes stand above those of the loops.
+    pub fn above(&self, lanes: usize) -> usize {
+        lanes.saturating_sub(self.loops)
     }
 
     /// Returns how many lanes more than the fewest the placer takes at most.
@@ -250,7 +246,7 @@ fn use_up(left: &mut [usize], value: usize) -> usize {
     match left.get_mut(value) {
         Some(uses) => {
             *uses = uses.saturating_sub(1);
-            if *uses == 0 { 1 } else { 0 }
+            usize::from(*uses == 0)
         }
         None => 0,
     }
@@ -266,15 +262,9 @@ fn end_operands(left: &mut [usize], gate: Gate) -> usize {
 fn count_used(left: &[usize]) -> usize {
     let mut count = 0usize;
     for uses in left {
-        if *uses > 0 {
-            count = count.saturating_add(1);
-        }
+        count = count.saturating_add(usize::from(*uses > 0));
     }
     count
-}
-
-fn names_zero(sources: &[Src]) -> bool {
-    sources.contains(&Src::Zero)
 }
 
 // Adds so many empty lists.
