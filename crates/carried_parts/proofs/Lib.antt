@@ -3,3 +3,11 @@ pub mod InCells
 pub mod AsParts
 pub mod EachRow
 pub mod Carriers
+pub mod Held
+pub mod LatchedModels
+pub mod LatchedRuns
+pub mod LatchedAgree
+pub mod WiredParts
+pub mod TextsByLines
+pub mod WiredTextsCarry
+pub mod UnlinedRuns

@@ -1,1 +1,4 @@
 pub mod CarriedParts
+pub mod Latched
+pub mod WiredTexts
+pub mod Unlined

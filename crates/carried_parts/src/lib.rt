@@ -1,10 +1,21 @@
 //! A carrier's pattern is a part if its lines are open, and a text whose pattern is a part with a
-//! design's meaning carries it.
+//! design's meaning carries it. With wires, a part means the design with a row of latches for each.
 //!
-//! Theorem: `carriers_are_parts`, `carriers_answer_each_row`, `parts_carry`.
+//! Theorem: `carriers_are_parts`, `carriers_answer_each_row`, `parts_carry`,
+//! `wired_parts_mean_latches`, `wired_texts_carry`.
 #![tactic(auto)]
 
+mod latched;
+mod lines;
+mod wired_texts;
+
 ghost use Rattle.carried_parts.specs.CarriedParts.{CarriersAnswerEachRow, CarriersAreParts, PartsCarry};
+
+pub use latched::{
+    latched_runs_agree, latches_show_fed, wired_parts_mean_latches, wires_are_latches,
+};
+pub use lines::lines_decide_no_run;
+pub use wired_texts::{parts_carry_by_lines, wired_texts_carry};
 
 /// The pattern of a text that carries a design and its nets, whoever wrote it, is a part, and what
 /// it makes of its inputs' bits are the bits of the design's runs, if the period is 3 at least and
