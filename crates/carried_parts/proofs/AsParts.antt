@@ -4,8 +4,7 @@ use Rattle.std.specs.Prelude.{Contains, ◌↔◌, Option, Some, None, slice_get
 use Rattle.std.specs.List.{range_with_len}
 use Rattle.std.specs.Cmp.{both_ways}
 use Rattle.std.proofs.Math.Nat.{mul-le-mul}
-use Rattle.std.proofs.lemmas.List.{length-map, get_or-map, get_or_default}
-use Rattle.std.proofs.lemmas.List.FromFn.{length-map-range_with_len}
+use Rattle.std.proofs.lemmas.List.{length-map, get_or-map}
 use Rattle.std.proofs.lemmas.List.Elements.{Contains-append_cases}
 use Rattle.lists.specs.Items.{flag_at}
 use Rattle.lists.proofs.Members.{in_from, contains_from, in_got}
@@ -21,7 +20,7 @@ use Rattle.wire_laws.specs.PartLaws.{cells_around}
 use Rattle.wire_laws.proofs.Lit.{lit_in, in_lit}
 use Rattle.wire_laws.proofs.Rows.{port_signal, no_port, port_of_signal, rows_are_signals}
 use Rattle.wire_laws.proofs.Early.{both_first, both_rest, signals_both, lit_same, due_same}
-use Rattle.wire_laws.proofs.Beside.{ready_by_count}
+use Rattle.wire_laws.proofs.Beside.{Conductor≢Tail, ready_by_count}
 use Rattle.pattern_reading.specs.declared.ports.Ports.{Ports}
 use Rattle.pattern_reading.specs.declared.ports.PortLine.{PortLine}
 use Rattle.pattern_reading.specs.declared.ports.NetLine.{NetLine}
@@ -36,6 +35,7 @@ use Rattle.carries.specs.Nets.{CarriesNets}
 use Rattle.place_paths.specs.Paths.{name_and_path}
 use Rattle.carries.proofs.Cycles.{carries_cycles, carries_net_cycles, rows_fit_ports}
 use Rattle.carried_parts.specs.CarriedParts.{line_ports, net_line_ports, bits_of_rows, IsMeaningOf, HasOpenLines, CarriersAreParts}
+use Rattle.carried_parts.proofs.InCells.{rows_fit, in_cells_conduct}
 use Rattle.carried_parts.proofs.Rows.{rows_of, long, got_at, got_is, row_at, bit_at, row_again, cut, cut_same, cut_kept}
 
 -- a cell that shows bits from a generation on, for many cycles, shows a signal with these bits
@@ -84,14 +84,7 @@ module _ (text : List ℕ) (design : Design) (c : CarriesNets text design) (long
 
   -- the first rows are input rows, and there is a run on them
   pub fits : (n : ℕ) (bits : ℕ → ℕ → Bool) → AreInputRows design (rows_of k n bits)
-  fits n bits = (names_of ports.ins, c.carried.names.ins, λ u d l. row_long u d l)
-    where
-      row_long : (u : ℕ) (d : List Bool) → u < length (rows_of k n bits) → length (get_or (rows_of k n bits) u d) ≡ length (names_of ports.ins)
-      row_long u d l =
-          let low : u < n = omega (arith, l, long k n bits) in
-          ap length (get_or_default (rows_of k n bits) u d [] l ∙ row_at k n bits u low)
-          ∙ length-map-range_with_len (bits u) 0 k
-          ∙ sym (length-map ports.ins (λ line. line.name))
+  fits n bits = rows_fit ports design c.carried.names n bits
 
   abbrev pub run_on : ℕ → (ℕ → ℕ → Bool) → ℕ → Valuation
   run_on n bits = (c.carried.shows.runs (rows_of k n bits) (fits n bits)).0
@@ -276,7 +269,7 @@ module _ (text : List ℕ) (design : Design) (c : CarriesNets text design) (long
         let own = λ (g t : ℕ) (l : t < suc g). ap₂ (run_on (suc g) bits t) o.place o.name ∙ own_bit (suc g) t i line l of.2 in
         subst IsShown (sym of.3) (
           subst (λ cell. cell_state plane cell ≢ Empty) cell full,
-          λ g. subst (λ (port : Port). (cell_state (driven due plane g) port.0 ≡ Head) ↔ (is_lit period (signal_of port (λ t. bits t i)) g ≡ true)) (ap₂ (λ cell first. (cell, first)) cell o.offset) (net_shown o.number o.net o.net_line (λ t. bits t i) o.has_net o.has_line g (own g)),
+          λ g. subst (λ (port : Port). (cell_state (driven due plane g) port.0 ≡ Head) ↔ (is_lit period (signal_of port (λ t. bits t i)) g ≡ true)) {x = ((pos o.net_line.x, pos o.net_line.y), o.net_line.offset)} (ap₂ (λ cell first. (cell, first)) cell o.offset) (net_shown o.number o.net o.net_line (λ t. bits t i) o.has_net o.has_line g (own g)),
         )
 
     outer_shown : (s : Signal) → Contains outs s → IsShown s
@@ -308,7 +301,7 @@ module _ (text : List ℕ) (design : Design) (c : CarriesNets text design) (long
     carried : CarriesSignals period plane ins (outs ++ nets)
     carried =
         ready_by_count period long_enough plane ins (outs ++ nets) (record { drawn = λ s among. (each_shown s among).0; shows = λ s among g. (each_shown s among).1 g }) meets (λ s among. (let of = in_line s among in
-        subst (λ s. cell_state plane s.cell ≢ Tail) (sym of.3) (open_lines.ins of.1 (contains_from ports.ins of.1 (in_got ports.ins of.0 of.1 of.2))).no_tail)) (λ s among. (let of = in_line s among in
+        subst (λ s. cell_state plane s.cell ≢ Tail) (sym of.3) (λ tail. Conductor≢Tail (sym (in_cells_conduct text design c.carried of.1 (contains_from ports.ins of.1 (in_got ports.ins of.0 of.1 of.2))) ∙ tail)))) (λ s among. (let of = in_line s among in
         subst (λ s. cells_around plane s.cell.0 s.cell.1 ≤ 2) (sym of.3) (open_lines.ins of.1 (contains_from ports.ins of.1 (in_got ports.ins of.0 of.1 of.2))).few))
 
     pub part_carried : CarriesSignals period plane ins (signals_at (line_ports ports.l ports.outs ++ net_line_ports ports.nets) (meant bits))
@@ -318,4 +311,4 @@ module _ (text : List ℕ) (design : Design) (c : CarriesNets text design) (long
 
 pub carriers_are_parts : CarriersAreParts
 carriers_are_parts text design c long_enough open_lines =
-    (meant text design c long_enough open_lines, is_meaning text design c long_enough open_lines, part_carried text design c long_enough open_lines)
+    (meant text design c long_enough open_lines, is_meaning text design c long_enough open_lines, part_carried text design c long_enough open_lines, in_cells_conduct text design c.carried)

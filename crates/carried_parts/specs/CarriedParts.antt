@@ -2,7 +2,7 @@
 -- is a design's carries it.
 use Rattle.std.specs.Prelude.{pos, ℕ, ◌+◌, ◌<◌, ◌≤◌, ◌≡◌, ◌≢◌, Bool, List, [], ◌∷◌, ◌++◌, length, map, Contains, Some, None, slice_get}
 use Rattle.lists.specs.Items.{flag_at, list_at}
-use Rattle.ww_rule.specs.declared.pattern.State.TheVariants.{Empty, Tail, Conductor}
+use Rattle.ww_rule.specs.declared.pattern.State.TheVariants.{Empty, Conductor}
 use Rattle.ww_rule.specs.Wireworld.{Plane}
 use Rattle.ww_rule.specs.Grid.{Grid, plane_of}
 use Rattle.wire_laws.specs.Rows.{Port, PartMeaning, IsPart, IsCausalMeaning, AnswersEachRow}
@@ -44,11 +44,10 @@ pub record IsMeaningOf (design : Design) (seen : List Net) (meaning : PartMeanin
       → slice_get seen k ≡ Some net
       → meaning (bits_of_rows rows) t (length (main_outputs design) + k) ≡ run t net.place net.name
 
--- The cell of an IN line is no tail, and at most two cells are beside it. The input's own net has a
--- NET line, with the same cell and offset 0.
+-- At most two drawn cells are beside the cell of an IN line. The input's own net has a NET line,
+-- with the same cell and offset 0.
 pub record IsOpenInput (ports : Ports) (seen : List Net) (p : Plane)
     (line : PortLine) : Type 0 where
-  pub no_tail : p (pos line.x) (pos line.y) ≢ Tail
   pub few : cells_around p (pos line.x) (pos line.y) ≤ 2
   pub number : ℕ
   pub net_line : NetLine
@@ -67,16 +66,27 @@ pub record HasOpenLines (ports : Ports) (seen : List Net) (p : Plane) : Type 0 w
   pub outs : (line : PortLine) → Contains ports.outs line → p (pos line.x) (pos line.y) ≢ Empty
   pub nets : (line : NetLine) → Contains ports.nets line → p (pos line.x) (pos line.y) ≢ Empty
 
--- The pattern of a text that carries a design and its nets is a part, if its lines are open and its
--- period is 3 at least: its meaning is the design's.
-abbrev pub CarriersAreParts : Type 0
-CarriersAreParts =
-    (text : List ℕ) (design : Design) (c : CarriesNets text design) → 3 ≤ c.carried.ports.p
-    → HasOpenLines c.carried.ports c.nets (plane_of c.carried.grid.rows)
-    → (meaning : PartMeaning) × IsMeaningOf design c.nets meaning
+-- the cells of IN lines are conductors at generation 0
+abbrev pub HasInConductors : Ports → Plane → Type 0
+HasInConductors ports p =
+    (line : PortLine) → Contains ports.ins line → p (pos line.x) (pos line.y) ≡ Conductor
+
+-- the pattern of a text that carries a design and its nets is a part with the design's meaning, and
+-- the cells of its IN lines are conductors, as `PartsCarry` asks
+abbrev pub MeansDesign : {text : List ℕ} {design : Design} → CarriesNets text design → Type 0
+MeansDesign {text} {design} c =
+    (meaning : PartMeaning) × IsMeaningOf design c.nets meaning
     × IsPart c.carried.ports.p (plane_of c.carried.grid.rows) (line_ports 0 c.carried.ports.ins)
     (line_ports c.carried.ports.l c.carried.ports.outs ++ net_line_ports c.carried.ports.nets)
     meaning
+    × HasInConductors c.carried.ports (plane_of c.carried.grid.rows)
+
+-- The pattern of a text that carries a design and its nets is a part with the design's meaning, if
+-- its lines are open and its period is 3 at least.
+abbrev pub CarriersAreParts : Type 0
+CarriersAreParts =
+    (text : List ℕ) (design : Design) (c : CarriesNets text design) → 3 ≤ c.carried.ports.p
+    → HasOpenLines c.carried.ports c.nets (plane_of c.carried.grid.rows) → MeansDesign c
 
 -- no place of the design has a latch
 abbrev pub HasNoLatches : Design → Type 0
@@ -111,9 +121,7 @@ abbrev pub PartsCarry : Type 0
 PartsCarry =
     (text : List ℕ) (design : Design) (grid : Grid) (ports : Ports) (seen : List Net)
     (meaning : PartMeaning) → Spells text grid ports → ports.c ≡ 1 → NamesPorts ports design
-    → AreSeenNets design seen → NamesNets ports seen
-    → ((line : PortLine) → Contains ports.ins line
-    → plane_of grid.rows (pos line.x) (pos line.y) ≡ Conductor)
+    → AreSeenNets design seen → NamesNets ports seen → HasInConductors ports (plane_of grid.rows)
     → IsMeaningOf design seen meaning
     → IsPart ports.p (plane_of grid.rows) (line_ports 0 ports.ins)
     (line_ports ports.l ports.outs ++ net_line_ports ports.nets) meaning

@@ -1,6 +1,5 @@
 -- Texts whose pattern is a part: the lines of the port table may be any of the part's ports.
-use Rattle.std.specs.Prelude.{pos, ℕ, ◌≤◌, ◌≡◌, List, ◌++◌, Option, Some, slice_get, Contains}
-use Rattle.ww_rule.specs.declared.pattern.State.TheVariants.{Conductor}
+use Rattle.std.specs.Prelude.{pos, ℕ, ◌≤◌, ◌≡◌, List, ◌++◌, Option, Some, slice_get}
 use Rattle.ww_rule.specs.Grid.{Grid, plane_of}
 use Rattle.wire_laws.specs.Rows.{Port, PartMeaning, IsPart}
 use Rattle.wire_laws.specs.PortWires.{all_inputs, HasPortWires}
@@ -14,7 +13,7 @@ use Rattle.netlist_meaning.specs.Nets.{Net}
 use Rattle.carries.specs.Cells.{Spells}
 use Rattle.carries.specs.Carries.{NamesPorts}
 use Rattle.carries.specs.Nets.{AreSeenNets, NamesNets, CarriesNets}
-use Rattle.carried_parts.specs.CarriedParts.{line_ports, net_line_ports, IsMeaningOf, HasOpenLines}
+use Rattle.carried_parts.specs.CarriedParts.{line_ports, net_line_ports, IsMeaningOf, HasInConductors, HasOpenLines}
 use Rattle.carried_parts.specs.Latched.{NamedWire, port_wires, shown_nets, IsLatched, RunsAgree}
 
 -- A text spells a pattern and a table of one context. The table names the ports and the nets of the
@@ -26,8 +25,7 @@ pub record SpellsTableOf (design : Design) (text : List ℕ) (grid : Grid) (port
   pub names : NamesPorts ports design
   pub are_nets : AreSeenNets design nets
   pub named : NamesNets ports nets
-  pub conductors : (line : PortLine) → Contains ports.ins line
-      → plane_of grid.rows (pos line.x) (pos line.y) ≡ Conductor
+  pub conductors : HasInConductors ports (plane_of grid.rows)
 
 -- The lines of a table are ports of a part that shows certain nets at its outputs. The OUT lines
 -- are the first outputs, in order. Each NET line is an output that shows the line's net.

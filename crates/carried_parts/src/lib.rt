@@ -25,7 +25,8 @@ pub use wired_texts::{parts_carry_by_lines, wired_texts_carry};
 
 /// The pattern of a text that carries a design and its nets, whoever wrote it, is a part, and what
 /// it makes of its inputs' bits are the bits of the design's runs, if the period is 3 at least and
-/// its lines are open (an input's NET line has its IN cell).
+/// its lines are open (an input's NET line has its IN cell). The cells of its IN lines are
+/// conductors.
 pub fn carriers_are_parts()
     ensures { CarriersAreParts }
 {}

@@ -87,6 +87,26 @@ has_or_not library lit other q l slot x y head =
 head_is_drawn : (library : Kind → Drawing) (tiling : Tiling) (lit other : Lit) (x y : ℕ) → drawn library tiling lit (pos x) (pos y) ≡ Head → drawn library tiling other (pos x) (pos y) ≢ Empty
 head_is_drawn library tiling lit other x y head = has_or_not library lit other (x / 32) (y / 16) (tiling (x / 32) (y / 16)) (x % 32) (y % 16) head
 
+-- all edges lit: then each port is a head
+abbrev all_lit : Lit
+all_lit edge = true
+
+module _ (library : Kind → Drawing) (law : KeepsLaw library) (plan : Plan) (h : IsAdmissible plan) (lit : Lit) where
+  no_drive : DrivesInputs plan undriven
+  no_drive = record { on_time = λ g x y e. absurd (true≢false (sym e)); at_free_entries = λ g x y e. absurd (true≢false (sym e)) }
+
+  lit_ports : ShowsDrivenEdges library plan undriven all_lit
+  lit_ports = plans_show_edges library law plan h undriven no_drive all_lit
+
+  entry_drawn : (lane : ℕ) → lane < first_loop_lane plan.lanes plan.latches → cell_state (plane_with library plan lit) (entry_cell plan lane) ≢ Empty
+  entry_drawn lane low =
+      let some : 0 < length plan.columns = some_columns plan h (omega (arith, low)) in
+      head_is_drawn library (tiling_of plan) all_lit lit (left_of plan 0) (row_of lane) ((lit_ports.entries 0 lane some (omega (arith, low)) 0).1 (0, omega arith, refl))
+
+  pub exit_drawn : (i : ℕ) → i < length plan.outs → plane_with library plan lit (pos (left_of plan (length plan.columns))) (pos (row_of (slice_index plan.outs i))) ≢ Empty
+  exit_drawn i within =
+      head_is_drawn library (tiling_of plan) all_lit lit (left_of plan (length plan.columns)) (row_of (slice_index plan.outs i)) ((lit_ports.outs i within 0).1 (0, omega arith, refl))
+
 module _ (library : Kind → Drawing) (law : KeepsLaw library) (roomy : HasOpenEntries library) (plan : Plan) (h : IsAdmissible plan) (start : List Bool) (lit : Lit) (starts : StartsContexts plan (start ∷ []) lit) (bits : ℕ → ℕ → Bool) where
   abbrev p : Plane
   p = plane_with library plan lit
@@ -106,25 +126,6 @@ module _ (library : Kind → Drawing) (law : KeepsLaw library) (roomy : HasOpenE
   abbrev plane : ℕ → Plane
   plane g = driven due (plane_with library plan lit) g
 
-  -- all edges lit: then each port is a head
-  abbrev all_lit : Lit
-  all_lit edge = true
-
-  no_drive : DrivesInputs plan undriven
-  no_drive = record { on_time = λ g x y e. absurd (true≢false (sym e)); at_free_entries = λ g x y e. absurd (true≢false (sym e)) }
-
-  lit_ports : ShowsDrivenEdges library plan undriven all_lit
-  lit_ports = plans_show_edges library law plan h undriven no_drive all_lit
-
-  entry_drawn : (lane : ℕ) → lane < first_loop_lane plan.lanes plan.latches → cell_state p (entry_cell plan lane) ≢ Empty
-  entry_drawn lane low =
-      let some : 0 < length plan.columns = some_columns plan h (omega (arith, low)) in
-      head_is_drawn library (tiling_of plan) all_lit lit (left_of plan 0) (row_of lane) ((lit_ports.entries 0 lane some (omega (arith, low)) 0).1 (0, omega arith, refl))
-
-  exit_drawn : (i : ℕ) → i < length plan.outs → p (pos (left_of plan (length plan.columns))) (pos (row_of (slice_index plan.outs i))) ≢ Empty
-  exit_drawn i within =
-      head_is_drawn library (tiling_of plan) all_lit lit (left_of plan (length plan.columns)) (row_of (slice_index plan.outs i)) ((lit_ports.outs i within 0).1 (0, omega arith, refl))
-
   abbrev out_bit : ℕ → ℕ → Bool
   out_bit t i = bit_on (after_columns plan.columns (context_bits plan due (start ∷ []) 0 t)) (slice_index plan.outs i)
 
@@ -143,7 +144,7 @@ module _ (library : Kind → Drawing) (law : KeepsLaw library) (roomy : HasOpenE
   input s among = input_of plan h start lit starts bits s among
 
   ins_drawn : (s : Signal) → Contains ins s → cell_state p s.cell ≢ Empty
-  ins_drawn s among = let of = input s among in subst (λ s. cell_state p s.cell ≢ Empty) (sym of.is) (entry_drawn (slice_index plan.ins of.input) of.free)
+  ins_drawn s among = let of = input s among in subst (λ s. cell_state p s.cell ≢ Empty) (sym of.is) (entry_drawn library law plan h lit (slice_index plan.ins of.input) of.free)
 
   some : 0 < period
   some = omega (arith, long plan h start lit starts bits)
@@ -200,7 +201,7 @@ module _ (library : Kind → Drawing) (law : KeepsLaw library) (roomy : HasOpenE
   is_drawn s among =
       elim (Contains-append_cases ins outs s among) [
         | inl a ↦ ins_drawn s a
-        | inr b ↦ let of = output_of s b in subst (λ s. cell_state p s.cell ≢ Empty) (sym of.2) (exit_drawn of.0 of.1)
+        | inr b ↦ let of = output_of s b in subst (λ s. cell_state p s.cell ≢ Empty) (sym of.2) (exit_drawn library law plan h lit of.0 of.1)
       ]
 
   -- one generation before it is lit an input's cell is no tail

@@ -4,6 +4,7 @@ pub mod Ready
 pub mod Carried
 pub mod LaneDue
 pub mod NetCells
+pub mod PortCells
 pub mod AsParts
 pub mod Loopless
 pub mod Takes

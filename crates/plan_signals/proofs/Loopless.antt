@@ -73,12 +73,20 @@ still library tiling (pos x) (pos y) = still_slot library (x / 32) (y / 16) (til
 still library tiling (pos x) (negsuc y) = refl
 still library tiling (negsuc x) y = refl
 
-no_electrons : (library : Kind → Drawing) (plan : Plan) → HasNoElectrons (plane_with library plan dark)
-no_electrons library plan =
+none_in_dark : (library : Kind → Drawing) (plan : Plan) → HasNoElectrons (plane_with library plan dark)
+none_in_dark library plan =
     record {
       heads = λ x y e. true≢false (sym (still library (tiling_of plan) x y) ∙ ap is_still e);
       tails = λ x y e. true≢false (sym (still library (tiling_of plan) x y) ∙ ap is_still e);
     }
+
+-- without loops no edge is lit, so nothing is a head or a tail
+pub no_electrons : (library : Kind → Drawing) (plan : Plan) → plan.latches ≡ 0 → (starts : List (List Bool)) (lit : Lit) → StartsContexts plan starts lit → HasNoElectrons (plane_with library plan lit)
+no_electrons library plan none starts lit on_loops = subst (λ lit. HasNoElectrons (plane_with library plan lit)) (sym is_dark) (none_in_dark library plan)
+  where
+    is_dark : lit ≡ dark
+    is_dark = fun_ext (λ edge. false_from_ne_true _ (λ e. (let o = on_loops.only edge e in
+        let loop : o.1 < plan.latches = o.3 in omega (arith, loop, none))))
 
 length-after : (columns : List Column) (bits : List Bool) → length (after_columns columns bits) ≡ length bits
 length-after [] bits = refl
@@ -94,11 +102,6 @@ entering_alone free columns inputs long (suc t) =
     ∙ append-nil (inputs (suc t))
 
 module _ (plan : Plan) (none : plan.latches ≡ 0) (lit : Lit) (starts : StartsContexts plan ([] ∷ []) lit) where
-  -- without loops no edge is lit
-  is_dark : lit ≡ dark
-  is_dark = fun_ext (λ edge. false_from_ne_true _ (λ e. (let o = starts.only edge e in
-      let loop : o.1 < plan.latches = o.3 in omega (arith, loop, none))))
-
   period_32 : period_of plan ≡ 32
   period_32 = ap (λ k. cond (k == 0) 32 (32 * (2 * length plan.columns + 4 * plan.latches))) none
 
@@ -116,11 +119,9 @@ module _ (plan : Plan) (none : plan.latches ≡ 0) (lit : Lit) (starts : StartsC
         let rows : plan_meaning plan [] bits ≡ (λ t. plan_answer plan (bits t)) = fun_ext (λ t. ap (plan_bits plan) (enters_alone bits t)) in
         subst (λ period. CarriesSignals period (plane_with library plan lit) (in_signals plan bits) (signals_at (out_ports plan ++ net_ports plan) (λ t. plan_answer plan (bits t)))) period_32 (subst (λ shown. CarriesSignals (period_of plan) (plane_with library plan lit) (in_signals plan bits) (signals_at (out_ports plan ++ net_ports plan) shown)) rows ((plans_are_parts library law roomy plan h [] lit starts).0 bits))
 
-    bare : HasNoElectrons (plane_with library plan lit)
-    bare = subst (λ lit. HasNoElectrons (plane_with library plan lit)) (sym is_dark) (no_electrons library plan)
-
 pub plans_answer_each_row : PlansAnswerEachRow
-plans_answer_each_row library law roomy plan h none lit starts = (
-  bare plan none lit starts library law roomy h,
-  λ times some. answers_go_slower 32 times (omega arith) some (plane_with library plan lit) (bare plan none lit starts library law roomy h) (in_ports plan) (out_ports plan ++ net_ports plan) (plan_answer plan) (answers_rows plan none lit starts library law roomy h),
-)
+plans_answer_each_row library law roomy plan h none lit starts =
+    let still = no_electrons library plan none ([] ∷ []) lit starts in (
+      still,
+      λ times some. answers_go_slower 32 times (omega arith) some (plane_with library plan lit) still (in_ports plan) (out_ports plan ++ net_ports plan) (plan_answer plan) (answers_rows plan none lit starts library law roomy h),
+    )

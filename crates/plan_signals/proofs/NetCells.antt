@@ -64,7 +64,7 @@ module _ (library : Kind → Drawing) (law : KeepsLaw library) where
     abbrev port_after : ℕ → Option ℕ → Port
     port_after lane after = ((pos (cell_after plan lane after).0, pos (cell_after plan lane after).1), (cell_after plan lane after).2)
 
-    drawn_after : (lane : ℕ) (after : Option ℕ) → lane < plan.lanes → ForSome after (λ step. step < length plan.columns) → cell_state (plane_with library plan lit) (port_after lane after).0 ≢ Empty
+    pub drawn_after : (lane : ℕ) (after : Option ℕ) → lane < plan.lanes → ForSome after (λ step. step < length plan.columns) → cell_state (plane_with library plan lit) (port_after lane after).0 ≢ Empty
     drawn_after lane None low within =
         let first : 32 * (plan.latches + 0) + 0 ≡ 32 * (plan.latches + 0) = omega arith in
         let some : 0 < length plan.columns = some_columns plan h (omega (arith, low)) in

@@ -11,7 +11,7 @@ use Rattle.lane_core.specs.declared.plan.Plan.{Plan}
 use Rattle.lane_core.specs.Plans.{IsAdmissible, period_of}
 use Rattle.plan_layout.specs.Planes.{plane_with}
 use Rattle.plan_waves.specs.Contexts.{StartsContexts}
-use Rattle.plan_signals.specs.Ports.{in_ports, out_ports, net_ports, in_signals, out_signals, plan_answer, plan_meaning, HasOpenEntries, HasClearEntries, TakesWires}
+use Rattle.plan_signals.specs.Ports.{in_ports, out_ports, net_ports, in_signals, out_signals, plan_answer, plan_meaning, HasOpenEntries, HasClearEntries, HasOpenPorts, TakesWires}
 
 -- The plane of an admissible plan, drawn in one context with any library of tiles that keep the
 -- timing law and have open entries, carries the signals of its inputs to those of its outputs, from
@@ -34,6 +34,14 @@ PlansAreParts =
     → IsPart (period_of plan) (plane_with library plan lit) (in_ports plan)
     (out_ports plan ++ net_ports plan) (plan_meaning plan start)
     × IsCausalMeaning (plan_meaning plan start)
+
+-- Drawn with any library of tiles that keep the timing law and have open entries, the plane of an
+-- admissible plan has open ports, whichever edges are lit.
+abbrev pub PortsAreOpen : Type 0
+PortsAreOpen =
+    (library : Kind → Drawing) → KeepsLaw library → HasOpenEntries library
+    → (plan : Plan) → IsAdmissible plan → (lit : Lit)
+    → HasOpenPorts plan (plane_with library plan lit)
 
 -- A wire may come to an input of a plan from the west, and leave an output to the east, in the port's
 -- row of cells.

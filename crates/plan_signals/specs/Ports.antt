@@ -7,6 +7,7 @@ use Rattle.ww_rule.specs.Wireworld.{Plane}
 use Rattle.wire_laws.specs.Signals.{Signal, cell_state, due_of_signals}
 use Rattle.wire_laws.specs.Rows.{Port, signals_at, PartMeaning, row_of_both}
 use Rattle.wire_laws.specs.Wires.{IsNear}
+use Rattle.wire_laws.specs.PartLaws.{cells_around}
 use Rattle.tile_core.specs.declared.kind.Kind.{Kind}
 use Rattle.tile_core.specs.declared.kind.Kind.TheVariants.{East}
 use Rattle.tile_core.specs.Drawing.{Drawing}
@@ -14,7 +15,7 @@ use Rattle.lane_core.specs.declared.instr.Instr.{Instr}
 use Rattle.lane_core.specs.declared.plan.Plan.{Plan}
 use Rattle.lane_core.specs.Instrs.{bit_on}
 use Rattle.lane_core.specs.Columns.{after_columns}
-use Rattle.lane_core.specs.Plans.{left_of, row_of, latency_of, period_of, in_cell_of, out_cell_of, net_place, net_cells}
+use Rattle.lane_core.specs.Plans.{left_of, row_of, latency_of, period_of, in_cell_of, out_cell_of, net_place, net_cell_of, net_cells}
 use Rattle.lane_core.specs.Entering.{first_loop_lane, row_bits, bits_after, entering_bits}
 use Rattle.plan_layout.specs.Layout.{kind_of}
 use Rattle.plan_waves.specs.Contexts.{context_bits}
@@ -104,9 +105,19 @@ pub record TakesWires (plan : Plan) (p : Plane) : Type 0 where
       → IsFreeBeside p (pos (out_cell_of plan i).0, pos (out_cell_of plan i).1)
       (x, pos (out_cell_of plan i).1)
 
--- at most two cells are beside each entry of the tiles of a plan's body, which is in row 8 or 24 of
--- the tile's cells
+-- at most two drawn cells are beside each entry of the tiles of a plan's body, which is in row 8 or
+-- 24 of the tile's cells
 pub record HasOpenEntries (library : Kind → Drawing) : Type 0 where
   pub east : cells_beside (library East) 7 ≤ 2
   pub upper : (instr : Instr) → cells_beside (library (kind_of instr)) 7 ≤ 2
   pub lower : (instr : Instr) → cells_beside (library (kind_of instr)) 23 ≤ 2
+
+-- at most two drawn cells are beside the cell of each input, and the cells of outputs and nets are
+-- drawn
+pub record HasOpenPorts (plan : Plan) (p : Plane) : Type 0 where
+  pub ins : (i : ℕ) → i < length plan.ins
+      → cells_around p (pos (in_cell_of plan i).0) (pos (in_cell_of plan i).1) ≤ 2
+  pub outs : (i : ℕ) → i < length plan.outs
+      → p (pos (out_cell_of plan i).0) (pos (out_cell_of plan i).1) ≢ Empty
+  pub nets : (i : ℕ) → i < length plan.nets
+      → p (pos (net_cell_of plan i).0) (pos (net_cell_of plan i).1) ≢ Empty

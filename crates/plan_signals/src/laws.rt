@@ -1,5 +1,5 @@
 //! Laws of plans that carry signals: each function does nothing, and its contract is the law.
-ghost use Rattle.plan_signals.specs.Laws.{PlansCarrySignals, PlansAreParts, PlansAnswerEachRow, PortsTakeWires, TilesAreOpen};
+ghost use Rattle.plan_signals.specs.Laws.{PlansCarrySignals, PlansAreParts, PlansAnswerEachRow, PortsAreOpen, PortsTakeWires, TilesAreOpen};
 
 /// The plane of an admissible plan, in one context, carries the signals of its inputs to those of
 /// its outputs.
@@ -19,14 +19,20 @@ pub fn plans_answer_each_row()
     ensures { PlansAnswerEachRow }
 {}
 
+/// In the plane of an admissible plan, at most two drawn cells are beside each input's cell, and the
+/// cells of outputs and nets are drawn.
+pub fn ports_are_open()
+    ensures { PortsAreOpen }
+{}
+
 /// A wire may come to each input of an admissible plan from the west, and leave each output to the
 /// east, in the port's row of cells: nothing but the port's cell is near.
 pub fn ports_take_wires()
     ensures { PortsTakeWires }
 {}
 
-/// At most two cells are beside each entry of a body's tile in the kit, and none is above or below
-/// it.
+/// At most two drawn cells are beside each entry of a body's tile in the kit, and none is above or
+/// below it.
 pub fn tiles_are_open()
     ensures { TilesAreOpen }
 {}

@@ -6,5 +6,6 @@
 mod laws;
 
 pub use laws::{
-    plans_answer_each_row, plans_are_parts, plans_carry_signals, ports_take_wires, tiles_are_open,
+    plans_answer_each_row, plans_are_parts, plans_carry_signals, ports_are_open, ports_take_wires,
+    tiles_are_open,
 };

@@ -8,3 +8,5 @@ pub mod Isolated
 pub mod Onward
 pub mod OneAnswer
 pub mod ShownAigs
+pub mod CompiledParts
+pub mod NetlistRuns

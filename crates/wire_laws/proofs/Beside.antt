@@ -92,20 +92,20 @@ counted Head Conductor h = omega arith
 counted Tail Conductor h = omega arith
 counted Conductor Conductor h = omega arith
 
+-- heads are drawn cells
+pub heads_at_most : (period : ℕ) (p : Plane) (ins : List Signal) → ((s : Signal) → Contains ins s → cell_state p s.cell ≢ Empty) → (g : ℕ) (x y : ℤ) → heads_around (driven (due_of_signals period ins) p g) x y ≤ cells_around p x y
+heads_at_most period p ins ins_drawn g x y =
+    eight_at_most _ _ _ _ _ _ _ _ _ _ _ _ _ _ _ _ (at_most _ _) (at_most _ _) (at_most _ _) (at_most _ _) (at_most _ _) (at_most _ _) (at_most _ _) (at_most _ _)
+  where
+    at_most : (x y : ℤ) → count_head (driven (due_of_signals period ins) p g x y) ≤ count_full (p x y)
+    at_most x y = counted (driven (due_of_signals period ins) p g x y) (p x y) (λ e. stays_empty period p ins (x, y) ins_drawn e g)
+
 module _ (period : ℕ) (long : 3 ≤ period) (p : Plane) (ins outs : List Signal) (shown : ShowsSignals period p ins outs) (meets : MeetsConductors (due_of_signals period ins) p) (no_tail : (s : Signal) → Contains ins s → cell_state p s.cell ≢ Tail) (few : (s : Signal) → Contains ins s → cells_around p s.cell.0 s.cell.1 ≤ 2) where
   abbrev plane : ℕ → Plane
   plane g = driven (due_of_signals period ins) p g
 
   ins_drawn : (s : Signal) → Contains ins s → cell_state p s.cell ≢ Empty
   ins_drawn s among = shown.drawn s (Contains-append_left ins outs s among)
-
-  -- heads are drawn cells
-  at_most : (g : ℕ) (x y : ℤ) → count_head (plane g x y) ≤ count_full (p x y)
-  at_most g x y = counted (plane g x y) (p x y) (λ e. stays_empty period p ins (x, y) ins_drawn e g)
-
-  heads_at_most : (g : ℕ) (x y : ℤ) → heads_around (plane g) x y ≤ cells_around p x y
-  heads_at_most g x y =
-      eight_at_most _ _ _ _ _ _ _ _ _ _ _ _ _ _ _ _ (at_most g _ _) (at_most g _ _) (at_most g _ _) (at_most g _ _) (at_most g _ _) (at_most g _ _) (at_most g _ _) (at_most g _ _)
 
   not_tail : (s : Signal) → Contains ins s → (g : ℕ) → is_lit period s (suc g) ≡ true → cell_state (plane g) s.cell ≢ Tail
   not_tail s among zero bright tail = at_first (due_of_signals period ins 0 s.cell.0 s.cell.1) tail
@@ -123,7 +123,7 @@ module _ (period : ℕ) (long : 3 ≤ period) (p : Plane) (ins outs : List Signa
       let x = s.cell.0 in
       let y = s.cell.1 in
       let next : next_state (plane g x y) (heads_around (plane g) x y) ≡ Conductor = meets (suc g) x y (signal_is_due period ins (suc g) s.cell s among bright refl) in
-      let most = heads_at_most g x y in
+      let most = heads_at_most period p ins ins_drawn g x y in
       let two = few s among in
       let is = none_around (plane g x y) (heads_around (plane g) x y) next (not_tail s among g bright) (omega (arith, most, two)) in
       record { conductor = is.0; alone = is.1 }
