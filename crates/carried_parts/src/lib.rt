@@ -1,5 +1,6 @@
 //! A carrier's pattern is a part if its lines are open, and a text whose pattern is a part with a
 //! design's meaning carries it. With wires, a part means the design with a row of latches for each.
+//! Parts side by side mean the design of both.
 //!
 //! Theorem: `carriers_are_parts`, `carriers_answer_each_row`, `parts_carry`,
 //! `wired_parts_mean_latches`, `wired_texts_carry`, `designs_unite`, `designed_parts_unite`.
