@@ -25,7 +25,7 @@ use Rattle.netlist_meaning.specs.Nets.{Net, net_at, IsInNames}
 use Rattle.netlist_meaning.specs.Valuation.{Valuation, AreInputRows, IsRun}
 use Rattle.carried_parts.specs.CarriedParts.{bits_of_rows, IsMeaningOf}
 use Rattle.carried_parts.specs.Latched.{shown_nets}
-use Rattle.carried_parts.specs.United.{united_model, united, main_lines, place_after, net_after, CanUnite, AreNumbersOf, ReadsInputs, DesignsUnite, DesignedPartsUnite}
+use Rattle.carried_parts.specs.United.{united_model, other_models, united, main_lines, place_after, net_after, CanUnite, AreNumbersOf, ReadsInputs, DesignsUnite, DesignedPartsUnite}
 use Rattle.carried_parts.proofs.Rows.{got_at, got_is, list_again}
 use Rattle.carried_parts.proofs.LatchedRuns.{got_cases, shows_net, map_from}
 use Rattle.carried_parts.proofs.UnitedModels.{names_of_both, firsts, lasts, first_bit, last_bit}
@@ -87,12 +87,12 @@ module _ (main other : Model) (models others : List Model) (can : CanUnite (reco
   two = record { models = other ∷ others }
 
   abbrev whole : Design
-  whole = record { models = united_model main other ∷ models ++ others }
+  whole = record { models = united_model main other ∷ models ++ other_models (main ∷ models) others }
 
   abbrev meant : PartMeaning
   meant = meaning_in_order count (λ i. i) numbers (both_meanings (length names) outs meaning second)
 
-  module _ (rows : List (List Bool)) (are : AreInputRows (record { models = united_model main other ∷ models ++ others }) rows) where
+  module _ (rows : List (List Bool)) (are : AreInputRows (record { models = united_model main other ∷ models ++ other_models (main ∷ models) others }) rows) where
     abbrev n : ℕ
     n = length names
 

@@ -18,7 +18,7 @@ use Rattle.netlist_meaning.specs.Nets.{Net, net_at, model_names, IsPinned, Joine
 use Rattle.netlist_meaning.proofs.Names.{and_then-from}
 use Rattle.netlist_meaning.proofs.Joined.{joined_gives, clock_net-joined, in_names_are_one}
 use Rattle.carried_parts.specs.CarriedParts.{bits_of_rows}
-use Rattle.carried_parts.specs.United.{other_ports, united_model, net_after, place_after, CanUnite}
+use Rattle.carried_parts.specs.United.{other_ports, united_model, other_models, net_after, place_after, CanUnite}
 use Rattle.carried_parts.proofs.LatchedModels.{input_net, latch_net}
 use Rattle.carried_parts.proofs.LatchedRuns.{got_cases}
 use Rattle.carried_parts.proofs.UnitedPlaces.{one_before, OwnAt, IsOwn, name_in, line_there, StandsIn, IsPinIn, IsPlaceIn, at_same, pin_own, control_is, joined_is, top_pin_was, deep_pin_was}
@@ -142,12 +142,12 @@ module _ (main other : Model) (models others : List Model) (can : CanUnite (reco
   both_main = united_model main other
 
   abbrev pub both : Design
-  both = record { models = united_model main other ∷ models ++ others }
+  both = record { models = united_model main other ∷ models ++ other_models (main ∷ models) others }
 
   abbrev pub before : ℕ
   before = length main.subckts
 
-  pub first_in : StandsIn main (united_model main other) models (models ++ others) 0
+  pub first_in : StandsIn main (united_model main other) models (models ++ other_models (main ∷ models) others) 0
   first_in =
       record {
         lines = λ number line e. (let n : 0 + number ≡ number = omega arith in ap (slice_get (main.subckts ++ other.subckts)) n ∙ got_left main.subckts other.subckts number line e);
@@ -156,7 +156,7 @@ module _ (main other : Model) (models others : List Model) (can : CanUnite (reco
         latches = λ latch i. in_left main.latches other.latches latch i;
       }
 
-  pub second_in : StandsIn other (united_model main other) others (models ++ others) (length main.subckts)
+  pub second_in : StandsIn other (united_model main other) others (models ++ other_models (main ∷ models) others) (length main.subckts)
   second_in =
       record {
         lines = λ number line e. got_right main.subckts other.subckts number ∙ e;
@@ -168,38 +168,38 @@ module _ (main other : Model) (models others : List Model) (can : CanUnite (reco
   -- a place inside a line of the whole stands inside one of the first or the second
   pub place_was : (number : ℕ) (place : Place) (model : Model) → model_at both (number ∷ place) ≡ Some model → IsPlaceIn first main 0 number place model ⊎ IsPlaceIn second other before number place model
   place_was number place model at =
-      let long : number < length (main.subckts ++ other.subckts) = line_there (united_model main other) (models ++ others) number place model at in
+      let long : number < length (main.subckts ++ other.subckts) = line_there (united_model main other) (models ++ other_models (main ∷ models) others) number place model at in
       elim (cases_lt number (length main.subckts)) as (λ _. IsPlaceIn first main 0 number place model ⊎ IsPlaceIn second other before number place model) [
         | inl lt ↦
             (let e : number ≡ 0 + number = omega arith in
-            inl (record { line = number; is = e; low = lt; at = sym (at_same main (united_model main other) models (models ++ others) 0 first_in number place lt) ∙ ap (λ n. model_at both (n ∷ place)) (sym e) ∙ at }))
+            inl (record { line = number; is = e; low = lt; at = sym (at_same main (united_model main other) models (models ++ other_models (main ∷ models) others) 0 first_in number place lt) ∙ ap (λ n. model_at both (n ∷ place)) (sym e) ∙ at }))
         | inr ge ↦
             (let n = number - length main.subckts in
             let e : number ≡ length main.subckts + n = omega (arith, ge) in
             let low : n < length other.subckts = omega (arith, long, e, length-append main.subckts other.subckts) in
-            inr (record { line = n; is = e; low = low; at = sym (at_same other (united_model main other) others (models ++ others) (length main.subckts) second_in n place low) ∙ ap (λ n. model_at both (n ∷ place)) (sym e) ∙ at }))
+            inr (record { line = n; is = e; low = low; at = sym (at_same other (united_model main other) others (models ++ other_models (main ∷ models) others) (length main.subckts) second_in n place low) ∙ ap (λ n. model_at both (n ∷ place)) (sym e) ∙ at }))
       ]
 
   pin_was_at : (place : Place) (name : Name) (inner : Net) → IsPinned both (net_at place name) inner → IsPinIn first 0 (net_at place name) inner ⊎ IsPinIn second before (net_at place name) inner
   pin_was_at [] name inner p =
       elim (got_cases main.subckts other.subckts p.number p.line (subst (λ m. slice_get m.subckts p.number ≡ Some p.line) (sym (same_Some (united_model main other) p.model p.has_model)) p.has_line)) as (λ _. IsPinIn first 0 (net_at [] name) inner ⊎ IsPinIn second before (net_at [] name) inner) [
-        | inl a ↦ inl (top_pin_was main (united_model main other) models (models ++ others) 0 first_in name inner p p.number (omega arith) a)
-        | inr b ↦ inr (top_pin_was other (united_model main other) others (models ++ others) (length main.subckts) second_in name inner p b.0 b.1 b.2)
+        | inl a ↦ inl (top_pin_was main (united_model main other) models (models ++ other_models (main ∷ models) others) 0 first_in name inner p p.number (omega arith) a)
+        | inr b ↦ inr (top_pin_was other (united_model main other) others (models ++ other_models (main ∷ models) others) (length main.subckts) second_in name inner p b.0 b.1 b.2)
       ]
   pin_was_at (number ∷ place) name inner p =
       elim (place_was number place p.model p.has_model) as (λ _. IsPinIn first 0 (net_at (number ∷ place) name) inner ⊎ IsPinIn second before (net_at (number ∷ place) name) inner) [
-        | inl d ↦ inl (deep_pin_was main (united_model main other) models (models ++ others) 0 first_in number place name inner p d)
-        | inr d ↦ inr (deep_pin_was other (united_model main other) others (models ++ others) (length main.subckts) second_in number place name inner p d)
+        | inl d ↦ inl (deep_pin_was main (united_model main other) models (models ++ other_models (main ∷ models) others) 0 first_in number place name inner p d)
+        | inr d ↦ inr (deep_pin_was other (united_model main other) others (models ++ other_models (main ∷ models) others) (length main.subckts) second_in number place name inner p d)
       ]
 
   pub pin_was : (outer inner : Net) → IsPinned both outer inner → IsPinIn first 0 outer inner ⊎ IsPinIn second before outer inner
   pin_was outer inner p = pin_was_at outer.place outer.name inner p
 
   pub first_pin : (a b : Net) → IsPinned first a b → IsOwn main a × IsOwn main b
-  first_pin a b p = pin_own main (united_model main other) models (models ++ others) 0 first_in a b p
+  first_pin a b p = pin_own main (united_model main other) models (models ++ other_models (main ∷ models) others) 0 first_in a b p
 
   pub second_pin : (a b : Net) → IsPinned second a b → IsOwn other a × IsOwn other b
-  second_pin a b p = pin_own other (united_model main other) others (models ++ others) (length main.subckts) second_in a b p
+  second_pin a b p = pin_own other (united_model main other) others (models ++ other_models (main ∷ models) others) (length main.subckts) second_in a b p
 
   pub shared : (name : Name) → In name (model_names main) → In name (model_names other) → IsControl first (net_at [] name) × IsControl second (net_at [] name)
   shared name i j = can.controls name (main, refl, contains_from (model_names main) name i) (other, refl, contains_from (model_names other) name j)
@@ -335,10 +335,10 @@ module _ (main other : Model) (models others : List Model) (can : CanUnite (reco
 
   -- and the other way
   pub control_of_first : (a : Net) → IsControl first a → IsControl both (net_after 0 a)
-  control_of_first a c = control_is main (united_model main other) models (models ++ others) 0 first_in a c
+  control_of_first a c = control_is main (united_model main other) models (models ++ other_models (main ∷ models) others) 0 first_in a c
 
   pub control_of_second : (a : Net) → IsControl second a → IsControl both (net_after (length main.subckts) a)
-  control_of_second a c = control_is other (united_model main other) others (models ++ others) (length main.subckts) second_in a c
+  control_of_second a c = control_is other (united_model main other) others (models ++ other_models (main ∷ models) others) (length main.subckts) second_in a c
 
   -- a clock of one of the main models that is no input of it
   main_clock : (name : Name) → In name (port_names (main.clocks ++ other_ports main.clocks other.clocks)) → (In name (port_names (main.ins ++ other_ports main.ins other.ins)) → IsControl both (net_at [] name)) → IsClockNet both (net_at [] name)
@@ -367,10 +367,10 @@ module _ (main other : Model) (models others : List Model) (can : CanUnite (reco
       ]))
 
   pub clock_of_first : (a : Net) → IsClockNet first a → IsClockNet both (net_after 0 a)
-  clock_of_first a (source, c, j) = clock_net-joined both (net_after 0 source) (net_after 0 a) (joined_is main (united_model main other) models (models ++ others) 0 first_in source a j) (source_first source c)
+  clock_of_first a (source, c, j) = clock_net-joined both (net_after 0 source) (net_after 0 a) (joined_is main (united_model main other) models (models ++ other_models (main ∷ models) others) 0 first_in source a j) (source_first source c)
 
   pub clock_of_second : (a : Net) → IsClockNet second a → IsClockNet both (net_after (length main.subckts) a)
-  clock_of_second a (source, c, j) = clock_net-joined both (net_after (length main.subckts) source) (net_after (length main.subckts) a) (joined_is other (united_model main other) others (models ++ others) (length main.subckts) second_in source a j) (source_second source c)
+  clock_of_second a (source, c, j) = clock_net-joined both (net_after (length main.subckts) source) (net_after (length main.subckts) a) (joined_is other (united_model main other) others (models ++ other_models (main ∷ models) others) (length main.subckts) second_in source a j) (source_second source c)
 
   -- the IN names of the second, whose other inputs are left in the united design
   second_names : (ports : List Port) {rest : List Name} → ((name : Name) → In name (port_names ports) → In name (port_names other.ins)) → WithoutControl both (port_names (other_ports main.ins ports)) rest → WithoutControl second (port_names ports) rest

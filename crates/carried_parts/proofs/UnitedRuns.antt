@@ -18,7 +18,7 @@ use Rattle.netlist_meaning.specs.Nets.{Net, net_at, model_names, IsPinned, by_pi
 use Rattle.netlist_meaning.specs.Valuation.{Valuation, IsValuation, AreInputRows, IsRun, start_state, latches_in}
 use Rattle.netlist_meaning.proofs.Names.{and_then-from}
 use Rattle.netlist_meaning.proofs.Joined.{in_names_are_one, pins_are_enough, no_clock_net-joined}
-use Rattle.carried_parts.specs.United.{net_after, place_after, used_names, united_model, CanUnite}
+use Rattle.carried_parts.specs.United.{net_after, place_after, used_names, united_model, other_models, CanUnite}
 use Rattle.carried_parts.proofs.Rows.{got_at, got_is}
 use Rattle.carried_parts.proofs.Held.{held, held_by}
 use Rattle.carried_parts.proofs.LatchedModels.{left_in, cover_net, latch_net, main_input_net}
@@ -86,7 +86,7 @@ module _ (main other : Model) (models others : List Model) (can : CanUnite (reco
   two = record { models = other ∷ others }
 
   abbrev all : Design
-  all = record { models = united_model main other ∷ models ++ others }
+  all = record { models = united_model main other ∷ models ++ other_models (main ∷ models) others }
 
   abbrev before : ℕ
   before = length main.subckts
@@ -127,11 +127,11 @@ module _ (main other : Model) (models others : List Model) (can : CanUnite (reco
 
     pub run_first : IsRun one (firsts (length names) rows) (λ t place name. run t (place_after 0 place) name)
     run_first =
-        run_in main (united_model main other) models (models ++ others) 0 (first_in main other models others can) names rows (firsts (length names) rows) run are first_long (λ t l. (row_parts t l).0 ∙ sym (first_row (length names) rows t)) (clock_first main other models others can) is
+        run_in main (united_model main other) models (models ++ other_models (main ∷ models) others) 0 (first_in main other models others can) names rows (firsts (length names) rows) run are first_long (λ t l. (row_parts t l).0 ∙ sym (first_row (length names) rows t)) (clock_first main other models others can) is
 
     pub run_last : IsRun two (lasts (length names) rows) (λ t place name. run t (place_after (length main.subckts) place) name)
     run_last =
-        run_in other (united_model main other) others (models ++ others) (length main.subckts) (second_in main other models others can) rest rows (lasts (length names) rows) run are_rest last_long (λ t l. (row_parts t l).1 ∙ sym (last_row (length names) rows t)) (clock_second main other models others can) is
+        run_in other (united_model main other) others (models ++ other_models (main ∷ models) others) (length main.subckts) (second_in main other models others can) rest rows (lasts (length names) rows) run are_rest last_long (λ t l. (row_parts t l).1 ∙ sym (last_row (length names) rows t)) (clock_second main other models others can) is
 
   -- runs of both
   module _ (a b : ℕ → Valuation) (is_a : IsRun one (firsts (length names) rows) a) (is_b : IsRun two (lasts (length names) rows) b) where

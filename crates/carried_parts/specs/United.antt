@@ -1,5 +1,5 @@
 -- The netlist of two patterns side by side.
-use Rattle.std.specs.Prelude.{ℕ, ◌+◌, ◌<◌, ◌≡◌, not, Bool, List, [], ◌∷◌, ◌++◌, length, map, flat_map, filter, Some, option_map, unwrap_or, slice_get, Contains}
+use Rattle.std.specs.Prelude.{ℕ, ◌+◌, ◌<◌, ◌≡◌, not, Bool, List, [], ◌∷◌, ◌++◌, length, map, flat_map, filter, Some, is_some, option_map, unwrap_or, slice_get, Contains}
 use Rattle.ww_rule.specs.Wireworld.{Plane}
 use Rattle.wire_laws.specs.Rows.{Port, PartMeaning, IsPart}
 use Rattle.wire_laws.specs.PortWires.{nth_port}
@@ -34,14 +34,20 @@ united_model main other =
       subckts = main.subckts ++ other.subckts;
     }
 
--- the two main models become one, and the other models of both stand behind it
+-- the models of the second list whose names the first does not have
+abbrev pub other_models : (models others : List Model) → List Model
+other_models models others = filter (λ model. not (is_some (model_named models model.name))) others
+
+-- the two main models become one, and the other models of both stand behind it; a name of both
+-- stands for one model
 abbrev pub united_models : (models others : List Model) → List Model
 united_models [] others = others
 united_models (main ∷ models) [] = main ∷ models
-united_models (main ∷ models) (other ∷ others) = united_model main other ∷ models ++ others
+united_models (main ∷ models) (other ∷ others) =
+    united_model main other ∷ models ++ other_models (main ∷ models) others
 
--- The design of both. A text has it, but for line numbers (which decide no run), if the first's
--- lines come before the second's in each list of the main model, and the other models behind it.
+-- The design of both. A text has it, but for line numbers (which decide no run), if in each list of
+-- its main model the first's lines come before the second's, and so do the other models behind it.
 abbrev pub united : (first second : Design) → Design
 united first second = record { models = united_models first.models second.models }
 

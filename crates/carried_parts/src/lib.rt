@@ -1,6 +1,6 @@
 //! A carrier's pattern is a part if its lines are open, and a text whose pattern is a part with a
 //! design's meaning carries it. With wires, a part means the design with a row of latches for each,
-//! and with its ports in order the design with these ports.
+//! with its ports in order the design with these ports, and beside another part both designs in one.
 //!
 //! Theorem: `carriers_are_parts`, `carriers_answer_each_row`, `parts_carry`,
 //! `wired_parts_mean_latches`, `wired_texts_carry`, `ordered_texts_carry`, `designs_unite`,

@@ -1,11 +1,11 @@
-// Which netlist two parts side by side mean: each function does nothing, and its contract is the
-// law.
+//! Which netlist two parts side by side mean: each function does nothing, and its contract is the
+//! law.
 ghost use Rattle.carried_parts.specs.United.{DesignedPartsUnite, DesignsUnite};
 
 /// Two meanings beside each other, as `parts_unite` puts them, are the meaning of one netlist with
 /// the lines of both, if the first reads its inputs alone, as a part does, and the names fit: each
 /// subckt line still places its model, and the main models share no net but a control, which the
-/// second uses for nothing else. So netlists with one clock unite.
+/// second neither reads nor drives. So netlists with one clock unite, and with one model below both.
 pub fn designs_unite()
     ensures { DesignsUnite }
 {}
