@@ -56,7 +56,7 @@ outs_count design text c =
 
 pub ordered_texts_carry : OrderedTextsCarry
 ordered_texts_carry design other base text c inputs outputs home grid ports nets differ long_enough open_lines table same_plane same_period ins outs =
-    let (meaning, means, part) = carriers_are_parts base design c long_enough open_lines in
+    let (meaning, means, part, _) = carriers_are_parts base design c long_enough open_lines in
     let ins_long : length (line_ports 0 c.carried.ports.ins) ≡ length differ.names = length-map c.carried.ports.ins _ ∙ sym (length-map c.carried.ports.ins (λ line. line.name)) ∙ ap length (in_names_are_one design (names_of c.carried.ports.ins) differ.names c.carried.names.ins differ.before_names) in
     let (after, means_after, part_after) = ordered_parts_mean design other c.nets nets inputs outputs home meaning differ means c.carried.ports.p (plane_of c.carried.grid.rows) (line_ports 0 c.carried.ports.ins) (shown_ports c.carried.ports) ins_long (outs_count design base c) part in
     parts_carry text other grid ports nets after table.spells table.one table.names table.are_nets table.named table.conductors means_after
