@@ -18,7 +18,7 @@ use Rattle.netlist_meaning.specs.Nets.{Net, net_at, model_names, IsPinned, Joine
 use Rattle.netlist_meaning.proofs.Names.{and_then-from}
 use Rattle.netlist_meaning.proofs.Joined.{joined_gives, clock_net-joined, in_names_are_one}
 use Rattle.carried_parts.specs.CarriedParts.{bits_of_rows}
-use Rattle.carried_parts.specs.United.{other_ports, united_model, other_models, net_after, place_after, CanUnite}
+use Rattle.carried_parts.specs.United.{other_ports, united_model, other_models, net_after, place_after, AreSharedClocks, CanUnite}
 use Rattle.carried_parts.proofs.LatchedModels.{input_net, latch_net}
 use Rattle.carried_parts.proofs.LatchedRuns.{got_cases}
 use Rattle.carried_parts.proofs.UnitedPlaces.{one_before, OwnAt, IsOwn, name_in, line_there, StandsIn, IsPinIn, IsPlaceIn, at_same, pin_own, control_is, joined_is, top_pin_was, deep_pin_was}
@@ -201,33 +201,32 @@ module _ (main other : Model) (models others : List Model) (can : CanUnite (reco
   pub second_pin : (a b : Net) → IsPinned second a b → IsOwn other a × IsOwn other b
   second_pin a b p = pin_own other (united_model main other) others (models ++ other_models (main ∷ models) others) (length main.subckts) second_in a b p
 
-  pub shared : (name : Name) → In name (model_names main) → In name (model_names other) → IsControl first (net_at [] name) × IsControl second (net_at [] name)
-  shared name i j = can.controls name (main, refl, contains_from (model_names main) name i) (other, refl, contains_from (model_names other) name j)
+  pub shared : (name : Name) → In name (model_names main) → In name (model_names other) → AreSharedClocks first second (net_at [] name) (net_at [] name)
+  shared name i j = can.clocks name (main, refl, contains_from (model_names main) name i) (other, refl, contains_from (model_names other) name j)
 
-  -- a net of both is a control in both
-  meet_at : (p q : Place) (name : Name) → place_after 0 p ≡ place_after (length main.subckts) q → OwnAt main p name → OwnAt other q name → IsControl first (net_at p name) × IsControl second (net_at q name)
+  -- a net of both is a control in both, or an idle clock in both
+  meet_at : (p q : Place) (name : Name) → place_after 0 p ≡ place_after (length main.subckts) q → OwnAt main p name → OwnAt other q name → AreSharedClocks first second (net_at p name) (net_at q name)
   meet_at [] [] name e i j = shared name i j
   meet_at [] (n ∷ q) name e i j = (let l : 0 ≡ suc (length q) = ap length e in absurd (omega (arith, l)))
   meet_at (m ∷ p) [] name e i j = (let l : suc (length p) ≡ 0 = ap length e in absurd (omega (arith, l)))
   meet_at (m ∷ p) (n ∷ q) name e i j = (let l : 0 + m ≡ length main.subckts + n = ap (λ place. get_or place 0 0) e in absurd (omega (arith, l, i)))
 
-  meet : (a b : Net) → net_after 0 a ≡ net_after (length main.subckts) b → IsOwn main a → IsOwn other b → IsControl first a × IsControl second b
+  meet : (a b : Net) → net_after 0 a ≡ net_after (length main.subckts) b → IsOwn main a → IsOwn other b → AreSharedClocks first second a b
   meet a b e i j =
       let name : b.name ≡ a.name = ap (λ net. net.name) (sym e) in
-      let c = meet_at a.place b.place a.name (ap (λ net. net.place) e) i (subst (OwnAt other b.place) name j) in
-      (c.0, subst (λ n. IsControl second (net_at b.place n)) (sym name) c.1)
+      subst (λ n. AreSharedClocks first second a (net_at b.place n)) (sym name) (meet_at a.place b.place a.name (ap (λ net. net.place) e) i (subst (OwnAt other b.place) name j))
 
-  -- what holds of the nets of each design, and of joined ones
-  module _ (P Q : Net → Type 0) (p_joined : (a b : Net) → Joined first a b → P a → P b) (q_joined : (a b : Net) → Joined second a b → Q a → Q b) (p_control : (a : Net) → IsControl first a → P a) (q_control : (a : Net) → IsControl second a → Q a) where
+  -- what holds of the nets of each design, and of joined ones, and of both or none of a net of both
+  module _ (P Q : Net → Type 0) (p_joined : (a b : Net) → Joined first a b → P a → P b) (q_joined : (a b : Net) → Joined second a b → Q a → Q b) (alike : (a b : Net) → AreSharedClocks first second a b → (P a × Q b) ⊎ (¬ P a × ¬ Q b)) where
     abbrev Held : Net → Type 0
     Held net = ((a : Net) × (net ≡ net_after 0 a) × IsOwn main a × P a) ⊎ ((b : Net) × (net ≡ net_after (length main.subckts) b) × IsOwn other b × Q b)
 
     known_first : (a : Net) → IsOwn main a → Held (net_after 0 a) → P a
     known_first a i (inl (b, e, own, p)) = subst P (sym (one_before 0 a b e)) p
-    known_first a i (inr (b, e, own, q)) = p_control a (meet a b e i own).0
+    known_first a i (inr (b, e, own, q)) = elim (alike a b (meet a b e i own)) [ inl h ↦ h.0 | inr h ↦ absurd (h.1 q) ]
 
     known_second : (a : Net) → IsOwn other a → Held (net_after (length main.subckts) a) → Q a
-    known_second a i (inl (b, e, own, p)) = q_control a (meet b a (sym e) own i).1
+    known_second a i (inl (b, e, own, p)) = elim (alike b a (meet b a (sym e) own i)) [ inl h ↦ h.1 | inr h ↦ absurd (h.0 p) ]
     known_second a i (inr (b, e, own, q)) = subst Q (sym (one_before (length main.subckts) a b e)) q
 
     abbrev Alike : Net → Net → Type 0
@@ -312,14 +311,22 @@ module _ (main other : Model) (models others : List Model) (can : CanUnite (reco
   control_clock : (design : Design) (a : Net) → IsControl design a → IsClockNet design a
   control_clock design a (source, c, j) = (source, inl c, j)
 
+  alike_controls : (a b : Net) → AreSharedClocks first second a b → (IsControl first a × IsControl second b) ⊎ (¬ IsControl first a × ¬ IsControl second b)
+  alike_controls a b (inl c) = inl c
+  alike_controls a b (inr c) = inr (c.0.1, c.1.1)
+
+  alike_clocks : (a b : Net) → AreSharedClocks first second a b → (IsClockNet first a × IsClockNet second b) ⊎ (¬ IsClockNet first a × ¬ IsClockNet second b)
+  alike_clocks a b (inl c) = inl (control_clock first a c.0, control_clock second b c.1)
+  alike_clocks a b (inr c) = inl ((a, inr c.0.0, itself), (b, inr c.1.0, itself))
+
   -- a control, or a clock net, of the whole is one of the design whose net it is
   pub control_first : (a : Net) → IsControl both (net_after 0 a) → IsOwn main a → IsControl first a
   control_first a (source, c, j) i =
-      held_first (IsControl first) (IsControl second) (control_joined first) (control_joined second) (λ a c. c) (λ a c. c) source a (was_too (IsLatchControl first) (IsLatchControl second) (IsControl first) (IsControl second) source (λ a c. (a, c, itself)) (λ a c. (a, c, itself)) (control_at source.place source.name c)) j i
+      held_first (IsControl first) (IsControl second) (control_joined first) (control_joined second) alike_controls source a (was_too (IsLatchControl first) (IsLatchControl second) (IsControl first) (IsControl second) source (λ a c. (a, c, itself)) (λ a c. (a, c, itself)) (control_at source.place source.name c)) j i
 
   pub control_second : (a : Net) → IsControl both (net_after (length main.subckts) a) → IsOwn other a → IsControl second a
   control_second a (source, c, j) i =
-      held_second (IsControl first) (IsControl second) (control_joined first) (control_joined second) (λ a c. c) (λ a c. c) source a (was_too (IsLatchControl first) (IsLatchControl second) (IsControl first) (IsControl second) source (λ a c. (a, c, itself)) (λ a c. (a, c, itself)) (control_at source.place source.name c)) j i
+      held_second (IsControl first) (IsControl second) (control_joined first) (control_joined second) alike_controls source a (was_too (IsLatchControl first) (IsLatchControl second) (IsControl first) (IsControl second) source (λ a c. (a, c, itself)) (λ a c. (a, c, itself)) (control_at source.place source.name c)) j i
 
   source_was : (source : Net) → IsLatchControl both source ⊎ IsMainClock both source → Was (IsClockNet first) (IsClockNet second) source
   source_was source (inl c) = was_too (IsLatchControl first) (IsLatchControl second) (IsClockNet first) (IsClockNet second) source (λ a c. (a, inl c, itself)) (λ a c. (a, inl c, itself)) (control_at source.place source.name c)
@@ -327,11 +334,11 @@ module _ (main other : Model) (models others : List Model) (can : CanUnite (reco
 
   pub clock_first : (a : Net) → IsClockNet both (net_after 0 a) → IsOwn main a → IsClockNet first a
   clock_first a (source, c, j) i =
-      held_first (IsClockNet first) (IsClockNet second) (clock_net-joined first) (clock_net-joined second) (control_clock first) (control_clock second) source a (source_was source c) j i
+      held_first (IsClockNet first) (IsClockNet second) (clock_net-joined first) (clock_net-joined second) alike_clocks source a (source_was source c) j i
 
   pub clock_second : (a : Net) → IsClockNet both (net_after (length main.subckts) a) → IsOwn other a → IsClockNet second a
   clock_second a (source, c, j) i =
-      held_second (IsClockNet first) (IsClockNet second) (clock_net-joined first) (clock_net-joined second) (control_clock first) (control_clock second) source a (source_was source c) j i
+      held_second (IsClockNet first) (IsClockNet second) (clock_net-joined first) (clock_net-joined second) alike_clocks source a (source_was source c) j i
 
   -- and the other way
   pub control_of_first : (a : Net) → IsControl first a → IsControl both (net_after 0 a)
@@ -354,7 +361,11 @@ module _ (main other : Model) (models others : List Model) (can : CanUnite (reco
       let clock = in_from (port_names main.clocks) source.name c.is_clock in
       subst (λ place. IsClockNet both (net_at (place_after 0 place) source.name)) (sym c.is_main) (main_clock source.name (in_first main.clocks other.clocks source.name clock) (λ i. elim (in_one main.ins other.ins source.name i) [
         | inl mine ↦ absurd (c.is_no_input (contains_from (port_names main.ins) source.name mine))
-        | inr its ↦ control_of_first (net_at [] source.name) (shared source.name (clock_name main source.name clock) (input_name other others source.name its)).0
+        | inr its ↦
+            elim (shared source.name (clock_name main source.name clock) (input_name other others source.name its)) [
+              | inl both ↦ control_of_first (net_at [] source.name) both.0
+              | inr idle ↦ absurd (idle.1.0.is_no_input (contains_from (port_names other.ins) source.name its))
+            ]
       ]))
 
   source_second : (source : Net) → IsLatchControl second source ⊎ IsMainClock second source → IsClockNet both (net_after (length main.subckts) source)
@@ -362,7 +373,11 @@ module _ (main other : Model) (models others : List Model) (can : CanUnite (reco
   source_second source (inr c) =
       let clock = in_from (port_names other.clocks) source.name c.is_clock in
       subst (λ place. IsClockNet both (net_at (place_after (length main.subckts) place) source.name)) (sym c.is_main) (main_clock source.name (in_both main.clocks other.clocks source.name clock) (λ i. elim (in_one main.ins other.ins source.name i) [
-        | inl its ↦ control_of_second (net_at [] source.name) (shared source.name (input_name main models source.name its) (clock_name other source.name clock)).1
+        | inl its ↦
+            elim (shared source.name (input_name main models source.name its) (clock_name other source.name clock)) [
+              | inl both ↦ control_of_second (net_at [] source.name) both.1
+              | inr idle ↦ absurd (idle.0.0.is_no_input (contains_from (port_names main.ins) source.name its))
+            ]
         | inr mine ↦ absurd (c.is_no_input (contains_from (port_names other.ins) source.name mine))
       ]))
 
@@ -381,7 +396,11 @@ module _ (main other : Model) (models others : List Model) (can : CanUnite (reco
       mine = input_name other others port.name (within port.name (inl refl))
 
       go : {left : List Name} (b : Bool) → is_named main.ins port.name ≡ b → WithoutControl both (port_names (cond (not b) (port ∷ other_ports main.ins ports) (other_ports main.ins ports))) left → ((names : List Name) → WithoutControl both (port_names (other_ports main.ins ports)) names → WithoutControl second (port_names ports) names) → WithoutControl second (port.name ∷ port_names ports) left
-      go true e h again = left_out (shared port.name (input_name main models port.name (in_named main.ins port.name e)) mine).1 (again _ h)
+      go true e h again =
+          elim (shared port.name (input_name main models port.name (in_named main.ins port.name e)) mine) [
+            | inl both ↦ left_out both.1 (again _ h)
+            | inr idle ↦ absurd (idle.0.0.is_no_input (contains_from (port_names main.ins) port.name (in_named main.ins port.name e)))
+          ]
       go false e (kept n h) again = kept (λ c. n (control_of_second (net_at [] port.name) c)) (again _ h)
       go false e (left_out n h) again = left_out (control_second (net_at [] port.name) n mine) (again _ h)
 

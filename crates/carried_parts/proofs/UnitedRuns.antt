@@ -14,7 +14,7 @@ use Rattle.netlist_core.specs.declared.model.Design.{Design}
 use Rattle.netlist_core.specs.Names.{Name, port_names}
 use Rattle.netlist_meaning.specs.CoverValue.{cover_value}
 use Rattle.netlist_meaning.specs.Places.{Place, model_at, latch_at}
-use Rattle.netlist_meaning.specs.Nets.{Net, net_at, model_names, IsPinned, by_pin, IsClockNet, IsInNames}
+use Rattle.netlist_meaning.specs.Nets.{Net, net_at, model_names, IsPinned, by_pin, itself, IsClockNet, IsInNames}
 use Rattle.netlist_meaning.specs.Valuation.{Valuation, IsValuation, AreInputRows, IsRun, start_state, latches_in}
 use Rattle.netlist_meaning.proofs.Names.{and_then-from}
 use Rattle.netlist_meaning.proofs.Joined.{in_names_are_one, pins_are_enough, no_clock_net-joined}
@@ -180,8 +180,11 @@ module _ (main other : Model) (models others : List Model) (can : CanUnite (reco
 
     rest_free : (name : Name) → In name rest → ¬ In name (model_names main)
     rest_free name i j =
-        let mine = name_in two [] name other refl (main_input_net two name (left_in two name (port_names other.ins) are_rest i)) in
-        free_name two name (port_names other.ins) are_rest i (shared main other models others can name j mine).1
+        let input = left_in two name (port_names other.ins) are_rest i in
+        elim (shared main other models others can name j (name_in two [] name other refl (main_input_net two name input))) [
+          | inl both ↦ free_name two name (port_names other.ins) are_rest i both.1
+          | inr idle ↦ idle.1.0.is_no_input (contains_from (port_names other.ins) name input)
+        ]
 
     -- pins
     pin_first : (t : ℕ) → t < length rows → (outer inner : Net) (h : IsPinIn one 0 outer inner) → ¬ IsClockNet all outer → both_runs t outer.place outer.name ≡ both_runs t inner.place inner.name
@@ -197,8 +200,12 @@ module _ (main other : Model) (models others : List Model) (can : CanUnite (reco
     second_free : (net : Net) → IsOwn other net → ¬ IsClockNet two net → net.place ≡ [] → ¬ In net.name (model_names main)
     second_free net own away top i =
         let mine : In net.name (model_names other) = subst (λ place. OwnAt other place net.name) top own in
-        let (source, c, j) = (shared main other models others can net.name i mine).1 in
-        away (subst (λ place. IsClockNet two (net_at place net.name)) (sym top) (source, inl c, j))
+        let clock : IsClockNet two (net_at [] net.name) =
+        elim (shared main other models others can net.name i mine) as (λ _. IsClockNet two (net_at [] net.name)) [
+          | inl both ↦ (both.1.0, inl both.1.1, both.1.2)
+          | inr idle ↦ (net_at [] net.name, inr idle.1.0, itself)
+        ] in
+        away (subst (λ place. IsClockNet two (net_at place net.name)) (sym top) clock)
 
     pin_second : (t : ℕ) → t < length rows → (outer inner : Net) (h : IsPinIn two before outer inner) → ¬ IsClockNet all outer → both_runs t outer.place outer.name ≡ both_runs t inner.place inner.name
     pin_second t l outer inner h away =

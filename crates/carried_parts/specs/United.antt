@@ -1,5 +1,5 @@
 -- The netlist of two patterns side by side.
-use Rattle.std.specs.Prelude.{ℕ, ◌+◌, ◌<◌, ◌≡◌, not, Bool, List, [], ◌∷◌, ◌++◌, length, map, flat_map, filter, Some, is_some, option_map, unwrap_or, slice_get, Contains}
+use Rattle.std.specs.Prelude.{ℕ, ◌+◌, ◌<◌, ◌≡◌, ◌⊎◌, not, Bool, List, [], ◌∷◌, ◌++◌, length, map, flat_map, filter, Some, is_some, option_map, unwrap_or, slice_get, Contains}
 use Rattle.ww_rule.specs.Wireworld.{Plane}
 use Rattle.wire_laws.specs.Rows.{Port, PartMeaning, IsPart}
 use Rattle.wire_laws.specs.PortWires.{nth_port}
@@ -10,7 +10,7 @@ use Rattle.netlist_core.specs.declared.model.Port.{Port as ModelPort}
 use Rattle.netlist_core.specs.declared.model.Design.{Design}
 use Rattle.netlist_core.specs.declared.model.Subckt.{Subckt}
 use Rattle.netlist_core.specs.Names.{Name, port_names, is_named, model_named}
-use Rattle.netlist_meaning.specs.Nets.{Net, net_at, IsNet, IsControl, IsInNames}
+use Rattle.netlist_meaning.specs.Nets.{Net, net_at, IsNet, IsMainClock, IsControl, IsInNames}
 use Rattle.netlist_meaning.specs.Places.{Place, main_model, model_at, IsPlace}
 use Rattle.carried_parts.specs.CarriedParts.{IsMeaningOf}
 use Rattle.carried_parts.specs.Latched.{shown_nets}
@@ -78,15 +78,26 @@ used_names model =
     ++ flat_map (λ cover. cover.ins ++ cover.out ∷ []) model.covers
     ++ flat_map (λ latch. latch.input ∷ latch.output ∷ []) model.latches
 
--- Two designs can unite: their subckt lines still place the same models, and a net of both main
--- models is a control in both, which the second main model neither reads nor drives.
+-- a `.clock` name of the main model that is no input, and that controls no latch
+abbrev pub IsIdleClock : Design → Net → Type 0
+IsIdleClock design net = IsMainClock design net × ¬ IsControl design net
+
+-- a net of each design: both are controls, or both are idle clocks
+abbrev pub AreSharedClocks : (first second : Design) → (net other : Net) → Type 0
+AreSharedClocks first second net other =
+    (IsControl first net × IsControl second other)
+    ⊎ (IsIdleClock first net × IsIdleClock second other)
+
+-- Two designs can unite: their subckt lines still place the same models, and a name of both main
+-- models is a control in both, or an idle clock in both. The second main model has this name in no
+-- output and no cover, and as the data of no latch.
 pub record CanUnite (first second : Design) : Type 0 where
   pub has_main : IsPlace first []
   pub has_other : IsPlace second []
   pub first_places : PlacesSameModels first (united first second)
   pub second_places : PlacesSameModels second (united first second)
-  pub controls : (name : Name) → IsNet first (net_at [] name) → IsNet second (net_at [] name)
-      → IsControl first (net_at [] name) × IsControl second (net_at [] name)
+  pub clocks : (name : Name) → IsNet first (net_at [] name) → IsNet second (net_at [] name)
+      → AreSharedClocks first second (net_at [] name) (net_at [] name)
   pub unused : (model : Model) → main_model second ≡ Some model → (name : Name)
       → Contains (used_names model) name → ¬ IsNet first (net_at [] name)
 
