@@ -18,3 +18,4 @@ pub mod UnitedPlaces
 pub mod UnitedModels
 pub mod UnitedRuns
 pub mod UnitedDesigns
+pub mod LoneCells

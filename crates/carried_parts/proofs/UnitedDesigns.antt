@@ -32,11 +32,11 @@ use Rattle.carried_parts.proofs.UnitedModels.{names_of_both, firsts, lasts, firs
 use Rattle.carried_parts.proofs.UnitedRuns.{fits_first, fits_last, run_first, run_last, run_both, both_runs}
 
 -- what shows the outputs and the nets is a meaning
-abbrev MeaningShows : Design → List Net → PartMeaning → Type 0
+abbrev pub MeaningShows : Design → List Net → PartMeaning → Type 0
 MeaningShows design seen meaning =
     (rows : List (List Bool)) → AreInputRows design rows → (run : ℕ → Valuation) → IsRun design rows run → (t o : ℕ) (net : Net) → t < length rows → slice_get (shown_nets design seen) o ≡ Some net → meaning (bits_of_rows rows) t o ≡ run t net.place net.name
 
-as_shown : (design : Design) (seen : List Net) (meaning : PartMeaning) → IsCausalMeaning meaning → ((rows : List (List Bool)) → AreInputRows design rows → (run : ℕ → Valuation) × IsRun design rows run) → MeaningShows design seen meaning → IsMeaningOf design seen meaning
+pub as_shown : (design : Design) (seen : List Net) (meaning : PartMeaning) → IsCausalMeaning meaning → ((rows : List (List Bool)) → AreInputRows design rows → (run : ℕ → Valuation) × IsRun design rows run) → MeaningShows design seen meaning → IsMeaningOf design seen meaning
 as_shown design seen meaning causal runs shows =
     record {
       causal = causal;

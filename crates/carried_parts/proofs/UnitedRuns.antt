@@ -32,11 +32,11 @@ module _ (design : Design) (rows : List (List Bool)) (run : ℕ → Valuation) (
   latch_bit : (place : Place) (number : ℕ) (latch : LatchRow) → latch_at design place number ≡ Some latch → run t place latch.output ≡ held run place latch t
   latch_bit place number latch at = solves.latches_hold place number latch at ∙ held_by design run t place number latch at
 
-  inputs_are : (names : List Name) → IsInNames design names → map (run t []) names ≡ list_at rows t
+  pub inputs_are : (names : List Name) → IsInNames design names → map (run t []) names ≡ list_at rows t
   inputs_are names are = ap (map (run t [])) (in_names_are_one design names solves.in_names are solves.are_in_names) ∙ solves.inputs_given
 
 -- a run, by pins and by what latches hold
-made_run : (design : Design) (names : List Name) (rows : List (List Bool)) (run : ℕ → Valuation) → IsInNames design names
+pub made_run : (design : Design) (names : List Name) (rows : List (List Bool)) (run : ℕ → Valuation) → IsInNames design names
     → ((t : ℕ) → t < length rows → map (run t []) names ≡ list_at rows t)
     → ((t : ℕ) → t < length rows → (outer inner : Net) → IsPinned design outer inner → ¬ IsClockNet design outer → run t outer.place outer.name ≡ run t inner.place inner.name)
     → ((t : ℕ) → t < length rows → (place : Place) (model : Model) (cover : Cover) → model_at design place ≡ Some model → In cover model.covers → run t place cover.out ≡ cover_value cover.rows cover.on (map (run t place) cover.ins))

@@ -5,3 +5,4 @@ pub mod Unlined
 pub mod Ordered
 pub mod OrderedTexts
 pub mod United
+pub mod Along

@@ -3,10 +3,11 @@
 //! with its ports in order the design with these ports, and beside another part both designs in one.
 //!
 //! Theorem: `carriers_are_parts`, `carriers_answer_each_row`, `parts_carry`,
-//! `wired_parts_mean_latches`, `wired_texts_carry`, `ordered_texts_carry`, `designs_unite`,
-//! `designed_parts_unite`.
+//! `wired_parts_mean_latches`, `wired_texts_carry`, `ordered_texts_carry`, `meanings_go_along`,
+//! `lone_cells_mean_inputs`, `designs_unite`, `designed_parts_unite`.
 #![tactic(auto)]
 
+mod along;
 mod latched;
 mod lines;
 mod ordered;
@@ -15,6 +16,7 @@ mod wired_texts;
 
 ghost use Rattle.carried_parts.specs.CarriedParts.{CarriersAnswerEachRow, CarriersAreParts, PartsCarry};
 
+pub use along::{lone_cells_mean_inputs, meanings_go_along};
 pub use latched::{
     latched_runs_agree, latches_show_fed, wired_parts_mean_latches, wires_are_latches,
 };
