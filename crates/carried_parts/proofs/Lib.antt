@@ -18,4 +18,6 @@ pub mod UnitedPlaces
 pub mod UnitedModels
 pub mod UnitedRuns
 pub mod UnitedDesigns
+pub mod UnitedUnlined
+pub mod UnitedParts
 pub mod LoneCells

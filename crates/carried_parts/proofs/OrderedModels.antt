@@ -26,10 +26,10 @@ pub bare_models : (design other : Design) → portless (unlined design) ≡ port
 bare_models design other same = sym (map-map portless_model unlined_model design.models) ∙ ap (λ d. d.models) same ∙ map-map portless_model unlined_model other.models
 
 -- of two lists that are the same but for what `f` drops, and of two that may be there
-same_found : {X Y : Type 0} (f : X → Y) (o p : Option X) (x : X) → option_map f o ≡ option_map f p → o ≡ Some x → (y : X) × (p ≡ Some y) × (f x ≡ f y)
+pub same_found : {X Y : Type 0} (f : X → Y) (o p : Option X) (x : X) → option_map f o ≡ option_map f p → o ≡ Some x → (y : X) × (p ≡ Some y) × (f x ≡ f y)
 same_found f o p x e at = map_from f p (f x) (sym e ∙ ap (option_map f) at)
 
-same_got : {X Y : Type 0} (f : X → Y) (xs ys : List X) (k : ℕ) → map f xs ≡ map f ys → option_map f (slice_get xs k) ≡ option_map f (slice_get ys k)
+pub same_got : {X Y : Type 0} (f : X → Y) (xs ys : List X) (k : ℕ) → map f xs ≡ map f ys → option_map f (slice_get xs k) ≡ option_map f (slice_get ys k)
 same_got f xs ys k e = sym (slice_get-map f xs k) ∙ ap (λ items. slice_get items k) e ∙ slice_get-map f ys k
 
 found_bare : (name : Name) (models : List Model) → option_map bare_model (model_named models name) ≡ model_named (map bare_model models) name
@@ -96,7 +96,7 @@ module _ (design other : Design) (same : map bare_model design.models ≡ map ba
   at_same : (place : Place) → option_map bare_model (model_at design place) ≡ option_map bare_model (model_at other place)
   at_same place = at_bare design place ∙ ap (λ models. model_at (record { models = models }) place) same ∙ sym (at_bare other place)
 
-  model_to : (place : Place) (model : Model) → model_at design place ≡ Some model → (there : Model) × (model_at other place ≡ Some there) × (bare_model model ≡ bare_model there)
+  pub model_to : (place : Place) (model : Model) → model_at design place ≡ Some model → (there : Model) × (model_at other place ≡ Some there) × (bare_model model ≡ bare_model there)
   model_to place model = same_found bare_model (model_at design place) (model_at other place) model (at_same place)
 
   pin_to : (outer inner : Net) → IsPinned design outer inner → IsPinned other outer inner

@@ -1,22 +1,16 @@
 -- Two designs with a meaning are one with the meanings of both.
-use Rattle.std.proofs.Common.{pos, ℕ, ◌+◌, ◌<◌, ◌≡◌, refl, sym, ap, ap₂, ◌∙◌, subst, inl, inr, Bool, false, List, [], ◌∷◌, ◌++◌, length, map, get_or, arith}
+use Rattle.std.proofs.Common.{ℕ, ◌+◌, ◌<◌, ◌≡◌, refl, sym, ap, ap₂, ◌∙◌, subst, inl, inr, Bool, false, List, [], ◌∷◌, ◌++◌, length, map, get_or, arith}
 use Rattle.std.specs.Prelude.{Contains, Some, slice_get, option_map, take, drop}
-use Rattle.std.specs.List.{range_with_len}
 use Rattle.std.proofs.Math.Path.{fun_ext}
 use Rattle.std.proofs.lemmas.Bool.{true≢false}
 use Rattle.std.proofs.lemmas.Option.{slice_get-map, slice_get_within}
-use Rattle.std.proofs.lemmas.List.{length-map, length-append, get_or-map, get_or_append_left}
-use Rattle.std.proofs.lemmas.List.FromFn.{length-range_with_len, get_or-range_with_len}
+use Rattle.std.proofs.lemmas.List.{length-map, length-append, get_or-map}
 use Rattle.lists.specs.Items.{number_at}
 use Rattle.lists.proofs.Cuts.{got_left, got_right}
-use Rattle.lists.proofs.Members.{in_from, contains_from, got_from, map_in}
-use Rattle.wire_laws.specs.Rows.{Port, PartMeaning, IsPart, IsCausalMeaning, row_of_both}
-use Rattle.wire_laws.specs.PortWires.{nth_port}
-use Rattle.wire_laws.specs.Laws.{side_by_side}
-use Rattle.wire_laws.specs.PartLaws.{both_meanings, HasEachOnce, meaning_in_order}
+use Rattle.lists.proofs.Members.{in_from, got_from}
+use Rattle.wire_laws.specs.Rows.{PartMeaning, IsCausalMeaning, row_of_both}
+use Rattle.wire_laws.specs.PartLaws.{both_meanings, meaning_in_order}
 use Rattle.wire_laws.proofs.Early.{both_first, both_rest}
-use Rattle.wire_laws.proofs.Beside.{parts_unite}
-use Rattle.wire_laws.proofs.Ordered.{parts_read_inputs, parts_take_order}
 use Rattle.netlist_core.specs.declared.model.Model.{Model}
 use Rattle.netlist_core.specs.declared.model.Design.{Design}
 use Rattle.netlist_core.specs.Names.{Name}
@@ -25,9 +19,10 @@ use Rattle.netlist_meaning.specs.Nets.{Net, net_at, IsInNames}
 use Rattle.netlist_meaning.specs.Valuation.{Valuation, AreInputRows, IsRun}
 use Rattle.carried_parts.specs.CarriedParts.{bits_of_rows, IsMeaningOf}
 use Rattle.carried_parts.specs.Latched.{shown_nets}
-use Rattle.carried_parts.specs.United.{united_model, other_models, united, main_lines, place_after, net_after, CanUnite, AreNumbersOf, ReadsInputs, DesignsUnite, DesignedPartsUnite}
-use Rattle.carried_parts.proofs.Rows.{got_at, got_is, list_again}
+use Rattle.carried_parts.specs.United.{united_model, other_models, united, main_lines, place_after, net_after, AreNumbersOf, ReadsInputs}
+use Rattle.carried_parts.proofs.Rows.{got_at, got_is}
 use Rattle.carried_parts.proofs.LatchedRuns.{got_cases, shows_net, map_from}
+use Rattle.carried_parts.proofs.UnitedPlaces.{CanUniteExactly}
 use Rattle.carried_parts.proofs.UnitedModels.{names_of_both, firsts, lasts, first_bit, last_bit}
 use Rattle.carried_parts.proofs.UnitedRuns.{fits_first, fits_last, run_first, run_last, run_both, both_runs}
 
@@ -60,7 +55,7 @@ placed one two seen others both numbers order o net e =
     let (number, is, found) = map_from (slice_get all) (slice_get numbers o) (Some net) at in
     ap (slice_get all) (got_is numbers o number 0 is).1 ∙ sym found
 
-number_low : (one two : Design) (seen others both : List Net) (numbers : List ℕ) → AreNumbersOf one two seen others both numbers → (number : ℕ) → Contains numbers number → number < length (shown_nets one seen) + length (shown_nets two others)
+pub number_low : (one two : Design) (seen others both : List Net) (numbers : List ℕ) → AreNumbersOf one two seen others both numbers → (number : ℕ) → Contains numbers number → number < length (shown_nets one seen) + length (shown_nets two others)
 number_low one two seen others both numbers order number among =
     let all = shown_nets one seen ++ map (net_after (main_lines one)) (shown_nets two others) in
     let (place, is) = got_from numbers number (in_from numbers number among) in
@@ -79,7 +74,7 @@ causal_both ins outs count numbers meaning second one two bits others t same =
     (ap₂ (row_of_both outs) (one bits others t same) (two (λ u i. bits u (ins + i)) (λ u i. others u (ins + i)) t (λ u le. ap (λ row. λ (i : ℕ). row (ins + i)) (same u le))))
     (same t (omega arith))
 
-module _ (main other : Model) (models others : List Model) (can : CanUnite (record { models = main ∷ models }) (record { models = other ∷ others })) (seen after both : List Net) (numbers : List ℕ) (meaning second : PartMeaning) (names : List Name) (outs count : ℕ) (order : AreNumbersOf (record { models = main ∷ models }) (record { models = other ∷ others }) seen after both numbers) (are_names : IsInNames (record { models = main ∷ models }) names) (many : length (shown_nets (record { models = main ∷ models }) seen) ≡ outs) (all : outs + length (shown_nets (record { models = other ∷ others }) after) ≡ count) (reads : ReadsInputs (length names) outs meaning) (means : IsMeaningOf (record { models = main ∷ models }) seen meaning) (means_other : IsMeaningOf (record { models = other ∷ others }) after second) where
+module _ (main other : Model) (models others : List Model) (can : CanUniteExactly (record { models = main ∷ models }) (record { models = other ∷ others })) (seen after both : List Net) (numbers : List ℕ) (meaning second : PartMeaning) (names : List Name) (outs count : ℕ) (order : AreNumbersOf (record { models = main ∷ models }) (record { models = other ∷ others }) seen after both numbers) (are_names : IsInNames (record { models = main ∷ models }) names) (many : length (shown_nets (record { models = main ∷ models }) seen) ≡ outs) (all : outs + length (shown_nets (record { models = other ∷ others }) after) ≡ count) (reads : ReadsInputs (length names) outs meaning) (means : IsMeaningOf (record { models = main ∷ models }) seen meaning) (means_other : IsMeaningOf (record { models = other ∷ others }) after second) where
   abbrev one : Design
   one = record { models = main ∷ models }
 
@@ -163,46 +158,19 @@ module _ (main other : Model) (models others : List Model) (can : CanUnite (reco
   is_meaning =
       as_shown whole both meant (causal_both (length names) outs count numbers meaning second means.causal means_other.causal) is_there (λ rows are run is t o net l e. both_shown rows are run is t l o net e)
 
-pub designs_unite : DesignsUnite
-designs_unite one two seen others both numbers meaning second names ins outs count can order are_names fits many all reads means means_other =
+abbrev pub UniteExactly : Type 0
+UniteExactly =
+    (first second : Design) (seen others both : List Net) (numbers : List ℕ) (meaning other : PartMeaning) (names : List Name) (ins outs count : ℕ) → CanUniteExactly first second → AreNumbersOf first second seen others both numbers
+    → IsInNames first names → length names ≡ ins → length (shown_nets first seen) ≡ outs → outs + length (shown_nets second others) ≡ count → ReadsInputs ins outs meaning → IsMeaningOf first seen meaning → IsMeaningOf second others other
+    → IsMeaningOf (united first second) both (meaning_in_order count (λ i. i) numbers (both_meanings ins outs meaning other))
+
+pub unite_exactly : UniteExactly
+unite_exactly one two seen others both numbers meaning second names ins outs count can order are_names fits many all reads means means_other =
     subst (λ ins. ReadsInputs ins outs meaning → IsMeaningOf (united one two) both (meaning_in_order count (λ i. i) numbers (both_meanings ins outs meaning second))) fits (go one.models two.models can order are_names many all means means_other) reads
   where
-    go : (models more : List Model) → CanUnite (record { models = models }) (record { models = more }) → AreNumbersOf (record { models = models }) (record { models = more }) seen others both numbers → IsInNames (record { models = models }) names
+    go : (models more : List Model) → CanUniteExactly (record { models = models }) (record { models = more }) → AreNumbersOf (record { models = models }) (record { models = more }) seen others both numbers → IsInNames (record { models = models }) names
         → length (shown_nets (record { models = models }) seen) ≡ outs → outs + length (shown_nets (record { models = more }) others) ≡ count → IsMeaningOf (record { models = models }) seen meaning → IsMeaningOf (record { models = more }) others second
         → ReadsInputs (length names) outs meaning → IsMeaningOf (united (record { models = models }) (record { models = more })) both (meaning_in_order count (λ i. i) numbers (both_meanings (length names) outs meaning second))
     go [] more can order are many all means means_other reads = absurd (true≢false (sym can.has_main))
     go (main ∷ models) [] can order are many all means means_other reads = absurd (true≢false (sym can.has_other))
     go (main ∷ models) (other ∷ more) can order are many all means means_other reads = is_meaning main other models more can seen others both numbers meaning second names outs count order are many all reads means means_other
-
--- all numbers in order are an order
-in_order : (count : ℕ) → HasEachOnce count (range_with_len 0 count) (λ i. i)
-in_order count =
-    record {
-      each = λ i l. got_at (range_with_len 0 count) i 0 (omega (arith, l, length-range_with_len 0 count)) ∙ ap Some (number i l);
-      no_others = λ place i at. (
-          let got = got_is (range_with_len 0 count) place i 0 at in
-          let l : place < count = (let low = got.0 in omega (arith, low, length-range_with_len 0 count)) in
-          let e : place ≡ i = sym (number place l) ∙ got.1 in
-          (subst (λ i. i < count) e l, sym e));
-    }
-  where
-    number : (i : ℕ) → i < count → get_or (range_with_len 0 count) i 0 ≡ i
-    number i l = get_or-range_with_len 0 count i 0 l ∙ (let e : 0 + i ≡ i = omega arith in e)
-
-pub designed_parts_unite : DesignedPartsUnite
-designed_parts_unite one two seen others both numbers meaning second names period p q ins outs inputs outputs some can order are_names fits many more means means_other away part beside =
-    let united_parts = parts_unite period p q ins outs inputs outputs meaning second away part beside in
-    let all_ins = ins ++ inputs in
-    let all_outs = outs ++ outputs in
-    let within : (o : ℕ) → Contains numbers o → o < length all_outs = λ o c. (let l = number_low one two seen others both numbers order o c in omega (arith, l, many, more, length-append outs outputs)) in
-    let among : (o : ℕ) → Contains numbers o → o < length (all_outs ++ all_ins) = λ o c. (let l = within o c in omega (arith, l, length-append all_outs all_ins)) in
-    let ordered = parts_take_order period (side_by_side p q) all_ins all_outs (both_meanings (length ins) (length outs) meaning second) (range_with_len 0 (length all_ins)) numbers (λ i. i) (in_order (length all_ins)) among united_parts.0 in
-    let whole : PartMeaning = meaning_in_order (length all_outs) (λ i. i) numbers (both_meanings (length ins) (length outs) meaning second) in
-    let count : length outs + length (shown_nets two others) ≡ length all_outs = ap (λ n. length outs + n) more ∙ sym (length-append outs outputs) in
-    let no_port : Port = ((pos 0, pos 0), 0) in
-    let ins_same : map (nth_port all_ins) (range_with_len 0 (length all_ins)) ≡ all_ins = list_again no_port all_ins in
-    let outs_same : map (nth_port (all_outs ++ all_ins)) numbers ≡ map (nth_port all_outs) numbers = map_in (nth_port (all_outs ++ all_ins)) (nth_port all_outs) numbers (λ o i. get_or_append_left all_outs all_ins no_port o (within o (contains_from numbers o i))) in (
-      whole,
-      designs_unite one two seen others both numbers meaning second names (length ins) (length outs) (length all_outs) can order are_names fits many count (parts_read_inputs period some p ins outs meaning part) means means_other,
-      subst (λ ports. IsPart period (side_by_side p q) ports (map (nth_port all_outs) numbers) whole) ins_same (subst (λ ports. IsPart period (side_by_side p q) (map (nth_port all_ins) (range_with_len 0 (length all_ins))) ports whole) outs_same ordered.0),
-    )

@@ -18,10 +18,10 @@ use Rattle.netlist_meaning.specs.Nets.{Net, net_at, model_names, IsPinned, Joine
 use Rattle.netlist_meaning.proofs.Names.{and_then-from}
 use Rattle.netlist_meaning.proofs.Joined.{joined_gives, clock_net-joined, in_names_are_one}
 use Rattle.carried_parts.specs.CarriedParts.{bits_of_rows}
-use Rattle.carried_parts.specs.United.{other_ports, united_model, other_models, net_after, place_after, AreSharedClocks, CanUnite}
+use Rattle.carried_parts.specs.United.{other_ports, united_model, other_models, net_after, place_after, AreSharedClocks}
 use Rattle.carried_parts.proofs.LatchedModels.{input_net, latch_net}
 use Rattle.carried_parts.proofs.LatchedRuns.{got_cases}
-use Rattle.carried_parts.proofs.UnitedPlaces.{one_before, OwnAt, IsOwn, name_in, line_there, StandsIn, IsPinIn, IsPlaceIn, at_same, pin_own, control_is, joined_is, top_pin_was, deep_pin_was}
+use Rattle.carried_parts.proofs.UnitedPlaces.{CanUniteExactly, one_before, OwnAt, IsOwn, name_in, line_there, StandsIn, IsPinIn, IsPlaceIn, at_same, pin_own, control_is, joined_is, top_pin_was, deep_pin_was}
 
 -- a list of names without controls has none
 pub free_name : (design : Design) (name : Name) (names : List Name) {rest : List Name} → WithoutControl design names rest → In name rest → ¬ IsControl design (net_at [] name)
@@ -36,7 +36,7 @@ split_names of [] b {rest} h = ([], rest, none, h, refl)
 split_names of (name ∷ a) b (kept n h) = let (r, s, x, y, e) = split_names of a b h in (name ∷ r, s, kept n x, y, ap (λ names. name ∷ names) e)
 split_names of (name ∷ a) b (left_out n h) = let (r, s, x, y, e) = split_names of a b h in (r, s, left_out n x, y, e)
 
-moved_names : (design other : Design) (names : List Name) {rest : List Name} → ((name : Name) → In name names → (IsControl design (net_at [] name) → IsControl other (net_at [] name)) × (IsControl other (net_at [] name) → IsControl design (net_at [] name))) → WithoutControl design names rest → WithoutControl other names rest
+pub moved_names : (design other : Design) (names : List Name) {rest : List Name} → ((name : Name) → In name names → (IsControl design (net_at [] name) → IsControl other (net_at [] name)) × (IsControl other (net_at [] name) → IsControl design (net_at [] name))) → WithoutControl design names rest → WithoutControl other names rest
 moved_names from other [] same none = none
 moved_names from other (name ∷ names) same (kept n h) = kept (λ c. n ((same name (inl refl)).1 c)) (moved_names from other names (λ name i. same name (inr i)) h)
 moved_names from other (name ∷ names) same (left_out n h) = left_out ((same name (inl refl)).0 n) (moved_names from other names (λ name i. same name (inr i)) h)
@@ -131,7 +131,7 @@ in_one ports others name i =
       | inr b ↦ inr (other_in ports others name b)
     ]
 
-module _ (main other : Model) (models others : List Model) (can : CanUnite (record { models = main ∷ models }) (record { models = other ∷ others })) where
+module _ (main other : Model) (models others : List Model) (can : CanUniteExactly (record { models = main ∷ models }) (record { models = other ∷ others })) where
   abbrev pub first : Design
   first = record { models = main ∷ models }
 

@@ -9,14 +9,27 @@ use Rattle.netlist_core.specs.declared.model.Subckt.{Subckt}
 use Rattle.netlist_core.specs.declared.model.Model.{Model}
 use Rattle.netlist_core.specs.declared.model.Design.{Design}
 use Rattle.netlist_core.specs.Names.{Name, model_named}
-use Rattle.netlist_meaning.specs.Places.{Place, model_placed, model_below, model_at, latch_at}
+use Rattle.netlist_meaning.specs.Places.{Place, IsPlace, main_model, model_placed, model_below, model_at, latch_at}
 use Rattle.netlist_meaning.specs.Nets.{Net, net_at, model_names, IsNet, IsPinned, Joined, by_pin, itself, reversed, followed, IsControl}
 use Rattle.netlist_meaning.proofs.Names.{and_then-from}
 use Rattle.netlist_meaning.proofs.Depth.{model_at-append}
 use Rattle.netlist_meaning.proofs.Joined.{joined_gives}
-use Rattle.carried_parts.specs.United.{place_after, net_after, PlacesSameModels}
+use Rattle.carried_parts.specs.United.{united, used_names, place_after, net_after, AreSharedClocks}
 use Rattle.carried_parts.proofs.Rows.{got_is}
 use Rattle.carried_parts.proofs.LatchedModels.{pin_net}
+
+-- two designs can unite, and each subckt line places the same model, also with its line numbers
+abbrev pub PlacesExactly : (design other : Design) → Type 0
+PlacesExactly design other =
+    (place : Place) (model : Model) (line : Subckt) → model_at design place ≡ Some model → Contains model.subckts line → model_named other.models line.model ≡ model_named design.models line.model
+
+pub record CanUniteExactly (first second : Design) : Type 0 where
+  pub has_main : IsPlace first []
+  pub has_other : IsPlace second []
+  pub first_places : PlacesExactly first (united first second)
+  pub second_places : PlacesExactly second (united first second)
+  pub clocks : (name : Name) → IsNet first (net_at [] name) → IsNet second (net_at [] name) → AreSharedClocks first second (net_at [] name) (net_at [] name)
+  pub unused : (model : Model) → main_model second ≡ Some model → (name : Name) → Contains (used_names model) name → ¬ IsNet first (net_at [] name)
 
 -- places and nets with lines before them differ as without
 place_before : ℕ → Place → Place
@@ -63,7 +76,7 @@ line_there main models number place model at =
 -- the first main model stands in the second, whose subckt lines are some others and then its own, and lines place the same models
 pub record StandsIn (own all : Model) (rest more : List Model) (shift : ℕ) : Type 0 where
   pub lines : (number : ℕ) (line : Subckt) → slice_get own.subckts number ≡ Some line → slice_get all.subckts (shift + number) ≡ Some line
-  pub alike : PlacesSameModels (record { models = own ∷ rest }) (record { models = all ∷ more })
+  pub alike : PlacesExactly (record { models = own ∷ rest }) (record { models = all ∷ more })
   pub covers : (cover : Cover) → In cover own.covers → In cover all.covers
   pub latches : (latch : LatchRow) → In latch own.latches → In latch all.latches
 

@@ -18,11 +18,11 @@ use Rattle.netlist_meaning.specs.Nets.{Net, net_at, model_names, IsPinned, by_pi
 use Rattle.netlist_meaning.specs.Valuation.{Valuation, IsValuation, AreInputRows, IsRun, start_state, latches_in}
 use Rattle.netlist_meaning.proofs.Names.{and_then-from}
 use Rattle.netlist_meaning.proofs.Joined.{in_names_are_one, pins_are_enough, no_clock_net-joined}
-use Rattle.carried_parts.specs.United.{net_after, place_after, used_names, united_model, other_models, CanUnite}
+use Rattle.carried_parts.specs.United.{net_after, place_after, used_names, united_model, other_models}
 use Rattle.carried_parts.proofs.Rows.{got_at, got_is}
 use Rattle.carried_parts.proofs.Held.{held, held_by}
 use Rattle.carried_parts.proofs.LatchedModels.{left_in, cover_net, latch_net, main_input_net}
-use Rattle.carried_parts.proofs.UnitedPlaces.{OwnAt, IsOwn, name_in, StandsIn, IsPinIn, pin_own, pin_is, model_is, latch_is}
+use Rattle.carried_parts.proofs.UnitedPlaces.{CanUniteExactly, OwnAt, IsOwn, name_in, StandsIn, IsPinIn, pin_own, pin_is, model_is, latch_is}
 use Rattle.carried_parts.proofs.UnitedModels.{free_name, name_bit, name_first, name_second, firsts, lasts, first_row, last_row, first, second, both, first_in, second_in, place_was, pin_was, first_pin, second_pin, shared, clock_first, clock_second, clock_of_first, clock_of_second}
 
 module _ (design : Design) (rows : List (List Bool)) (run : ℕ → Valuation) (is : IsRun design rows run) (t : ℕ) (l : t < length rows) where
@@ -78,7 +78,7 @@ module _ (own all : Model) (rest more : List Model) (shift : ℕ) (h : StandsIn 
       held_after zero place latch = refl
       held_after (suc t) place latch = refl
 
-module _ (main other : Model) (models others : List Model) (can : CanUnite (record { models = main ∷ models }) (record { models = other ∷ others })) (names rest : List Name) (are : IsInNames (first main other models others can) names) (are_rest : IsInNames (second main other models others can) rest) (are_both : IsInNames (both main other models others can) (names ++ rest)) (rows : List (List Bool)) (wide : (t : ℕ) (d : List Bool) → t < length rows → length (get_or rows t d) ≡ length (names ++ rest)) where
+module _ (main other : Model) (models others : List Model) (can : CanUniteExactly (record { models = main ∷ models }) (record { models = other ∷ others })) (names rest : List Name) (are : IsInNames (first main other models others can) names) (are_rest : IsInNames (second main other models others can) rest) (are_both : IsInNames (both main other models others can) (names ++ rest)) (rows : List (List Bool)) (wide : (t : ℕ) (d : List Bool) → t < length rows → length (get_or rows t d) ≡ length (names ++ rest)) where
   abbrev one : Design
   one = record { models = main ∷ models }
 

@@ -1,4 +1,4 @@
-use Rattle.carried_parts.proofs.UnitedDesigns.{designed_parts_unite}
+use Rattle.carried_parts.proofs.UnitedParts.{designed_parts_unite}
 use Rattle.carried_parts.proofs.united.designed_parts_unite.Goals as goal
 
 pub returns : goal.returns
