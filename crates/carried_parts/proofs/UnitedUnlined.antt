@@ -183,8 +183,8 @@ module _ (main other : Model) (models others : List Model) where
         second_places = subst (PlacesExactly (unlined two)) united_alike (places_alike two (united one two) can.second_places);
         clocks = λ name first second. shared_alike name (can.clocks name (net_back main models name first) (net_back other others name second));
         unused = λ model is name among net. can.unused other refl name
-        (subst (λ names. Contains names name) (used_names_alike other) (subst (λ model. Contains (used_names model) name) (sym (same_Some (unlined_model other) model is)) among))
-        (net_back main models name net);
+            (subst (λ names. Contains names name) (used_names_alike other) (subst (λ model. Contains (used_names model) name) (sym (same_Some (unlined_model other) model is)) among))
+            (net_back main models name net);
       }
 
   numbers_alike : (seen after both : List Net) (numbers : List ℕ) → AreNumbersOf one two seen after both numbers → AreNumbersOf (unlined one) (unlined two) seen after both numbers

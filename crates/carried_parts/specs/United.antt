@@ -20,8 +20,8 @@ use Rattle.carried_parts.specs.Unlined.{unlined}
 abbrev pub other_ports : (ports others : List ModelPort) → List ModelPort
 other_ports ports others = filter (λ port. not (is_named ports port.name)) others
 
--- one model with the lines of both, each list in order; an input or a clock of both stands in it
--- once
+-- one model with the lines of both, each list in order, and with the name of the first; an input or
+-- a clock of both stands in it once
 abbrev pub united_model : (main other : Model) → Model
 united_model main other =
     record {
@@ -39,8 +39,8 @@ united_model main other =
 abbrev pub other_models : (models others : List Model) → List Model
 other_models models others = filter (λ model. not (is_some (model_named models model.name))) others
 
--- the two main models become one, and the other models of both stand behind it; a name of both
--- stands for one model
+-- The two main models become one, and the other models of both stand behind it. A model of the
+-- second whose name the first has is left out.
 abbrev pub united_models : (models others : List Model) → List Model
 united_models [] others = others
 united_models (main ∷ models) [] = main ∷ models
@@ -89,9 +89,9 @@ AreSharedClocks first second net other =
     (IsControl first net × IsControl second other)
     ⊎ (IsIdleClock first net × IsIdleClock second other)
 
--- Two designs can unite: their subckt lines still place the same models, and a name of both main
--- models is a control in both, or an idle clock in both. The second main model has this name in no
--- output and no cover, and as the data of no latch.
+-- Two designs with main models can unite: their subckt lines still place the same models, and a
+-- name of both main models is a control in both, or an idle clock in both. The second main model
+-- has this name as no output, in no cover, and in no latch but as its control.
 pub record CanUnite (first second : Design) : Type 0 where
   pub has_main : IsPlace first []
   pub has_other : IsPlace second []
@@ -102,8 +102,9 @@ pub record CanUnite (first second : Design) : Type 0 where
   pub unused : (model : Model) → main_model second ≡ Some model → (name : Name)
       → Contains (used_names model) name → ¬ IsNet first (net_at [] name)
 
--- For each net that the united design shows, the list has the number of this net among those that
--- the first shows, and then those that the second shows.
+-- For each net that the united design shows, in order, the list has the number of this net among
+-- those that the first shows, and then, at their places in the united design, those that the second
+-- shows.
 abbrev pub AreNumbersOf : (first second : Design) → (seen others both : List Net)
     → (numbers : List ℕ) → Type 0
 AreNumbersOf first second seen others both numbers =
@@ -111,15 +112,16 @@ AreNumbersOf first second seen others both numbers =
     ++ map (net_after (main_lines first)) (shown_nets second others))) numbers
     ≡ map Some (shown_nets (united first second) both)
 
--- bits that are the same at so many inputs give the same bits at so many outputs, as in each part
--- (`PartsReadInputs`)
+-- bits that are the same at the first so many inputs give the same bits at the first so many
+-- outputs, as in each part (`PartsReadInputs`)
 abbrev pub ReadsInputs : (ins outs : ℕ) → PartMeaning → Type 0
 ReadsInputs ins outs meaning =
     (bits others : ℕ → ℕ → Bool) → ((t i : ℕ) → i < ins → bits t i ≡ others t i)
     → (t o : ℕ) → o < outs → meaning bits t o ≡ meaning others t o
 
--- The meanings of two designs, beside each other (`PartsUnite`) and with the outputs in this order
--- (`PartsTakeOrder`), are the meaning of the united design.
+-- If two designs can unite, and the first's meaning reads its own inputs alone, the meanings beside
+-- each other (`PartsUnite`), with the outputs in this order (`PartsTakeOrder`), are the meaning of
+-- the united design.
 abbrev pub DesignsUnite : Type 0
 DesignsUnite =
     (first second : Design) (seen others both : List Net) (numbers : List ℕ)
@@ -131,8 +133,8 @@ DesignsUnite =
     → IsMeaningOf (united first second) both
     (meaning_in_order count (λ i. i) numbers (both_meanings ins outs meaning other))
 
--- If two parts stand apart and mean designs, one part has all their inputs, and these of their
--- outputs, and means the united design.
+-- If two parts stand apart and mean designs that can unite, one part has the inputs of both, and of
+-- their outputs those with these numbers, in this order, and means the united design.
 abbrev pub DesignedPartsUnite : Type 0
 DesignedPartsUnite =
     (first second : Design) (seen others both : List Net) (numbers : List ℕ)

@@ -3,9 +3,9 @@
 ghost use Rattle.carried_parts.specs.Along.{LoneCellsMeanInputs, MeaningsGoAlong};
 
 /// If a meaning is a netlist's, then with a wire without start bits to a lone cell
-/// (`lone_cells_end_wires` of `wire_laws`) it is that of the netlist which shows the wire's net once
-/// more. So an output that comes too early may be shown at the cell, and `designs_take_order` makes
-/// the cell the output.
+/// (`lone_cells_end_wires` of `wire_laws`) it is that of the netlist which shows the wire's net
+/// once more. So an output that comes too early may be shown at the cell, and `designs_take_order`
+/// makes the cell the output.
 pub fn meanings_go_along()
     ensures { MeaningsGoAlong }
 {}
