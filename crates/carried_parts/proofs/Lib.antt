@@ -2,6 +2,7 @@ pub mod Rows
 pub mod InCells
 pub mod AsParts
 pub mod EachRow
+pub mod Slower
 pub mod Carriers
 pub mod Held
 pub mod LatchedModels
