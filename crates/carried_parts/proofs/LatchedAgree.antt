@@ -22,7 +22,7 @@ use Rattle.carried_parts.specs.CarriedParts.{bits_of_rows, IsMeaningOf}
 use Rattle.carried_parts.specs.Latched.{NamedWire, port_wires, shown_nets, wire_cycles, name_before, wire_latch, wire_latches, NamesFit, IsLatched, WiresHaveLatches, LatchedRunsAgree, LatchesShowFed}
 use Rattle.carried_parts.proofs.Rows.{got_at, got_is}
 use Rattle.carried_parts.proofs.Held.{held, held_by}
-use Rattle.carried_parts.proofs.LatchedModels.{outputs_same, joined_is, latch_is, wire_latch_at, cover_is, clock_was}
+use Rattle.carried_parts.proofs.LatchedModels.{outputs_same, joined_agreed, latch_is, wire_latch_at, cover_is}
 use Rattle.carried_parts.proofs.LatchedRuns.{shows_net, rows_with, with_long, with_at, fits, one_if_is, first as fed_first, wide as fed_wide, same_meaning as fed_meaning}
 
 in_range : (a n k : ℕ) → k < n → In (a + k) (range_with_len a n)
@@ -86,7 +86,7 @@ module _ (kind : Option Trigger) (control : Option Name) (wires : List NamedWire
           in_names = fed_names ++ names.in_names;
           are_in_names = names.before_names;
           inputs_given = map-append (run t []) fed_names names.in_names ∙ ap (λ row. own t ++ row) (ap (map (run t [])) (in_names_are_one after names.in_names v.in_names names.after_names v.are_in_names) ∙ v.inputs_given) ∙ sym (longer_at own own_wide t l) ∙ got.1;
-          joined_agree = λ a b joined no_clock. v.joined_agree a b (joined_is kind control wires design after made.alone made.rows a b joined) (λ clock. no_clock (clock_was kind control wires design after made.alone made.rows have.clocks a clock));
+          joined_agree = joined_agreed kind control wires design after made.alone made.rows have.clocks (run t) v.joined_agree;
           covers_hold = λ place model cover is_model among. (let now = cover_is kind control wires design after made.alone made.rows place model cover is_model (in_from model.covers cover among) in v.covers_hold place now.0 cover now.1 (contains_from now.0.covers cover now.2));
           latches_hold = λ place number latch is_latch. (let now = latch_is kind control wires design after made.alone made.rows place number latch is_latch in latch_bit t l place now.0 latch now.1 ∙ sym (held_by design run t place number latch is_latch));
         }

@@ -165,11 +165,13 @@ WiredPartsMeanLatches =
     → IsPart period before (all_inputs (port_wires wires) ins) outs meaning
     → (new : PartMeaning) × IsMeaningOf after seen new × IsPart period plane ins outs new
 
--- each wire has a latch, and the latches have no control, or one that is a clock net already
+-- each wire has a latch, and the latches have no control, or one that is a clock net already, or
+-- that is no net of the design
 pub record WiresHaveLatches (control : Option Name) (wires : List NamedWire)
     (design : Design) : Type 0 where
   pub some : (named : NamedWire) → Contains wires named → 0 < wire_cycles named
-  pub clocks : (name : Name) → control ≡ Some name → IsClockNet design (net_at [] name)
+  pub clocks : (name : Name) → control ≡ Some name → IsNet design (net_at [] name)
+      → IsClockNet design (net_at [] name)
 
 -- The runs of a design with a latch for each wire agree.
 abbrev pub LatchedRunsAgree : Type 0

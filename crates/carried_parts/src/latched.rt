@@ -16,7 +16,8 @@ pub fn wired_parts_mean_latches()
 {}
 
 /// The runs of the netlist with latches agree, as `wires_are_latches` asks, if each wire has a
-/// latch and the latches have no control, or one that is a clock net already.
+/// latch and the latches have no control, or one that is a clock net already, or that the netlist
+/// does not have.
 pub fn latched_runs_agree()
     ensures { LatchedRunsAgree }
 {}
