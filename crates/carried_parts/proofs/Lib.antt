@@ -11,7 +11,7 @@ pub mod LatchedAgree
 pub mod WiredParts
 pub mod TextsByLines
 pub mod WiredTextsCarry
-pub mod UnlinedRuns
+pub mod LevelledRuns
 pub mod OrderedModels
 pub mod OrderedRuns
 pub mod OrderedTextsCarry
