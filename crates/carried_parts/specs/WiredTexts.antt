@@ -1,7 +1,7 @@
 -- Texts whose pattern is a part: the lines of the port table may be any of the part's ports.
-use Rattle.std.specs.Prelude.{pos, ℕ, ◌≤◌, ◌≡◌, List, ◌++◌, Option, Some, slice_get}
+use Rattle.std.specs.Prelude.{pos, ℕ, ◌*◌, ◌<◌, ◌≤◌, ◌≡◌, ◌⊎◌, List, [], ◌++◌, Option, Some, slice_get}
 use Rattle.ww_rule.specs.Grid.{Grid, plane_of}
-use Rattle.wire_laws.specs.Rows.{Port, PartMeaning, IsPart}
+use Rattle.wire_laws.specs.Rows.{Port, PartMeaning, HasNoElectrons, IsPart}
 use Rattle.wire_laws.specs.PortWires.{all_inputs, HasPortWires}
 use Rattle.pattern_reading.specs.declared.ports.Ports.{Ports}
 use Rattle.pattern_reading.specs.declared.ports.PortLine.{PortLine}
@@ -9,12 +9,12 @@ use Rattle.pattern_reading.specs.declared.ports.NetLine.{NetLine}
 use Rattle.netlist_core.specs.declared.model.Trigger.{Trigger}
 use Rattle.netlist_core.specs.declared.model.Design.{Design}
 use Rattle.netlist_core.specs.Names.{Name}
-use Rattle.netlist_meaning.specs.Nets.{Net}
+use Rattle.netlist_meaning.specs.Nets.{Net, net_at, IsNet, IsClockNet}
 use Rattle.carries.specs.Cells.{Spells}
 use Rattle.carries.specs.Carries.{NamesPorts}
 use Rattle.carries.specs.Nets.{AreSeenNets, NamesNets, CarriesNets}
-use Rattle.carried_parts.specs.CarriedParts.{line_ports, net_line_ports, IsMeaningOf, HasInConductors, HasOpenLines}
-use Rattle.carried_parts.specs.Latched.{NamedWire, port_wires, shown_nets, IsLatched, RunsAgree}
+use Rattle.carried_parts.specs.CarriedParts.{line_ports, net_line_ports, IsMeaningOf, HasInConductors, HasOpenLines, HasNoLatches}
+use Rattle.carried_parts.specs.Latched.{NamedWire, port_wires, shown_nets, IsLatched}
 
 -- A text spells a pattern and a table of one context. The table names the ports and the nets of the
 -- design, and the cells of its IN lines are conductors.
@@ -51,19 +51,33 @@ PartsCarryByLines =
 abbrev pub shown_ports : Ports → List Port
 shown_ports ports = line_ports ports.l ports.outs ++ net_line_ports ports.nets
 
--- Wires turn the pattern of a text that carries a design and its nets into that of a text that
--- carries the design with latches and its nets, if the runs of this agree. The IN lines of the
--- first are the inputs at the wires' ends, and then those of the second, whose other lines are
--- among the first one's.
+-- The pattern of a text that carries a design can be a part at so many times the text's period: at
+-- the period itself, and at any multiple if the design has no latches and the pattern no electrons.
+abbrev pub CanGoSlower : {text : List ℕ} {design : Design} → CarriesNets text design
+    → (times : ℕ) → Type 0
+CanGoSlower {text} {design} c times =
+    (times ≡ 1)
+    ⊎ (HasNoLatches design × HasNoElectrons (plane_of c.carried.grid.rows) × (0 < times))
+
+-- Wires of one latch each turn the pattern of a text that carries a design and its nets, with open
+-- lines and a period of 3 at least, into that of a text that carries the design with these latches
+-- and its nets, at a period at which the first can be a part. (A wire without latches cannot end at
+-- an IN line, which begins at 0; nets between latches have no line in the old table.) The IN lines
+-- of the first are the inputs at the wires' ends, and then those of the second. The OUT lines are
+-- the same; each NET line of the second is a line of the first.
+--
+-- The latches have no control, or one that is a clock net already, or that is no net of the design.
 abbrev pub WiredTextsCarry : Type 0
 WiredTextsCarry =
     (kind : Option Trigger) (control : Option Name) (wires : List NamedWire)
     (design after : Design) (base text : List ℕ) (c : CarriesNets base design)
-    → IsLatched kind control wires design after c.nets → RunsAgree after c.nets
+    → IsLatched kind control wires design after c.nets
+    → ((name : Name) → control ≡ Some name → IsNet design (net_at [] name)
+    → IsClockNet design (net_at [] name))
     → 3 ≤ c.carried.ports.p
     → HasOpenLines c.carried.ports c.nets (plane_of c.carried.grid.rows)
     → (grid : Grid) (ports : Ports) (nets : List Net) → SpellsTableOf after text grid ports nets
-    → ports.p ≡ c.carried.ports.p
+    → (times : ℕ) → CanGoSlower c times → ports.p ≡ times * c.carried.ports.p
     → line_ports 0 c.carried.ports.ins ≡ all_inputs (port_wires wires) (line_ports 0 ports.ins)
     → HasPortWires ports.p (port_wires wires) (line_ports 0 ports.ins)
     (shown_ports c.carried.ports) (plane_of c.carried.grid.rows) (plane_of grid.rows)

@@ -7,10 +7,12 @@ pub fn parts_carry_by_lines()
     ensures { PartsCarryByLines }
 {}
 
-/// A text that carries a netlist becomes, by wires from its ports to its first inputs, a text that
-/// carries the netlist with latches. The new table has a line for each net, and takes it from the
-/// old one. So a net between two latches must be an input of the old netlist, a lone cell to which
-/// one wire leads and at which the next begins.
+/// If a text whose lines are open, with a period of 3 at least, carries a netlist and its nets, a
+/// text of its pattern with wires from its ports to its first inputs carries the netlist with a latch
+/// for each wire. The new table has a line for each net, and takes it from the old one. So a net
+/// between two latches must be an input of the old netlist, a lone cell to which one wire leads and
+/// at which the next begins. The offset of a wire's source and the wire are one period in all: if the
+/// old netlist has no latches, and its pattern no electrons, the new period may be any multiple.
 pub fn wired_texts_carry()
     ensures { WiredTextsCarry }
 {}
