@@ -56,4 +56,4 @@ wired_texts_carry kind control wires design after base text c made clocks long_e
     let whole = subst (λ p. IsPart p (plane_of c.carried.grid.rows) (all_inputs (port_wires wires) (line_ports 0 ports.ins)) (shown_ports c.carried.ports) meaning) (sym period) (subst (λ ins. IsPart (times * c.carried.ports.p) (plane_of c.carried.grid.rows) ins (shown_ports c.carried.ports) meaning) inputs part) in
     let long : 3 ≤ ports.p = (let more : 1 * c.carried.ports.p ≤ times * c.carried.ports.p = mul-le-mul_right c.carried.ports.p some in omega (arith, long_enough, more, period)) in
     let new = wired_parts_mean_latches kind control wires design after c.nets meaning made means agree ports.p long (line_ports 0 ports.ins) (shown_ports c.carried.ports) (plane_of c.carried.grid.rows) (plane_of grid.rows) laid whole in
-    parts_carry_by_lines text after grid ports nets c.nets (shown_ports c.carried.ports) new.0 table new.1 new.2 (subst (λ outs. HasLinesOf ports nets (shown_ports c.carried.ports) (map (net_at []) outs ++ c.nets)) (sym (outputs_same kind control wires design after made.alone made.rows)) lines)
+    parts_carry_by_lines text after grid ports nets c.nets (shown_ports c.carried.ports) new.0 table new.1 new.2 (subst (λ outs. HasLinesOf ports nets (shown_ports c.carried.ports) (map (net_at []) outs ++ c.nets)) (sym (outputs_same kind control wires design after made.alone made.latches)) lines)

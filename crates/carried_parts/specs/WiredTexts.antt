@@ -1,5 +1,5 @@
--- Texts whose pattern is a part: the lines of the port table may be any of the part's ports.
-use Rattle.std.specs.Prelude.{pos, ℕ, ◌*◌, ◌<◌, ◌≤◌, ◌≡◌, ◌⊎◌, List, [], ◌++◌, Option, Some, slice_get}
+-- Texts whose pattern is a part: the NET lines of the port table may be any of the part's outputs.
+use Rattle.std.specs.Prelude.{pos, ℕ, ◌*◌, ◌<◌, ◌≤◌, ◌≡◌, ◌⊎◌, List, ◌++◌, Option, Some, slice_get}
 use Rattle.ww_rule.specs.Grid.{Grid, plane_of}
 use Rattle.wire_laws.specs.Rows.{Port, PartMeaning, HasNoElectrons, IsPart}
 use Rattle.wire_laws.specs.PortWires.{all_inputs, HasPortWires}
@@ -9,12 +9,12 @@ use Rattle.pattern_reading.specs.declared.ports.NetLine.{NetLine}
 use Rattle.netlist_core.specs.declared.model.Trigger.{Trigger}
 use Rattle.netlist_core.specs.declared.model.Design.{Design}
 use Rattle.netlist_core.specs.Names.{Name}
-use Rattle.netlist_meaning.specs.Nets.{Net, net_at, IsNet, IsClockNet}
+use Rattle.netlist_meaning.specs.Nets.{Net}
 use Rattle.carries.specs.Cells.{Spells}
 use Rattle.carries.specs.Carries.{NamesPorts}
 use Rattle.carries.specs.Nets.{AreSeenNets, NamesNets, CarriesNets}
 use Rattle.carried_parts.specs.CarriedParts.{line_ports, net_line_ports, IsMeaningOf, HasInConductors, HasOpenLines, HasNoLatches}
-use Rattle.carried_parts.specs.Latched.{NamedWire, port_wires, shown_nets, IsLatched}
+use Rattle.carried_parts.specs.Latched.{NamedWire, port_wires, shown_nets, IsLatched, CanControl}
 
 -- A text spells a pattern and a table of one context. The table names the ports and the nets of the
 -- design, and the cells of its IN lines are conductors.
@@ -37,8 +37,8 @@ pub record HasLinesOf (ports : Ports) (nets : List Net) (outputs : List Port)
       → slice_get nets i ≡ Some net → (o : ℕ) × (slice_get shown o ≡ Some net)
       × (slice_get outputs o ≡ Some ((pos line.x, pos line.y), line.offset))
 
--- A text carries a design and its nets if its pattern is a part whose meaning is the design's, and
--- if its lines are ports of the part.
+-- If its table is the design's (`SpellsTableOf`), a text carries a design and its nets if its
+-- pattern is a part whose meaning is the design's, and if its lines are ports of the part.
 abbrev pub PartsCarryByLines : Type 0
 PartsCarryByLines =
     (text : List ℕ) (design : Design) (grid : Grid) (ports : Ports) (nets seen : List Net)
@@ -64,16 +64,13 @@ CanGoSlower {text} {design} c times =
 -- and its nets, at a period at which the first can be a part. (A wire without latches cannot end at
 -- an IN line, which begins at 0; nets between latches have no line in the old table.) The IN lines
 -- of the first are the inputs at the wires' ends, and then those of the second. The OUT lines are
--- the same; each NET line of the second is a line of the first.
---
--- The latches have no control, or one that is a clock net already, or that is no net of the design.
+-- the same; each NET line of the second is a line of the first. The latches' control, if any, is a
+-- clock net already or no net.
 abbrev pub WiredTextsCarry : Type 0
 WiredTextsCarry =
     (kind : Option Trigger) (control : Option Name) (wires : List NamedWire)
     (design after : Design) (base text : List ℕ) (c : CarriesNets base design)
-    → IsLatched kind control wires design after c.nets
-    → ((name : Name) → control ≡ Some name → IsNet design (net_at [] name)
-    → IsClockNet design (net_at [] name))
+    → IsLatched kind control wires design after c.nets → CanControl control design
     → 3 ≤ c.carried.ports.p
     → HasOpenLines c.carried.ports c.nets (plane_of c.carried.grid.rows)
     → (grid : Grid) (ports : Ports) (nets : List Net) → SpellsTableOf after text grid ports nets

@@ -22,8 +22,8 @@ pub fn latched_runs_agree()
     ensures { LatchedRunsAgree }
 {}
 
-/// What the nets between latches have in each run of such a netlist: so a cell on a wire shows one
-/// of its nets too.
+/// What the nets between latches have in each run of such a netlist (that a cell on the wire shows
+/// these bits is not said).
 pub fn latches_show_fed()
     ensures { LatchesShowFed }
 {}
