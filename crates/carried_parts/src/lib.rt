@@ -43,9 +43,9 @@ pub fn answers_are_meanings()
     ensures { AnswersAreMeanings }
 {}
 
-/// The pattern of a text that carries a design without latches is a part with the design's meaning
-/// at each multiple of its period, if it has no electrons. So wires that need a longer period than
-/// the text's, as `wired_parts_mean_latches` asks, may join its ports.
+/// If a text whose lines are open, with a period of 3 at least, carries a design without latches,
+/// and its pattern has no electrons, this is a part with the design's meaning at each multiple of
+/// the period. So wires may join its ports that are longer than its own period allows.
 pub fn carriers_go_slower()
     ensures { CarriersGoSlower }
 {}
