@@ -23,7 +23,7 @@ use Rattle.carried_parts.proofs.Rows.{rows_of, long, got_at, got_is, row_at, cut
 use Rattle.carried_parts.proofs.AsParts.{no_line, no_net_line, net_bit, is_run, valuation, meant, same_out, same_net, nets_long, is_meaning, part_carried}
 
 -- without latches a valuation is one in any state
-any_state : (design : Design) → HasNoLatches design → (inputs : List Bool) (state other : LatchState) (bits : Valuation) → IsValuation design inputs state bits → IsValuation design inputs other bits
+pub any_state : (design : Design) → HasNoLatches design → (inputs : List Bool) (state other : LatchState) (bits : Valuation) → IsValuation design inputs state bits → IsValuation design inputs other bits
 any_state design none inputs state other bits v =
     record {
       in_names = v.in_names;

@@ -22,7 +22,7 @@ use Rattle.carried_parts.specs.CarriedParts.{bits_of_rows, IsMeaningOf}
 use Rattle.carried_parts.specs.Latched.{NamedWire, port_wires, shown_nets, wire_cycles, name_before, wire_latch, wire_latches, NamesFit, IsLatched, WiresHaveLatches, LatchedRunsAgree, LatchesShowFed}
 use Rattle.carried_parts.proofs.Rows.{got_at, got_is}
 use Rattle.carried_parts.proofs.Held.{held, held_by}
-use Rattle.carried_parts.proofs.LatchedModels.{outputs_same, joined_is, latch_is, wire_latch_at, cover_is, clock_was}
+use Rattle.carried_parts.proofs.LatchedModels.{outputs_same, joined_agreed, latch_is, wire_latch_at, cover_is}
 use Rattle.carried_parts.proofs.LatchedRuns.{shows_net, rows_with, with_long, with_at, fits, one_if_is, first as fed_first, wide as fed_wide, same_meaning as fed_meaning}
 
 in_range : (a n k : ℕ) → k < n → In (a + k) (range_with_len a n)
@@ -86,9 +86,9 @@ module _ (kind : Option Trigger) (control : Option Name) (wires : List NamedWire
           in_names = fed_names ++ names.in_names;
           are_in_names = names.before_names;
           inputs_given = map-append (run t []) fed_names names.in_names ∙ ap (λ row. own t ++ row) (ap (map (run t [])) (in_names_are_one after names.in_names v.in_names names.after_names v.are_in_names) ∙ v.inputs_given) ∙ sym (longer_at own own_wide t l) ∙ got.1;
-          joined_agree = λ a b joined no_clock. v.joined_agree a b (joined_is kind control wires design after made.alone made.rows a b joined) (λ clock. no_clock (clock_was kind control wires design after made.alone made.rows have.clocks a clock));
-          covers_hold = λ place model cover is_model among. (let now = cover_is kind control wires design after made.alone made.rows place model cover is_model (in_from model.covers cover among) in v.covers_hold place now.0 cover now.1 (contains_from now.0.covers cover now.2));
-          latches_hold = λ place number latch is_latch. (let now = latch_is kind control wires design after made.alone made.rows place number latch is_latch in latch_bit t l place now.0 latch now.1 ∙ sym (held_by design run t place number latch is_latch));
+          joined_agree = joined_agreed kind control wires design after made.alone made.latches have.clocks (run t) v.joined_agree;
+          covers_hold = λ place model cover is_model among. (let now = cover_is kind control wires design after made.alone made.latches place model cover is_model (in_from model.covers cover among) in v.covers_hold place now.0 cover now.1 (contains_from now.0.covers cover now.2));
+          latches_hold = λ place number latch is_latch. (let now = latch_is kind control wires design after made.alone made.latches place number latch is_latch in latch_bit t l place now.0 latch now.1 ∙ sym (held_by design run t place number latch is_latch));
         }
 
     shown : (t : ℕ) → t < length rows → (o : ℕ) (net : Net) → slice_get (shown_nets design seen) o ≡ Some net → run t net.place net.name ≡ meaning (bits_of_rows own_rows) t o
@@ -99,7 +99,7 @@ module _ (kind : Option Trigger) (control : Option Name) (wires : List NamedWire
         let e : 0 + j ≡ j = omega arith in
         let within : In j (range_with_len 0 (wire_cycles named)) = subst (λ m. In m (range_with_len 0 (wire_cycles named))) e (in_range 0 (wire_cycles named) j low) in
         let among : In (wire_latch kind control named j) (wire_latches kind control named) = in_map (wire_latch kind control named) (range_with_len 0 (wire_cycles named)) j within in
-        let at = wire_latch_at kind control wires design after made.alone made.rows (wire_latch kind control named j) (in_flat (wire_latches kind control) wires named _ (in_got wires i named is_wire) among) in
+        let at = wire_latch_at kind control wires design after made.alone made.latches (wire_latch kind control named j) (in_flat (wire_latches kind control) wires named _ (in_got wires i named is_wire) among) in
         latch_bit t l [] at.0 (wire_latch kind control named j) at.1
 
     -- the nets of wires have certain bits, if these go on as latches do
@@ -180,7 +180,7 @@ module _ (kind : Option Trigger) (control : Option Name) (wires : List NamedWire
 
     out_same : (t i : ℕ) → t < length rows → i < length (main_outputs after) → output_bit after (run t) i ≡ output_bit after (other t) i
     out_same t i l low =
-        let same = outputs_same kind control wires design after made.alone made.rows in
+        let same = outputs_same kind control wires design after made.alone made.latches in
         let short : i < length (main_outputs design) = subst (λ names. i < length names) same low in
         ap (λ names. get_or (map (run t []) names) i false) same
         ∙ sym (means.outs (own_rows run is) (own_fits run is) run (is_run run is) t i (omega (arith, l, own_long run is)) short)

@@ -5,7 +5,7 @@ use Rattle.std.specs.List.{list_any, range_with_len}
 use Rattle.std.proofs.lemmas.Bool.{false_from_ne_true}
 use Rattle.std.proofs.lemmas.Option.{same_Some}
 use Rattle.std.proofs.lemmas.Slice.Eq.{bytes_eq-Decides}
-use Rattle.lists.proofs.Members.{In, in_from, contains_from, in_left, in_right, in_parts, in_map, in_flat, in_flattened, in_mapped, in_got, got_from, passes_at}
+use Rattle.lists.proofs.Members.{In, in_from, contains_from, in_left, in_right, in_parts, in_map, in_flat, in_flattened, in_mapped, in_got, got_from, is_in, passes_at}
 use Rattle.netlist_core.specs.declared.model.Trigger.{Trigger}
 use Rattle.netlist_core.specs.declared.model.Port.{Port}
 use Rattle.netlist_core.specs.declared.model.Cover.{Cover}
@@ -105,6 +105,34 @@ module _ (wires : List NamedWire) (name : Name) where
       go : (b : Bool) → In name (port_names (unfed_ports wires ports)) → In name (port_names (cond (not b) (port ∷ unfed_ports wires ports) (unfed_ports wires ports)))
       go false j = inr j
       go true j = j
+
+-- a name that the main model does not have
+abbrev IsForeign : Design → Net → Type 0
+IsForeign design net = (net.place ≡ []) × ¬ IsNet design net
+
+foreign_or_not : (design : Design) (main : Model) → model_at design [] ≡ Some main → (net : Net) → IsForeign design net ⊎ (net.place ≡ [] → IsNet design net)
+foreign_or_not design main main_is net = by_place net.place refl
+  where
+    by_place : (place : Place) → net.place ≡ place → IsForeign design net ⊎ (net.place ≡ [] → IsNet design net)
+    by_place (number ∷ place) e = inr (λ top. (let n : suc (length place) ≡ 0 = ap length (sym e ∙ top) in absurd (omega (arith, n))))
+    by_place [] e =
+        elim (is_in net.name (model_names main)) [
+          | inl i ↦ inr (λ top. subst (λ place. IsNet design (net_at place net.name)) (sym e) (main, main_is, contains_from (model_names main) net.name i))
+          | inr away ↦ inl (e, λ net_is. away (subst (λ model. In net.name (model_names model)) (same_Some _ _ (sym net_is.1 ∙ ap (model_at design) e ∙ main_is)) (in_from (model_names net_is.0) net.name net_is.2)))
+        ]
+
+-- such a name is joined to itself alone: a pin's actual is a name of its model, and a formal lies deeper
+abbrev SameIfForeign : Design → Net → Net → Type 0
+SameIfForeign design a b = (IsForeign design a → a ≡ b) × (IsForeign design b → b ≡ a)
+
+foreign_alone : (design : Design) (a b : Net) → Joined design a b → IsForeign design a → a ≡ b
+foreign_alone design a b h = (joined_gives design (SameIfForeign design) (λ a. (λ _. refl, λ _. refl)) (λ a b both. (both.1, both.0)) (λ a b c h k. (λ f. h.0 f ∙ k.0 (subst (IsForeign design) (h.0 f) f), λ f. k.1 f ∙ h.1 (subst (IsForeign design) (k.1 f) f))) at_pin h).0
+  where
+    at_pin : (outer inner : Net) → IsPinned design outer inner → SameIfForeign design outer inner
+    at_pin outer inner h = (
+      λ f. absurd (f.1 (subst (λ name. IsNet design (net_at outer.place name)) (sym h.is_actual) (pin_net design outer.place h.model h.has_model h.line h.pin (in_got h.model.subckts h.number h.line h.has_line) (in_from h.line.pins h.pin h.has_pin)))),
+      λ f. absurd (not_nil outer.place h.number (sym h.is_deeper ∙ f.0)),
+    )
 
 module _ (kind : Option Trigger) (control : Option Name) (wires : List NamedWire) (design after : Design) (alone : IsNotRecursive design) (rows : HasWireLatches kind control wires design after) where
   abbrev old : Design
@@ -284,16 +312,20 @@ module _ (kind : Option Trigger) (control : Option Name) (wires : List NamedWire
     pub clock_is : (net : Net) → IsClockNet design net → IsClockNet after net
     clock_is net (source, h, joined) = (source, source_is source h, joined_is source net joined)
 
-  -- and there are no others, if the wires' latches have a clock of the design, or none
-  module _ (clocked : (name : Name) → control ≡ Some name → IsClockNet design (net_at [] name)) where
-    control_was : (net : Net) (h : IsLatchControl after net) → IsClockNet design net
+  -- and there are no others but the control, if that is a clock of the design, or no net
+  module _ (clocked : (name : Name) → control ≡ Some name → IsNet design (net_at [] name) → IsClockNet design (net_at [] name)) where
+    control_was : (net : Net) (h : IsLatchControl after net) → IsClockNet design net ⊎ IsForeign design net
     control_was net h =
         elim (latch_was net.place h.number h.latch h.has_latch) [
-          | inl old ↦ (net, inl (record { number = old.0; latch = h.latch; has_latch = old.1; has_control = h.has_control }), itself)
+          | inl old ↦ inl (net, inl (record { number = old.0; latch = h.latch; has_latch = old.1; has_control = h.has_control }), itself)
           | inr new ↦
               let (named, among, of) = in_flattened (wire_latches kind control) wires h.latch new.1 in
               let (j, within, is) = in_mapped (wire_latch kind control named) (range_with_len 0 (wire_cycles named)) h.latch of in
-              subst (λ place. IsClockNet design (net_at place net.name)) (sym new.0) (clocked net.name (sym (ap (λ latch. latch.control) is) ∙ h.has_control))
+              let main_net = net_at [] net.name in
+              subst (λ place. IsClockNet design (net_at place net.name) ⊎ IsForeign design (net_at place net.name)) (sym new.0) (elim (foreign_or_not design rows.main main_before main_net) as (λ _. IsClockNet design main_net ⊎ IsForeign design main_net) [
+                | inl foreign ↦ inr foreign
+                | inr known ↦ inl (clocked net.name (sym (ap (λ latch. latch.control) is) ∙ h.has_control) (known refl))
+              ])
         ]
 
     main_clock_was : (net : Net) → IsMainClock after net → IsMainClock design net
@@ -305,6 +337,18 @@ module _ (kind : Option Trigger) (control : Option Name) (wires : List NamedWire
           is_no_input = λ c. h.is_no_input (contains_from _ net.name (subst (In net.name) (sym inputs_after) (in_unfed wires net.name rows.main.ins clock.1 (subst (In net.name) inputs_before (in_from _ net.name c)))));
         }
 
-    pub clock_was : (net : Net) → IsClockNet after net → IsClockNet design net
-    clock_was net (source, inl h, joined) = clock_net-joined design source net (joined_was source net joined) (control_was source h)
-    clock_was net (source, inr h, joined) = (source, inr (main_clock_was source h), joined_was source net joined)
+    clock_was : (net : Net) → IsClockNet after net → IsClockNet design net ⊎ IsForeign design net
+    clock_was net (source, inl h, joined) =
+        elim (control_was source h) [
+          | inl was ↦ inl (clock_net-joined design source net (joined_was source net joined) was)
+          | inr foreign ↦ inr (subst (IsForeign design) (foreign_alone design source net (joined_was source net joined) foreign) foreign)
+        ]
+    clock_was net (source, inr h, joined) = inl (source, inr (main_clock_was source h), joined_was source net joined)
+
+    -- joined nets that are no clock net of the design agree, if those that are none now agree
+    pub joined_agreed : (bits : Place → Name → Bool) → ((a b : Net) → Joined after a b → ¬ IsClockNet after a → bits a.place a.name ≡ bits b.place b.name) → (a b : Net) → Joined design a b → ¬ IsClockNet design a → bits a.place a.name ≡ bits b.place b.name
+    joined_agreed bits agree a b joined no_clock =
+        elim (foreign_or_not design rows.main main_before a) [
+          | inl foreign ↦ ap (λ net. bits net.place net.name) (foreign_alone design a b joined foreign)
+          | inr known ↦ agree a b (joined_is a b joined) (λ clock. elim (clock_was a clock) [ inl was ↦ no_clock was | inr foreign ↦ foreign.1 (known foreign.0) ])
+        ]

@@ -26,7 +26,7 @@ use Rattle.netlist_meaning.specs.Valuation.{Valuation, IsValuation, AreInputRows
 use Rattle.netlist_meaning.proofs.Names.{and_then-from}
 use Rattle.netlist_meaning.proofs.Joined.{in_names_are_one, pins_are_enough}
 use Rattle.carried_parts.specs.CarriedParts.{bits_of_rows, IsMeaningOf}
-use Rattle.carried_parts.specs.Latched.{NamedWire, port_wires, shown_nets, wire_cycles, name_before, wire_latch, wire_latches, wire_covers, IsBetween, NamesFit, IsLatched, WiresAreLatches}
+use Rattle.carried_parts.specs.Latched.{NamedWire, port_wires, shown_nets, wire_cycles, name_before, wire_latch, wire_latches, wire_covers, IsBetweenLatches, NamesFit, IsLatched, WiresAreLatches}
 use Rattle.carried_parts.proofs.Rows.{got_at, got_is}
 use Rattle.carried_parts.proofs.Held.{held, held_by}
 use Rattle.carried_parts.proofs.LatchedModels.{left_in, cover_net, latch_net, pin_net, main_input_net, main_output_net, outputs_same, pin_was, latch_was, cover_was, clock_is}
@@ -61,14 +61,14 @@ abbrev all_between : List NamedWire → (bits : ℕ → ℕ → Bool) → Name �
 all_between [] bits name old = old
 all_between (named ∷ wires) bits name old = along named.between (wire_cycles named - 1) (λ j. bits j 0) name (all_between wires (λ j i. bits j (suc i)) name old)
 
-all_between_kept : (wires : List NamedWire) (bits : ℕ → ℕ → Bool) (name : Name) (old : Bool) → ((named : NamedWire) → In named wires → (j : ℕ) → IsBetween named j → named.between j ≢ name) → all_between wires bits name old ≡ old
+all_between_kept : (wires : List NamedWire) (bits : ℕ → ℕ → Bool) (name : Name) (old : Bool) → ((named : NamedWire) → In named wires → (j : ℕ) → IsBetweenLatches named j → named.between j ≢ name) → all_between wires bits name old ≡ old
 all_between_kept [] bits name old other = refl
 all_between_kept (named ∷ wires) bits name old other =
     along_kept named.between (wire_cycles named - 1) (λ j. bits j 0) name _ (λ j some le. other named (inl refl) j (some, omega (arith, some, le)))
     ∙ all_between_kept wires (λ j i. bits j (suc i)) name old (λ n i. other n (inr i))
 
-all_between_found : (wires : List NamedWire) (bits : ℕ → ℕ → Bool) (name : Name) (old : Bool) (i : ℕ) (named : NamedWire) (j : ℕ) → slice_get wires i ≡ Some named → IsBetween named j → named.between j ≡ name
-    → ((k : ℕ) (other : NamedWire) (l : ℕ) → slice_get wires k ≡ Some other → IsBetween other l → other.between l ≡ name → (k ≡ i) × (l ≡ j)) → all_between wires bits name old ≡ bits j i
+all_between_found : (wires : List NamedWire) (bits : ℕ → ℕ → Bool) (name : Name) (old : Bool) (i : ℕ) (named : NamedWire) (j : ℕ) → slice_get wires i ≡ Some named → IsBetweenLatches named j → named.between j ≡ name
+    → ((k : ℕ) (other : NamedWire) (l : ℕ) → slice_get wires k ≡ Some other → IsBetweenLatches other l → other.between l ≡ name → (k ≡ i) × (l ≡ j)) → all_between wires bits name old ≡ bits j i
 all_between_found [] bits name old i named j at here is one = absurd (none-some named at)
 all_between_found (first ∷ wires) bits name old zero named j at here is one =
     let same : first ≡ named = same_Some _ _ at in
@@ -315,7 +315,7 @@ module _ (kind : Option Trigger) (control : Option Name) (wires : List NamedWire
           go true e = source_bit i named at ∙ (let n : suc j ≡ wire_cycles named = (Decides-eqb (suc j) (wire_cycles named)).0 e in let m : wire_cycles named + t ≡ t + suc j = omega (arith, n) in ap (λ u. back u i) m)
           go false e =
               let other : suc j ≢ wire_cycles named = λ n. true≢false (sym ((Decides-eqb (suc j) (wire_cycles named)).1 n) ∙ e) in
-              let here : IsBetween named (suc j) = (omega arith, omega (arith, le, other)) in
+              let here : IsBetweenLatches named (suc j) = (omega arith, omega (arith, le, other)) in
               all_between_found wires (λ j i. back (t + j) i) (named.between (suc j)) (run t [] (named.between (suc j))) i named (suc j) at here refl (λ k o m a b same. names.differ k i o named a at m (suc j) b here same)
 
       inputs_after : (row : List Bool) → slice_get rows t ≡ Some row → map (run_after t []) names.in_names ≡ row
@@ -323,10 +323,10 @@ module _ (kind : Option Trigger) (control : Option Name) (wires : List NamedWire
 
       pins_after : (outer inner : Net) → IsPinned after outer inner → ¬ IsClockNet after outer → run_after t outer.place outer.name ≡ run_after t inner.place inner.name
       pins_after outer inner h no_clock =
-          let was = pin_was kind control wires design after made.alone made.rows outer inner h in
+          let was = pin_was kind control wires design after made.alone made.latches outer inner h in
           let net : IsNet design (net_at outer.place was.pin.actual) = pin_net design outer.place was.model was.has_model was.line was.pin (in_got was.model.subckts was.number was.line was.has_line) (in_from was.line.pins was.pin was.has_pin) in
           kept t outer.place outer.name (subst (λ name. IsNet design (net_at outer.place name)) (sym was.is_actual) net)
-          ∙ solves.joined_agree outer inner (by_pin was) (λ clock. no_clock (clock_is kind control wires design after made.alone made.rows were_inputs outer clock))
+          ∙ solves.joined_agree outer inner (by_pin was) (λ clock. no_clock (clock_is kind control wires design after made.alone made.latches were_inputs outer clock))
           ∙ subst (λ place. run t place inner.name ≡ run_after t place inner.name) (sym was.is_deeper) (sym (deeper t outer.place was.number inner.name))
 
       copy_holds : (cover : Cover) → In cover (flat_map wire_covers wires) → run_after t [] cover.out ≡ cover_value cover.rows cover.on (map (run_after t []) cover.ins)
@@ -340,7 +340,7 @@ module _ (kind : Option Trigger) (control : Option Name) (wires : List NamedWire
 
       covers_after : (place : Place) (model : Model) (cover : Cover) → model_at after place ≡ Some model → Contains model.covers cover → run_after t place cover.out ≡ cover_value cover.rows cover.on (map (run_after t place) cover.ins)
       covers_after place model cover at among =
-          elim (cover_was kind control wires design after made.alone made.rows place model cover at (in_from model.covers cover among)) [
+          elim (cover_was kind control wires design after made.alone made.latches place model cover at (in_from model.covers cover among)) [
             | inl old ↦
                 let (before, is, i) = old in
                 kept t place cover.out (cover_net design place before is cover cover.out i (in_right cover.ins (cover.out ∷ []) cover.out (inl refl)))
@@ -386,7 +386,7 @@ module _ (kind : Option Trigger) (control : Option Name) (wires : List NamedWire
 
     latches_after : (t : ℕ) → t < length rows → (place : Place) (number : ℕ) (latch : LatchRow) → latch_at after place number ≡ Some latch → run_after t place latch.output ≡ held run_after place latch t
     latches_after t l place number latch at =
-        elim (latch_was kind control wires design after made.alone made.rows place number latch at) [
+        elim (latch_was kind control wires design after made.alone made.latches place number latch at) [
           | inl old ↦ old_latch t l place old.0 latch old.1
           | inr new ↦ subst (λ place. run_after t place latch.output ≡ held run_after place latch t) (sym new.0) (new_latch t l latch new.1)
         ]
@@ -405,15 +405,15 @@ module _ (kind : Option Trigger) (control : Option Name) (wires : List NamedWire
 
     outs_after : (t i : ℕ) → t < length rows → i < length (main_outputs after) → meaning all_bits t i ≡ output_bit after (run_after t) i
     outs_after t i l low =
-        let short : i < length (main_outputs design) = subst (λ names. i < length names) (outputs_same kind control wires design after made.alone made.rows) low in
+        let short : i < length (main_outputs design) = subst (λ names. i < length names) (outputs_same kind control wires design after made.alone made.latches) low in
         sym (ap (λ row. row i) (same_meaning t l))
         ∙ means.outs longer longer_fits run is_run t i (omega (arith, l, longer_long)) short
         ∙ ap (λ row. get_or row i false) (map_in (run t []) (run_after t []) (main_outputs design) (λ name j. sym (kept t [] name (main_output_net design name j))))
-        ∙ ap (λ names. get_or (map (run_after t []) names) i false) (sym (outputs_same kind control wires design after made.alone made.rows))
+        ∙ ap (λ names. get_or (map (run_after t []) names) i false) (sym (outputs_same kind control wires design after made.alone made.latches))
 
     nets_after : (t k : ℕ) (net : Net) → t < length rows → slice_get seen k ≡ Some net → meaning all_bits t (length (main_outputs after) + k) ≡ run_after t net.place net.name
     nets_after t k net l at =
-        ap (λ names. meaning all_bits t (length names + k)) (outputs_same kind control wires design after made.alone made.rows)
+        ap (λ names. meaning all_bits t (length names + k)) (outputs_same kind control wires design after made.alone made.latches)
         ∙ sym (ap (λ row. row (length (main_outputs design) + k)) (same_meaning t l))
         ∙ means.nets longer longer_fits run is_run t k net (omega (arith, l, longer_long)) at
         ∙ sym (kept t net.place net.name (names.nets net (contains_from seen net (in_got seen k net at))))

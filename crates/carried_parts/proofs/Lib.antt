@@ -2,6 +2,7 @@ pub mod Rows
 pub mod InCells
 pub mod AsParts
 pub mod EachRow
+pub mod Slower
 pub mod Carriers
 pub mod Held
 pub mod LatchedModels
@@ -10,7 +11,7 @@ pub mod LatchedAgree
 pub mod WiredParts
 pub mod TextsByLines
 pub mod WiredTextsCarry
-pub mod UnlinedRuns
+pub mod LevelledRuns
 pub mod OrderedModels
 pub mod OrderedRuns
 pub mod OrderedTextsCarry
@@ -18,6 +19,6 @@ pub mod UnitedPlaces
 pub mod UnitedModels
 pub mod UnitedRuns
 pub mod UnitedDesigns
-pub mod UnitedUnlined
+pub mod UnitedLevelled
 pub mod UnitedParts
 pub mod LoneCells

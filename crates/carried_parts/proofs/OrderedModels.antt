@@ -1,5 +1,5 @@
--- Designs that differ in ports and numbers of lines alone: models, joined nets, latches, clocks and valuations.
-use Rattle.std.proofs.Common.{ℕ, zero, suc, ◌≡◌, refl, sym, ap, ◌∙◌, subst, inl, inr, ◌⊎◌, Bool, true, false, cond, List, [], ◌∷◌, map}
+-- Designs that differ in ports, numbers of lines and start values that are not 1 alone: models, joined nets, latches, clocks and valuations.
+use Rattle.std.proofs.Common.{ℕ, zero, suc, ◌≡◌, refl, sym, ap, ◌∙◌, subst, inl, inr, ◌⊎◌, Bool, true, false, cond, ◌==◌, List, [], ◌∷◌, map}
 use Rattle.std.specs.Prelude.{Contains, Option, Some, None, slice_get, option_map, option_and_then, unwrap_or}
 use Rattle.std.proofs.lemmas.Option.{slice_get-map}
 use Rattle.std.proofs.lemmas.Simd.{map-map}
@@ -15,15 +15,15 @@ use Rattle.netlist_meaning.specs.Places.{Place, model_placed, model_below, model
 use Rattle.netlist_meaning.specs.Nets.{Net, net_at, IsPinned, Joined, by_pin, itself, reversed, followed, IsLatchControl, IsMainClock, IsControl, IsClockNet, WithoutControl, none, kept, left_out, IsInNames}
 use Rattle.netlist_meaning.specs.Valuation.{Valuation, LatchState, IsValuation, start_bit, start_state, data_bit, latches_in}
 use Rattle.netlist_meaning.proofs.Joined.{joined_gives, clock_net-joined}
-use Rattle.carried_parts.specs.Unlined.{unlined_port, unlined_cover, unlined_latch, unlined_subckt, unlined_model, unlined}
+use Rattle.carried_parts.specs.Levelled.{levelled_port, levelled_cover, levelled_latch, levelled_subckt, levelled_model, levelled}
 use Rattle.carried_parts.specs.Ordered.{portless_model, portless}
-use Rattle.carried_parts.proofs.LatchedRuns.{map_from}
+use Rattle.carried_parts.proofs.LatchedRuns.{map_from, one_if_is}
 
 abbrev pub bare_model : Model → Model
-bare_model model = portless_model (unlined_model model)
+bare_model model = portless_model (levelled_model model)
 
-pub bare_models : (design other : Design) → portless (unlined design) ≡ portless (unlined other) → map bare_model design.models ≡ map bare_model other.models
-bare_models design other same = sym (map-map portless_model unlined_model design.models) ∙ ap (λ d. d.models) same ∙ map-map portless_model unlined_model other.models
+pub bare_models : (design other : Design) → portless (levelled design) ≡ portless (levelled other) → map bare_model design.models ≡ map bare_model other.models
+bare_models design other same = sym (map-map portless_model levelled_model design.models) ∙ ap (λ d. d.models) same ∙ map-map portless_model levelled_model other.models
 
 -- of two lists that are the same but for what `f` drops, and of two that may be there
 pub same_found : {X Y : Type 0} (f : X → Y) (o p : Option X) (x : X) → option_map f o ≡ option_map f p → o ≡ Some x → (y : X) × (p ≡ Some y) × (f x ≡ f y)
@@ -46,9 +46,9 @@ module _ (design : Design) where
   bare = record { models = map bare_model design.models }
 
   placed_bare : (model : Model) (number : ℕ) → option_map bare_model (model_placed design model number) ≡ model_placed bare (bare_model model) number
-  placed_bare model number = by_line (slice_get model.subckts number) ∙ ap (option_and_then (λ line. model_named bare.models line.model)) (sym (slice_get-map unlined_subckt model.subckts number))
+  placed_bare model number = by_line (slice_get model.subckts number) ∙ ap (option_and_then (λ line. model_named bare.models line.model)) (sym (slice_get-map levelled_subckt model.subckts number))
     where
-      by_line : (line : Option Subckt) → option_map bare_model (option_and_then (λ line. model_named design.models line.model) line) ≡ option_and_then (λ line. model_named bare.models line.model) (option_map unlined_subckt line)
+      by_line : (line : Option Subckt) → option_map bare_model (option_and_then (λ line. model_named design.models line.model) line) ≡ option_and_then (λ line. model_named bare.models line.model) (option_map levelled_subckt line)
       by_line None = refl
       by_line (Some line) = found_bare line.model design.models
 
@@ -67,19 +67,19 @@ module _ (design : Design) where
       go None = refl
       go (Some main) = below_bare place main
 
-latch_bare : (o : Option Model) (number : ℕ) → option_map unlined_latch (option_and_then (λ model. slice_get model.latches number) o) ≡ option_and_then (λ model. slice_get model.latches number) (option_map bare_model o)
+latch_bare : (o : Option Model) (number : ℕ) → option_map levelled_latch (option_and_then (λ model. slice_get model.latches number) o) ≡ option_and_then (λ model. slice_get model.latches number) (option_map bare_model o)
 latch_bare None number = refl
-latch_bare (Some model) number = sym (slice_get-map unlined_latch model.latches number)
+latch_bare (Some model) number = sym (slice_get-map levelled_latch model.latches number)
 
 clocks_bare : (o : Option Model) → port_names (unwrap_or (option_map (λ model. model.clocks) o) []) ≡ port_names (unwrap_or (option_map (λ model. model.clocks) (option_map bare_model o)) [])
 clocks_bare None = refl
-clocks_bare (Some model) = sym (map-map (λ port. port.name) unlined_port model.clocks)
+clocks_bare (Some model) = sym (map-map (λ port. port.name) levelled_port model.clocks)
 
-start_bare : (o : Option LatchRow) → start_bit o ≡ start_bit (option_map unlined_latch o)
+start_bare : (o : Option LatchRow) → start_bit o ≡ start_bit (option_map levelled_latch o)
 start_bare None = refl
-start_bare (Some latch) = refl
+start_bare (Some latch) = sym (one_if_is (latch.init == 1))
 
-data_bare : (bits : Name → Bool) (o : Option LatchRow) → data_bit bits o ≡ data_bit bits (option_map unlined_latch o)
+data_bare : (bits : Name → Bool) (o : Option LatchRow) → data_bit bits o ≡ data_bit bits (option_map levelled_latch o)
 data_bare bits None = refl
 data_bare bits (Some latch) = refl
 
@@ -102,7 +102,7 @@ module _ (design other : Design) (same : map bare_model design.models ≡ map ba
   pin_to : (outer inner : Net) → IsPinned design outer inner → IsPinned other outer inner
   pin_to outer inner h =
       let there = model_to outer.place h.model h.has_model in
-      let line = same_found unlined_subckt (slice_get h.model.subckts h.number) (slice_get there.0.subckts h.number) h.line (same_got unlined_subckt h.model.subckts there.0.subckts h.number (ap (λ model. model.subckts) there.2)) h.has_line in
+      let line = same_found levelled_subckt (slice_get h.model.subckts h.number) (slice_get there.0.subckts h.number) h.line (same_got levelled_subckt h.model.subckts there.0.subckts h.number (ap (λ model. model.subckts) there.2)) h.has_line in
       record {
         model = there.0;
         line = line.0;
@@ -119,19 +119,19 @@ module _ (design other : Design) (same : map bare_model design.models ≡ map ba
   joined_to : (a b : Net) → Joined design a b → Joined other a b
   joined_to a b h = joined_gives design (Joined other) (λ a. itself) (λ a b h. reversed h) (λ a b c h k. followed h k) (λ outer inner h. by_pin (pin_to outer inner h)) h
 
-  latch_same : (place : Place) (number : ℕ) → option_map unlined_latch (latch_at design place number) ≡ option_map unlined_latch (latch_at other place number)
+  latch_same : (place : Place) (number : ℕ) → option_map levelled_latch (latch_at design place number) ≡ option_map levelled_latch (latch_at other place number)
   latch_same place number = latch_bare (model_at design place) number ∙ ap (option_and_then (λ model. slice_get model.latches number)) (at_same place) ∙ sym (latch_bare (model_at other place) number)
 
-  cover_to : (place : Place) (model : Model) (cover : Cover) → model_at design place ≡ Some model → In cover model.covers → (there : Model) × (found : Cover) × (model_at other place ≡ Some there) × In found there.covers × (unlined_cover cover ≡ unlined_cover found)
+  cover_to : (place : Place) (model : Model) (cover : Cover) → model_at design place ≡ Some model → In cover model.covers → (there : Model) × (found : Cover) × (model_at other place ≡ Some there) × In found there.covers × (levelled_cover cover ≡ levelled_cover found)
   cover_to place model cover at i =
       let there = model_to place model at in
       let (k, got) = got_from model.covers cover i in
-      let found = same_found unlined_cover (slice_get model.covers k) (slice_get there.0.covers k) cover (same_got unlined_cover model.covers there.0.covers k (ap (λ model. model.covers) there.2)) got in
+      let found = same_found levelled_cover (slice_get model.covers k) (slice_get there.0.covers k) cover (same_got levelled_cover model.covers there.0.covers k (ap (λ model. model.covers) there.2)) got in
       (there.0, found.0, there.1, in_got there.0.covers k found.0 found.1, found.2)
 
   latch_control_to : (net : Net) → IsLatchControl design net → IsLatchControl other net
   latch_control_to net h =
-      let found = same_found unlined_latch (latch_at design net.place h.number) (latch_at other net.place h.number) h.latch (latch_same net.place h.number) h.has_latch in
+      let found = same_found levelled_latch (latch_at design net.place h.number) (latch_at other net.place h.number) h.latch (latch_same net.place h.number) h.has_latch in
       record { number = h.number; latch = found.0; has_latch = found.1; has_control = ap (λ latch. latch.control) (sym found.2) ∙ h.has_control }
 
   pub control_to : (net : Net) → IsControl design net → IsControl other net
@@ -195,5 +195,5 @@ valuation_to design other same clocks row given state held bits names are inputs
 
     latch_holds : (place : Place) (number : ℕ) (latch : LatchRow) → latch_at other place number ≡ Some latch → bits place latch.output ≡ held place number
     latch_holds place number latch at =
-        let found = same_found unlined_latch (latch_at other place number) (latch_at design place number) latch (latch_same other design (sym same) place number) at in
+        let found = same_found levelled_latch (latch_at other place number) (latch_at design place number) latch (latch_same other design (sym same) place number) at in
         ap (λ latch. bits place latch.output) found.2 ∙ solves.latches_hold place number found.0 found.1 ∙ states place number

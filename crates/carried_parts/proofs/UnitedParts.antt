@@ -15,7 +15,7 @@ use Rattle.carried_parts.specs.Latched.{shown_nets}
 use Rattle.carried_parts.specs.United.{DesignedPartsUnite}
 use Rattle.carried_parts.proofs.Rows.{got_at, got_is, list_again}
 use Rattle.carried_parts.proofs.UnitedDesigns.{number_low}
-use Rattle.carried_parts.proofs.UnitedUnlined.{designs_unite}
+use Rattle.carried_parts.proofs.UnitedLevelled.{designs_unite}
 
 -- all numbers in order are an order
 in_order : (count : ℕ) → HasEachOnce count (range_with_len 0 count) (λ i. i)

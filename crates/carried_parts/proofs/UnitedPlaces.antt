@@ -18,7 +18,7 @@ use Rattle.carried_parts.specs.United.{united, used_names, place_after, net_afte
 use Rattle.carried_parts.proofs.Rows.{got_is}
 use Rattle.carried_parts.proofs.LatchedModels.{pin_net}
 
--- two designs can unite, and each subckt line places the same model, also with its line numbers
+-- two designs can unite, and each subckt line places the same model, exactly
 abbrev pub PlacesExactly : (design other : Design) → Type 0
 PlacesExactly design other =
     (place : Place) (model : Model) (line : Subckt) → model_at design place ≡ Some model → Contains model.subckts line → model_named other.models line.model ≡ model_named design.models line.model

@@ -1,11 +1,11 @@
 -- A text that carries a design and its nets is a part, whoever wrote it, and a part whose meaning
 -- is a design's carries it.
-use Rattle.std.specs.Prelude.{pos, ℕ, ◌+◌, ◌<◌, ◌≤◌, ◌≡◌, ◌≢◌, Bool, List, [], ◌∷◌, ◌++◌, length, map, Contains, Some, None, slice_get}
+use Rattle.std.specs.Prelude.{pos, ℕ, ◌+◌, ◌*◌, ◌<◌, ◌≤◌, ◌≡◌, ◌≢◌, Bool, List, [], ◌∷◌, ◌++◌, length, map, Contains, Some, None, slice_get}
 use Rattle.lists.specs.Items.{flag_at, list_at}
 use Rattle.ww_rule.specs.declared.pattern.State.TheVariants.{Empty, Conductor}
 use Rattle.ww_rule.specs.Wireworld.{Plane}
 use Rattle.ww_rule.specs.Grid.{Grid, plane_of}
-use Rattle.wire_laws.specs.Rows.{Port, PartMeaning, IsPart, IsCausalMeaning, AnswersEachRow}
+use Rattle.wire_laws.specs.Rows.{Port, PartMeaning, HasNoElectrons, IsPart, IsCausalMeaning, AnswersEachRow}
 use Rattle.wire_laws.specs.PartLaws.{cells_around}
 use Rattle.pattern_reading.specs.declared.ports.Ports.{Ports}
 use Rattle.pattern_reading.specs.declared.ports.PortLine.{PortLine}
@@ -114,6 +114,28 @@ CarriersAnswerEachRow =
     (line_ports 0 c.carried.ports.ins)
     (line_ports c.carried.ports.l c.carried.ports.outs ++ net_line_ports c.carried.ports.nets)
     answer
+
+-- An answer of a design without latches is, row by row, a meaning of it, if it runs on all rows.
+abbrev pub AnswersAreMeanings : Type 0
+AnswersAreMeanings =
+    (design : Design) (seen : List Net) (answer : (ℕ → Bool) → ℕ → Bool) → HasNoLatches design
+    → ((rows : List (List Bool)) → AreInputRows design rows
+    → (run : ℕ → Valuation) × IsRun design rows run)
+    → IsAnswerOf design seen answer → IsMeaningOf design seen (λ bits t. answer (bits t))
+
+-- The pattern of a text that carries a design without latches, and that has no electrons, is a part
+-- with the design's meaning at each multiple of its period, if its lines are open and its period is
+-- 3 at least.
+abbrev pub CarriersGoSlower : Type 0
+CarriersGoSlower =
+    (text : List ℕ) (design : Design) (c : CarriesNets text design) → 3 ≤ c.carried.ports.p
+    → HasOpenLines c.carried.ports c.nets (plane_of c.carried.grid.rows) → HasNoLatches design
+    → HasNoElectrons (plane_of c.carried.grid.rows) → (times : ℕ) → 0 < times
+    → (meaning : PartMeaning) × IsMeaningOf design c.nets meaning
+    × IsPart (times * c.carried.ports.p) (plane_of c.carried.grid.rows)
+    (line_ports 0 c.carried.ports.ins)
+    (line_ports c.carried.ports.l c.carried.ports.outs ++ net_line_ports c.carried.ports.nets)
+    meaning
 
 -- A text of one context carries a design and its nets if its pattern is a part whose meaning is the
 -- design's, its table names the ports and the nets, and the cells of its IN lines are conductors.

@@ -75,9 +75,10 @@ abbrev pub unfed_ports : List NamedWire → List Port → List Port
 unfed_ports wires ports =
     filter (λ port. not (list_any (λ named. bytes_eq named.input_name port.name) wires)) ports
 
--- The second design is the first with the wires' latches and covers in its main model, anywhere
--- among its rows. All these latches have this type, if any, and this control, if any. The inputs at
--- the wires' ends are gone from `.inputs` and `.clock`. All else stays, and on its lines.
+-- The second design is the first with the wires' latches and covers in its main model: its covers
+-- and latches are the old ones and these, in any order. All these latches have this type, if any,
+-- and this control, if any. The inputs at the wires' ends are gone from `.inputs` and `.clock`. All
+-- else stays, and on its lines, but for the line of `.model`.
 pub record HasWireLatches (kind : Option Trigger) (control : Option Name) (wires : List NamedWire)
     (design after : Design) : Type 0 where
   pub main : Model
@@ -100,8 +101,8 @@ abbrev pub shown_nets : Design → List Net → List Net
 shown_nets design seen = map (net_at []) (main_outputs design) ++ seen
 
 -- a net of this number lies between latches of the wire
-abbrev pub IsBetween : NamedWire → ℕ → Type 0
-IsBetween named j = (0 < j) × (j < wire_cycles named)
+abbrev pub IsBetweenLatches : NamedWire → ℕ → Type 0
+IsBetweenLatches named j = (0 < j) × (j < wire_cycles named)
 
 -- The names of wires fit two designs, the second of which has the latches. The IN names of the
 -- first are the inputs at the wires' ends, and then those of the second. Each wire begins at the
@@ -114,18 +115,18 @@ pub record NamesFit (design after : Design) (seen : List Net)
   pub nets : (net : Net) → Contains seen net → IsNet design net
   pub sources : (named : NamedWire) → Contains wires named
       → slice_get (shown_nets design seen) named.wire.output ≡ Some (net_at [] named.source_name)
-  pub new : (named : NamedWire) → Contains wires named → (j : ℕ) → IsBetween named j
+  pub new : (named : NamedWire) → Contains wires named → (j : ℕ) → IsBetweenLatches named j
       → ¬ IsNet design (net_at [] (named.between j))
   pub differ : (i k : ℕ) (named other : NamedWire) → slice_get wires i ≡ Some named
-      → slice_get wires k ≡ Some other → (j l : ℕ) → IsBetween named j → IsBetween other l
-      → named.between j ≡ other.between l → (i ≡ k) × (j ≡ l)
+      → slice_get wires k ≡ Some other → (j l : ℕ) → IsBetweenLatches named j
+      → IsBetweenLatches other l → named.between j ≡ other.between l → (i ≡ k) × (j ≡ l)
 
 -- The second design has the wires' latches, and the names fit. No model of the first stands inside
 -- itself, so its main model stands nowhere else.
 pub record IsLatched (kind : Option Trigger) (control : Option Name) (wires : List NamedWire)
     (design after : Design) (seen : List Net) : Type 0 where
   pub alone : IsNotRecursive design
-  pub rows : HasWireLatches kind control wires design after
+  pub latches : HasWireLatches kind control wires design after
   pub names : NamesFit design after seen wires
 
 -- runs of the design on the same rows have the same bits at its outputs and at these nets
@@ -165,11 +166,17 @@ WiredPartsMeanLatches =
     → IsPart period before (all_inputs (port_wires wires) ins) outs meaning
     → (new : PartMeaning) × IsMeaningOf after seen new × IsPart period plane ins outs new
 
--- each wire has a latch, and the latches have no control, or one that is a clock net already
+-- a control, if there is one, is a clock net of the design already, or no net of it
+abbrev pub CanControl : Option Name → Design → Type 0
+CanControl control design =
+    (name : Name) → control ≡ Some name → IsNet design (net_at [] name)
+    → IsClockNet design (net_at [] name)
+
+-- each wire has a latch, and the latches' control, if any, is a clock net already or no net
 pub record WiresHaveLatches (control : Option Name) (wires : List NamedWire)
     (design : Design) : Type 0 where
   pub some : (named : NamedWire) → Contains wires named → 0 < wire_cycles named
-  pub clocks : (name : Name) → control ≡ Some name → IsClockNet design (net_at [] name)
+  pub clocks : CanControl control design
 
 -- The runs of a design with a latch for each wire agree.
 abbrev pub LatchedRunsAgree : Type 0

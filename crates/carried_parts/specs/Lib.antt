@@ -1,7 +1,7 @@
 pub mod CarriedParts
 pub mod Latched
 pub mod WiredTexts
-pub mod Unlined
+pub mod Levelled
 pub mod Ordered
 pub mod OrderedTexts
 pub mod United

@@ -9,7 +9,7 @@ use Rattle.netlist_core.specs.Names.{Name}
 use Rattle.netlist_meaning.specs.Nets.{Net, net_at, IsInNames}
 use Rattle.carried_parts.specs.CarriedParts.{IsMeaningOf}
 use Rattle.carried_parts.specs.Latched.{shown_nets}
-use Rattle.carried_parts.specs.Unlined.{unlined}
+use Rattle.carried_parts.specs.Levelled.{levelled}
 
 -- The model without `.inputs` and `.outputs`. Pins alone join its nets with those of other models,
 -- so it keeps all equations.
@@ -29,18 +29,19 @@ portless_model model =
 abbrev pub portless : Design → Design
 portless design = record { models = map portless_model design.models }
 
--- Two designs differ in `.inputs`, `.outputs` and line numbers alone, and these numbers tell how.
--- `inputs` has the number of each IN name of the first once. The IN names of the second are those
--- with these numbers, in this order: that of number i is at place `home i`. For a number of no IN
--- name `home` leads past the list. `outputs` has a number for each output of the second, and then
--- for each net that it shows: that of its net among the outputs of the first, then the nets that
--- it shows, and then its IN names.
+-- Two designs differ alone in `.inputs` and `.outputs` of any model, in line numbers, and in start
+-- values that are not 1, and these numbers tell how. `inputs` has the number of each IN name of the
+-- first once. The IN names of the second are those with these numbers, in this order: that of
+-- number i is at place `home i`. For a number of no IN name `home` leads past the list. `outputs`
+-- has a number for each output of the second, and then for each net that the second shows: the
+-- place of this net among the first's outputs, the nets that the first shows, and the first's IN
+-- names, one after the other.
 --
 -- Either may have the control among its `.inputs`, which is no IN name. A `.clock` name that is an
 -- input of one alone can only be the control, so both have the same clock nets.
 pub record DifferInPorts (design other : Design) (seen shown : List Net)
     (inputs outputs : List ℕ) (home : ℕ → ℕ) : Type 0 where
-  pub same : portless (unlined design) ≡ portless (unlined other)
+  pub same : portless (levelled design) ≡ portless (levelled other)
   pub names : List Name
   pub before_names : IsInNames design names
   pub after_names : IsInNames other (map (list_at names) inputs)

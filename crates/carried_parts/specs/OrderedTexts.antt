@@ -24,8 +24,9 @@ OrderedPartsMean =
     → (after : PartMeaning) × IsMeaningOf other shown after
     × IsPart period p (map (nth_port ins) inputs) (map (nth_port (outs ++ ins)) outputs) after
 
--- If a text carries a design and its nets, a text with its pattern, whose table has the ports by
--- these numbers, carries the design that differs in these ports, with its nets.
+-- If a text whose lines are open, with a period of 3 at least, carries a design and its nets, a
+-- text with its pattern, whose table has the ports by these numbers, carries the design that
+-- differs in these ports, with its nets.
 abbrev pub OrderedTextsCarry : Type 0
 OrderedTextsCarry =
     (design other : Design) (base text : List ℕ) (c : CarriesNets base design)

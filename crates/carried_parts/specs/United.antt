@@ -14,7 +14,7 @@ use Rattle.netlist_meaning.specs.Nets.{Net, net_at, IsNet, IsMainClock, IsContro
 use Rattle.netlist_meaning.specs.Places.{Place, main_model, model_at, IsPlace}
 use Rattle.carried_parts.specs.CarriedParts.{IsMeaningOf}
 use Rattle.carried_parts.specs.Latched.{shown_nets}
-use Rattle.carried_parts.specs.Unlined.{unlined}
+use Rattle.carried_parts.specs.Levelled.{levelled}
 
 -- the ports of the second list whose names the first does not have
 abbrev pub other_ports : (ports others : List ModelPort) → List ModelPort
@@ -65,12 +65,13 @@ place_after lines (number ∷ place) = (lines + number) ∷ place
 abbrev pub net_after : (lines : ℕ) → Net → Net
 net_after lines net = net_at (place_after lines net.place) net.name
 
--- each subckt line of the one design places the same model in the other, but for line numbers
+-- each subckt line of the one design places the same model in the other, but for line numbers and
+-- start values that are not 1 (`levelled`)
 abbrev pub PlacesSameModels : (design other : Design) → Type 0
 PlacesSameModels design other =
     (place : Place) (model : Model) (line : Subckt) → model_at design place ≡ Some model
     → Contains model.subckts line
-    → model_named (unlined other).models line.model ≡ model_named (unlined design).models line.model
+    → model_named (levelled other).models line.model ≡ model_named (levelled design).models line.model
 
 -- the names that a model's outputs, covers and latches read or drive
 abbrev pub used_names : Model → List Name

@@ -1,7 +1,7 @@
--- Texts whose pattern is a part: the lines of the port table may be any of the part's ports.
-use Rattle.std.specs.Prelude.{pos, ℕ, ◌≤◌, ◌≡◌, List, ◌++◌, Option, Some, slice_get}
+-- Texts whose pattern is a part: the NET lines of the port table may be any of the part's outputs.
+use Rattle.std.specs.Prelude.{pos, ℕ, ◌*◌, ◌<◌, ◌≤◌, ◌≡◌, ◌⊎◌, List, ◌++◌, Option, Some, slice_get}
 use Rattle.ww_rule.specs.Grid.{Grid, plane_of}
-use Rattle.wire_laws.specs.Rows.{Port, PartMeaning, IsPart}
+use Rattle.wire_laws.specs.Rows.{Port, PartMeaning, HasNoElectrons, IsPart}
 use Rattle.wire_laws.specs.PortWires.{all_inputs, HasPortWires}
 use Rattle.pattern_reading.specs.declared.ports.Ports.{Ports}
 use Rattle.pattern_reading.specs.declared.ports.PortLine.{PortLine}
@@ -13,8 +13,8 @@ use Rattle.netlist_meaning.specs.Nets.{Net}
 use Rattle.carries.specs.Cells.{Spells}
 use Rattle.carries.specs.Carries.{NamesPorts}
 use Rattle.carries.specs.Nets.{AreSeenNets, NamesNets, CarriesNets}
-use Rattle.carried_parts.specs.CarriedParts.{line_ports, net_line_ports, IsMeaningOf, HasInConductors, HasOpenLines}
-use Rattle.carried_parts.specs.Latched.{NamedWire, port_wires, shown_nets, IsLatched, RunsAgree}
+use Rattle.carried_parts.specs.CarriedParts.{line_ports, net_line_ports, IsMeaningOf, HasInConductors, HasOpenLines, HasNoLatches}
+use Rattle.carried_parts.specs.Latched.{NamedWire, port_wires, shown_nets, IsLatched, CanControl}
 
 -- A text spells a pattern and a table of one context. The table names the ports and the nets of the
 -- design, and the cells of its IN lines are conductors.
@@ -37,8 +37,8 @@ pub record HasLinesOf (ports : Ports) (nets : List Net) (outputs : List Port)
       → slice_get nets i ≡ Some net → (o : ℕ) × (slice_get shown o ≡ Some net)
       × (slice_get outputs o ≡ Some ((pos line.x, pos line.y), line.offset))
 
--- A text carries a design and its nets if its pattern is a part whose meaning is the design's, and
--- if its lines are ports of the part.
+-- If its table is the design's (`SpellsTableOf`), a text carries a design and its nets if its
+-- pattern is a part whose meaning is the design's, and if its lines are ports of the part.
 abbrev pub PartsCarryByLines : Type 0
 PartsCarryByLines =
     (text : List ℕ) (design : Design) (grid : Grid) (ports : Ports) (nets seen : List Net)
@@ -51,19 +51,30 @@ PartsCarryByLines =
 abbrev pub shown_ports : Ports → List Port
 shown_ports ports = line_ports ports.l ports.outs ++ net_line_ports ports.nets
 
--- Wires turn the pattern of a text that carries a design and its nets into that of a text that
--- carries the design with latches and its nets, if the runs of this agree. The IN lines of the
--- first are the inputs at the wires' ends, and then those of the second, whose other lines are
--- among the first one's.
+-- The pattern of a text that carries a design can be a part at so many times the text's period: at
+-- the period itself, and at any multiple if the design has no latches and the pattern no electrons.
+abbrev pub CanGoSlower : {text : List ℕ} {design : Design} → CarriesNets text design
+    → (times : ℕ) → Type 0
+CanGoSlower {text} {design} c times =
+    (times ≡ 1)
+    ⊎ (HasNoLatches design × HasNoElectrons (plane_of c.carried.grid.rows) × (0 < times))
+
+-- Wires of one latch each turn the pattern of a text that carries a design and its nets, with open
+-- lines and a period of 3 at least, into that of a text that carries the design with these latches
+-- and its nets, at a period at which the first can be a part. (A wire without latches cannot end at
+-- an IN line, which begins at 0; nets between latches have no line in the old table.) The IN lines
+-- of the first are the inputs at the wires' ends, and then those of the second. The OUT lines are
+-- the same; each NET line of the second is a line of the first. The latches' control, if any, is a
+-- clock net already or no net.
 abbrev pub WiredTextsCarry : Type 0
 WiredTextsCarry =
     (kind : Option Trigger) (control : Option Name) (wires : List NamedWire)
     (design after : Design) (base text : List ℕ) (c : CarriesNets base design)
-    → IsLatched kind control wires design after c.nets → RunsAgree after c.nets
+    → IsLatched kind control wires design after c.nets → CanControl control design
     → 3 ≤ c.carried.ports.p
     → HasOpenLines c.carried.ports c.nets (plane_of c.carried.grid.rows)
     → (grid : Grid) (ports : Ports) (nets : List Net) → SpellsTableOf after text grid ports nets
-    → ports.p ≡ c.carried.ports.p
+    → (times : ℕ) → CanGoSlower c times → ports.p ≡ times * c.carried.ports.p
     → line_ports 0 c.carried.ports.ins ≡ all_inputs (port_wires wires) (line_ports 0 ports.ins)
     → HasPortWires ports.p (port_wires wires) (line_ports 0 ports.ins)
     (shown_ports c.carried.ports) (plane_of c.carried.grid.rows) (plane_of grid.rows)

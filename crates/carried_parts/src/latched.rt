@@ -16,13 +16,14 @@ pub fn wired_parts_mean_latches()
 {}
 
 /// The runs of the netlist with latches agree, as `wires_are_latches` asks, if each wire has a
-/// latch and the latches have no control, or one that is a clock net already.
+/// latch and the latches have no control, or one that is a clock net already, or that the netlist
+/// does not have.
 pub fn latched_runs_agree()
     ensures { LatchedRunsAgree }
 {}
 
-/// What the nets between latches have in each run of such a netlist: so a cell on a wire shows one
-/// of its nets too.
+/// What the nets between latches have in each run of such a netlist (that a cell on the wire shows
+/// these bits is not said).
 pub fn latches_show_fed()
     ensures { LatchesShowFed }
 {}

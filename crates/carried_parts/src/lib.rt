@@ -2,7 +2,7 @@
 //! design's meaning carries it. With wires, a part means the design with a row of latches for each,
 //! with its ports in order the design with these ports, and beside another part both designs in one.
 //!
-//! Theorem: `carriers_are_parts`, `carriers_answer_each_row`, `parts_carry`,
+//! Theorem: `carriers_are_parts`, `carriers_answer_each_row`, `carriers_go_slower`, `parts_carry`,
 //! `wired_parts_mean_latches`, `wired_texts_carry`, `ordered_texts_carry`, `meanings_go_along`,
 //! `lone_cells_mean_inputs`, `designs_unite`, `designed_parts_unite`.
 #![tactic(auto)]
@@ -14,7 +14,7 @@ mod ordered;
 mod united;
 mod wired_texts;
 
-ghost use Rattle.carried_parts.specs.CarriedParts.{CarriersAnswerEachRow, CarriersAreParts, PartsCarry};
+ghost use Rattle.carried_parts.specs.CarriedParts.{AnswersAreMeanings, CarriersAnswerEachRow, CarriersAreParts, CarriersGoSlower, PartsCarry};
 
 pub use along::{lone_cells_mean_inputs, meanings_go_along};
 pub use latched::{
@@ -37,6 +37,19 @@ pub fn carriers_are_parts()
 /// other rows: so it may also run more slowly, if it has no electrons.
 pub fn carriers_answer_each_row()
     ensures { CarriersAnswerEachRow }
+{}
+
+/// The answers to rows, one cycle after another, are a meaning of a design without latches, if the
+/// design runs on all rows of input bits. So what answers row by row at any period means it.
+pub fn answers_are_meanings()
+    ensures { AnswersAreMeanings }
+{}
+
+/// If a text whose lines are open, with a period of 3 at least, carries a design without latches,
+/// and its pattern has no electrons, this is a part with the design's meaning at each multiple of
+/// the period. So wires may join its ports that are longer than its own period allows.
+pub fn carriers_go_slower()
+    ensures { CarriersGoSlower }
 {}
 
 /// A text of one context carries a design and its nets if its pattern is a part that makes the bits

@@ -15,8 +15,10 @@ pub fn ordered_parts_mean()
     ensures { OrderedPartsMean }
 {}
 
-/// If a text carries a netlist, a text with the same pattern, whose table has the ports in another
-/// order, carries the netlist with its ports in this order. An output may be left out.
+/// If a text whose lines are open, with a period of 3 at least, carries a netlist and its nets, a
+/// text with the same pattern, whose table has the ports in another order, carries the netlist with
+/// its ports in this order. An output may be left out. A net that is shown may become an output if
+/// its offset is the latency, and an output a net that is shown.
 pub fn ordered_texts_carry()
     ensures { OrderedTextsCarry }
 {}

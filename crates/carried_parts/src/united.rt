@@ -4,11 +4,11 @@ ghost use Rattle.carried_parts.specs.United.{DesignedPartsUnite, DesignsUnite};
 
 /// Two meanings beside each other, as `parts_unite` puts them, are the meaning of one netlist with
 /// the lines of both, if the first reads its inputs alone, as a part does, and the names fit: each
-/// subckt line still places its model, whatever its line numbers, and the main models share no net
-/// but a control of both, or a clock of both that controls nothing. The second neither reads nor
-/// drives this net, but as a control or by a pin. So netlists with one clock unite, and with one
-/// model below both. Two with two clocks unite too, but no text with both is a netlist. The main
-/// model keeps the first's name.
+/// subckt line still places its model, but for what decides no run (`lines_decide_no_run`), and the
+/// main models share no net but a control of both, or a clock of both that controls nothing. The
+/// second neither reads nor drives this net, but as a control or by a pin. So netlists with one
+/// clock unite, and with one model below both. Two with two clocks unite too, but no text with both
+/// is a netlist. The main model keeps the first's name.
 pub fn designs_unite()
     ensures { DesignsUnite }
 {}

@@ -1,4 +1,4 @@
-use Rattle.carried_parts.proofs.UnlinedRuns.{lines_decide_no_run}
+use Rattle.carried_parts.proofs.LevelledRuns.{lines_decide_no_run}
 use Rattle.carried_parts.proofs.lines.lines_decide_no_run.Goals as goal
 
 pub returns : goal.returns
