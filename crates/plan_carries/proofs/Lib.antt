@@ -1,4 +1,4 @@
-pub mod Alike
+mod Alike
 pub mod SeenNets
 mod Runs
 pub mod Designs
