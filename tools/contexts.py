@@ -16,12 +16,17 @@ def injections(pattern, words):
     return due
 
 
+def cells_around(cell):
+    """Returns the eight cells beside a cell."""
+    return [(cell[0] + across, cell[1] + down) for across, down in AROUND]
+
+
 def next_heads(cells, heads, tails):
     """Returns the conductors that become heads, each with the mark of a head beside it."""
     near = {}
-    for (x, y), mark in heads.items():
-        for across, down in AROUND:
-            near.setdefault((x + across, y + down), []).append(mark)
+    for cell, mark in heads.items():
+        for it in cells_around(cell):
+            near.setdefault(it, []).append(mark)
     return {cell: marks[0] for cell, marks in near.items() if cell in cells and cell not in heads and cell not in tails and len(marks) < 3}
 
 
@@ -35,7 +40,7 @@ def coloured(pattern, words, generation):
     cells = {(x + i, y) for x, y, length, _ in pattern.runs for i in range(length)}
     lit = {(x + i, y): tag for x, y, length, tag in pattern.runs for i in range(length) if tag in "AB"}
     heads = {cell: cell for cell, tag in lit.items() if tag == "A"}
-    tails = {cell: next((head for head in heads if max(abs(head[0] - cell[0]), abs(head[1] - cell[1])) == 1), cell) for cell, tag in lit.items() if tag == "B"}
+    tails = {cell: next((it for it in cells_around(cell) if it in heads), cell) for cell, tag in lit.items() if tag == "B"}
     contexts, due, seen = {}, injections(pattern, words), None
     starts = set(heads)
     for g in range(max(generation, 32 * pattern.contexts) + 1):
