@@ -52,7 +52,10 @@ class Browser:
         while b"\0" not in self.rest:
             if not select.select([self.incoming], [], [], max(0, end - time.monotonic()))[0]:
                 return None
-            self.rest += os.read(self.incoming, 1 << 20)
+            more = os.read(self.incoming, 1 << 20)
+            if not more:
+                raise EOFError("Chromium has ended")
+            self.rest += more
         message, _, self.rest = self.rest.partition(b"\0")
         return json.loads(message)
 
