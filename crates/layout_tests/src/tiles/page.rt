@@ -6,6 +6,7 @@ This page is generated: a test of `layout_tests` compares all that follows the i
 
 Every tile is 32 columns wide, and one or two lanes of 16 rows high. A signal is an electron: a head with its tail behind
 it. Where entries are heads at generation 0, the exits with a 1 in the table are heads at generation 31, and no others.
+[Proved](../crates/tile_library/src/shipped.rt).
 
 In the drawings `.` is an empty cell and `C` a conductor. The ports are conductors too: `a` is the upper entry and `b` the
 lower one, `y` the upper exit and `z` the lower one; a tile of one lane has only `a` and `y`.
