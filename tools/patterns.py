@@ -1,4 +1,5 @@
 """Reads patterns in extended RLE with their port tables, for the scripts in this folder. Texts are read as Latin-1: a character a byte."""
+import os
 import re
 from dataclasses import dataclass, field
 from pathlib import Path
@@ -74,6 +75,11 @@ class Pattern:
 def escaped(name):
     """Returns a name as it is written in a table of version 2."""
     return "".join(it if "!" <= it <= "~" and it != "%" else f"%{ord(it):02X}" for it in name)
+
+
+def latin(word):
+    """Returns a word of the command line as texts are read here: a character a byte."""
+    return os.fsencode(word).decode("latin-1")
 
 
 def shown(text):
