@@ -59,6 +59,8 @@ def made(program, examples):
     odd = "%e<n=\xc3\xbc"  # its last two bytes are a letter in UTF-8
     renamed = program.printed(["compile"], toggle.replace(" en", f" {odd}"))
     yield "an odd name", renamed, f"{odd}=11011101", [["simulate", "--cycles", "8", f"{odd}=11011101"]]
+    spaced = ["\xc3\xa0 b=0011", "b=0101"]  # a letter in UTF-8, and a blank
+    yield "a name with a blank", plain.replace(" 8 a\n", " 8 %C3%A0%20b\n"), " ".join(spaced), [["simulate", "--cycles", "4", *spaced]]
     shown = ["--cycles", "8", "en=11011101"]
     yield "a net", compiled, "en=11011101", [["simulate", *shown], ["probe", "--net", "n", *shown]]
     bits = ["a0=1111", "a1=0101", "a2=0101", "a3=0011", "b0=0010", "b1=1000", "b2=0000", "b3=0110", "ci=0111"]
@@ -81,6 +83,15 @@ def drop(**given):
 
 def paste(text):
     return f"do document.body.dispatchEvent(new ClipboardEvent('paste', {{ bubbles: true, clipboardData: {transfer(text=text)} }}))"
+
+
+def linked():
+    """Gives acts that open a pattern with odd names, and then the link to what the page shows."""
+    names = [f"#C BLIFWW {it}\n" for it in ("1 P 32 L 32", "IN 0 0 \xc3\xa9", "OUT 32 0 y", "NET 1 0 1 a,b -", "NET 2 0 2 a%2Cb -")]
+    text = json.dumps("".join(names) + "x = 33, y = 1, rule = WireWorld\n33C!\n")
+    yield f"do openText({text}, 'a text'); feed('\\u00c3\\u00a9=0110'); addNet('a%2Cb'); addNet('a,b')", "page.chosen.length === 2"
+    yield "do page.link = linkOf().split('#')[1], openExample('or')", "page.name === 'or'"
+    yield "do attempt(() => openLink(new URLSearchParams(page.link)))", f"page.machine.pattern.text === {text} && page.chosen.map((it) => it.label).join() === 'a%2Cb,a,b'"
 
 
 def hands(program):
@@ -133,5 +144,6 @@ def hands(program):
         ("do globalThis.most = 0", "(most = Math.max(most, page.machine.generation)) > 50"),
         ("do globalThis.least = 99", "(least = Math.min(least, page.machine.generation)) < 30"),
     ]
+    yield "a link", {}, list(linked())
     yield "contexts", {"example": "toggle.contexts", "context": 1}, [("do 0", "page.context === 1 && $('context').value === '1'")]
     yield "a view", {"example": "toggle", "view": "160,0,65,64"}, [("do 0", "!plane.isFitted && plane.shown()[2] < 240")]

@@ -35,14 +35,17 @@ function bytesOf(buffer) {
 
 const encoded = (text) => bytesOf(new TextEncoder().encode(text));
 
-/** Bytes as people read them: as UTF-8, if they are that. */
-function shown(bytes) {
-  let text = bytes;
+/** The text that bytes of UTF-8 spell, or null. */
+function textOf(bytes) {
   try {
-    text = new TextDecoder("utf-8", { fatal: true, ignoreBOM: true }).decode(Uint8Array.from(bytes, (it) => it.charCodeAt(0)));
-  } catch { /* each byte stands for itself */ }
-  return text.replace(/[\0-\x1f\x7f-\x9f]/g, "\u00b7");
+    return new TextDecoder("utf-8", { fatal: true, ignoreBOM: true }).decode(Uint8Array.from(bytes, (it) => it.charCodeAt(0)));
+  } catch {
+    return null;
+  }
 }
+
+/** Bytes as people read them: as UTF-8, if they are that; otherwise each byte stands for itself. */
+const shown = (bytes) => (textOf(bytes) ?? bytes).replace(/[\0-\x1f\x7f-\x9f]/g, "\u00b7");
 
 const bareOf = (digits) => digits.replace(/^0+(?=.)/, ""); // without leading zeros
 

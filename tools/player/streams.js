@@ -57,11 +57,14 @@ function readWord(word, { inputs, contexts }, streams) {
   row.ports.forEach((it, k) => { own[it.index] = bits[k]; });
 }
 
+/** The words of a text. A name may have blanks, but no line ends: a word ends at the first one behind its `=`. */
+const wordsIn = (text) => text.match(/[^\s=][^=\n]*=\S*|\S+/g) ?? [];
+
 /** Reads streams: words, and `--cycles N`. Gives { cycles, streams }: the bits by context and input. */
 function readWords(text, table) {
   const streams = Array.from({ length: table.contexts }, () => table.inputs.map(() => null));
   let cycles = 0;
-  for (const word of text.replace(/--cycles\s+(?=\d)/g, "--cycles=").split(/\s+/).filter((it) => it)) {
+  for (const word of wordsIn(text.replace(/--cycles\s+(?=\d)/g, "--cycles="))) {
     if (word.startsWith("--cycles=")) cycles = cyclesOf(word.slice(9));
     else readWord(word, table, streams);
   }

@@ -21,15 +21,19 @@ function showBits() {
   $("lines").textContent = ended([...machine.linesOf(machine.table.outputs, cycles), ...machine.linesOf(nets, netCycles)]);
 }
 
+const netsOf = (list) => list.split(",").filter((it) => it).map((it) => it.replace(/%(25|2C)/g, decodeURIComponent));
+const netList = (nets) => nets.map((it) => it.label.replace(/[%,]/g, encodeURIComponent)).join(",");
+
 /** The address of the page with what is on show. A pattern of its own goes in if it is short. */
 function linkOf() {
   const { machine, name, chosen, context } = page, link = new URLSearchParams(), step = Number($("speed").value);
   const cycles = machine.cycles || Math.min(256, machine.entered(0));
+  const bytes = machine.pattern.text, text = bytes.length <= 8192 ? textOf(bytes) : null;
   if (exampleOf(name)) link.set("example", name);
-  else if (machine.pattern.text.length <= 8192) link.set("pattern", machine.pattern.text);
-  else throw new Fault("The pattern is too long for a link");
+  else if (text !== null) link.set("pattern", text);
+  else throw new Fault("A link takes a pattern of at most 8192 bytes, in UTF-8");
   const facts = {
-    words: wordsOf(machine, Math.min(cycles, 1024)).join(" "), cycles, nets: chosen.map((it) => it.label).join(","), context,
+    words: wordsOf(machine, Math.min(cycles, 1024)).join(" "), cycles, nets: netList(chosen), context,
     gen: machine.generation, speed: step === FULL_SPEED ? "full" : chosenRate(), repeat: Number(page.isRepeating), play: Number(page.isRunning),
   };
   for (const key in facts) link.set(key, facts[key]);
@@ -56,7 +60,7 @@ function openLink(link) {
   const { machine } = page, words = link.has("words") ? encoded(link.get("words")) : exampleOf(page.name)?.words ?? "";
   if (hasStreams) feed(words, Math.min(number("cycles"), MOST_CYCLES));
   if (link.has("nets")) page.chosen = [];
-  for (const net of (link.get("nets") ?? "").split(",").filter((it) => it)) addNet(net);
+  for (const net of netsOf(link.get("nets") ?? "")) addNet(net);
   if (link.has("speed")) setSpeed(link.get("speed") === "full" ? FULL_SPEED : stepOf(Number(link.get("speed")) || 1));
   const view = (link.get("view") ?? "").split(",").map(Number);
   if (view.length === 4 && view.every(Number.isFinite)) plane.show(view);
