@@ -46,8 +46,8 @@ const CIRCUITS: &[(&[u8], &[&[u8]], &[u8])] = &[
     ),
     // neither inputs nor outputs
     (b"aag 0 0 0 0 0\n", &[b""], b"weight 2 "),
-    (b"aag 1 0 0 1 1\n2\n2 2 2\n", &[], b"loop: 2"),
     // loops: one side is constant 0, nothing else reads the loop, or a side is negated
+    (b"aag 1 0 0 1 1\n2\n2 2 2\n", &[], b"loop: 2"),
     (b"aag 2 1 0 0 1\n2\n4 0 5\n", &[], b"loop: 4"),
     (
         b"aag 4 1 0 1 3\n2\n2\n4 7 2\n6 8 2\n8 2 5\n",
@@ -61,7 +61,7 @@ const CIRCUITS: &[(&[u8], &[&[u8]], &[u8])] = &[
     ),
 ];
 
-fn check_circuit(alloc: Global, text: &[u8], rows: &[&[u8]], want: &[u8]) -> Result<(), Fail> {
+fn expect_circuit(alloc: Global, text: &[u8], rows: &[&[u8]], want: &[u8]) -> Result<(), Fail> {
     let said = lowered_said(alloc, text, rows)?;
     expect(&said, want)
 }
@@ -69,7 +69,7 @@ fn check_circuit(alloc: Global, text: &[u8], rows: &[&[u8]], want: &[u8]) -> Res
 #[test]
 fn circuits_become_flat_netlists(rt: HostRuntime) -> Result<(), Fail> {
     for (text, rows, want) in CIRCUITS {
-        check_circuit(rt.alloc(), text, rows, want)?;
+        expect_circuit(rt.alloc(), text, rows, want)?;
     }
     Ok(())
 }
@@ -87,7 +87,7 @@ const ALL: &[u8] = &[b'1'; 186];
 
 const ROWS: &[&[u8]] = &[b"", b"1", ALL];
 
-fn check_chain(
+fn expect_chain(
     alloc: Global,
     inputs: u64,
     gates: u64,
@@ -98,13 +98,13 @@ fn check_chain(
     requires gates { gates < 65536 }
 {
     let text = chain(alloc, inputs, gates, closed)?;
-    check_circuit(alloc, &text, ROWS, want)
+    expect_circuit(alloc, &text, ROWS, want)
 }
 
 #[test]
 fn chains_have_weight(rt: HostRuntime) -> Result<(), Fail> {
     for (inputs, gates, closed, want) in CHAINS {
-        check_chain(rt.alloc(), *inputs, *gates, *closed, want)?;
+        expect_chain(rt.alloc(), *inputs, *gates, *closed, want)?;
     }
     Ok(())
 }

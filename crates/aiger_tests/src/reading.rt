@@ -126,24 +126,24 @@ const FAULTS: &[(&[u8], &[u8])] = &[
     (b"aag 2 1 0 2 0\n2\n4\n3\no0 o1\n", b"A6 Undefined line 3"),
 ];
 
-fn check_text(alloc: Global, text: &[u8], want: &[u8]) -> Result<(), Fail> {
+fn expect_text(alloc: Global, text: &[u8], want: &[u8]) -> Result<(), Fail> {
     let line = said(alloc, text)?;
     expect(&line, want)
 }
 
-fn check_texts(alloc: Global, texts: &[(&[u8], &[u8])]) -> Result<(), Fail> {
+fn expect_texts(alloc: Global, texts: &[(&[u8], &[u8])]) -> Result<(), Fail> {
     for (text, want) in texts {
-        check_text(alloc, text, want)?;
+        expect_text(alloc, text, want)?;
     }
     Ok(())
 }
 
 #[test]
 fn texts_are_read_as_circuits(rt: HostRuntime) -> Result<(), Fail> {
-    check_texts(rt.alloc(), CIRCUITS)
+    expect_texts(rt.alloc(), CIRCUITS)
 }
 
 #[test]
 fn the_first_fault_is_answered(rt: HostRuntime) -> Result<(), Fail> {
-    check_texts(rt.alloc(), FAULTS)
+    expect_texts(rt.alloc(), FAULTS)
 }

@@ -68,7 +68,7 @@ fn stay_dark(alloc: Global, plan: &Plan) -> Result<(), Fail>
 }
 
 #[test]
-fn dark_edges_stay_dark(rt: HostRuntime) -> Result<(), Fail> {
+fn dark_edges_are_dark_a_step_later(rt: HostRuntime) -> Result<(), Fail> {
     let plan = admitted(rt.alloc(), &written(Sample::Or))?;
     stay_dark(rt.alloc(), &plan)
 }

@@ -27,8 +27,8 @@ pub const OR: Written<'static> = Written {
     tape: &[],
 };
 
-/// Three loops without instructions or ports. The first starts with 1.
-pub const BARE: Written<'static> = Written {
+// Three loops without instructions or ports. The first starts with 1.
+const THREE_LOOPS: Written<'static> = Written {
     lanes: 3,
     columns: &[&[], &[], &[]],
     latches: 3,
@@ -83,7 +83,7 @@ const FORK_LOOP: Written<'static> = Written {
 };
 
 // Three columns without instructions, and two loops.
-const LOOPS: Written<'static> = Written {
+const LONG_LOOPS: Written<'static> = Written {
     lanes: 5,
     columns: &[&[], &[], &[]],
     latches: 2,
@@ -131,8 +131,8 @@ pub fn written(sample: Sample) -> Written<'static> {
         Sample::Circuit => CIRCUIT,
         Sample::Loop => LOOP,
         Sample::ForkLoop => FORK_LOOP,
-        Sample::ThreeLoops => BARE,
-        Sample::LongLoops => LOOPS,
+        Sample::ThreeLoops => THREE_LOOPS,
+        Sample::LongLoops => LONG_LOOPS,
         Sample::FourLanes => FOUR_LANES,
     }
 }

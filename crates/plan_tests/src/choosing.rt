@@ -109,18 +109,18 @@ fn choice(alloc: Global, numbers: &[u8]) -> Result<Choice, Fail> {
     choice_of(alloc, &lists)
 }
 
-fn expect_choice(alloc: Global, numbers: &[u8], wanted: Choice) -> Result<(), Fail> {
+fn expect_choice(alloc: Global, numbers: &[u8], want: Choice) -> Result<(), Fail> {
     let made = choice(alloc, numbers)?;
-    if made == wanted {
+    if made == want {
         return Ok(());
     }
-    Err(Fail::new(format_args!("{numbers:?}: {made:?}, and not {wanted:?}")))
+    Err(Fail::new(format_args!("{numbers:?}: {made:?}, and not {want:?}")))
 }
 
 #[test]
 fn the_list_with_the_smallest_plan_is_kept(rt: HostRuntime) -> Result<(), Fail> {
-    for (numbers, wanted) in CHOICES {
-        expect_choice(rt.alloc(), numbers, *wanted)?;
+    for (numbers, want) in CHOICES {
+        expect_choice(rt.alloc(), numbers, *want)?;
     }
     Ok(())
 }

@@ -157,7 +157,7 @@ fn expect_played(case: &Case, played: Played) -> Result<(), Fail> {
 }
 
 // Fails if the circuit has no plan, or one that is not as the case says.
-fn check_case(alloc: Global, case: &Case) -> Result<(), Fail> {
+fn expect_case(alloc: Global, case: &Case) -> Result<(), Fail> {
     let run = Run {
         cycles: case.cycles,
         ins: case.ins,
@@ -172,7 +172,7 @@ fn check_case(alloc: Global, case: &Case) -> Result<(), Fail> {
 #[test]
 fn circuits_do_what_they_say(rt: HostRuntime) -> Result<(), Fail> {
     for case in CASES {
-        check_case(rt.alloc(), case)?;
+        expect_case(rt.alloc(), case)?;
     }
     Ok(())
 }

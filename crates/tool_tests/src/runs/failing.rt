@@ -33,15 +33,11 @@ type Run = (
 );
 
 const RUNS: &[Run] = &[
-    // A failure is reported as far as the errors have room. Nothing is read if the words are no
-    // command.
+    // A failure is reported as far as the errors have room.
     ("compile", GATE, &[9], (179, 99), 6, FRONT, "write fault\n"),
     ("compile", GATE, &[9], (179, 5), 6, FRONT, "write"),
     ("compile", GATE, &[1], (321, 99), 5, "", "read fault\n"),
     ("compile", GATE, &[1], (321, 4), 6, "", "read"),
-    ("", GATE, &[0], (321, 99), 2, "", USAGE),
-    ("compile compile", GATE, &[0], (321, 99), 2, "", USAGE),
-    ("simulate", GATE, &[0], (321, 99), 2, "", USAGE),
     ("", GATE, &[0], (321, 20), 6, "", "usage: blifww compil"),
     (
         "window --gen 1 --x 0 --y 0 --width 3 --height 2",
@@ -61,10 +57,9 @@ const RUNS: &[Run] = &[
         "",
         "write fault\n",
     ),
-    // `lift` refuses texts and words, and output is cut off if there is no room for it.
+    // `lift` refuses texts, and output is cut off if there is no room for it.
     ("lift", GATE, &[], (99, 99), 8, "", "G1 NoHeader line 1\n"),
     ("lift", "", &[], (99, 99), 8, "", "G1 NoHeader line 1\n"),
-    ("lift x", PATTERN, &[], (99, 99), 2, "", USAGE),
     (
         "lift",
         PATTERN,
@@ -74,7 +69,6 @@ const RUNS: &[Run] = &[
         ".model lifted\n.input",
         "write fault\n",
     ),
-    ("lift", PATTERN, &[], (0, 99), 6, "", "write fault\n"),
     (
         "simulate --cycles 4 a=0011 b=0101",
         PATTERN,
