@@ -4,6 +4,12 @@ use aiger_reader::{Aig, AigAnd, AigFault, AigLatch};
 use lists::Bytes;
 use std::alloc::{AllocError, Global};
 
+/// Cuts a case after its first line, which may be a remark, into its text and what is wanted.
+pub fn cut(case: &str) -> (&str, &str) {
+    let (_, rest) = case.split_once('\n').unwrap_or(("", case));
+    rest.split_once("\n== ").unwrap_or((rest, "no case"))
+}
+
 fn push_lits(
     alloc: Global,
     line: &mut Vec<u8>,
