@@ -63,7 +63,7 @@ const CIRCUITS: &[(&[u8], &[&[u8]], &[u8])] = &[
 
 fn expect_circuit(alloc: Global, text: &[u8], rows: &[&[u8]], want: &[u8]) -> Result<(), Fail> {
     let said = lowered_said(alloc, text, rows)?;
-    expect(&said, want)
+    expect(said.as_bytes(), want)
 }
 
 #[test]
@@ -98,7 +98,7 @@ fn expect_chain(
     requires gates { gates < 65536 }
 {
     let text = chain(alloc, inputs, gates, closed)?;
-    expect_circuit(alloc, &text, ROWS, want)
+    expect_circuit(alloc, text.as_bytes(), ROWS, want)
 }
 
 #[test]
@@ -109,25 +109,25 @@ fn chains_have_weight(rt: HostRuntime) -> Result<(), Fail> {
     Ok(())
 }
 
-// How many gates `lowered_said` lists for the loop of a text.
-fn gates_in_loop(alloc: Global, text: &[u8]) -> Result<usize, Fail> {
+// How many words `lowered_said` returns for a text: one, and one for each gate of a loop.
+fn words_said(alloc: Global, text: &[u8]) -> Result<usize, Fail> {
     let said = lowered_said(alloc, text, &[])?;
-    Ok(said.iter().filter(|b| **b == b' ').count())
+    Ok(said.split(' ').count())
 }
 
-fn gates_in_closed_chain(alloc: Global, gates: u64) -> Result<usize, Fail>
+fn words_of_closed_chain(alloc: Global, gates: u64) -> Result<usize, Fail>
     requires { gates < 65536 }
 {
     let text = chain(alloc, 1, gates, true)?;
-    gates_in_loop(alloc, &text)
+    words_said(alloc, text.as_bytes())
 }
 
 // A loop of two thousand gates.
 #[test]
 fn a_long_loop_is_told(rt: HostRuntime) -> Result<(), Fail> {
-    let gates = gates_in_closed_chain(rt.alloc(), 2000)?;
-    if gates == 2000 {
+    let words = words_of_closed_chain(rt.alloc(), 2000)?;
+    if words == 2001 {
         return Ok(());
     }
-    Err(Fail::new(format_args!("{gates} gates")))
+    Err(Fail::new(format_args!("{words} words")))
 }

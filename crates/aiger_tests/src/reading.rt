@@ -6,7 +6,7 @@ use std::test::Fail;
 use ww_base::expect;
 
 // The circuit of a text as one line, or the text's fault.
-fn said(alloc: Global, text: &[u8]) -> Result<Vec<u8>, AllocError> {
+fn said(alloc: Global, text: &[u8]) -> Result<String, AllocError> {
     match read(alloc, text) {
         Ok(aig) => circuit_shown(alloc, &aig),
         Err(AigReadError::Fault(fault)) => fault_shown(alloc, fault),
@@ -356,7 +356,7 @@ o0 o1
 
 fn expect_text(alloc: Global, text: &[u8], want: &[u8]) -> Result<(), Fail> {
     let line = said(alloc, text)?;
-    expect(&line, want)
+    expect(line.as_bytes(), want)
 }
 
 fn expect_texts(alloc: Global, cases: &str) -> Result<(), Fail> {
