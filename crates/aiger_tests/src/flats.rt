@@ -19,16 +19,16 @@ fn set_bits(bits: &mut [bool], row: &[u8])
     }
 }
 
-fn push_bits(line: &mut Vec<u8>, bits: &[bool]) -> Result<(), AllocError> {
+fn push_bits(line: &mut String, bits: &[bool]) -> Result<(), AllocError> {
     for bit in bits {
-        line.push(if *bit { b'1' } else { b'0' })?;
+        line.push(if *bit { '1' } else { '0' })?;
     }
     Ok(())
 }
 
 // Runs one cycle, and appends a space and the bits of the outputs.
 fn push_cycle(
-    line: &mut Vec<u8>,
+    line: &mut String,
     alloc: Global,
     machine: &mut Machine<'_>,
     flat: &Flat,
@@ -37,7 +37,7 @@ fn push_cycle(
     requires { machine.old.flat ≡ flat.now }
     ensures { machine.new.flat ≡ machine.old.flat }
 {
-    line.push(b' ')?;
+    line.push(' ')?;
     let mut inputs = vec![in alloc; false; flat.ins.len()]?;
     let mut outputs = vec![in alloc; false; flat.outs.len()]?;
     set_bits(inputs.as_mut_slice(), row);
@@ -46,7 +46,7 @@ fn push_cycle(
 }
 
 fn push_cycles(
-    line: &mut Vec<u8>,
+    line: &mut String,
     alloc: Global,
     machine: &mut Machine<'_>,
     flat: &Flat,
@@ -66,20 +66,15 @@ fn machine_said(
     machine: &mut Machine<'_>,
     flat: &Flat,
     rows: &[&[u8]],
-) -> Result<Vec<u8>, AllocError>
+) -> Result<String, AllocError>
     requires { machine.old.flat ≡ flat.now }
 {
-    let mut line = format!(in alloc; "weight {}", flat.weight)?.into_bytes();
+    let mut line = format!(in alloc; "weight {}", flat.weight)?;
     push_cycles(&mut line, alloc, machine, flat, rows)?;
     Ok(line)
 }
 
-fn flat_said(
-    alloc: Global,
-    flat: &Flat,
-    order: Order,
-    rows: &[&[u8]],
-) -> Result<Vec<u8>, AllocError>
+fn flat_said(alloc: Global, flat: &Flat, order: Order, rows: &[&[u8]]) -> Result<String, AllocError>
     requires sound { IsSound flat.now }
     requires order { IsOrder flat.now order.nodes }
 {
@@ -92,29 +87,29 @@ fn flat_said(
     }
 }
 
-fn loop_said(alloc: Global, lits: &[u64]) -> Result<Vec<u8>, AllocError> {
-    let mut line = b"loop:".to_vec(alloc)?;
+fn push_lits(line: &mut String, lits: &[u64]) -> Result<(), AllocError> {
     for lit in lits {
-        line.extend_from_slice(format!(in alloc; " {lit}")?.as_bytes())?;
+        write!(line, " {lit}")?;
     }
+    Ok(())
+}
+
+fn loop_said(alloc: Global, lits: &[u64]) -> Result<String, AllocError> {
+    let mut line = String::from_str(alloc, "loop:")?;
+    push_lits(&mut line, lits)?;
     Ok(line)
 }
 
-fn weight_said(alloc: Global, weight: u64) -> Result<Vec<u8>, AllocError> {
-    let line = format!(in alloc; "too large: weight {weight}")?;
-    Ok(line.into_bytes())
-}
-
 // Why there is no flat netlist.
-fn refusal_said(alloc: Global, error: &LowerError) -> Result<Vec<u8>, AllocError> {
+fn refusal_said(alloc: Global, error: &LowerError) -> Result<String, AllocError> {
     match error {
-        LowerError::TooLarge { weight } => weight_said(alloc, *weight),
+        LowerError::TooLarge { weight } => format!(in alloc; "too large: weight {weight}"),
         LowerError::Loop(lits) => loop_said(alloc, lits.as_slice()),
         LowerError::NoMemory => Err(AllocError),
     }
 }
 
-fn aig_said(alloc: Global, aig: &Aig, rows: &[&[u8]]) -> Result<Vec<u8>, AllocError>
+fn aig_said(alloc: Global, aig: &Aig, rows: &[&[u8]]) -> Result<String, AllocError>
     requires { IsSoundAig aig.now }
 {
     match aiger_meaning::lower(alloc, aig) {
@@ -128,7 +123,7 @@ fn aig_said(alloc: Global, aig: &Aig, rows: &[&[u8]]) -> Result<Vec<u8>, AllocEr
 
 /// Lowers the circuit of a text to a flat netlist, and returns the weight of the netlist and its
 /// output bits for each row of input bits, or why there is no netlist.
-pub fn lowered_said(alloc: Global, text: &[u8], rows: &[&[u8]]) -> Result<Vec<u8>, AllocError> {
+pub fn lowered_said(alloc: Global, text: &[u8], rows: &[&[u8]]) -> Result<String, AllocError> {
     match aiger_reader::read(alloc, text) {
         Ok(aig) => aig_said(alloc, &aig, rows),
         Err(_) => Err(AllocError),

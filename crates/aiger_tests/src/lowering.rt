@@ -46,8 +46,8 @@ const CIRCUITS: &[(&[u8], &[&[u8]], &[u8])] = &[
     ),
     // neither inputs nor outputs
     (b"aag 0 0 0 0 0\n", &[b""], b"weight 2 "),
-    (b"aag 1 0 0 1 1\n2\n2 2 2\n", &[], b"loop: 2"),
     // loops: one side is constant 0, nothing else reads the loop, or a side is negated
+    (b"aag 1 0 0 1 1\n2\n2 2 2\n", &[], b"loop: 2"),
     (b"aag 2 1 0 0 1\n2\n4 0 5\n", &[], b"loop: 4"),
     (
         b"aag 4 1 0 1 3\n2\n2\n4 7 2\n6 8 2\n8 2 5\n",
@@ -61,15 +61,15 @@ const CIRCUITS: &[(&[u8], &[&[u8]], &[u8])] = &[
     ),
 ];
 
-fn check_circuit(alloc: Global, text: &[u8], rows: &[&[u8]], want: &[u8]) -> Result<(), Fail> {
+fn expect_circuit(alloc: Global, text: &[u8], rows: &[&[u8]], want: &[u8]) -> Result<(), Fail> {
     let said = lowered_said(alloc, text, rows)?;
-    expect(&said, want)
+    expect(said.as_bytes(), want)
 }
 
 #[test]
 fn circuits_become_flat_netlists(rt: HostRuntime) -> Result<(), Fail> {
     for (text, rows, want) in CIRCUITS {
-        check_circuit(rt.alloc(), text, rows, want)?;
+        expect_circuit(rt.alloc(), text, rows, want)?;
     }
     Ok(())
 }
@@ -87,7 +87,7 @@ const ALL: &[u8] = &[b'1'; 186];
 
 const ROWS: &[&[u8]] = &[b"", b"1", ALL];
 
-fn check_chain(
+fn expect_chain(
     alloc: Global,
     inputs: u64,
     gates: u64,
@@ -98,36 +98,36 @@ fn check_chain(
     requires gates { gates < 65536 }
 {
     let text = chain(alloc, inputs, gates, closed)?;
-    check_circuit(alloc, &text, ROWS, want)
+    expect_circuit(alloc, text.as_bytes(), ROWS, want)
 }
 
 #[test]
 fn chains_have_weight(rt: HostRuntime) -> Result<(), Fail> {
     for (inputs, gates, closed, want) in CHAINS {
-        check_chain(rt.alloc(), *inputs, *gates, *closed, want)?;
+        expect_chain(rt.alloc(), *inputs, *gates, *closed, want)?;
     }
     Ok(())
 }
 
-// How many gates `lowered_said` lists for the loop of a text.
-fn gates_in_loop(alloc: Global, text: &[u8]) -> Result<usize, Fail> {
+// How many words `lowered_said` returns for a text: one, and one for each gate of a loop.
+fn words_said(alloc: Global, text: &[u8]) -> Result<usize, Fail> {
     let said = lowered_said(alloc, text, &[])?;
-    Ok(said.iter().filter(|b| **b == b' ').count())
+    Ok(said.split(' ').count())
 }
 
-fn gates_in_closed_chain(alloc: Global, gates: u64) -> Result<usize, Fail>
+fn words_of_closed_chain(alloc: Global, gates: u64) -> Result<usize, Fail>
     requires { gates < 65536 }
 {
     let text = chain(alloc, 1, gates, true)?;
-    gates_in_loop(alloc, &text)
+    words_said(alloc, text.as_bytes())
 }
 
 // A loop of two thousand gates.
 #[test]
 fn a_long_loop_is_told(rt: HostRuntime) -> Result<(), Fail> {
-    let gates = gates_in_closed_chain(rt.alloc(), 2000)?;
-    if gates == 2000 {
+    let words = words_of_closed_chain(rt.alloc(), 2000)?;
+    if words == 2001 {
         return Ok(());
     }
-    Err(Fail::new(format_args!("{gates} gates")))
+    Err(Fail::new(format_args!("{words} words")))
 }

@@ -40,12 +40,6 @@ const CASES: &[Case] = &[
         items: b"x = 0, y = 0, rule = WireWorld\n!\n",
         said: b"circuit",
     },
-    // without the line of an input
-    Case {
-        table: b"#C BLIFWW 1 P 32 L 32\n#C BLIFWW IN 0 8 a\n#C BLIFWW OUT 32 8 y\n",
-        items: ITEMS,
-        said: b"circuit",
-    },
     // the inputs in another order, and a net at an arbitrary cell
     Case {
         table: b"#C BLIFWW 1 P 32 L 32\n#C BLIFWW IN 0 24 b\n#C BLIFWW IN 0 8 a\n#C BLIFWW OUT 32 8 y\n#C BLIFWW NET 3 3 7 n -\n",
@@ -58,25 +52,8 @@ const CASES: &[Case] = &[
         items: b"x = 33, y = 32, rule = WireWorld\n8$5C18.10C$5.C16.C$6.C14.C$7.C12.C$8.C10.C$9.C.2C5.C$10.2C.C3.C$11.2C.C.C$15.C$11.2C.C$10.2C.C$9.C.2C$8.C$7.C$6.C$5.C$5C!\n",
         said: b"Cells",
     },
-    // a start on an input's lane
-    Case {
-        table: TABLE,
-        items: b"x = 33, y = 32, rule = WireWorld\n8$A4C18.10C$5.C16.C$6.C14.C$7.C12.C$8.C10.C$9.C.2C5.C$10.2C.C3.C$11.2C.C.C$15.C$11.2C.C$10.2C.C$9.C.2C$8.C$7.C$6.C$5.C$5C26.C!\n",
-        said: b"Cells",
-    },
-    // without the line of the output
-    Case {
-        table: b"#C BLIFWW 1 P 32 L 32\n#C BLIFWW IN 0 8 a\n#C BLIFWW IN 0 24 b\n",
-        items: ITEMS,
-        said: b"Cells",
-    },
-    // another latency, another period, two contexts, an input beside an entry, and a box that is
-    // wide but has no cells
-    Case {
-        table: b"#C BLIFWW 1 P 32 L 33\n#C BLIFWW IN 0 8 a\n#C BLIFWW IN 0 24 b\n#C BLIFWW OUT 32 8 y\n",
-        items: ITEMS,
-        said: b"Ports",
-    },
+    // another period, two contexts and an input beside an entry, each told before the missing
+    // output; and a box that is wide but has no cells
     Case {
         table: b"#C BLIFWW 1 P 64 L 32\n",
         items: ITEMS,

@@ -3,10 +3,10 @@ ghost use Rattle.std.specs.Prelude.{◌≡◌, ◌<◌, IfOk};
 ghost use Rattle.lane_core.specs.Plans.{IsAdmissible};
 ghost use Rattle.plan_layout.specs.Starts.{HasStartEdges};
 
-use crate::fails::expect_turn;
+use crate::fails::expect_holds;
 use crate::macro_steps::edges_after;
 use crate::plans::{Written, admitted};
-use crate::samples::{CIRCUIT, LOOP, Sample, written};
+use crate::samples::{Sample, written};
 use grid_assembly::fill_row;
 use lane_core::{Plan, Start, run_columns};
 use macro_grid::Edges;
@@ -90,30 +90,29 @@ fn out_heads(plane: &Plane) -> [bool; 5] {
     ]
 }
 
-fn expect_answer(alloc: Global, plan: &Plan, choice: u64) -> Result<(), Fail>
+fn is_answered(alloc: Global, plan: &Plan, choice: u64) -> Result<bool, RuleError>
     requires admissible { IsAdmissible plan.now }
     requires lanes { plan.now.lanes ≡ 5 }
 {
     let [a, b, c] = [choice & 1 == 1, choice & 2 == 2, choice & 4 == 4];
     let bits = after_columns(plan, [a, false, b, false, c]);
     let end = answered(alloc, plan, [a, b, c])?;
-    expect_turn("choice", choice, out_heads(&end) == bits)
+    Ok(out_heads(&end) == bits)
 }
 
-fn answers(alloc: Global, plan: &Plan) -> Result<(), Fail>
-    requires admissible { IsAdmissible plan.now }
-    requires lanes { plan.now.lanes ≡ 5 }
+/// Returns whether the circuit's plan answers any bits of its inputs by the rule as its columns do.
+pub fn answers(alloc: Global, plan: &Plan) -> Result<bool, Fail>
+    requires { IsAdmissible plan.now }
 {
-    for choice in 0..8 {
-        expect_answer(alloc, plan, choice)?;
+    if plan.lanes != 5 {
+        return Ok(false);
     }
-    Ok(())
-}
-
-#[test]
-fn a_circuit_answers_by_the_rule(rt: HostRuntime) -> Result<(), Fail> {
-    let plan = admitted(rt.alloc(), &CIRCUIT)?;
-    answers(rt.alloc(), &plan)
+    for choice in 0..8 {
+        if !is_answered(alloc, plan, choice)? {
+            return Ok(false);
+        }
+    }
+    Ok(true)
 }
 
 // How many heads there are in the first 129 columns and 80 rows.
@@ -157,9 +156,41 @@ fn has_heads_of(plane: &Plane, edges: &Edges) -> bool {
     same
 }
 
-// The heads after each 32 generations: the electron goes through the Or and the Fork, to the output
-// and round the loop. The cells were read off the drawing by hand.
-const LOOP_HEADS: &[&[Start]] = &[
+// The plane after `steps` times 32 generations.
+fn plane_after(alloc: Global, plan: &Plan, steps: u64) -> Result<Plane, RuleError>
+    requires { IsAdmissible plan.now }
+{
+    evolved(alloc, drawn(alloc, plan)?, steps.saturating_mul(32))
+}
+
+// Whether, after `steps` times 32 generations, the heads are at these cells, and agree with the edges
+// after `steps` macro steps.
+fn has_heads_after(alloc: Global, plan: &Plan, steps: u64, heads: &[Start]) -> Result<bool, Fail>
+    requires admissible { IsAdmissible plan.now }
+    requires starts { HasStartEdges plan.now }
+{
+    let plane = plane_after(alloc, plan, steps)?;
+    let edges = edges_after(alloc, plan, steps)?;
+    Ok(has_heads_at(&plane, heads) && has_heads_of(&plane, &edges))
+}
+
+/// Returns whether the heads are at these cells after each 32 generations, and agree with the edges
+/// after each macro step.
+pub fn has_heads_in_turn(alloc: Global, plan: &Plan, turns: &[&[Start]]) -> Result<bool, Fail>
+    requires admissible { IsAdmissible plan.now }
+    requires starts { HasStartEdges plan.now }
+{
+    for (steps, heads) in turns.iter().enumerate() {
+        if !has_heads_after(alloc, plan, steps as u64, heads)? {
+            return Ok(false);
+        }
+    }
+    Ok(true)
+}
+
+/// The heads after each 32 generations: the electron goes through the Or and the Fork, to the output
+/// and round the loop. The cells were read off the drawing by hand.
+pub const LOOP_HEADS: &[&[Start]] = &[
     &[Start { x: 32, y: 24 }],
     &[Start { x: 64, y: 8 }],
     &[Start { x: 96, y: 8 }, Start { x: 96, y: 24 }],
@@ -171,52 +202,28 @@ const LOOP_HEADS: &[&[Start]] = &[
     &[Start { x: 32, y: 24 }],
 ];
 
-// The plane after `steps` times 32 generations.
-fn plane_after(alloc: Global, plan: &Plan, steps: u64) -> Result<Plane, RuleError>
-    requires { IsAdmissible plan.now }
-{
-    evolved(alloc, drawn(alloc, plan)?, steps.saturating_mul(32))
-}
-
-// Fails if, after `steps` times 32 generations, the heads are not at these cells, or do not agree
-// with the edges after `steps` macro steps.
-fn expect_plane(alloc: Global, plan: &Plan, steps: u64, heads: &[Start]) -> Result<(), Fail>
+fn expect_heads(alloc: Global, plan: &Plan, heads: &[Start]) -> Result<(), Fail>
     requires admissible { IsAdmissible plan.now }
     requires starts { HasStartEdges plan.now }
 {
-    let plane = plane_after(alloc, plan, steps)?;
-    let edges = edges_after(alloc, plan, steps)?;
-    let is_right = has_heads_at(&plane, heads) && has_heads_of(&plane, &edges);
-    expect_turn("after steps", steps, is_right)
+    expect_holds("a start", has_heads_after(alloc, plan, 0, heads)?)
 }
 
-fn expect_heads(
-    alloc: Global,
-    written: &Written<'_>,
-    steps: u64,
-    heads: &[Start],
-) -> Result<(), Fail> {
-    let plan = admitted(alloc, written)?;
-    expect_plane(alloc, &plan, steps, heads)
-}
-
-#[test]
-fn a_loop_goes_round_by_the_rule_and_by_macro_steps(rt: HostRuntime) -> Result<(), Fail> {
-    for (step, heads) in LOOP_HEADS.iter().enumerate() {
-        expect_heads(rt.alloc(), &written(Sample::Loop), step as u64, heads)?;
-    }
-    Ok(())
+// Fails if the plan of the loop with starts at these cells has not its heads there.
+fn expect_start(alloc: Global, heads: &'static [Start]) -> Result<(), Fail> {
+    let started = Written {
+        starts: heads,
+        ..written(Sample::Loop)
+    };
+    let plan = admitted(alloc, &started)?;
+    expect_heads(alloc, &plan, heads)
 }
 
 // A plan whose starts name these cells has its heads there.
 #[test]
 fn a_loop_starts_anywhere_on_its_way(rt: HostRuntime) -> Result<(), Fail> {
     for heads in LOOP_HEADS {
-        let started = Written {
-            starts: heads,
-            ..LOOP
-        };
-        expect_heads(rt.alloc(), &started, 0, heads)?;
+        expect_start(rt.alloc(), heads)?;
     }
     Ok(())
 }

@@ -1,6 +1,7 @@
 // Plans of small programs.
 ghost use Rattle.std.specs.Prelude.{◌<◌, ◌^◌, IfOk, length};
 ghost use Rattle.lane_core.specs.Plans.{IsAdmissible};
+ghost use Rattle.plan_layout.specs.Starts.{HasStartEdges};
 
 use crate::programs::{Listed, program_of};
 use column_packer::pack;
@@ -60,7 +61,8 @@ pub const THREE_COLUMNS: Listed<'static> = Listed {
 
 fn closed_of(alloc: Global, program: &Program) -> Result<Plan, Fail>
     requires { length program.now.instrs < 2 ^ 40 }
-    ensures { IfOk result IsAdmissible }
+    ensures admissible { IfOk result IsAdmissible }
+    ensures starts { IfOk result HasStartEdges }
 {
     let columns = pack(alloc, program)?;
     Ok(close(alloc, columns, program, from_ref(&program.latches))?)
@@ -68,7 +70,8 @@ fn closed_of(alloc: Global, program: &Program) -> Result<Plan, Fail>
 
 /// Makes the plan of a program that is written down.
 pub fn closed(alloc: Global, listed: &Listed<'_>) -> Result<Plan, Fail>
-    ensures { IfOk result IsAdmissible }
+    ensures admissible { IfOk result IsAdmissible }
+    ensures starts { IfOk result HasStartEdges }
 {
     let program = program_of(alloc, listed)?;
     closed_of(alloc, &program)

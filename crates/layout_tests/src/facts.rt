@@ -1,15 +1,20 @@
 // Facts about plans: sizes, times, ports and cells.
 ghost use Rattle.lane_core.specs.Plans.{IsAdmissible};
+ghost use Rattle.plan_layout.specs.Starts.{HasStartEdges};
 
+use crate::circuits::{answers, has_heads_in_turn};
+use crate::macro_steps::{goes_round, runs_in, stays_dark};
 use crate::slots::has_slots;
 use grid_assembly::{cell, fill_row, size};
 use lane_core::{NetPlace, Plan, Start, in_cell, latency, net_cell, out_cell, period};
+use std::alloc::Global;
 use std::test::Fail;
 use ww_rule::State;
 
 /// A fact about a plan. `Size` is the width and height of its drawing, and `Cells`, `Rows` and
 /// `Slots` are parts of the drawing. `InCells`, `OutCells` and `NetCells` give x, y and the offset
-/// of each input, output or net.
+/// of each input, output or net. `Heads` are the heads after each 32 generations, and the variants
+/// without values are what the functions of their names in `circuits` and `macro_steps` return.
 pub enum Fact {
     Size(u64, u64),
     Period(u64),
@@ -22,8 +27,13 @@ pub enum Fact {
     OutCells(&'static [(u64, u64, u64)]),
     NetCells(&'static [(u64, u64, u64)]),
     Cells(&'static [(u64, u64, State)]),
-    Rows(&'static [&'static [u8; 33]]),
-    Slots(&'static [&'static [u8]]),
+    Rows(&'static str),
+    Slots(&'static str),
+    Answers,
+    StaysDark,
+    GoesRound,
+    RunsIn,
+    Heads(&'static [&'static [Start]]),
 }
 
 fn has_in_cells(plan: &Plan, cells: &[(u64, u64, u64)]) -> bool
@@ -79,54 +89,66 @@ fn is_letter(state: State, letter: u8) -> bool {
     }
 }
 
-fn is_row(plan: &Plan, y: u64, letters: &[u8; 33]) -> bool
+fn is_row(plan: &Plan, y: u64, letters: &[u8]) -> bool
     requires { IsAdmissible plan.now }
 {
     let mut row = [State::Head; 33];
     fill_row(plan, y, 0, &mut row);
-    row.iter()
-        .zip(letters)
-        .all(|(state, letter)| is_letter(*state, *letter))
-}
-
-// Whether the plan's drawing has these rows from the top down.
-fn has_rows(plan: &Plan, rows: &[&[u8; 33]]) -> bool
-    requires { IsAdmissible plan.now }
-{
-    for (y, letters) in rows.iter().enumerate() {
-        if !is_row(plan, y as u64, letters) {
+    for x in 0..33 {
+        if x >= letters.len() || !is_letter(row[x], letters[x]) {
             return false;
         }
+    }
+    letters.len() == 33
+}
+
+// Whether the plan's drawing has these rows, a line each, from the top down.
+fn has_rows(plan: &Plan, rows: &str) -> bool
+    requires { IsAdmissible plan.now }
+{
+    let mut y = 0u64;
+    for letters in rows.lines() {
+        if !is_row(plan, y, letters.as_bytes()) {
+            return false;
+        }
+        y = y.saturating_add(1);
     }
     true
 }
 
-fn has(plan: &Plan, fact: &Fact) -> bool
-    requires { IsAdmissible plan.now }
+fn has(alloc: Global, plan: &Plan, fact: &Fact) -> Result<bool, Fail>
+    requires admissible { IsAdmissible plan.now }
+    requires starts { HasStartEdges plan.now }
 {
     match fact {
-        Fact::Size(width, height) => size(plan) == (*width, *height),
-        Fact::Period(generations) => period(plan) == *generations,
-        Fact::Latency(generations) => latency(plan) == *generations,
-        Fact::Columns(count) => plan.columns.len() == *count,
-        Fact::Latches(count) => plan.latches == *count,
-        Fact::Starts(starts) => plan.starts.list.as_slice() == *starts,
-        Fact::Nets(places) => plan.nets.as_slice() == *places,
-        Fact::InCells(cells) => has_in_cells(plan, cells),
-        Fact::OutCells(cells) => has_out_cells(plan, cells),
-        Fact::NetCells(cells) => has_net_cells(plan, cells),
-        Fact::Cells(cells) => has_cells(plan, cells),
-        Fact::Rows(rows) => has_rows(plan, rows),
-        Fact::Slots(rows) => has_slots(plan, rows),
+        Fact::Size(width, height) => Ok(size(plan) == (*width, *height)),
+        Fact::Period(generations) => Ok(period(plan) == *generations),
+        Fact::Latency(generations) => Ok(latency(plan) == *generations),
+        Fact::Columns(count) => Ok(plan.columns.len() == *count),
+        Fact::Latches(count) => Ok(plan.latches == *count),
+        Fact::Starts(starts) => Ok(plan.starts.list.as_slice() == *starts),
+        Fact::Nets(places) => Ok(plan.nets.as_slice() == *places),
+        Fact::InCells(cells) => Ok(has_in_cells(plan, cells)),
+        Fact::OutCells(cells) => Ok(has_out_cells(plan, cells)),
+        Fact::NetCells(cells) => Ok(has_net_cells(plan, cells)),
+        Fact::Cells(cells) => Ok(has_cells(plan, cells)),
+        Fact::Rows(rows) => Ok(has_rows(plan, rows)),
+        Fact::Slots(rows) => Ok(has_slots(plan, rows)),
+        Fact::Answers => answers(alloc, plan),
+        Fact::StaysDark => stays_dark(alloc, plan),
+        Fact::GoesRound => goes_round(alloc, plan),
+        Fact::RunsIn => runs_in(alloc, plan),
+        Fact::Heads(turns) => has_heads_in_turn(alloc, plan, turns),
     }
 }
 
 /// Fails if a fact does not hold of the plan, with the number of the first such fact.
-pub fn expect_facts(about: &str, plan: &Plan, facts: &[Fact]) -> Result<(), Fail>
-    requires { IsAdmissible plan.now }
+pub fn expect_facts(alloc: Global, about: &str, plan: &Plan, facts: &[Fact]) -> Result<(), Fail>
+    requires admissible { IsAdmissible plan.now }
+    requires starts { HasStartEdges plan.now }
 {
     for (number, fact) in facts.iter().enumerate() {
-        if !has(plan, fact) {
+        if !has(alloc, plan, fact)? {
             return Err(Fail::new(format_args!("{about}: fact {number}")));
         }
     }

@@ -6,10 +6,6 @@ ghost use Rattle.plan_layout.specs.Starts.{HasStartEdges};
 ghost use Rattle.plan_layout.specs.Tape.{drawn_tiling};
 ghost use Rattle.tile_library.specs.Drawings.{shipped_drawing};
 
-use crate::fails::expect_turn;
-use crate::plans::admitted;
-use crate::samples::{Sample, written};
-use crate::tapes::taped;
 use lane_core::Plan;
 use macro_grid::{Edges, EdgesError, macro_step};
 use std::alloc::Global;
@@ -51,26 +47,20 @@ fn are_dark(edges: &Edges) -> bool {
     true
 }
 
-fn expect_dark(alloc: Global, plan: &Plan, steps: u64) -> Result<(), Fail>
+fn is_dark(alloc: Global, plan: &Plan, steps: u64) -> Result<bool, EdgesError>
     requires admissible { IsAdmissible plan.now }
     requires starts { HasStartEdges plan.now }
 {
     let edges = edges_after(alloc, plan, steps)?;
-    expect_turn("dark after steps", steps, are_dark(&edges))
+    Ok(are_dark(&edges))
 }
 
-fn stay_dark(alloc: Global, plan: &Plan) -> Result<(), Fail>
+/// Returns whether no edge is lit at the start, nor a macro step later.
+pub fn stays_dark(alloc: Global, plan: &Plan) -> Result<bool, Fail>
     requires admissible { IsAdmissible plan.now }
     requires starts { HasStartEdges plan.now }
 {
-    expect_dark(alloc, plan, 0)?;
-    expect_dark(alloc, plan, 1)
-}
-
-#[test]
-fn dark_edges_stay_dark(rt: HostRuntime) -> Result<(), Fail> {
-    let plan = admitted(rt.alloc(), &written(Sample::Or))?;
-    stay_dark(rt.alloc(), &plan)
+    Ok(is_dark(alloc, plan, 0)? && is_dark(alloc, plan, 1)?)
 }
 
 // Which of the edges on the west sides of a column's first three blocks are lit.
@@ -82,54 +72,46 @@ fn lit(edges: &Edges, column: u64) -> [bool; 3] {
     ]
 }
 
-fn expect_round(alloc: Global, plan: &Plan, steps: u64) -> Result<(), Fail>
+fn is_round(alloc: Global, plan: &Plan, steps: u64) -> Result<bool, EdgesError>
     requires admissible { IsAdmissible plan.now }
     requires starts { HasStartEdges plan.now }
 {
     let edges = edges_after(alloc, plan, steps)?;
-    let want = [steps % 36 == 0, false, steps == 18];
-    expect_turn("round after steps", steps, lit(&edges, 3) == want)
+    Ok(lit(&edges, 3) == [steps % 36 == 0, false, steps == 18])
 }
 
-fn goes_round(alloc: Global, plan: &Plan) -> Result<(), Fail>
+/// Returns whether an electron goes round the first of three loops. With three columns, a loop has
+/// 2 * 3 + 4 * 3 tiles. The return reverses the lanes: lane 0 leads to lane 2, and lane 2 to lane 0.
+pub fn goes_round(alloc: Global, plan: &Plan) -> Result<bool, Fail>
     requires admissible { IsAdmissible plan.now }
     requires starts { HasStartEdges plan.now }
 {
     for steps in 0..37 {
-        expect_round(alloc, plan, steps)?;
+        if !is_round(alloc, plan, steps)? {
+            return Ok(false);
+        }
     }
-    Ok(())
+    Ok(true)
 }
 
-// With three columns and three loops, a loop has 2 * 3 + 4 * 3 tiles. The return reverses the
-// lanes: lane 0 leads to lane 2, and lane 2 to lane 0.
-#[test]
-fn an_electron_goes_round_a_loop(rt: HostRuntime) -> Result<(), Fail> {
-    let plan = admitted(rt.alloc(), &written(Sample::ThreeLoops))?;
-    goes_round(rt.alloc(), &plan)
-}
-
-fn expect_run_in(alloc: Global, plan: &Plan, column: u64) -> Result<(), Fail>
+fn is_run_in(alloc: Global, plan: &Plan, column: u64) -> Result<bool, EdgesError>
     requires admissible { IsAdmissible plan.now }
     requires starts { HasStartEdges plan.now }
 {
     let edges = edges_after(alloc, plan, column)?;
-    expect_turn("at column", column, edges.beside(column, 0))
+    Ok(edges.beside(column, 0))
 }
 
-fn runs_in(alloc: Global, plan: &Plan) -> Result<(), Fail>
+/// Returns whether, with each macro step, the 1 of the second cycle of a tape moves to the west side
+/// of the next tile.
+pub fn runs_in(alloc: Global, plan: &Plan) -> Result<bool, Fail>
     requires admissible { IsAdmissible plan.now }
     requires starts { HasStartEdges plan.now }
 {
     for column in 0..9 {
-        expect_run_in(alloc, plan, column)?;
+        if !is_run_in(alloc, plan, column)? {
+            return Ok(false);
+        }
     }
-    Ok(())
-}
-
-// With each macro step, the 1 of the second cycle moves to the west side of the next tile.
-#[test]
-fn a_tape_runs_in(rt: HostRuntime) -> Result<(), Fail> {
-    let plan = taped(rt.alloc(), &written(Sample::Loop), &[b"01"])?;
-    runs_in(rt.alloc(), &plan)
+    Ok(true)
 }

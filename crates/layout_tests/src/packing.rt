@@ -1,23 +1,11 @@
 // The columns of small programs.
+use crate::closing::FIVE_LANES;
 use crate::fails::expect_holds;
 use crate::programs::{Listed, program_of};
 use column_packer::pack;
 use lane_core::{Column, Instr, Program};
 use std::alloc::Global;
 use std::test::Fail;
-
-const FIVE_LANES: Listed<'static> = Listed {
-    lanes: 5,
-    instrs: &[
-        Instr::Or(0),
-        Instr::Or(2),
-        Instr::Swap(1),
-        Instr::Xor(3),
-        Instr::Fork(0),
-    ],
-    latches: &[],
-    nets: &[],
-};
 
 // The lowest lanes come first in the program and last in the column.
 const UPSIDE_DOWN: Listed<'static> = Listed {

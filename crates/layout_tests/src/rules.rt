@@ -1,16 +1,18 @@
 // The rules of plans: their lanes, ports, starts and tapes.
 use crate::fails::expect_turn;
 use crate::plans::{Written, plan_of};
-use crate::samples::{LOOP, OR};
-use lane_core::Start;
+use crate::samples::{Sample, written};
+use lane_core::{NetPlace, Start};
 use macro_grid::admissible;
 use std::alloc::Global;
 use std::test::Fail;
 
-// A change to a sample. `Ports` gives `OR` other lanes, loops, inputs and outputs, and takes its
-// nets away; `Tape` and `OrStart` give it a tape or starts; `LoopStart` gives `LOOP` other starts.
+// A change to a sample. `Ports` gives the OR other lanes, loops, inputs and outputs, and takes its
+// nets away; `Nets`, `Tape` and `OrStart` give it nets, a tape or starts; `LoopStart` gives the loop
+// other starts.
 enum Change {
     Ports(u32, u32, &'static [u32], &'static [u32]),
+    Nets(&'static [NetPlace]),
     Tape(&'static [&'static [u8]]),
     OrStart(&'static [Start]),
     LoopStart(&'static [Start]),
@@ -44,6 +46,23 @@ const RULES: &[(Change, bool)] = &[
         false,
     ),
     (Change::Ports(u32::MAX, 0, &[u32::MAX], &[]), false),
+    // more loops than columns
+    (Change::Ports(2, 2, &[], &[]), false),
+    // nets outside the lanes, and after the last column
+    (
+        Change::Nets(&[NetPlace {
+            lane: 2,
+            after: None,
+        }]),
+        false,
+    ),
+    (
+        Change::Nets(&[NetPlace {
+            lane: 1,
+            after: Some(1),
+        }]),
+        false,
+    ),
     // a start names an edge by its entry cell, or by its exit cell if nothing is entered there
     (Change::LoopStart(&[Start { x: 32, y: 24 }]), true),
     (Change::LoopStart(&[Start { x: 31, y: 24 }]), false),
@@ -64,7 +83,8 @@ const RULES: &[(Change, bool)] = &[
     (Change::Tape(&[b"0", b"1", b"0"]), false),
 ];
 
-fn written(change: &Change) -> Written<'static> {
+fn changed(change: &Change) -> Written<'static> {
+    let or = written(Sample::Or);
     match change {
         Change::Ports(lanes, latches, ins, outs) => Written {
             lanes: *lanes,
@@ -72,16 +92,20 @@ fn written(change: &Change) -> Written<'static> {
             ins,
             outs,
             nets: &[],
-            ..OR
+            ..or
         },
-        Change::Tape(tape) => Written { tape, ..OR },
-        Change::OrStart(starts) => Written { starts, ..OR },
-        Change::LoopStart(starts) => Written { starts, ..LOOP },
+        Change::Nets(nets) => Written { nets, ..or },
+        Change::Tape(tape) => Written { tape, ..or },
+        Change::OrStart(starts) => Written { starts, ..or },
+        Change::LoopStart(starts) => Written {
+            starts,
+            ..written(Sample::Loop)
+        },
     }
 }
 
 fn expect_rule(alloc: Global, number: u64, change: &Change, want: bool) -> Result<(), Fail> {
-    let plan = plan_of(alloc, &written(change))?;
+    let plan = plan_of(alloc, &changed(change))?;
     expect_turn("rule", number, admissible(&plan) == want)
 }
 

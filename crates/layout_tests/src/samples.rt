@@ -2,8 +2,8 @@
 use crate::plans::Written;
 use lane_core::{Instr, NetPlace, Start};
 
-/// An Or on two lanes: net 0 and net 1 are the inputs, net 2 is the output.
-pub const OR: Written<'static> = Written {
+// An Or on two lanes: net 0 and net 1 are the inputs, net 2 is the output.
+const OR: Written<'static> = Written {
     lanes: 2,
     columns: &[&[Instr::Or(0)]],
     latches: 0,
@@ -27,8 +27,8 @@ pub const OR: Written<'static> = Written {
     tape: &[],
 };
 
-/// Three loops without instructions or ports. The first starts with 1.
-pub const BARE: Written<'static> = Written {
+// Three loops without instructions or ports. The first starts with 1.
+const THREE_LOOPS: Written<'static> = Written {
     lanes: 3,
     columns: &[&[], &[], &[]],
     latches: 3,
@@ -39,9 +39,9 @@ pub const BARE: Written<'static> = Written {
     tape: &[],
 };
 
-/// Two lanes and a loop that starts with 1. The Or takes the loop's bit, and the Fork gives it to
-/// the output and back to the loop.
-pub const LOOP: Written<'static> = Written {
+// Two lanes and a loop that starts with 1. The Or takes the loop's bit, and the Fork gives it to
+// the output and back to the loop.
+const LOOP: Written<'static> = Written {
     lanes: 2,
     columns: &[&[Instr::Or(0)], &[Instr::Fork(0)]],
     latches: 1,
@@ -52,9 +52,9 @@ pub const LOOP: Written<'static> = Written {
     tape: &[],
 };
 
-/// A circuit of five lanes whose columns contain every instruction, with an input on every other
-/// lane and an output on every lane.
-pub const CIRCUIT: Written<'static> = Written {
+// A circuit of five lanes whose columns contain every instruction, with an input on every other
+// lane and an output on every lane.
+const CIRCUIT: Written<'static> = Written {
     lanes: 5,
     columns: &[
         &[Instr::Fork(0), Instr::Fork(2)],
@@ -83,7 +83,7 @@ const FORK_LOOP: Written<'static> = Written {
 };
 
 // Three columns without instructions, and two loops.
-const LOOPS: Written<'static> = Written {
+const LONG_LOOPS: Written<'static> = Written {
     lanes: 5,
     columns: &[&[], &[], &[]],
     latches: 2,
@@ -131,8 +131,8 @@ pub fn written(sample: Sample) -> Written<'static> {
         Sample::Circuit => CIRCUIT,
         Sample::Loop => LOOP,
         Sample::ForkLoop => FORK_LOOP,
-        Sample::ThreeLoops => BARE,
-        Sample::LongLoops => LOOPS,
+        Sample::ThreeLoops => THREE_LOOPS,
+        Sample::LongLoops => LONG_LOOPS,
         Sample::FourLanes => FOUR_LANES,
     }
 }

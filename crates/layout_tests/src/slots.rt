@@ -50,15 +50,17 @@ fn has_row(plan: &Plan, lane: u64, letters: &[u8]) -> bool
     true
 }
 
-/// Returns whether the plan's slots have the letters of the rows, one row for each lane from the
-/// top down.
-pub fn has_slots(plan: &Plan, rows: &[&[u8]]) -> bool
+/// Returns whether the plan's slots have the letters of the rows, a line for each lane from the top
+/// down.
+pub fn has_slots(plan: &Plan, rows: &str) -> bool
     requires { IsAdmissible plan.now }
 {
-    for (lane, letters) in rows.iter().enumerate() {
-        if !has_row(plan, lane as u64, letters) {
+    let mut lane = 0u64;
+    for letters in rows.lines() {
+        if !has_row(plan, lane, letters.as_bytes()) {
             return false;
         }
+        lane = lane.saturating_add(1);
     }
     true
 }

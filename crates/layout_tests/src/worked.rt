@@ -1,7 +1,9 @@
 // Small plans and their worked values.
 ghost use Rattle.std.specs.Prelude.{IfOk};
 ghost use Rattle.lane_core.specs.Plans.{IsAdmissible};
+ghost use Rattle.plan_layout.specs.Starts.{HasStartEdges};
 
+use crate::circuits::LOOP_HEADS;
 use crate::closing::{FIVE_LANES, THREE_COLUMNS, TWO_LOOPS, closed};
 use crate::facts::{Fact, expect_facts};
 use crate::plans::admitted;
@@ -29,40 +31,39 @@ struct Case {
 }
 
 // The drawing of an OR gate and its output cell, row by row.
-const OR_ROWS: &[&[u8; 33]] = &[
-    b".................................",
-    b".................................",
-    b".................................",
-    b".................................",
-    b".................................",
-    b".................................",
-    b".................................",
-    b".................................",
-    b"CCCCC..................CCCCCCCCCC",
-    b".....C................C..........",
-    b"......C..............C...........",
-    b".......C............C............",
-    b"........C..........C.............",
-    b".........C.CC.....C..............",
-    b"..........CC.C...C...............",
-    b"...........CC.C.C................",
-    b"...............C.................",
-    b"...........CC.C..................",
-    b"..........CC.C...................",
-    b".........C.CC....................",
-    b"........C........................",
-    b".......C.........................",
-    b"......C..........................",
-    b".....C...........................",
-    b"CCCCC..........................C.",
-    b".................................",
-    b".................................",
-    b".................................",
-    b".................................",
-    b".................................",
-    b".................................",
-    b".................................",
-];
+const OR_ROWS: &str = "\
+.................................
+.................................
+.................................
+.................................
+.................................
+.................................
+.................................
+.................................
+CCCCC..................CCCCCCCCCC
+.....C................C..........
+......C..............C...........
+.......C............C............
+........C..........C.............
+.........C.CC.....C..............
+..........CC.C...C...............
+...........CC.C.C................
+...............C.................
+...........CC.C..................
+..........CC.C...................
+.........C.CC....................
+........C........................
+.......C.........................
+......C..........................
+.....C...........................
+CCCCC..........................C.
+.................................
+.................................
+.................................
+.................................
+.................................
+.................................
+.................................";
 
 const PLANS: &[Case] = &[
     Case {
@@ -83,7 +84,8 @@ const PLANS: &[Case] = &[
                 (0, 40, State::Empty),
             ]),
             Fact::Rows(OR_ROWS),
-            Fact::Slots(&[b"O*.", b"o..", b"..."]),
+            Fact::Slots("O*.\no..\n..."),
+            Fact::StaysDark,
         ],
     },
     Case {
@@ -99,6 +101,7 @@ const PLANS: &[Case] = &[
                 (128, 56, 128),
                 (128, 72, 128),
             ]),
+            Fact::Answers,
         ],
     },
     Case {
@@ -115,24 +118,21 @@ const PLANS: &[Case] = &[
                 (95, 40, State::Conductor),
                 (96, 9, State::Empty),
             ]),
+            Fact::Heads(LOOP_HEADS),
         ],
     },
     Case {
         about: "a loop of which the Fork comes first",
         plan: Origin::Written(Sample::ForkLoop),
-        facts: &[Fact::Slots(&[b".FO*.", b"rfo7.", b"L<<J.", b"....."])],
+        facts: &[Fact::Slots(".FO*.\nrfo7.\nL<<J.\n.....")],
     },
     Case {
         about: "three loops alone",
         plan: Origin::Written(Sample::ThreeLoops),
-        facts: &[Fact::Slots(&[
-            b"r>>>>>>>7",
-            b"^r>>>>>7v",
-            b"^^r>>>7vv",
-            b"^^LW<WJvv",
-            b"^L<wWw<Jv",
-            b"L<<<w<<<J",
-        ])],
+        facts: &[
+            Fact::Slots("r>>>>>>>7\n^r>>>>>7v\n^^r>>>7vv\n^^LW<WJvv\n^L<wWw<Jv\nL<<<w<<<J"),
+            Fact::GoesRound,
+        ],
     },
     Case {
         about: "loops lengthen the period",
@@ -193,6 +193,7 @@ const PLANS: &[Case] = &[
                 (0, 24, State::Empty),
                 (320, 8, State::Conductor),
             ]),
+            Fact::RunsIn,
         ],
     },
     Case {
@@ -275,7 +276,8 @@ const PLANS: &[Case] = &[
 ];
 
 fn made(alloc: Global, origin: &Origin) -> Result<Plan, Fail>
-    ensures { IfOk result IsAdmissible }
+    ensures admissible { IfOk result IsAdmissible }
+    ensures starts { IfOk result HasStartEdges }
 {
     match origin {
         Origin::Written(sample) => admitted(alloc, &written(*sample)),
@@ -288,7 +290,7 @@ fn made(alloc: Global, origin: &Origin) -> Result<Plan, Fail>
 
 fn expect_case(alloc: Global, case: &Case) -> Result<(), Fail> {
     let plan = made(alloc, &case.plan)?;
-    expect_facts(case.about, &plan, case.facts)
+    expect_facts(alloc, case.about, &plan, case.facts)
 }
 
 #[test]

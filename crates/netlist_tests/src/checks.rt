@@ -1,5 +1,5 @@
 // Texts whose models are a design, and texts whose models have a fault.
-use crate::texts::{fault_shown, models_of};
+use crate::texts::{cut, fault_shown, models_of};
 use blif_check::{CheckError, Design, check};
 use std::alloc::{AllocError, Global};
 use std::test::Fail;
@@ -31,61 +31,144 @@ fn expect_check(alloc: Global, text: &[u8], want: &[u8]) -> Result<(), Fail> {
     expect_checked(alloc, &check(alloc, models), want)
 }
 
-// Texts, and how many models their designs have, or their faults.
-const CASES: &[(&[u8], &[u8])] = &[
-    (b"", b"B22 line 1: -"),
-    (b".model m\n.inputs a a", b"B12 line 2: a"),
-    (b".model m\n.outputs y\n.inputs y", b"B12 line 3: y"),
-    (
-        b".model m\n.outputs y\n.inputs a\n.inputs a",
-        b"B12 line 4: a",
-    ),
-    (b".model m\n.inputs a\n.names a", b"B13 line 3: a"),
-    (b".model m\n.outputs y\n.names z y\n1 1", b"B14 line 3: z"),
-    (b".model m\n.end\n.model s\n.outputs q", b"B14 line 4: q"),
-    (b".model m\n.outputs y\n.subckt z a=y", b"B15 line 3: z"),
-    (b".model m\n.subckt z\n.subckt w", b"B15 line 2: z"),
-    (
-        b".model m\n.inputs a\n.subckt s q=a\n.end\n.model s\n.inputs p\n.end",
-        b"B16 line 3: q",
-    ),
-    (
-        b".model m\n.inputs a\n.subckt s p=a p=a\n.end\n.model s\n.inputs p\n.end",
-        b"B17 line 3: p",
-    ),
-    (
-        b".model m\n.subckt s q=y q=y\n.end\n.model s\n.outputs q\n.names q",
-        b"B13 line 2: y",
-    ),
-    (
-        b".model m\n.inputs a\n.subckt s\n.end\n.model s\n.inputs p\n.end",
-        b"B18 line 3: p",
-    ),
-    (
-        b".model m\n.subckt s\n.end\n.model s\n.clock k\n.inputs p",
-        b"B18 line 2: k",
-    ),
-    (
-        b".model m\n.subckt s\n.subckt z\n.end\n.model s\n.inputs p",
-        b"B15 line 3: z",
-    ),
-    (b".model m\n.subckt m", b"B19 line 2: m"),
-    (
-        b".model m\n.subckt a\n.end\n.model a\n.subckt b\n.end\n.model b\n.subckt a",
-        b"B19 line 5: a b",
-    ),
-    (b".model m\n.subckt m p=a\n.inputs a", b"B16 line 2: p"),
-    (b".model m", b"1 models"),
-    (
-        b".model m\n.inputs a\n.outputs y\n.subckt s p=a q=y\n.end\n.model s\n.inputs p\n.outputs q\n.names p q\n1 1",
-        b"2 models",
-    ),
-];
+// Texts, and after `== ` how many models their designs have, or their faults. A line that begins
+// with `>` parts two texts.
+const CASES: &str = "
+
+== B22 line 1: -
+>
+.model m
+.inputs a a
+== B12 line 2: a
+>
+.model m
+.outputs y
+.inputs y
+== B12 line 3: y
+>
+.model m
+.outputs y
+.inputs a
+.inputs a
+== B12 line 4: a
+>
+.model m
+.inputs a
+.names a
+== B13 line 3: a
+>
+.model m
+.outputs y
+.names z y
+1 1
+== B14 line 3: z
+>
+.model m
+.end
+.model s
+.outputs q
+== B14 line 4: q
+>
+.model m
+.outputs y
+.subckt z a=y
+== B15 line 3: z
+>
+.model m
+.subckt z
+.subckt w
+== B15 line 2: z
+>
+.model m
+.inputs a
+.subckt s q=a
+.end
+.model s
+.inputs p
+.end
+== B16 line 3: q
+>
+.model m
+.inputs a
+.subckt s p=a p=a
+.end
+.model s
+.inputs p
+.end
+== B17 line 3: p
+>
+.model m
+.subckt s q=y q=y
+.end
+.model s
+.outputs q
+.names q
+== B13 line 2: y
+>
+.model m
+.inputs a
+.subckt s
+.end
+.model s
+.inputs p
+.end
+== B18 line 3: p
+>
+.model m
+.subckt s
+.end
+.model s
+.clock k
+.inputs p
+== B18 line 2: k
+>
+.model m
+.subckt s
+.subckt z
+.end
+.model s
+.inputs p
+== B15 line 3: z
+>
+.model m
+.subckt m
+== B19 line 2: m
+>
+.model m
+.subckt a
+.end
+.model a
+.subckt b
+.end
+.model b
+.subckt a
+== B19 line 5: a b
+>
+.model m
+.subckt m p=a
+.inputs a
+== B16 line 2: p
+>
+.model m
+== 1 models
+>
+.model m
+.inputs a
+.outputs y
+.subckt s p=a q=y
+.end
+.model s
+.inputs p
+.outputs q
+.names p q
+1 1
+== 2 models";
 
 #[test]
 fn the_lowest_rule_and_there_the_earliest_word(rt: HostRuntime) -> Result<(), Fail> {
-    for (text, want) in CASES {
-        expect_check(rt.alloc(), text, want)?;
+    for case in CASES.split("\n>") {
+        let (text, want) = cut(case);
+        expect_check(rt.alloc(), text.as_bytes(), want.as_bytes())?;
     }
     Ok(())
 }

@@ -1,10 +1,24 @@
 // Lists of cells in which what is 1 at zero is kept as its complement.
 use crate::rewriting::{is_shown, list_of};
 use crate::texts::expect_number;
-use cell_core::{Cell, Src};
+use cell_core::{Cell, CellList, Src};
 use cell_polarity::complemented;
 use std::alloc::Global;
 use std::test::Fail;
+
+fn expect_text(alloc: Global, list: &CellList, want: &str) -> Result<(), Fail> {
+    expect_number(want, is_shown(alloc, list, want)? as u64, 1)
+}
+
+fn expect_complemented(
+    alloc: Global,
+    list: &CellList,
+    kept: &[Src],
+    want: &str,
+) -> Result<(), Fail> {
+    let low = complemented(alloc, list, kept)?;
+    expect_text(alloc, &low.list, want)
+}
 
 // Fails unless the list of these cells and nets becomes one with this text. The sources in `kept`
 // are kept.
@@ -16,8 +30,7 @@ fn expect_list(
     want: &str,
 ) -> Result<(), Fail> {
     let list = list_of(alloc, cells, nets)?;
-    let low = complemented(alloc, &list, kept)?;
-    expect_number(want, is_shown(alloc, &low.list, want)? as u64, 1)
+    expect_complemented(alloc, &list, kept, want)
 }
 
 // A NAND of two inputs, and its AND with a third.

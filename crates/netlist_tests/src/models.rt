@@ -1,5 +1,5 @@
 // Texts with the models that are read from them, and texts with faults.
-use crate::texts::{fault_shown, models_of, push_all};
+use crate::texts::{cut, fault_shown, models_of, push_all};
 use blif_reader::{Model, ReadError};
 use lists::{Bytes, List};
 use netlist_core::{Cover, LatchRow, Port, Subckt};
@@ -132,52 +132,154 @@ fn expect_models(alloc: Global, text: &[u8], want: &[u8]) -> Result<(), Fail> {
     expect(&read_shown(alloc, &models_of(alloc, text))?, want)
 }
 
-// Texts, and their models or faults.
-const TEXTS: &[(&[u8], &[u8])] = &[
-    // no lines
-    (b"", b""),
-    (
-        b".model m\n.inputs a b\n.inputs\n.inputs c\n.outputs y\n.clock k\n.names a b y\n11 1\n-0 1\n.names z\n.names a x\n1 0\n.area 3\n.latch d q\n.latch d q re k 1\n.latch d q fe NIL\n.latch d q 2\n.subckt s f=x==y g=h\n.end\n.model s\n.default_input_arrival 1",
-        b"model m in 2/a 2/b 4/c out 5/y clock 6/k; names 7 true a b >y 11 -0; names 10 true >z; names 11 false a >x 1; latch 14 false 3; latch 15 true 1 k; latch 16 false 3; latch 17 false 2; subckt 18 s f|x==y g|h;model s in out clock;",
-    ),
-    // faults
-    (b".end", b"B1 line 1: .end"),
-    (b"11 1\n.foo", b"B1 line 1: 11"),
-    (b".model a\n.defaul x", b"B2 line 2: .defaul"),
-    (b".model a\n. x", b"B2 line 2: ."),
-    (b".model a\n.exdc\n.foo", b"B3 line 2: .exdc"),
-    (b".model a\n.latch x y ah c 7", b"B3 line 2: ah"),
-    (b".model a\n.latch x y ah", b"B8 line 2: .latch"),
-    (b".model", b"B4 line 1: .model"),
-    (b".model a\n.model a b", b"B4 line 2: .model"),
-    (b".model a\n.end a", b"B4 line 2: .end"),
-    (b".model a\n.subckt", b"B4 line 2: .subckt"),
-    (b".model a\n.names y\n1\n.attr x\n1", b"B5 line 5: 1"),
-    (b".model a\n.names x y\n.model b\n1 1", b"B5 line 4: 1"),
-    (b".model a\n.names y\n1 1", b"B6 line 3: 1"),
-    (b".model a\n.names x y\n11 0", b"B6 line 3: 11"),
-    (b".model a\n.names x y\n1 1\n2 0", b"B6 line 4: 2"),
-    (b".model a\n.names x y\n1 1\n- 0", b"B7 line 4: -"),
-    (b".model a\n.latch x", b"B8 line 2: .latch"),
-    (b".model a\n.latch x y 00", b"B8 line 2: .latch"),
-    (b".model a\n.subckt m a=b c= =d", b"B9 line 2: c="),
-    (b".model a\n.end\n.foo", b"B10 line 3: .foo"),
-    (b".model a\n.end\n.end", b"B10 line 3: .end"),
-    (
-        b".model a\n.end\n.model b\n.model a\n.foo",
-        b"B11 line 4: a",
-    ),
-    (
-        b".model a\n.subckt m a==\n.latch x y re",
-        b"B8 line 3: .latch",
-    ),
-];
+// Texts, and after `== ` their models or faults. A line that begins with `>` parts two texts, and
+// may have a remark.
+const TEXTS: &str = "\
+no lines
+
+==\x20
+>
+.model m
+.inputs a b
+.inputs
+.inputs c
+.outputs y
+.clock k
+.names a b y
+11 1
+-0 1
+.names z
+.names a x
+1 0
+.area 3
+.latch d q
+.latch d q re k 1
+.latch d q fe NIL
+.latch d q 2
+.subckt s f=x==y g=h
+.end
+.model s
+.default_input_arrival 1
+== model m in 2/a 2/b 4/c out 5/y clock 6/k; names 7 true a b >y 11 -0; names 10 true >z; names 11 false a >x 1; latch 14 false 3; latch 15 true 1 k; latch 16 false 3; latch 17 false 2; subckt 18 s f|x==y g|h;model s in out clock;
+> faults
+.end
+== B1 line 1: .end
+>
+11 1
+.foo
+== B1 line 1: 11
+>
+.model a
+.defaul x
+== B2 line 2: .defaul
+>
+.model a
+. x
+== B2 line 2: .
+>
+.model a
+.exdc
+.foo
+== B3 line 2: .exdc
+>
+.model a
+.latch x y ah c 7
+== B3 line 2: ah
+>
+.model a
+.latch x y ah
+== B8 line 2: .latch
+>
+.model
+== B4 line 1: .model
+>
+.model a
+.model a b
+== B4 line 2: .model
+>
+.model a
+.end a
+== B4 line 2: .end
+>
+.model a
+.subckt
+== B4 line 2: .subckt
+>
+.model a
+.names y
+1
+.attr x
+1
+== B5 line 5: 1
+>
+.model a
+.names x y
+.model b
+1 1
+== B5 line 4: 1
+>
+.model a
+.names y
+1 1
+== B6 line 3: 1
+>
+.model a
+.names x y
+11 0
+== B6 line 3: 11
+>
+.model a
+.names x y
+1 1
+2 0
+== B6 line 4: 2
+>
+.model a
+.names x y
+1 1
+- 0
+== B7 line 4: -
+>
+.model a
+.latch x
+== B8 line 2: .latch
+>
+.model a
+.latch x y 00
+== B8 line 2: .latch
+>
+.model a
+.subckt m a=b c= =d
+== B9 line 2: c=
+>
+.model a
+.end
+.foo
+== B10 line 3: .foo
+>
+.model a
+.end
+.end
+== B10 line 3: .end
+>
+.model a
+.end
+.model b
+.model a
+.foo
+== B11 line 4: a
+>
+.model a
+.subckt m a==
+.latch x y re
+== B8 line 3: .latch";
 
 // The fault is on the earliest line at fault, and there of the lowest rule.
 #[test]
 fn models_are_read(rt: HostRuntime) -> Result<(), Fail> {
-    for (text, want) in TEXTS {
-        expect_models(rt.alloc(), text, want)?;
+    for case in TEXTS.split("\n>") {
+        let (text, want) = cut(case);
+        expect_models(rt.alloc(), text.as_bytes(), want.as_bytes())?;
     }
     Ok(())
 }

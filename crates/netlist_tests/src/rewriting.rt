@@ -70,6 +70,15 @@ fn count_of(alloc: Global, lists: &[CellList], want: &str) -> Result<u64, AllocE
     Ok(count)
 }
 
+fn expect_eight(alloc: Global, lists: &[CellList], want: &str) -> Result<(), Fail> {
+    expect_number(want, count_of(alloc, lists, want)?, 8)
+}
+
+fn expect_rewritten(alloc: Global, list: &CellList, kept: &[Src], want: &str) -> Result<(), Fail> {
+    let lists = rewritten(alloc, list, kept)?;
+    expect_eight(alloc, &lists, want)
+}
+
 // Fails unless exactly eight of the lists to which these cells and nets are rewritten have this
 // text, the first one among them. The sources in `kept` are kept.
 fn expect_lists(
@@ -80,8 +89,7 @@ fn expect_lists(
     want: &str,
 ) -> Result<(), Fail> {
     let list = list_of(alloc, cells, nets)?;
-    let lists = rewritten(alloc, &list, kept)?;
-    expect_number(want, count_of(alloc, &lists, want)?, 8)
+    expect_rewritten(alloc, &list, kept, want)
 }
 
 // An XOR of two inputs as two AND-NOTs and an OR.

@@ -14,9 +14,11 @@ const RULES: &[(FaultKind, u8, &str)] = &[
 ];
 
 #[test]
-fn numbers_and_names_are_those_of_the_printed_lines(rt: HostRuntime) -> Result<(), Fail> {
+fn some_rules_have_their_numbers_and_names(rt: HostRuntime) -> Result<(), Fail> {
     for (kind, number, name) in RULES {
-        assert_eq!(rt; (kind.number(), kind.name()), (*number, *name));
+        if kind.number() != *number || kind.name() != *name {
+            return Err(Fail::new(*name));
+        }
     }
     Ok(())
 }

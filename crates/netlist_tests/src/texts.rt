@@ -13,6 +13,12 @@ pub fn push_all(text: &mut Vec<u8>, parts: &[&[u8]]) -> Result<(), AllocError> {
     Ok(())
 }
 
+/// Cuts a case after its first line, which may be a remark, into its text and what is wanted.
+pub fn cut(case: &str) -> (&str, &str) {
+    let (_, rest) = case.split_once('\n').unwrap_or(("", case));
+    rest.split_once("\n== ").unwrap_or((rest, "no case"))
+}
+
 /// Joins the parts to one text.
 pub fn joined(alloc: Global, parts: &[&[u8]]) -> Result<Vec<u8>, AllocError> {
     let mut text = Vec::new(alloc);

@@ -1,9 +1,9 @@
 // Drawings of circuits, and patterns that are almost drawings.
-use crate::runs::expect_shown;
+use crate::runs::{Asked, expect_cases};
 use std::test::Fail;
 
-// A latch that starts with 1. Its output shows the input of the cycle before.
-const LATCH: &[u8] = b"x = 97, y = 48, rule = WireWorld
+/// A latch that starts with 1. Its output shows the input of the cycle before.
+pub const LATCH: &[u8] = b"x = 97, y = 48, rule = WireWorld
 5$53.2C$35.19C.C$34.C18.2C.2C$32.2C23.8C$34.C18.2C.2C$35.C16.2C.C$36.C
 14.C.2C$37.C12.C$38.C.2C7.C$39.2C.C5.C$40.2C.2C2.C$44.3C$40.2C.2C2.C$
 39.2C.C5.C$38.C.2C7.C$37.C12.C$36.C14.C.2C$35.C16.2C.C$34.C18.2C.2C$
@@ -11,8 +11,8 @@ const LATCH: &[u8] = b"x = 97, y = 48, rule = WireWorld
 15.C66.C$16.C64.C$16.C63.C$16.C63.C$16.C63.C$16.C63.C$16.C64.C$15.C66.
 C$14.C68.C$13.C70.C$10.3C72.2C$9.C77.C$10.77C!";
 
-// The latch, but starting with 0.
-const DARK_LATCH: &[u8] = b"x = 97, y = 48, rule = WireWorld
+/// The latch, but starting with 0.
+pub const DARK_LATCH: &[u8] = b"x = 97, y = 48, rule = WireWorld
 5$53.2C$35.19C.C$34.C18.2C.2C$32.2C23.8C$34.C18.2C.2C$35.C16.2C.C$36.C
 14.C.2C$37.C12.C$38.C.2C7.C$39.2C.C5.C$40.2C.2C2.C$44.3C$40.2C.2C2.C$
 39.2C.C5.C$38.C.2C7.C$37.C12.C$36.C14.C.2C$35.C16.2C.C$34.C18.2C.2C$
@@ -20,8 +20,8 @@ const DARK_LATCH: &[u8] = b"x = 97, y = 48, rule = WireWorld
 66.C$16.C64.C$16.C63.C$16.C63.C$16.C63.C$16.C63.C$16.C64.C$15.C66.C$
 14.C68.C$13.C70.C$10.3C72.2C$9.C77.C$10.77C!";
 
-// The latch without one cell of its loop.
-const CUT_LATCH: &[u8] = b"x = 97, y = 48, rule = WireWorld
+/// The latch without one cell of its loop.
+pub const CUT_LATCH: &[u8] = b"x = 97, y = 48, rule = WireWorld
 5$53.2C$35.19C.C$34.C18.2C.2C$32.2C23.8C$34.C18.2C.2C$35.C16.2C.C$36.C
 14.C.2C$37.C12.C$38.C.2C7.C$39.2C.C5.C$40.2C.2C2.C$44.3C$40.2C.2C2.C$
 39.2C.C5.C$38.C.2C7.C$37.C12.C$36.C14.C.2C$35.C16.2C.C$34.C18.2C.2C$
@@ -29,8 +29,8 @@ const CUT_LATCH: &[u8] = b"x = 97, y = 48, rule = WireWorld
 15.C66.C$16.C64.C$16.C63.C$16.C63.C$16.C63.C$16.C63.C$16.C64.C$15.C66.
 C$14.C68.C$13.C70.C$10.3C72.C$9.C77.C$10.77C!";
 
-// The latch with its electron one generation late.
-const LATE_LATCH: &[u8] = b"x = 97, y = 48, rule = WireWorld
+/// The latch with its electron one generation late.
+pub const LATE_LATCH: &[u8] = b"x = 97, y = 48, rule = WireWorld
 5$53.2C$35.19C.C$34.C18.2C.2C$32.2C23.8C$34.C18.2C.2C$35.C16.2C.C$36.C
 14.C.2C$37.C12.C$38.C.2C7.C$39.2C.C5.C$40.2C.2C2.C$44.3C$40.2C.2C2.C$
 39.2C.C5.C$38.C.2C7.C$37.C12.C$36.C14.C.2C$35.C16.2C.C$34.C18.2C.2C$
@@ -38,40 +38,47 @@ const LATE_LATCH: &[u8] = b"x = 97, y = 48, rule = WireWorld
 15.C66.C$16.C64.C$16.C63.C$16.C63.C$16.C63.C$16.C63.C$16.C64.C$15.C66.
 C$14.C68.C$13.C70.C$10.3C72.2C$9.C77.C$10.77C!";
 
-const TABLE: &[u8] = b"#C BLIFWW 2 P 192 L 32 C 1\n#C BLIFWW IN 32 8 d\n#C BLIFWW OUT 64 8 q\n";
-
-// Tables, patterns, the word of the input for six cycles, and what the output shows.
-const LATCHES: &[(&[u8], &[u8], &str, &[u8])] = &[
-    (TABLE, LATCH, "d=001011", b"100101,"),
-    (TABLE, DARK_LATCH, "d=001011", b"000101,"),
-    (TABLE, CUT_LATCH, "d=001011", b"100000,"),
-    (TABLE, LATE_LATCH, "d=001011", b"000101,"),
-    // net lines, whatever they say
-    (
-        b"#C BLIFWW 2 P 192 L 32 C 1\n#C BLIFWW IN 32 8 d\n#C BLIFWW OUT 64 8 q\n#C BLIFWW NET 32 8 0 d -\n#C BLIFWW NET 0 0 7 q -\n",
-        LATCH,
-        "d=001011",
-        b"100101,",
-    ),
-    // names that no netlist can have
-    (
-        b"#C BLIFWW 2 P 192 L 32 C 1\n#C BLIFWW IN 32 8 d%20e\n#C BLIFWW OUT 64 8 q\n",
-        LATCH,
-        "d e=001011",
-        b"100101,",
-    ),
-    (
-        b"#C BLIFWW 2 P 192 L 32 C 1\n#C BLIFWW IN 32 8 d\n#C BLIFWW OUT 64 8 d\n",
-        LATCH,
-        "d=001011",
-        b"100101,",
-    ),
-];
+// Latches that are driven for six cycles, and what their outputs show.
+const LATCHES: &str = "\
+latch, 6, d=001011
+#C BLIFWW 2 P 192 L 32 C 1
+#C BLIFWW IN 32 8 d
+#C BLIFWW OUT 64 8 q
+== 100101,
+> dark_latch, 6, d=001011
+#C BLIFWW 2 P 192 L 32 C 1
+#C BLIFWW IN 32 8 d
+#C BLIFWW OUT 64 8 q
+== 000101,
+> cut_latch, 6, d=001011
+#C BLIFWW 2 P 192 L 32 C 1
+#C BLIFWW IN 32 8 d
+#C BLIFWW OUT 64 8 q
+== 100000,
+> late_latch, 6, d=001011
+#C BLIFWW 2 P 192 L 32 C 1
+#C BLIFWW IN 32 8 d
+#C BLIFWW OUT 64 8 q
+== 000101,
+> latch, 6, d=001011 -- net lines, whatever they say
+#C BLIFWW 2 P 192 L 32 C 1
+#C BLIFWW IN 32 8 d
+#C BLIFWW OUT 64 8 q
+#C BLIFWW NET 32 8 0 d -
+#C BLIFWW NET 0 0 7 q -
+== 100101,
+> latch, 6, d e=001011 -- names that no netlist can have
+#C BLIFWW 2 P 192 L 32 C 1
+#C BLIFWW IN 32 8 d%20e
+#C BLIFWW OUT 64 8 q
+== 100101,
+> latch, 6, d=001011
+#C BLIFWW 2 P 192 L 32 C 1
+#C BLIFWW IN 32 8 d
+#C BLIFWW OUT 64 8 d
+== 100101,";
 
 #[test]
 fn circuits_show_what_their_cells_make(rt: HostRuntime) -> Result<(), Fail> {
-    for (table, pattern, word, want) in LATCHES {
-        expect_shown(rt.alloc(), table, pattern, &[word], 6, want)?;
-    }
-    Ok(())
+    expect_cases(rt.alloc(), LATCHES, Asked::Outputs)
 }

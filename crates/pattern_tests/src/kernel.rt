@@ -1,9 +1,10 @@
 // Rows written by hand: the heads above, the row's heads, the heads below, the row's tails and
 // wires, and its new heads and wires.
 use lane_kernel::step_rows;
+use std::test::Fail;
 
 #[test]
-fn a_head_crosses_the_border_of_words(rt: HostRuntime) {
+fn a_head_crosses_the_border_of_words(rt: HostRuntime) -> Result<(), Fail> {
     let mut heads = [0u64; 2];
     let mut wires = [0u64; 2];
     step_rows(
@@ -15,14 +16,22 @@ fn a_head_crosses_the_border_of_words(rt: HostRuntime) {
         &mut heads,
         &mut wires,
     );
-    assert_eq!(&rt; [heads, wires], [[1 << 63, 0], [2, 0]]);
+    if heads == [1 << 63, 0] && wires == [2, 0] {
+        Ok(())
+    } else {
+        Err(Fail::new("other heads or wires"))
+    }
 }
 
 #[test]
-fn three_heads_light_nothing(rt: HostRuntime) {
+fn three_heads_light_nothing(rt: HostRuntime) -> Result<(), Fail> {
+    step_rows(&[], &[], &[], &[], &[], &mut [], &mut []);
     let mut heads = [0u64; 1];
     let mut wires = [0u64; 1];
     step_rows(&[7], &[0], &[0], &[0], &[10], &mut heads, &mut wires);
-    assert_eq!(&rt; [heads, wires], [[8], [2]]);
-    step_rows(&[], &[], &[], &[], &[], &mut [], &mut []);
+    if heads == [8] && wires == [2] {
+        Ok(())
+    } else {
+        Err(Fail::new("other heads or wires"))
+    }
 }

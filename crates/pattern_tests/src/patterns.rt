@@ -1,5 +1,5 @@
 // Texts, and what is read from each: rows in the letters of extended RLE, or a fault and its line.
-use crate::texts::drawn;
+use crate::texts::{cut, drawn};
 use rle_read::{RleReadError, read};
 use std::alloc::{AllocError, Global};
 use std::test::Fail;
@@ -24,101 +24,229 @@ fn expect_read(alloc: Global, text: &[u8], want: &[u8]) -> Result<(), Fail> {
     expect(&read_shown(alloc, &read(alloc, text))?, want)
 }
 
-// Texts, and their rows or faults.
-const TEXTS: &[(&[u8], &[u8])] = &[
-    (
-        b"#CXRLE Pos=0,0\nx = 3, y = 1, rule = wireworld\n3C$!\n",
-        b"CCC$",
-    ),
-    (
-        b"#C BLIFWW 1 P 4 L 2\n#C BLIFWW IN 0 0 a\n#C BLIFWW OUT 2 0 y\nx = 3, y = 1, rule = WireWorld\n3C!\n",
-        b"CCC$",
-    ),
-    (
-        b"#C BLIFWW 1 P 32 L 0\nx = 0, y = 0, rule = WireWorld\n!\n",
-        b"",
-    ),
-    (
-        b"# one\n\n \t\n#two\r\n\t x\t=  003 ,y = 1,\trule =\tWireWorld \t\r\n3C!",
-        b"CCC$",
-    ),
-    (b"x = 18446744073709551615, y = 0, rule = WireWorld\n!", b""),
-    (b"x = 3, y = 2, rule = WireWorld\n3A$.C!", b"AAA$.C.$"),
-    (
-        b"x = 4, y = 3, rule = WireWorld\n.ABC$$bo!",
-        b".ABC$....$.A..$",
-    ),
-    (
-        b"x=3,y=1,rule=WIREWORLD\n\t2C \r\n\r\n# 4C!\n001C\n!0C?\n5C",
-        b"CCC$",
-    ),
-    (b"x = 3, y = 1, rule = WireWorld\nC99.$7$9b!", b"C..$"),
-    (
-        b"x = 3, y = 1, rule = WireWorld\nC18446744073709551615.18446744073709551615.$18446744073709551615$.!",
-        b"C..$",
-    ),
-    (b"x = 3, y = 1, rule = WireWorld\n!", b"...$"),
-    // faults of headers
-    (b"", b"NoHeader 1"),
-    (b"#x = 3, y = 1, rule = WireWorld\n \n", b"NoHeader 2"),
-    (b"#C\n3C!", b"NoHeader 2"),
-    (b"y = 1, x = 3, rule = WireWorld\n3C!", b"NoHeader 1"),
-    (b"\nx = 3\n3C!", b"BadHeader 2"),
-    (b"x = 3, y = 1, rule =\t \n3C!", b"BadHeader 1"),
-    (b"x = 3, y = 1,\n3C!", b"BadHeader 1"),
-    (b"x = , y = 1, rule = WireWorld\n3C!", b"BadHeader 1"),
-    (
-        b"x = 18446744073709551616, y = 0, rule = WireWorld\n!",
-        b"BadHeader 1",
-    ),
-    (b"x = 3, y = 1\n3C!", b"OtherRule 1"),
-    (b"#C\n\nx = 3, y = 1, rule = B3/S23\n3C!", b"OtherRule 3"),
-    (
-        b"x = 3, y = 1, rule = WireWorld, z = 1\n3C!",
-        b"OtherRule 1",
-    ),
-    (b"x = 16385, y = 16384, rule = Life\n0C", b"OtherRule 1"),
-    (b"x = 3, y = 1, rule = WireWorld", b"NoEnd 1"),
-    (
-        b"x = 16385, y = 16384, rule = WireWorld\n0C",
-        b"TooLarge 16385 16384",
-    ),
-    // faults of items
-    (b"x = 3, y = 1, rule = WireWorld\n3D!", b"BadItem 2"),
-    (b"x = 3, y = 1, rule = WireWorld\n3C#\n!", b"BadItem 2"),
-    (b"x = 3, y = 1, rule = WireWorld\n3C\r!", b"BadItem 2"),
-    (b"x = 3, y = 1, rule = WireWorld\n0C!", b"BadItem 2"),
-    (
-        b"x = 3, y = 1, rule = WireWorld\nC18446744073709551616.!",
-        b"BadItem 2",
-    ),
-    (b"x = 3, y = 1, rule = WireWorld\n3 C!", b"BadItem 2"),
-    (b"x = 3, y = 1, rule = WireWorld\n3\r\nC!", b"BadItem 2"),
-    (b"x = 3, y = 1, rule = WireWorld\n3\n#C\nC!", b"BadItem 2"),
-    (b"x = 3, y = 1, rule = WireWorld\n2C\n1!", b"BadItem 3"),
-    (b"x = 3, y = 1, rule = WireWorld\n3C3\n", b"BadItem 2"),
-    (b"x = 3, y = 1, rule = WireWorld\n4C!", b"CellOutside 2"),
-    (b"x = 3, y = 1, rule = WireWorld\n3.\nA!", b"CellOutside 3"),
-    (b"x = 3, y = 1, rule = WireWorld\n$B!", b"CellOutside 2"),
-    (
-        b"x = 3, y = 1, rule = WireWorld\n18446744073709551615$18446744073709551615$C!",
-        b"CellOutside 2",
-    ),
-    (b"x = 3, y = 1, rule = WireWorld\n4C\n0C!", b"CellOutside 2"),
-    (b"x = 3, y = 1, rule = WireWorld\n0C\n4C!", b"BadItem 2"),
-    (b"x = 3, y = 1, rule = WireWorld\n3C$\n", b"NoEnd 2"),
-    (b"x = 3, y = 1, rule = WireWorld\n3C\n#!", b"NoEnd 3"),
-    (b"x = 3, y = 1, rule = WireWorld\n3C\n0", b"NoEnd 3"),
-    (
-        b"x = 3, y = 1, rule = WireWorld\n3C18446744073709551616",
-        b"NoEnd 2",
-    ),
-];
+// Texts, and after `== ` their rows or faults. A line that begins with `>` parts two texts, and may
+// have a remark.
+const TEXTS: &str = "
+#CXRLE Pos=0,0
+x = 3, y = 1, rule = wireworld
+3C$!
+
+== CCC$
+>
+#C BLIFWW 1 P 4 L 2
+#C BLIFWW IN 0 0 a
+#C BLIFWW OUT 2 0 y
+x = 3, y = 1, rule = WireWorld
+3C!
+
+== CCC$
+>
+#C BLIFWW 1 P 32 L 0
+x = 0, y = 0, rule = WireWorld
+!
+
+==\x20
+>
+# one
+
+ \t
+#two\r
+\t x\t=  003 ,y = 1,\trule =\tWireWorld \t\r
+3C!
+== CCC$
+>
+x = 18446744073709551615, y = 0, rule = WireWorld
+!
+==\x20
+>
+x = 3, y = 2, rule = WireWorld
+3A$.C!
+== AAA$.C.$
+>
+x = 4, y = 3, rule = WireWorld
+.ABC$$bo!
+== .ABC$....$.A..$
+>
+x=3,y=1,rule=WIREWORLD
+\t2C \r
+\r
+# 4C!
+001C
+!0C?
+5C
+== CCC$
+>
+x = 3, y = 1, rule = WireWorld
+C99.$7$9b!
+== C..$
+>
+x = 3, y = 1, rule = WireWorld
+C18446744073709551615.18446744073709551615.$18446744073709551615$.!
+== C..$
+>
+x = 3, y = 1, rule = WireWorld
+!
+== ...$
+> faults of headers
+
+== NoHeader 1
+>
+#x = 3, y = 1, rule = WireWorld
+\x20
+
+== NoHeader 2
+>
+#C
+3C!
+== NoHeader 2
+>
+y = 1, x = 3, rule = WireWorld
+3C!
+== NoHeader 1
+>
+
+x = 3
+3C!
+== BadHeader 2
+>
+x = 3, y = 1, rule =\t\x20
+3C!
+== BadHeader 1
+>
+x = 3, y = 1,
+3C!
+== BadHeader 1
+>
+x = , y = 1, rule = WireWorld
+3C!
+== BadHeader 1
+>
+x = 18446744073709551616, y = 0, rule = WireWorld
+!
+== BadHeader 1
+>
+x = 3, y = 1
+3C!
+== OtherRule 1
+>
+#C
+
+x = 3, y = 1, rule = B3/S23
+3C!
+== OtherRule 3
+>
+x = 3, y = 1, rule = WireWorld, z = 1
+3C!
+== OtherRule 1
+>
+x = 16385, y = 16384, rule = Life
+0C
+== OtherRule 1
+>
+x = 3, y = 1, rule = WireWorld
+== NoEnd 1
+>
+x = 16385, y = 16384, rule = WireWorld
+0C
+== TooLarge 16385 16384
+> faults of items
+x = 3, y = 1, rule = WireWorld
+3D!
+== BadItem 2
+>
+x = 3, y = 1, rule = WireWorld
+3C#
+!
+== BadItem 2
+>
+x = 3, y = 1, rule = WireWorld
+3C\r!
+== BadItem 2
+>
+x = 3, y = 1, rule = WireWorld
+0C!
+== BadItem 2
+>
+x = 3, y = 1, rule = WireWorld
+C18446744073709551616.!
+== BadItem 2
+>
+x = 3, y = 1, rule = WireWorld
+3 C!
+== BadItem 2
+>
+x = 3, y = 1, rule = WireWorld
+3\r
+C!
+== BadItem 2
+>
+x = 3, y = 1, rule = WireWorld
+3
+#C
+C!
+== BadItem 2
+>
+x = 3, y = 1, rule = WireWorld
+2C
+1!
+== BadItem 3
+>
+x = 3, y = 1, rule = WireWorld
+3C3
+
+== BadItem 2
+>
+x = 3, y = 1, rule = WireWorld
+4C!
+== CellOutside 2
+>
+x = 3, y = 1, rule = WireWorld
+3.
+A!
+== CellOutside 3
+>
+x = 3, y = 1, rule = WireWorld
+$B!
+== CellOutside 2
+>
+x = 3, y = 1, rule = WireWorld
+18446744073709551615$18446744073709551615$C!
+== CellOutside 2
+>
+x = 3, y = 1, rule = WireWorld
+4C
+0C!
+== CellOutside 2
+>
+x = 3, y = 1, rule = WireWorld
+0C
+4C!
+== BadItem 2
+>
+x = 3, y = 1, rule = WireWorld
+3C$
+
+== NoEnd 2
+>
+x = 3, y = 1, rule = WireWorld
+3C
+#!
+== NoEnd 3
+>
+x = 3, y = 1, rule = WireWorld
+3C
+0
+== NoEnd 3
+>
+x = 3, y = 1, rule = WireWorld
+3C18446744073709551616
+== NoEnd 2";
 
 #[test]
 fn texts_are_read(rt: HostRuntime) -> Result<(), Fail> {
-    for (text, want) in TEXTS {
-        expect_read(rt.alloc(), text, want)?;
+    for case in TEXTS.split("\n>") {
+        let (_, text, want) = cut(case);
+        expect_read(rt.alloc(), text.as_bytes(), want.as_bytes())?;
     }
     Ok(())
 }

@@ -4,8 +4,9 @@ ghost use Rattle.pattern_reading.specs.Ports.{cells_of};
 ghost use Rattle.ww_rule.specs.Grid.{AreInBox};
 ghost use Rattle.drive.specs.Driving.{AreFor};
 
-use crate::texts::joined;
-use crate::waves::dump_said;
+use crate::drawn::{CUT_LATCH, DARK_LATCH, LATCH, LATE_LATCH};
+use crate::texts::{cut, joined};
+use crate::waves::{TWO_ROWS, dump_said};
 use drive::{SimulateError, StreamError, Streams, simulate};
 use lists::List;
 use pattern_reading::{PortLine, Ports, names_of};
@@ -15,13 +16,13 @@ use ww_base::expect;
 use ww_rule::Pattern;
 
 // A wire of three cells.
-pub const WIRE: &[u8] = b"x = 3, y = 1, rule = WireWorld\n3C!";
+const WIRE: &[u8] = b"x = 3, y = 1, rule = WireWorld\n3C!";
 
 // A wire of three cells, one below the other.
 const WIRE_DOWN: &[u8] = b"x = 1, y = 3, rule = WireWorld\nC$C$C!";
 
 // An OR gate: the inputs enter at (0, 8) and (0, 24), the output is at (32, 8).
-pub const OR_GATE: &[u8] = b"x = 33, y = 32, rule = WireWorld
+const OR_GATE: &[u8] = b"x = 33, y = 32, rule = WireWorld
 .................................$
 .................................$
 .................................$
@@ -173,9 +174,9 @@ fn said(
     Ok(said?)
 }
 
-/// Joins a table and a pattern to one text, and returns what is asked of the pattern, or why there
-/// are no streams or no run.
-pub fn said_of(
+// Joins a table and a pattern to one text, and returns what is asked of the pattern, or why there
+// are no streams or no run.
+fn said_of(
     alloc: Global,
     table: &[u8],
     pattern: &[u8],
@@ -186,274 +187,251 @@ pub fn said_of(
     if cycles == 0 {
         return Err(Fail::new("no cycles"));
     }
-    let text = joined(alloc, &[table, pattern])?;
+    let text = joined(alloc, &[table, b"\n", pattern])?;
     said(alloc, &text, words, cycles, asked)
-}
-
-/// Fails unless `said_of` returns `want`.
-pub fn expect_said(
-    alloc: Global,
-    table: &[u8],
-    pattern: &[u8],
-    words: &[&str],
-    cycles: usize,
-    asked: Asked,
-    want: &[u8],
-) -> Result<(), Fail> {
-    expect(&said_of(alloc, table, pattern, words, cycles, asked)?, want)
-}
-
-/// Fails unless the outputs show `want`.
-pub fn expect_shown(
-    alloc: Global,
-    table: &[u8],
-    pattern: &[u8],
-    words: &[&str],
-    cycles: usize,
-    want: &[u8],
-) -> Result<(), Fail> {
-    expect_said(alloc, table, pattern, words, cycles, Asked::Outputs, want)
 }
 
 // A ring on which an electron circles for ever.
 const RING: &[u8] = b"x = 4, y = 3, rule = WireWorld\n.BA$C2.C$.2C!";
 
-// Cases, with an empty line between any two. The first line of a case has the pattern, the cycles
-// and the words, and after `=>` what `said_of` returns; a comment after ` -- ` is about the cases
-// from there on. The lines of the port table follow. The cases are one text, since a Rust table
-// costs proof time for each row.
+// Patterns that are driven, and what their outputs show.
 const RUNS: &str = "\
-wire 2 a=11 => 11, -- a wire of each period
+wire, 2, a=11 -- a wire of each period
 #C BLIFWW 1 P 4 L 2
 #C BLIFWW IN 0 0 a
 #C BLIFWW OUT 2 0 y
-
-wire 2 a=11 => 11,
+== 11,
+> wire, 2, a=11
 #C BLIFWW 1 P 3 L 2
 #C BLIFWW IN 0 0 a
 #C BLIFWW OUT 2 0 y
-
-wire 2 a=11 => 10,
+== 11,
+> wire, 2, a=11
 #C BLIFWW 1 P 2 L 2
 #C BLIFWW IN 0 0 a
 #C BLIFWW OUT 2 0 y
-
-wire 2 a=11 => NotQuiet 1 0 0
+== 10,
+> wire, 2, a=11
 #C BLIFWW 1 P 1 L 2
 #C BLIFWW IN 0 0 a
 #C BLIFWW OUT 2 0 y
-
-wire_down 2 a=11 => 11,
+== NotQuiet 1 0 0
+> wire_down, 2, a=11
 #C BLIFWW 1 P 4 L 2
 #C BLIFWW IN 0 0 a
 #C BLIFWW OUT 0 2 y
-
-wire_down 2 a=11 => 11,
+== 11,
+> wire_down, 2, a=11
 #C BLIFWW 1 P 3 L 2
 #C BLIFWW IN 0 0 a
 #C BLIFWW OUT 0 2 y
-
-wire_down 2 a=11 => 10,
+== 11,
+> wire_down, 2, a=11
 #C BLIFWW 1 P 2 L 2
 #C BLIFWW IN 0 0 a
 #C BLIFWW OUT 0 2 y
-
-wire_down 2 a=11 => NotQuiet 1 0 1
+== 10,
+> wire_down, 2, a=11
 #C BLIFWW 1 P 1 L 1
 #C BLIFWW IN 0 1 a
 #C BLIFWW OUT 0 2 y
-
-or 2 a=01 => NotQuiet 32 9 8 -- an empty cell, a cell that another input lights, and no output
+== NotQuiet 1 0 1
+> or, 2, a=01 -- an empty cell, a cell that another input lights, and no output
 #C BLIFWW 1 P 32 L 32
 #C BLIFWW IN 9 8 a
 #C BLIFWW OUT 32 8 y
-
-wire 2 a=10 b=10 => 00,
+== NotQuiet 32 9 8
+> wire, 2, a=10, b=10
 #C BLIFWW 1 P 4 L 2
 #C BLIFWW IN 0 0 a
 #C BLIFWW IN 1 0 b
 #C BLIFWW OUT 2 0 y
-
-wire 2 a=11 => NotQuiet 1 0 0
+== 00,
+> wire, 2, a=11
 #C BLIFWW 1 P 1 L 0
 #C BLIFWW IN 0 0 a
-
-wire 2 1:a=01 0:a=10 => 10,00,01,00, -- two contexts on one wire, on a gate, and with an empty cell
+== NotQuiet 1 0 0
+> wire, 2, 1:a=01, 0:a=10 -- two contexts on one wire, on a gate, and with an empty cell
 #C BLIFWW 1 P 64 L 2 C 2
 #C BLIFWW IN 0 0 a
 #C BLIFWW OUT 2 0 y
 #C BLIFWW OUT 0 0 z
-
-or 3 0:a=100 0:b=010 1:a=001 1:b=001 => 110,001,
+== 10,00,01,00,
+> or, 3, 0:a=100, 0:b=010, 1:a=001, 1:b=001
 #C BLIFWW 1 P 64 L 32 C 2
 #C BLIFWW IN 0 8 a
 #C BLIFWW IN 0 24 b
 #C BLIFWW OUT 32 8 y
-
-or 2 0:a=11 0:b=01 1:a=11 1:b=11 => NotQuiet 32 9 8
+== 110,001,
+> or, 2, 0:a=11, 0:b=01, 1:a=11, 1:b=11
 #C BLIFWW 1 P 64 L 32 C 2
 #C BLIFWW IN 0 8 a
 #C BLIFWW IN 9 8 b
 #C BLIFWW OUT 32 8 y
-
-wire 2 a=10 => 10, -- the second bit is dark, or nothing is seen
+== NotQuiet 32 9 8
+> wire, 2, a=10 -- the second bit is dark, or nothing is seen
 #C BLIFWW 1 P 4294967294 L 2
 #C BLIFWW IN 0 0 a
 #C BLIFWW OUT 2 0 y
-
-wire 2 a=10 => 
+== 10,
+> wire, 2, a=10
 #C BLIFWW 1 P 4294967294 L 2
 #C BLIFWW IN 0 0 a
-
-ring 2 a=10 => -- a ring without outputs, whose last injection comes long before the last generation, and one that misses
+==\x20
+> ring, 2, a=10 -- a ring without outputs, whose last injection comes long before the last generation, and one that misses
 #C BLIFWW 1 P 4294967294 L 2
 #C BLIFWW IN 1 2 a
-
-ring 2 a=10 b=01 => NotQuiet 64 1 1
+==\x20
+> ring, 2, a=10, b=01
 #C BLIFWW 1 P 64 L 2
 #C BLIFWW IN 1 2 a
 #C BLIFWW IN 1 1 b
-
-or 4 b=0101 a=0011 => 0111, -- a gate, and one head and each generation up to 32
+== NotQuiet 64 1 1
+> or, 4, b=0101, a=0011 -- a gate, and one head and each generation up to 32
 #C BLIFWW 1 P 32 L 32
 #C BLIFWW IN 0 8 a
 #C BLIFWW IN 0 24 b
 #C BLIFWW OUT 32 8 y
-
-or 33 a=100000000000000000000000000000000 b=000000000000000000000000000000000 => 000000000000000000000000000000001,
+== 0111,
+> or, 33, a=100000000000000000000000000000000, b=000000000000000000000000000000000
 #C BLIFWW 1 P 1 L 0
 #C BLIFWW IN 0 8 a
 #C BLIFWW IN 0 24 b
 #C BLIFWW OUT 32 8 y
-
-wire 2 a=11 => TooFar 4294967298 -- past the greatest generation
+== 000000000000000000000000000000001,
+> wire, 2, a=11 -- past the greatest generation
 #C BLIFWW 1 P 4294967296 L 2
 #C BLIFWW IN 0 0 a
 #C BLIFWW OUT 2 0 y
-
-wire 2 0:a=10 1:a=00 => TooFar 4294967297
+== TooFar 4294967298
+> wire, 2, 0:a=10, 1:a=00
 #C BLIFWW 1 P 4294967264 L 1 C 2
 #C BLIFWW IN 0 0 a
 #C BLIFWW OUT 2 0 y
-
-wire 2 a=b=10 => 10, -- a name with an equals sign
+== TooFar 4294967297
+> wire, 2, a=b=10 -- a name with an equals sign
 #C BLIFWW 1 P 4 L 2
 #C BLIFWW IN 0 0 a=b
 #C BLIFWW OUT 2 0 y
-
-wire 2 a=01 b=0 => BadLength b=0 -- first faults
+== 10,
+> wire, 2, a=01, b=0 -- first faults
 #C BLIFWW 1 P 4 L 2
 #C BLIFWW IN 0 0 a
 #C BLIFWW IN 1 0 b
 #C BLIFWW OUT 2 0 y
-
-wire 2 a=01 => MissingInput b
+== BadLength b=0
+> wire, 2, a=01
 #C BLIFWW 1 P 4 L 2
 #C BLIFWW IN 0 0 a
 #C BLIFWW IN 1 0 b
 #C BLIFWW OUT 2 0 y
-
-wire 2 a=01 a=01 b=01 => TwiceInput a=01
+== MissingInput b
+> wire, 2, a=01, a=01, b=01
 #C BLIFWW 1 P 4 L 2
 #C BLIFWW IN 0 0 a
 #C BLIFWW IN 1 0 b
 #C BLIFWW OUT 2 0 y
-
-wire 2 a01 b=0 => NoEquals a01
+== TwiceInput a=01
+> wire, 2, a01, b=0
 #C BLIFWW 1 P 4 L 2
 #C BLIFWW IN 0 0 a
 #C BLIFWW IN 1 0 b
 #C BLIFWW OUT 2 0 y
-
-wire 2 c=2 b => UnknownInput c=2
+== NoEquals a01
+> wire, 2, c=2, b
 #C BLIFWW 1 P 4 L 2
 #C BLIFWW IN 0 0 a
 #C BLIFWW IN 1 0 b
 #C BLIFWW OUT 2 0 y
-
-wire 2 a=012 b=01 => BadBit a=012
+== UnknownInput c=2
+> wire, 2, a=012, b=01
 #C BLIFWW 1 P 4 L 2
 #C BLIFWW IN 0 0 a
 #C BLIFWW IN 1 0 b
 #C BLIFWW OUT 2 0 y
-
-wire 2 a=01 a=2 => TwiceInput a=2
+== BadBit a=012
+> wire, 2, a=01, a=2
 #C BLIFWW 1 P 4 L 2
 #C BLIFWW IN 0 0 a
 #C BLIFWW IN 1 0 b
 #C BLIFWW OUT 2 0 y
-
-wire 2 a=0 a=01 => BadLength a=0
+== TwiceInput a=2
+> wire, 2, a=0, a=01
 #C BLIFWW 1 P 4 L 2
 #C BLIFWW IN 0 0 a
 #C BLIFWW IN 1 0 b
 #C BLIFWW OUT 2 0 y
-
-wire 2 => MissingInput a
+== BadLength a=0
+> wire, 2
 #C BLIFWW 1 P 4 L 2
 #C BLIFWW IN 0 0 a
 #C BLIFWW IN 1 0 b
 #C BLIFWW OUT 2 0 y
-
-wire 2 a=01 => BadContext a=01
+== MissingInput a
+> wire, 2, a=01
 #C BLIFWW 1 P 64 L 2 C 2
 #C BLIFWW IN 0 0 a
-
-wire 2 0:a=01 => MissingInput 1:a
+== BadContext a=01
+> wire, 2, 0:a=01
 #C BLIFWW 1 P 64 L 2 C 2
-#C BLIFWW IN 0 0 a";
+#C BLIFWW IN 0 0 a
+== MissingInput 1:a";
 
-// The pattern of a name, if it is one of those above.
+// The pattern of a name, if there is one.
 fn pattern_named(name: &str) -> Option<&'static [u8]> {
     match name {
         "wire" => Some(WIRE),
         "wire_down" => Some(WIRE_DOWN),
+        "two_rows" => Some(TWO_ROWS),
         "ring" => Some(RING),
         "or" => Some(OR_GATE),
+        "latch" => Some(LATCH),
+        "dark_latch" => Some(DARK_LATCH),
+        "cut_latch" => Some(CUT_LATCH),
+        "late_latch" => Some(LATE_LATCH),
         _ => None,
     }
 }
 
-// Cuts a case's first line into the question and the wanted answer.
-fn cut(head: &str) -> Option<(&str, &str)> {
-    let (asked, said) = head.split_once(" =>")?;
-    match said.split_once(" -- ") {
-        Some((said, _)) => Some((asked, said)),
-        None => Some((asked, said)),
-    }
-}
-
-// Fails unless the outputs show what the case says.
-fn expect_case(alloc: Global, asked: &str, said: &str, table: &str) -> Result<(), Fail> {
-    let mut parts = asked.split_ascii_whitespace();
+/// Returns what is asked of a pattern with this table. `head` has the pattern's name, the number of
+/// cycles and the words.
+pub fn said_at(alloc: Global, head: &str, table: &str, asked: Asked) -> Result<Vec<u8>, Fail> {
+    let mut parts = head.split(", ");
     let Some(pattern) = pattern_named(parts.next().unwrap_or("")) else {
-        return Err(Fail::new(asked));
+        return Err(Fail::new(head));
     };
     let cycles = parts.next().unwrap_or("").parse::<usize>().unwrap_or(0);
     let mut words = Vec::new(alloc);
     for word in parts {
         words.push(word)?;
     }
-    let table = joined(alloc, &[table.as_bytes(), b"\n"])?;
-    let want = said.trim_ascii_start().as_bytes();
-    expect_shown(alloc, &table, pattern, &words, cycles, want)
+    said_of(alloc, table.as_bytes(), pattern, &words, cycles, asked)
 }
 
-// Fails if the text is no case, or the case does not hold.
-fn expect_run(alloc: Global, case: &str) -> Result<(), Fail> {
-    let Some((head, table)) = case.split_once('\n') else {
-        return Err(Fail::new(case));
-    };
-    match cut(head) {
-        Some((asked, said)) => expect_case(alloc, asked, said, table),
-        None => Err(Fail::new(head)),
+fn expect_case(
+    alloc: Global,
+    head: &str,
+    table: &str,
+    asked: Asked,
+    want: &str,
+) -> Result<(), Fail> {
+    expect(&said_at(alloc, head, table, asked)?, want.as_bytes())
+}
+
+/// Fails unless each case holds. The first line of a case has the pattern's name, the number of
+/// cycles and the words; a remark after ` -- ` is about the cases from there on. The lines of the
+/// port table follow, and after `== ` what is asked of the pattern, or why there are no streams or
+/// no run. A line that begins with `>` parts two cases. They are one text, since a Rust table costs
+/// proof time for each row.
+pub fn expect_cases(alloc: Global, cases: &str, asked: Asked) -> Result<(), Fail> {
+    for case in cases.split("\n>") {
+        let (head, table, want) = cut(case);
+        expect_case(alloc, head, table, asked, want)?;
     }
+    Ok(())
 }
 
 #[test]
 fn patterns_are_driven(rt: HostRuntime) -> Result<(), Fail> {
-    for case in RUNS.split("\n\n") {
-        expect_run(rt.alloc(), case)?;
-    }
-    Ok(())
+    expect_cases(rt.alloc(), RUNS, Asked::Outputs)
 }

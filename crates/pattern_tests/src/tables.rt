@@ -2,7 +2,7 @@
 ghost use Rattle.std.specs.Prelude.{◌<◌, length, IfOk};
 ghost use Rattle.pattern_reading.specs.Spelling.{port_lines};
 
-use crate::texts::{joined, push_all};
+use crate::texts::{cut, joined, push_all};
 use lists::List;
 use port_table::{NetLine, PortLine, PortReadError, Ports, read, write_line};
 use std::alloc::{AllocError, Global};
@@ -82,169 +82,211 @@ fn expect_table(
     expect(&read_shown(alloc, &read(alloc, text, width, height))?, want)
 }
 
-// The table of the OR gate.
-const OR_LINES: &[u8] =
-    b"#C BLIFWW 2 P 32 L 32 C 1\n#C BLIFWW IN 0 8 a\n#C BLIFWW IN 0 24 b\n#C BLIFWW OUT 32 8 y\n#C BLIFWW NET 0 8 0 a -\n#C BLIFWW NET 0 24 0 b -\n#C BLIFWW NET 31 8 31 y -\nx = 33, y = 32, rule = WireWorld\n!\n";
+// The widths and heights of patterns, their texts, and after `== ` the tables as one line each, or
+// the kinds and lines of the first faults. A line that begins with `>` parts two cases, and a remark
+// after ` -- ` is about the cases from there on.
+const TABLES: &str = "\
+33 32
+#C BLIFWW 2 P 32 L 32 C 1
+#C BLIFWW IN 0 8 a
+#C BLIFWW IN 0 24 b
+#C BLIFWW OUT 32 8 y
+#C BLIFWW NET 0 8 0 a -
+#C BLIFWW NET 0 24 0 b -
+#C BLIFWW NET 31 8 31 y -
+x = 33, y = 32, rule = WireWorld
+!
 
-// Texts, the widths and heights of their patterns, and their tables as one line each, or the kinds
-// and lines of their first faults.
-const TABLES: &[(&[u8], u64, u64, &[u8])] = &[
-    (
-        OR_LINES,
-        33,
-        32,
-        b"32 32 1, IN 0 8 a, IN 0 24 b, OUT 32 8 y, NET 0 8 0 a -, NET 0 24 0 b -, NET 31 8 31 y -",
-    ),
-    (
-        b"#C BLIFWW 1 P 4 L 2\n#C BLIFWW IN 0 0 a\n#C BLIFWW OUT 2 0 y\nx = 3, y = 1, rule = WireWorld\n3C!\n",
-        3,
-        1,
-        b"4 2 1, IN 0 0 a, OUT 2 0 y",
-    ),
-    (
-        b"#C BLIFWW 2 P 32 L 0 C 1\nx = 0, y = 0, rule = WireWorld\n!\n",
-        0,
-        0,
-        b"32 0 1",
-    ),
-    (b"x = 3, y = 1, rule = WireWorld\n3C!\n", 3, 1, b"32 0 1"),
-    (b"", 0, 0, b"32 0 1"),
-    // other comments, and lines after the header
-    (b"#C BLIFWW\n#C BLIFWWW 2\n #C BLIFWW 2\n", 0, 0, b"32 0 1"),
-    (
-        b"x = 3, y = 1, rule = WireWorld\n3C!\n#C BLIFWW IN 0 0 a\n",
-        3,
-        1,
-        b"32 0 1",
-    ),
-    // no header, both line ends, leading zeros, and a last line without an end
-    (
-        b"\t\n#\n#C BLIFWW 1 P 4 L 2\r\n#\n\n#C BLIFWW IN 002 0 a\r\n#C BLIFWW OUT 0 000 y",
-        3,
-        1,
-        b"4 2 1, IN 2 0 a, OUT 0 0 y",
-    ),
-    // one name in three kinds of lines, and under two paths
-    (
-        b"#C BLIFWW 1 P 4 L 2\n#C BLIFWW NET 1 0 9 a -\n#C BLIFWW OUT 0 0 a\n#C BLIFWW IN 2 0 a\n#C BLIFWW NET 1 0 18446744073709551615 a 0.12.3\n",
-        3,
-        1,
-        b"4 2 1, IN 2 0 a, OUT 0 0 a, NET 1 0 9 a -, NET 1 0 18446744073709551615 a 0.12.3",
-    ),
-    // escapes, which version 1 does not have
-    (
-        b"#C BLIFWW 2 P 4 L 2 C 1\n#C BLIFWW IN 0 0 %61\n#C BLIFWW OUT 2 0 a%25\n#C BLIFWW NET 1 0 9 %c3%A9%20 0.1\n",
-        3,
-        1,
-        b"4 2 1, IN 0 0 a, OUT 2 0 a%, NET 1 0 9 \xc3\xa9  0.1",
-    ),
-    (
-        b"#C BLIFWW 1 P 4 L 2\n#C BLIFWW IN 0 0 %4\n#C BLIFWW IN 1 0 %61\n#C BLIFWW IN 2 0 a\n",
-        3,
-        1,
-        b"4 2 1, IN 0 0 %4, IN 1 0 %61, IN 2 0 a",
-    ),
-    (
-        b"#C BLIFWW 2 P 4 L 2 C 1\n#C BLIFWW IN 0 0 %4\n",
-        3,
-        1,
-        b"BadLine 2",
-    ),
-    (
-        b"#C BLIFWW 2 P 4 L 2 C 1\n#C BLIFWW NET 0 0 0 %0a -\n",
-        3,
-        1,
-        b"BadLine 2",
-    ),
-    (
-        b"#C BLIFWW 2 P 4 L 2 C 1\n#C BLIFWW IN 0 0 %61\n#C BLIFWW IN 1 0 a\n",
-        3,
-        1,
-        b"Twice 3",
-    ),
-    // contexts
-    (b"#C BLIFWW 1 P 4 L 2 C 1\n", 3, 1, b"4 2 1"),
-    (b"#C BLIFWW 2 P 64 L 2 C 2\n", 3, 1, b"64 2 2"),
-    (b"#C BLIFWW 1 P 4 L 2 C 0\n", 3, 1, b"BadLine 1"),
-    (b"#C BLIFWW 1 P 32 L 2 C 2\n", 3, 1, b"BadLine 1"),
-    (b"#C BLIFWW 1 P 64 L 2 c 2\n", 3, 1, b"BadLine 1"),
-    // faults
-    (
-        b"#C BLIFWW 1 P 0 L 2\n#C BLIFWW IN 0 0 a\n",
-        3,
-        1,
-        b"BadLine 1",
-    ),
-    (
-        b"#C BLIFWW 1 P 18446744073709551616 L 2\n",
-        3,
-        1,
-        b"BadLine 1",
-    ),
-    (b"#C BLIFWW 2 P 4 L 2\n", 3, 1, b"BadLine 1"),
-    (b"#C BLIFWW 01 P 4 L 2\n", 3, 1, b"BadLine 1"),
-    (b"#C BLIFWW 3 P 4 L 2 C 1\n", 3, 1, b"BadLine 1"),
-    (b"#C BLIFWW 1 P 4 L 2\n#C BLIFWW \n", 3, 1, b"BadLine 2"),
-    (
-        b"#C BLIFWW 1 P 4 L 2\n#C BLIFWW IN  0 0 a\n",
-        3,
-        1,
-        b"BadLine 2",
-    ),
-    (
-        b"#C BLIFWW 1 P 4 L 2\n#C BLIFWW NET 0 0 0 a 1..2\n",
-        3,
-        1,
-        b"BadLine 2",
-    ),
-    (
-        b"#C BLIFWW 1 P 4 L 2\n#C BLIFWW NET 0 0 0 a 01\n",
-        3,
-        1,
-        b"BadLine 2",
-    ),
-    (
-        b"#C BLIFWW IN 0 0 a\n#C BLIFWW OUT 2 0 y\n",
-        3,
-        1,
-        b"BadOrder 1",
-    ),
-    (
-        b"#C BLIFWW 1 P 4 L 2\n#C BLIFWW IN 0 0 a\n#C BLIFWW 1 P 4 L 2\n",
-        3,
-        1,
-        b"BadOrder 3",
-    ),
-    (
-        b"#C BLIFWW 1 P 4 L 2\n#C BLIFWW IN 3 0 a\n",
-        3,
-        1,
-        b"CellOutside 2",
-    ),
-    (
-        b"#C BLIFWW 1 P 4 L 2\n#C BLIFWW OUT 0 1 y\n",
-        3,
-        1,
-        b"CellOutside 2",
-    ),
-    (
-        b"#C BLIFWW 1 P 4 L 2\n#C BLIFWW IN 0 0 a\n#C BLIFWW IN 0 0 a\n",
-        3,
-        1,
-        b"Twice 3",
-    ),
-    (
-        b"#C BLIFWW 1 P 4 L 2\n#C BLIFWW NET 0 0 0 a 1\n#\n#C BLIFWW NET 1 0 7 a 1\n",
-        3,
-        1,
-        b"Twice 4",
-    ),
-];
+== 32 32 1, IN 0 8 a, IN 0 24 b, OUT 32 8 y, NET 0 8 0 a -, NET 0 24 0 b -, NET 31 8 31 y -
+> 3 1
+#C BLIFWW 1 P 4 L 2
+#C BLIFWW IN 0 0 a
+#C BLIFWW OUT 2 0 y
+x = 3, y = 1, rule = WireWorld
+3C!
+
+== 4 2 1, IN 0 0 a, OUT 2 0 y
+> 0 0
+#C BLIFWW 2 P 32 L 0 C 1
+x = 0, y = 0, rule = WireWorld
+!
+
+== 32 0 1
+> 3 1
+x = 3, y = 1, rule = WireWorld
+3C!
+
+== 32 0 1
+> 0 0
+
+== 32 0 1
+> 0 0 -- other comments, and lines after the header
+#C BLIFWW
+#C BLIFWWW 2
+ #C BLIFWW 2
+
+== 32 0 1
+> 3 1
+x = 3, y = 1, rule = WireWorld
+3C!
+#C BLIFWW IN 0 0 a
+
+== 32 0 1
+> 3 1 -- no header, both line ends, leading zeros, and a last line without an end
+\t
+#
+#C BLIFWW 1 P 4 L 2\r
+#
+
+#C BLIFWW IN 002 0 a\r
+#C BLIFWW OUT 0 000 y
+== 4 2 1, IN 2 0 a, OUT 0 0 y
+> 3 1 -- one name in three kinds of lines, and under two paths
+#C BLIFWW 1 P 4 L 2
+#C BLIFWW NET 1 0 9 a -
+#C BLIFWW OUT 0 0 a
+#C BLIFWW IN 2 0 a
+#C BLIFWW NET 1 0 18446744073709551615 a 0.12.3
+
+== 4 2 1, IN 2 0 a, OUT 0 0 a, NET 1 0 9 a -, NET 1 0 18446744073709551615 a 0.12.3
+> 3 1 -- escapes, which version 1 does not have
+#C BLIFWW 2 P 4 L 2 C 1
+#C BLIFWW IN 0 0 %61
+#C BLIFWW OUT 2 0 a%25
+#C BLIFWW NET 1 0 9 %c3%A9%20 0.1
+
+== 4 2 1, IN 0 0 a, OUT 2 0 a%, NET 1 0 9 é  0.1
+> 3 1
+#C BLIFWW 1 P 4 L 2
+#C BLIFWW IN 0 0 %4
+#C BLIFWW IN 1 0 %61
+#C BLIFWW IN 2 0 a
+
+== 4 2 1, IN 0 0 %4, IN 1 0 %61, IN 2 0 a
+> 3 1
+#C BLIFWW 2 P 4 L 2 C 1
+#C BLIFWW IN 0 0 %4
+
+== BadLine 2
+> 3 1
+#C BLIFWW 2 P 4 L 2 C 1
+#C BLIFWW NET 0 0 0 %0a -
+
+== BadLine 2
+> 3 1
+#C BLIFWW 2 P 4 L 2 C 1
+#C BLIFWW IN 0 0 %61
+#C BLIFWW IN 1 0 a
+
+== Twice 3
+> 3 1 -- contexts
+#C BLIFWW 1 P 4 L 2 C 1
+
+== 4 2 1
+> 3 1
+#C BLIFWW 2 P 64 L 2 C 2
+
+== 64 2 2
+> 3 1
+#C BLIFWW 1 P 4 L 2 C 0
+
+== BadLine 1
+> 3 1
+#C BLIFWW 1 P 32 L 2 C 2
+
+== BadLine 1
+> 3 1
+#C BLIFWW 1 P 64 L 2 c 2
+
+== BadLine 1
+> 3 1 -- faults
+#C BLIFWW 1 P 0 L 2
+#C BLIFWW IN 0 0 a
+
+== BadLine 1
+> 3 1
+#C BLIFWW 1 P 18446744073709551616 L 2
+
+== BadLine 1
+> 3 1
+#C BLIFWW 2 P 4 L 2
+
+== BadLine 1
+> 3 1
+#C BLIFWW 01 P 4 L 2
+
+== BadLine 1
+> 3 1
+#C BLIFWW 3 P 4 L 2 C 1
+
+== BadLine 1
+> 3 1
+#C BLIFWW 1 P 4 L 2
+#C BLIFWW\x20
+
+== BadLine 2
+> 3 1
+#C BLIFWW 1 P 4 L 2
+#C BLIFWW IN  0 0 a
+
+== BadLine 2
+> 3 1
+#C BLIFWW 1 P 4 L 2
+#C BLIFWW NET 0 0 0 a 1..2
+
+== BadLine 2
+> 3 1
+#C BLIFWW 1 P 4 L 2
+#C BLIFWW NET 0 0 0 a 01
+
+== BadLine 2
+> 3 1
+#C BLIFWW IN 0 0 a
+#C BLIFWW OUT 2 0 y
+
+== BadOrder 1
+> 3 1
+#C BLIFWW 1 P 4 L 2
+#C BLIFWW IN 0 0 a
+#C BLIFWW 1 P 4 L 2
+
+== BadOrder 3
+> 3 1
+#C BLIFWW 1 P 4 L 2
+#C BLIFWW IN 3 0 a
+
+== CellOutside 2
+> 3 1
+#C BLIFWW 1 P 4 L 2
+#C BLIFWW OUT 0 1 y
+
+== CellOutside 2
+> 3 1
+#C BLIFWW 1 P 4 L 2
+#C BLIFWW IN 0 0 a
+#C BLIFWW IN 0 0 a
+
+== Twice 3
+> 3 1
+#C BLIFWW 1 P 4 L 2
+#C BLIFWW NET 0 0 0 a 1
+#
+#C BLIFWW NET 1 0 7 a 1
+
+== Twice 4";
+
+// The two numbers of a text, or 99 for what is no number.
+fn size_in(text: &str) -> (u64, u64) {
+    let (width, height) = text.split_once(' ').unwrap_or((text, ""));
+    (width.parse().unwrap_or(99), height.parse().unwrap_or(99))
+}
 
 #[test]
 fn tables_are_read(rt: HostRuntime) -> Result<(), Fail> {
-    for (text, width, height, want) in TABLES {
-        expect_table(rt.alloc(), text, *width, *height, want)?;
+    for case in TABLES.split("\n>") {
+        let (size, text, want) = cut(case);
+        let (width, height) = size_in(size);
+        expect_table(rt.alloc(), text.as_bytes(), width, height, want.as_bytes())?;
     }
     Ok(())
 }

@@ -34,6 +34,14 @@ pub fn push_all(text: &mut Vec<u8>, parts: &[&[u8]]) -> Result<(), AllocError> {
     Ok(())
 }
 
+/// Cuts a case into its first line without its remark, its text and what is wanted.
+pub fn cut(case: &str) -> (&str, &str, &str) {
+    let (line, rest) = case.split_once('\n').unwrap_or((case, ""));
+    let (head, _) = line.split_once(" -- ").unwrap_or((line, ""));
+    let (text, want) = rest.split_once("\n== ").unwrap_or((rest, "no case"));
+    (head.trim(), text, want)
+}
+
 /// Joins the parts to one text.
 pub fn joined(alloc: Global, parts: &[&[u8]]) -> Result<Vec<u8>, AllocError> {
     let mut text = Vec::new(alloc);

@@ -4,7 +4,7 @@ ghost use Rattle.pattern_reading.specs.Ports.{cells_of};
 ghost use Rattle.ww_rule.specs.Grid.{AreInBox};
 ghost use Rattle.drive.specs.Driving.{AreFor};
 
-use crate::runs::{Asked, OR_GATE, WIRE, expect_said, refusal_said, said_of};
+use crate::runs::{Asked, expect_cases, refusal_said, said_at};
 use crate::texts::push_all;
 use drive::Streams;
 use pattern_reading::Ports;
@@ -42,123 +42,141 @@ pub fn dump_said(
     }
 }
 
-// A table of a wire, without nets and with a long period.
-const NO_NETS: &[u8] = b"#C BLIFWW 1 P 4294967296 L 2\n#C BLIFWW IN 0 0 a\n";
+/// A wire in the first of two rows.
+pub const TWO_ROWS: &[u8] = b"x = 3, y = 2, rule = WireWorld\n3C!";
 
-// A table without nets that has one input on the wire and one beside it.
-const OFF_WIRE: &[u8] = b"#C BLIFWW 1 P 32 L 2\n#C BLIFWW IN 0 0 a\n#C BLIFWW IN 0 1 b\n";
+// Patterns that are driven, and the dumps of their nets.
+const DUMPS: &str = "\
+or, 2, a=01, b=00 -- a gate with nets that change in the second cycle
+#C BLIFWW 1 P 32 L 32
+#C BLIFWW IN 0 8 a
+#C BLIFWW IN 0 24 b
+#C BLIFWW OUT 32 8 y
+#C BLIFWW NET 0 8 0 a -
+#C BLIFWW NET 0 24 0 b -
+#C BLIFWW NET 32 8 32 y -
+== $var wire 1 ! a $end
+$var wire 1 \" b $end
+$var wire 1 # y $end
+$enddefinitions $end
+#0
+0!
+0\"
+0#
+#1
+1!
+1#
+#2
 
-// A wire in the first of two rows.
-const TWO_ROWS: &[u8] = b"x = 3, y = 2, rule = WireWorld\n3C!";
+> wire, 1, a=1 -- no net
+#C BLIFWW 1 P 4 L 2
+#C BLIFWW IN 0 0 a
+#C BLIFWW OUT 2 0 y
+== $enddefinitions $end
+#0
+#1
 
-// Tables, patterns, words, cycles, and the dump or why there is none.
-const DUMPS: &[(&[u8], &[u8], &[&str], usize, &[u8])] = &[
-    // a gate with nets that change in the second cycle
-    (
-        b"#C BLIFWW 1 P 32 L 32\n#C BLIFWW IN 0 8 a\n#C BLIFWW IN 0 24 b\n#C BLIFWW OUT 32 8 y
-#C BLIFWW NET 0 8 0 a -\n#C BLIFWW NET 0 24 0 b -\n#C BLIFWW NET 32 8 32 y -\n",
-        OR_GATE,
-        &["a=01", "b=00"],
-        2,
-        b"$var wire 1 ! a $end\n$var wire 1 \" b $end\n$var wire 1 # y $end\n$enddefinitions $end
-#0\n0!\n0\"\n0#\n#1\n1!\n1#\n#2\n",
-    ),
-    // no net
-    (
-        b"#C BLIFWW 1 P 4 L 2\n#C BLIFWW IN 0 0 a\n#C BLIFWW OUT 2 0 y\n",
-        WIRE,
-        &["a=1"],
-        1,
-        b"$enddefinitions $end\n#0\n#1\n",
-    ),
-    (
-        NO_NETS,
-        WIRE,
-        &["a=11"],
-        2,
-        b"$enddefinitions $end\n#0\n#1\n#2\n",
-    ),
-    // nets whose offsets are in any order, one of them longer than a period
-    (
-        b"#C BLIFWW 1 P 4 L 2\n#C BLIFWW IN 0 0 a
-#C BLIFWW NET 2 0 2 y -\n#C BLIFWW NET 1 0 9 z -\n#C BLIFWW NET 0 0 0 a -\n",
-        WIRE,
-        &["a=1101"],
-        4,
-        b"$var wire 1 ! y $end\n$var wire 1 \" z $end\n$var wire 1 # a $end\n$enddefinitions $end
-#0\n1!\n0\"\n1#\n#1\n1\"\n#2\n0!\n0\"\n0#\n#3\n1!\n1#\n#4\n",
-    ),
-    // all nets of a context come before those of the next
-    (
-        b"#C BLIFWW 1 P 64 L 2 C 2\n#C BLIFWW IN 0 0 a\n#C BLIFWW NET 2 0 2 y -\n#C BLIFWW NET 0 0 0 a 1.0\n",
-        WIRE,
-        &["1:a=01", "0:a=10"],
-        2,
-        b"$var wire 1 ! 0:y $end\n$var wire 1 \" 0:1.0/a $end
-$var wire 1 # 1:y $end\n$var wire 1 $ 1:1.0/a $end\n$enddefinitions $end
-#0\n1!\n1\"\n0#\n0$\n#1\n0!\n0\"\n1#\n1$\n#2\n",
-    ),
-    // escapes
-    (
-        b"#C BLIFWW 2 P 4 L 2 C 1\n#C BLIFWW IN 0 0 a\n#C BLIFWW NET 2 0 2 %24$%25%20b 0\n",
-        WIRE,
-        &["a=1"],
-        1,
-        b"$var wire 1 ! 0/%24%24%25%20b $end\n$enddefinitions $end\n#0\n1!\n#1\n",
-    ),
-    // an injection that meets no conductor: with nets, and without nets, when only generation 0 is
-    // needed
-    (
-        b"#C BLIFWW 1 P 1 L 2\n#C BLIFWW IN 0 0 a\n#C BLIFWW NET 2 0 2 y -\n",
-        WIRE,
-        &["a=11"],
-        2,
-        b"NotQuiet 1 0 0",
-    ),
-    (OFF_WIRE, TWO_ROWS, &["a=00", "b=10"], 2, b"NotQuiet 0 0 1"),
-    (
-        OFF_WIRE,
-        TWO_ROWS,
-        &["a=00", "b=01"],
-        2,
-        b"$enddefinitions $end\n#0\n#1\n#2\n",
-    ),
-    // past the greatest generation
-    (
-        b"#C BLIFWW 1 P 4294967296 L 2\n#C BLIFWW IN 0 0 a\n#C BLIFWW NET 0 0 0 a -\n#C BLIFWW NET 2 0 2 y -\n",
-        WIRE,
-        &["a=11"],
-        2,
-        b"TooFar 4294967298",
-    ),
-];
+> wire, 2, a=11
+#C BLIFWW 1 P 4294967296 L 2
+#C BLIFWW IN 0 0 a
+== $enddefinitions $end
+#0
+#1
+#2
+
+> wire, 4, a=1101 -- nets whose offsets are in any order, one of them longer than a period
+#C BLIFWW 1 P 4 L 2
+#C BLIFWW IN 0 0 a
+#C BLIFWW NET 2 0 2 y -
+#C BLIFWW NET 1 0 9 z -
+#C BLIFWW NET 0 0 0 a -
+== $var wire 1 ! y $end
+$var wire 1 \" z $end
+$var wire 1 # a $end
+$enddefinitions $end
+#0
+1!
+0\"
+1#
+#1
+1\"
+#2
+0!
+0\"
+0#
+#3
+1!
+1#
+#4
+
+> wire, 2, 1:a=01, 0:a=10 -- all nets of a context come before those of the next
+#C BLIFWW 1 P 64 L 2 C 2
+#C BLIFWW IN 0 0 a
+#C BLIFWW NET 2 0 2 y -
+#C BLIFWW NET 0 0 0 a 1.0
+== $var wire 1 ! 0:y $end
+$var wire 1 \" 0:1.0/a $end
+$var wire 1 # 1:y $end
+$var wire 1 $ 1:1.0/a $end
+$enddefinitions $end
+#0
+1!
+1\"
+0#
+0$
+#1
+0!
+0\"
+1#
+1$
+#2
+
+> wire, 1, a=1 -- escapes
+#C BLIFWW 2 P 4 L 2 C 1
+#C BLIFWW IN 0 0 a
+#C BLIFWW NET 2 0 2 %24$%25%20b 0
+== $var wire 1 ! 0/%24%24%25%20b $end
+$enddefinitions $end
+#0
+1!
+#1
+
+> wire, 2, a=11 -- an injection that meets no conductor: with nets, and without nets, when only generation 0 is needed
+#C BLIFWW 1 P 1 L 2
+#C BLIFWW IN 0 0 a
+#C BLIFWW NET 2 0 2 y -
+== NotQuiet 1 0 0
+> two_rows, 2, a=00, b=10
+#C BLIFWW 1 P 32 L 2
+#C BLIFWW IN 0 0 a
+#C BLIFWW IN 0 1 b
+== NotQuiet 0 0 1
+> two_rows, 2, a=00, b=01
+#C BLIFWW 1 P 32 L 2
+#C BLIFWW IN 0 0 a
+#C BLIFWW IN 0 1 b
+== $enddefinitions $end
+#0
+#1
+#2
+
+> wire, 2, a=11 -- past the greatest generation
+#C BLIFWW 1 P 4294967296 L 2
+#C BLIFWW IN 0 0 a
+#C BLIFWW NET 0 0 0 a -
+#C BLIFWW NET 2 0 2 y -
+== TooFar 4294967298";
 
 #[test]
 fn nets_are_dumped(rt: HostRuntime) -> Result<(), Fail> {
-    for (table, pattern, words, cycles, want) in DUMPS {
-        expect_said(
-            rt.alloc(),
-            table,
-            pattern,
-            words,
-            *cycles,
-            Asked::Dump,
-            want,
-        )?;
-    }
-    Ok(())
-}
-
-fn push_net(alloc: Global, table: &mut Vec<u8>, net: usize) -> Result<(), AllocError> {
-    let line = format!(in alloc; "#C BLIFWW NET 0 0 0 n{net} -\n")?;
-    table.extend_from_slice(line.as_bytes())
+    expect_cases(rt.alloc(), DUMPS, Asked::Dump)
 }
 
 // A table of a wire with this many nets.
-fn table_of(alloc: Global, nets: usize) -> Result<Vec<u8>, AllocError> {
-    let mut table = b"#C BLIFWW 1 P 4 L 2\n#C BLIFWW IN 0 0 a\n".to_vec(alloc)?;
+fn table_of(alloc: Global, nets: usize) -> Result<String, AllocError> {
+    let mut table = String::from_str(alloc, "#C BLIFWW 1 P 4 L 2\n#C BLIFWW IN 0 0 a")?;
     for net in 0..nets {
-        push_net(alloc, &mut table, net)?;
+        write!(table, "\n#C BLIFWW NET 0 0 0 n{net} -")?;
     }
     Ok(table)
 }
@@ -177,8 +195,8 @@ fn expect_lines(alloc: Global, text: &[u8], first: usize, want: &[u8]) -> Result
 }
 
 // Fails unless the dump of the wire with this table has these two lines from line `first` on.
-fn expect_ids(alloc: Global, table: &[u8], first: usize, want: &[u8]) -> Result<(), Fail> {
-    let said = said_of(alloc, table, WIRE, &["a=1"], 1, Asked::Dump)?;
+fn expect_ids(alloc: Global, table: &str, first: usize, want: &[u8]) -> Result<(), Fail> {
+    let said = said_at(alloc, "wire, 1, a=1", table, Asked::Dump)?;
     expect_lines(alloc, &said, first, want)
 }
 

@@ -8,12 +8,12 @@ use Rattle.std.proofs.lemmas.List.Elements.{Contains-append_cases}
 use Rattle.lists.proofs.Members.{in_from}
 use Rattle.ww_rule.specs.declared.pattern.State.{State}
 use Rattle.ww_rule.specs.declared.pattern.State.TheVariants.{Empty, Head, Tail, Conductor}
-use Rattle.ww_rule.specs.Wireworld.{Plane, Due, next_plane, next_state, heads_around, driven, undriven}
+use Rattle.ww_rule.specs.Wireworld.{Plane, Due, next_plane, heads_around, driven, undriven}
 use Rattle.wire_laws.specs.Signals.{Signal, is_lit, cell_state, due_of_signals, IsReady, CarriesSignals}
 use Rattle.wire_laws.proofs.Lit.{lit_in, in_lit, not_soon}
 use Rattle.wire_laws.proofs.Dues.{due_by_signal, signal_is_due, Head≢Empty}
 use Rattle.wire_laws.proofs.Rows.{port_signal, no_port, port_of_signal}
-use Rattle.wire_laws.proofs.Beside.{none_around}
+use Rattle.wire_laws.proofs.Beside.{none_around, was_head}
 use Rattle.tile_core.specs.declared.kind.Kind.{Kind}
 use Rattle.tile_core.specs.Drawing.{Drawing}
 use Rattle.tiling.specs.Tiling.{Slot, Tiling, Lit, drawn_slot, drawn}
@@ -38,10 +38,6 @@ use Rattle.plan_signals.specs.Laws.{PlansCarrySignals}
 use Rattle.plan_signals.proofs.Ins.{entry_cell, in_signal, IsInput, long, input_of, drives, drives_inputs, head_is_due, head_when_due}
 use Rattle.plan_signals.proofs.Ready.{slot_has, not_drawn, few_around}
 
-abbrev is_tail : State → Bool
-is_tail Tail = true
-is_tail _ = false
-
 abbrev is_empty : State → Bool
 is_empty Empty = true
 is_empty _ = false
@@ -51,15 +47,6 @@ Tail≢Empty e = true≢false (sym (ap is_empty e))
 
 Conductor≢Empty : Conductor ≢ Empty
 Conductor≢Empty e = true≢false (sym (ap is_empty e))
-
-Head≢Tail : Head ≢ Tail
-Head≢Tail e = true≢false (sym (ap is_tail e))
-
-Conductor≢Tail : Conductor ≢ Tail
-Conductor≢Tail e = true≢false (sym (ap is_tail e))
-
-Empty≢Tail : Empty ≢ Tail
-Empty≢Tail e = true≢false (sym (ap is_tail e))
 
 full : (b c : Bool) → cond true (cond b Head (cond c Tail Conductor)) Empty ≢ Empty
 full true c e = Head≢Empty e
@@ -221,17 +208,6 @@ module _ (library : Kind → Drawing) (law : KeepsLaw library) (roomy : HasOpenE
       let two : g + 2 ≡ suc (suc g) = omega arith in
       let head : cell_state (plane g) s.cell ≡ Head = was_head (due (suc g) s.cell.0 s.cell.1) (cell_state (plane g) s.cell) (heads_around (plane g) s.cell.0 s.cell.1) tail in
       not_soon period s g 2 ((shown_in s among g).0 head) (ap (is_lit period s) two ∙ bright) (omega arith) (omega (arith, wide))
-    where
-      either : (n : ℕ) (b : Bool) → cond b Head Conductor ≡ Tail → ⊥
-      either n true e = Head≢Tail e
-      either n false e = Conductor≢Tail e
-
-      was_head : (b : Bool) (s : State) (n : ℕ) → cond b Head (next_state s n) ≡ Tail → s ≡ Head
-      was_head true s n e = absurd (Head≢Tail e)
-      was_head false Empty n e = absurd (Empty≢Tail e)
-      was_head false Head n e = refl
-      was_head false Tail n e = absurd (Conductor≢Tail e)
-      was_head false Conductor n e = absurd (either n _ e)
 
   ready : (s : Signal) → Contains ins s → (g : ℕ) → is_lit period s (suc g) ≡ true → IsReady (plane g) s.cell
   ready s among g bright =

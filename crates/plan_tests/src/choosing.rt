@@ -51,17 +51,17 @@ const FOUR_CELLS: Written<'static> = Written {
 type Choice = (usize, u32, usize);
 
 // Lists, each given by its number of cells, and the choice: the list with the smallest plan.
-const CHOICES: &[(&[u8], Choice)] = &[
-    (b"1", (0, 2, 1)),
-    (b"3", (0, 4, 6)),
-    (b"4", (0, 4, 7)),
-    (b"13", (0, 2, 1)),
-    (b"31", (1, 2, 1)),
-    (b"34", (0, 4, 6)),
-    (b"43", (1, 4, 6)),
-    (b"314", (1, 2, 1)),
-    (b"431", (2, 2, 1)),
-    (b"143", (0, 2, 1)),
+const CHOICES: &[(&str, Choice)] = &[
+    ("1", (0, 2, 1)),
+    ("3", (0, 4, 6)),
+    ("4", (0, 4, 7)),
+    ("13", (0, 2, 1)),
+    ("31", (1, 2, 1)),
+    ("34", (0, 4, 6)),
+    ("43", (1, 4, 6)),
+    ("314", (1, 2, 1)),
+    ("431", (2, 2, 1)),
+    ("143", (0, 2, 1)),
 ];
 
 // The list of one, three or four cells.
@@ -109,18 +109,21 @@ fn choice(alloc: Global, numbers: &[u8]) -> Result<Choice, Fail> {
     choice_of(alloc, &lists)
 }
 
-fn expect_choice(alloc: Global, numbers: &[u8], wanted: Choice) -> Result<(), Fail> {
-    let made = choice(alloc, numbers)?;
-    if made == wanted {
+fn expect_choice(alloc: Global, numbers: &str, want: Choice) -> Result<(), Fail> {
+    let made = choice(alloc, numbers.as_bytes())?;
+    if made == want {
         return Ok(());
     }
-    Err(Fail::new(format_args!("{numbers:?}: {made:?}, and not {wanted:?}")))
+    Err(Fail::new(format_args!(
+        "{numbers}: {}, {} lanes, {} columns",
+        made.0, made.1, made.2
+    )))
 }
 
 #[test]
 fn the_list_with_the_smallest_plan_is_kept(rt: HostRuntime) -> Result<(), Fail> {
-    for (numbers, wanted) in CHOICES {
-        expect_choice(rt.alloc(), numbers, *wanted)?;
+    for (numbers, want) in CHOICES {
+        expect_choice(rt.alloc(), numbers, *want)?;
     }
     Ok(())
 }

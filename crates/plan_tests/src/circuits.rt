@@ -14,7 +14,7 @@ use std::test::Fail;
 
 // A circuit, its input and output streams, and whether the period of its plan is 32.
 struct Case {
-    text: &'static [u8],
+    text: &'static str,
     cycles: usize,
     ins: &'static [&'static [u8]],
     outs: &'static [&'static [u8]],
@@ -23,21 +23,21 @@ struct Case {
 
 const CASES: &[Case] = &[
     Case {
-        text: b"aag 3 2 0 1 1\n2\n4\n7\n6 2 4\ni0 a\ni1 b\no0 y\n",
+        text: "aag 3 2 0 1 1\n2\n4\n7\n6 2 4\ni0 a\ni1 b\no0 y\n",
         cycles: 4,
         ins: &[b"0011", b"0101"],
         outs: &[b"1110"],
         is_short: false,
     },
     Case {
-        text: b"aag 1 0 1 1 0\n2 3\n2\n",
+        text: "aag 1 0 1 1 0\n2 3\n2\n",
         cycles: 4,
         ins: &[],
         outs: &[b"0101"],
         is_short: false,
     },
     Case {
-        text: b"aag 0 0 0 1 0\n1\n",
+        text: "aag 0 0 0 1 0\n1\n",
         cycles: 3,
         ins: &[],
         outs: &[b"111"],
@@ -45,7 +45,7 @@ const CASES: &[Case] = &[
     },
     // no latch, and nothing that needs constant 1
     Case {
-        text: b"aag 4 2 0 2 2\n2\n4\n6\n8\n6 2 4\n8 3 4\n",
+        text: "aag 4 2 0 2 2\n2\n4\n6\n8\n6 2 4\n8 3 4\n",
         cycles: 4,
         ins: &[b"0011", b"0101"],
         outs: &[b"0001", b"0100"],
@@ -53,7 +53,7 @@ const CASES: &[Case] = &[
     },
     // a latch that starts as 1, and one that starts as its own literal
     Case {
-        text: b"aag 3 1 2 2 0\n2\n4 2 1\n6 4 6\n4\n6\n",
+        text: "aag 3 1 2 2 0\n2\n4 2 1\n6 4 6\n4\n6\n",
         cycles: 4,
         ins: &[b"0110"],
         outs: &[b"1011", b"0101"],
@@ -61,7 +61,7 @@ const CASES: &[Case] = &[
     },
     // two outputs that are one input, and an output that is constant 0
     Case {
-        text: b"aag 1 1 0 3 0\n2\n2\n0\n2\n",
+        text: "aag 1 1 0 3 0\n2\n2\n0\n2\n",
         cycles: 2,
         ins: &[b"01"],
         outs: &[b"01", b"00", b"01"],
@@ -123,7 +123,7 @@ const CIRCLE: &[u64] = &[2];
 // Fails if a circle has other literals than CIRCLE.
 fn look_at_circle(literals: &[u64]) -> Result<Seen, Fail> {
     if literals != CIRCLE {
-        return Err(Fail::new(format_args!("a circle of {literals:?}")));
+        return Err(Fail::new(format_args!("a circle of {} literals", literals.len())));
     }
     Ok(Seen::Circle)
 }
@@ -151,28 +151,28 @@ fn expect_played(case: &Case, played: Played) -> Result<(), Fail> {
         return Ok(());
     }
     Err(Fail::new(format_args!(
-        "{:?}: plays {}, period 32 {is_short}, {} nets",
+        "{}: plays {}, period 32 {is_short}, {} nets",
         case.text, played.plays, played.nets
     )))
 }
 
 // Fails if the circuit has no plan, or one that is not as the case says.
-fn check_case(alloc: Global, case: &Case) -> Result<(), Fail> {
+fn expect_case(alloc: Global, case: &Case) -> Result<(), Fail> {
     let run = Run {
         cycles: case.cycles,
         ins: case.ins,
         outs: case.outs,
     };
-    match look_at(alloc, case.text, run)? {
+    match look_at(alloc, case.text.as_bytes(), run)? {
         Seen::Plan(played) => expect_played(case, played),
-        Seen::Circle => Err(Fail::new(format_args!("{:?}: gates in a circle", case.text))),
+        Seen::Circle => Err(Fail::new(format_args!("{}: gates in a circle", case.text))),
     }
 }
 
 #[test]
 fn circuits_do_what_they_say(rt: HostRuntime) -> Result<(), Fail> {
     for case in CASES {
-        check_case(rt.alloc(), case)?;
+        expect_case(rt.alloc(), case)?;
     }
     Ok(())
 }

@@ -3,9 +3,9 @@
 ghost use Rattle.cell_plans.specs.PlanOf.{IsPlannable};
 
 use crate::drawing::{Draw, draw_list};
+use crate::rows::tiles_of;
 use cell_core::CellList;
 use cell_plans::climbed_plan;
-use lane_core::Plan;
 use order_climbing::{Climbed, Start, climb};
 use std::alloc::Global;
 use std::slice::from_ref;
@@ -13,14 +13,6 @@ use std::test::Fail;
 
 // How many random lists are climbed.
 const LISTS: u32 = 60;
-
-// How many tiles the drawing of a plan has.
-fn tiles_of(plan: &Plan) -> u64 {
-    let loops = plan.latches as u64;
-    let columns = plan.columns.len() as u64;
-    let width = columns.saturating_add(loops).saturating_add(loops);
-    width.saturating_mul((plan.lanes as u64).saturating_add(loops))
-}
 
 // The order in which the cells of a list stand, as a start.
 fn own_start(alloc: Global, list: &CellList) -> Result<Start, Fail> {

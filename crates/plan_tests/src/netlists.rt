@@ -133,7 +133,7 @@ fn text_of_case(alloc: Global, case: &Case) -> Result<MemSink, Fail> {
     text_with(alloc, &case.written, &ports)
 }
 
-fn check_case(alloc: Global, case: &Case) -> Result<(), Fail> {
+fn expect_case(alloc: Global, case: &Case) -> Result<(), Fail> {
     let sink = text_of_case(alloc, case)?;
     expect(sink.held(), case.text)
 }
@@ -141,7 +141,7 @@ fn check_case(alloc: Global, case: &Case) -> Result<(), Fail> {
 #[test]
 fn plans_are_lifted_to_netlists(rt: HostRuntime) -> Result<(), Fail> {
     for case in CASES {
-        check_case(rt.alloc(), case)?;
+        expect_case(rt.alloc(), case)?;
     }
     Ok(())
 }

@@ -91,7 +91,7 @@ fn drawn_agrees(alloc: Global, draw: &mut Draw) -> Result<bool, Fail> {
 }
 
 // Draws 250 lists, and fails at the first whose plan does not do what the list does.
-fn check_250(alloc: Global, draw: &mut Draw) -> Result<(), Fail> {
+fn expect_250(alloc: Global, draw: &mut Draw) -> Result<(), Fail> {
     for turn in 0..250u32 {
         if !drawn_agrees(alloc, draw)? {
             return Err(Fail::new(format_args!("list {turn}")));
@@ -106,7 +106,7 @@ fn check_250(alloc: Global, draw: &mut Draw) -> Result<(), Fail> {
 #[test]
 fn plans_do_what_random_lists_do(rt: HostRuntime) -> Result<(), Fail> {
     let mut draw = Draw { state: 1 };
-    check_250(rt.alloc(), &mut draw)
+    expect_250(rt.alloc(), &mut draw)
 }
 
 #[test]
@@ -114,5 +114,5 @@ fn plans_do_what_250_more_lists_do(rt: HostRuntime) -> Result<(), Fail> {
     let mut draw = Draw {
         state: 2_669_688_757,
     };
-    check_250(rt.alloc(), &mut draw)
+    expect_250(rt.alloc(), &mut draw)
 }

@@ -192,8 +192,8 @@ const CASES: &[Case] = &[
     },
 ];
 
-// How many tiles a plan takes, those of its loops among them.
-fn tiles_of(plan: &Plan) -> u64 {
+/// Returns how many tiles a plan takes, those of its loops among them.
+pub fn tiles_of(plan: &Plan) -> u64 {
     let loops = u64::from(plan.latches);
     let columns = (plan.columns.len() as u64).saturating_add(loops.saturating_mul(2));
     columns.saturating_mul(u64::from(plan.lanes).saturating_add(loops))
@@ -201,7 +201,7 @@ fn tiles_of(plan: &Plan) -> u64 {
 
 // Fails if the plan does not do what its list does, makes streams other than the case's, or takes
 // more than `plain` tiles.
-fn check_plan(alloc: Global, case: &Case, list: &CellList, plan: &Plan) -> Result<(), Fail>
+fn expect_plan(alloc: Global, case: &Case, list: &CellList, plan: &Plan) -> Result<(), Fail>
     requires { IsAdmissible plan.now }
 {
     let agrees = agrees_for_all(alloc, list, plan)?;
@@ -216,22 +216,22 @@ fn check_plan(alloc: Global, case: &Case, list: &CellList, plan: &Plan) -> Resul
     )))
 }
 
-fn check_list(alloc: Global, case: &Case, list: &CellList) -> Result<(), Fail>
+fn expect_list(alloc: Global, case: &Case, list: &CellList) -> Result<(), Fail>
     requires { IsPlannable list.now }
 {
     let plan = plan_of_list(alloc, list)?;
-    check_plan(alloc, case, list, &plan)
+    expect_plan(alloc, case, list, &plan)
 }
 
-fn check_case(alloc: Global, case: &Case) -> Result<(), Fail> {
+fn expect_case(alloc: Global, case: &Case) -> Result<(), Fail> {
     let list = list_of(alloc, &case.list)?;
-    check_list(alloc, case, &list)
+    expect_list(alloc, case, &list)
 }
 
 #[test]
 fn small_circuits_do_what_they_say(rt: HostRuntime) -> Result<(), Fail> {
     for case in CASES {
-        check_case(rt.alloc(), case)?;
+        expect_case(rt.alloc(), case)?;
     }
     Ok(())
 }

@@ -97,7 +97,7 @@ struct SinkCase {
     room: usize,
     chunk: usize,
     fails: &'static [u64],
-    wanted: Result<(), Failed>,
+    want: Result<(), Failed>,
     held: usize,
 }
 
@@ -108,58 +108,58 @@ const SINKS: &[SinkCase] = &[
         room: 1000,
         chunk: 7,
         fails: &[],
-        wanted: Ok(()),
+        want: Ok(()),
         held: 321,
     },
     SinkCase {
         room: 0,
         chunk: 1000,
         fails: &[9],
-        wanted: Err(Failed),
+        want: Err(Failed),
         held: 0,
     },
     SinkCase {
         room: 100,
         chunk: 1000,
         fails: &[9],
-        wanted: Err(Failed),
+        want: Err(Failed),
         held: 100,
     },
     SinkCase {
         room: 320,
         chunk: 1000,
         fails: &[9],
-        wanted: Err(Failed),
+        want: Err(Failed),
         held: 320,
     },
     SinkCase {
         room: 1000,
         chunk: 7,
         fails: &[2],
-        wanted: Err(Failed),
+        want: Err(Failed),
         held: 14,
     },
 ];
 
 // Fails unless writing had the wanted result, and the sink holds the wanted prefix of the text.
-fn expect_sink(case: &SinkCase, written: Result<(), Failed>, held: &[u8]) -> Result<(), Fail> {
+fn expect_held(case: &SinkCase, written: Result<(), Failed>, held: &[u8]) -> Result<(), Fail> {
     let front = &TEXT_WITH_NETS[..case.held.min(TEXT_WITH_NETS.len())];
-    if written == case.wanted && held == front {
+    if written == case.want && held == front {
         return Ok(());
     }
-    Err(Fail::new(format_args!("with room for {}: {written:?}, {held:?}", case.room)))
+    Err(Fail::new(format_args!("with room for {}: {} bytes", case.room, held.len())))
 }
 
-fn check_sink(alloc: Global, case: &SinkCase) -> Result<(), Fail> {
+fn expect_sink(alloc: Global, case: &SinkCase) -> Result<(), Fail> {
     let mut sink = MemSink::new(alloc, case.room, case.chunk.max(1), case.fails)?;
     let written = write_or(alloc, &mut sink)?;
-    expect_sink(case, written, sink.held())
+    expect_held(case, written, sink.held())
 }
 
 #[test]
 fn a_plan_is_written_by_its_cells_and_ports(rt: HostRuntime) -> Result<(), Fail> {
     for case in SINKS {
-        check_sink(rt.alloc(), case)?;
+        expect_sink(rt.alloc(), case)?;
     }
     Ok(())
 }

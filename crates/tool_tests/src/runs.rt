@@ -146,10 +146,16 @@ pub fn run_amply(alloc: Global, command: &str, text: &[u8]) -> Result<Outcome, F
     run_over(alloc, command, text, (16, &[]), (1 << 20, 99))
 }
 
-/// Returns what a command writes for a text, and fails if its status is not 0.
+// Whether a run ended well, and wrote a pattern or a lifted netlist.
+fn is_handed_on(got: &Outcome) -> bool {
+    got.is(0, "#C BLIFWW 2 P ...\n", "") || got.is(0, ".model lifted\n...\n", "")
+}
+
+/// Returns the pattern or the lifted netlist that a command writes for a text, and fails if the run
+/// ends otherwise.
 pub fn written(alloc: Global, command: &str, text: &[u8]) -> Result<Vec<u8>, Fail> {
     let got = run_amply(alloc, command, text)?;
-    if got.status == 0 {
+    if is_handed_on(&got) {
         Ok(got.out)
     } else {
         Err(Fail::new(format_args!("{command}: {}", got.status)))
@@ -207,9 +213,9 @@ pub fn case_of(case: &str) -> Option<Case<'_>> {
     })
 }
 
-/// Fails with `about` if `is_so` is false.
-pub fn expect(is_so: bool, about: &str) -> Result<(), Fail> {
-    if is_so {
+/// Fails with `about` if `holds` is false.
+pub fn expect_holds(about: &str, holds: bool) -> Result<(), Fail> {
+    if holds {
         Ok(())
     } else {
         Err(Fail::new(format_args!("this is not so: {about}")))
@@ -247,7 +253,7 @@ fn expect_case(alloc: Global, said: &str, other: &str) -> Result<(), Fail> {
                 case.text
             };
             let got = run_after(alloc, case.commands, text.as_bytes())?;
-            expect(got.ends(&case), said)
+            expect_holds(said, got.ends(&case))
         }
         None => Err(Fail::new("no case")),
     }
@@ -315,9 +321,9 @@ fn expect_change(alloc: Global, command: &str, lines: &str, change: &str) -> Res
         Some(case) => {
             let text = changed(alloc, lines, case.commands, case.text)?;
             let got = run_amply(alloc, command, &text)?;
-            expect(
-                got.ends(&case) && text.as_slice() != lines.as_bytes(),
+            expect_holds(
                 change,
+                got.ends(&case) && text.as_slice() != lines.as_bytes(),
             )
         }
         None => Err(Fail::new("no change")),

@@ -16,21 +16,21 @@ fn is_read(got: &Result<Bytes, ReadAllError>, want: Option<ReadAllError>) -> boo
     }
 }
 
-// A read: the most bytes that a call takes, the calls that fail, the limit, and the error that the
+// A read: the most bytes that a call takes, the call that fails, the limit, and the error that the
 // read ends with.
-type Read<'a> = (usize, &'a [u64], usize, Option<ReadAllError>);
+type Read = (usize, u64, usize, Option<ReadAllError>);
 
 // Fails if a read of the text ends in another way.
-fn expect_read(alloc: Global, (chunk, fails, limit, want): Read) -> Result<(), Fail> {
+fn expect_read(alloc: Global, (chunk, call, limit, want): Read) -> Result<(), Fail> {
     if chunk == 0 {
         return Err(Fail::new("a chunk of 0"));
     }
-    let mut src = MemSource::new(alloc, TEXT, chunk, fails)?;
+    let mut src = MemSource::new(alloc, TEXT, chunk, &[call])?;
     let got = read_all(alloc, &mut src, limit);
     if is_read(&got, want) {
         Ok(())
     } else {
-        Err(Fail::new(format_args!("{fails:?} in chunks of {chunk}, limit {limit}")))
+        Err(Fail::new(format_args!("call {call} in chunks of {chunk}, limit {limit}")))
     }
 }
 
@@ -39,20 +39,21 @@ fn each_read_up_to_the_end_can_fail(rt: HostRuntime) -> Result<(), Fail> {
     // Calls 0 to 60 each take a byte, and call 61 finds the end.
     for call in 0..64 {
         let want = (call < 62).then_some(ReadAllError::ReadFault);
-        expect_read(rt.alloc(), (1, &[call], 61, want))?;
+        expect_read(rt.alloc(), (1, call, 61, want))?;
     }
     Ok(())
 }
 
+// Reads that take fewer than 99 calls.
 const READS: &[Read] = &[
-    (1, &[], 61, None),
-    (1, &[], 60, Some(ReadAllError::TooLong)),
-    (16, &[], 61, None),
-    (16, &[], 60, Some(ReadAllError::TooLong)),
-    (61, &[], 61, None),
-    (61, &[], 60, Some(ReadAllError::TooLong)),
-    (5000, &[], 61, None),
-    (5000, &[], 60, Some(ReadAllError::TooLong)),
+    (1, 99, 61, None),
+    (1, 99, 60, Some(ReadAllError::TooLong)),
+    (16, 99, 61, None),
+    (16, 99, 60, Some(ReadAllError::TooLong)),
+    (61, 99, 61, None),
+    (61, 99, 60, Some(ReadAllError::TooLong)),
+    (5000, 99, 61, None),
+    (5000, 99, 60, Some(ReadAllError::TooLong)),
 ];
 
 #[test]

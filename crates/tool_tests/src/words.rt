@@ -1,5 +1,5 @@
 // The commands that lists of words ask for.
-use crate::runs::words_of;
+use crate::runs::{USAGE, expect_holds, run_over, words_of};
 use command_words::{Command, View, WordsError, command_of};
 use lists::List;
 use std::alloc::{AllocError, Global};
@@ -7,7 +7,7 @@ use std::fmt::Display;
 use std::test::Fail;
 
 // The words after the program's name, where `''` is an empty word, and what they ask for: a
-// command's name, its numbers and its words, or `usage`.
+// command's name, its numbers and its words, or `usage` if the program prints the usage line.
 const CASES: &str = "\
 compile -> compile 1
 compile --contexts 1 -> compile 1
@@ -38,9 +38,11 @@ compile --contexts 4294967296 -> usage
 compile --contexts 0 -> usage
 compile --contexts +2 -> usage
 compile --contexts -> usage
+compile compile -> usage
 Compile -> usage
 simulate -> usage
 simulate a=01 -> usage
+simulate a=01 b=01 -> usage
 simulate --cycles -> usage
 simulate --cycles 0 -> usage
 simulate --cycles +7 -> usage
@@ -166,10 +168,20 @@ fn expect_answer(alloc: Global, words: &[String], want: &str, about: &str) -> Re
     }
 }
 
+// Fails if the program does not print the usage line, and nothing else, for words that are no
+// command. Its first read would fail.
+fn expect_usage(alloc: Global, asked: &str) -> Result<(), Fail> {
+    let got = run_over(alloc, asked, b"", (1, &[0]), (99, 99))?;
+    expect_holds(asked, got.is(2, "", USAGE))
+}
+
 // Fails if the words of a case ask for something else.
 fn expect_case(alloc: Global, case: &str) -> Result<(), Fail> {
     match case.split_once(" -> ") {
         Some((asked, want)) => {
+            if want == "usage" {
+                expect_usage(alloc, asked)?;
+            }
             let words = words_of(alloc, asked)?;
             expect_answer(alloc, &words, want, case)
         }

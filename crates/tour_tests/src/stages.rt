@@ -198,63 +198,63 @@ fn push_plan(page: &mut Page, flat: &Flat, plan: &Plan, labels: &mut [Label]) {
     }
 }
 
-fn check_flat(alloc: Global, flat: &Flat) -> Result<(), Fail> {
+fn expect_flat(alloc: Global, flat: &Flat) -> Result<(), Fail> {
     let mut page = Page::new(alloc);
     push_flat(&mut page, flat);
     page.expect(FLAT)
 }
 
-fn check_list(alloc: Global, list: &CellList) -> Result<(), Fail> {
+fn expect_list(alloc: Global, list: &CellList) -> Result<(), Fail> {
     let mut page = Page::new(alloc);
     push_list(&mut page, list);
     page.expect(CELLS)
 }
 
-fn check_lanes(alloc: Global, flat: &Flat, plan: &Plan, labels: &mut [Label]) -> Result<(), Fail> {
+fn expect_lanes(alloc: Global, flat: &Flat, plan: &Plan, labels: &mut [Label]) -> Result<(), Fail> {
     let mut page = Page::new(alloc);
     push_plan(&mut page, flat, plan, labels);
     page.expect(LANES)
 }
 
-fn check_plan(alloc: Global, flat: &Flat, plan: &Plan) -> Result<(), Fail> {
+fn expect_plan(alloc: Global, flat: &Flat, plan: &Plan) -> Result<(), Fail> {
     let mut labels = vec![in alloc; Label::Nothing; plan.lanes as usize]?;
-    check_lanes(alloc, flat, plan, &mut labels)
+    expect_lanes(alloc, flat, plan, &mut labels)
 }
 
 // Compares the cells of a netlist with the tour.
-fn check_cells(alloc: Global, netlist: &Netlist) -> Result<(), Fail>
+fn expect_cells(alloc: Global, netlist: &Netlist) -> Result<(), Fail>
     requires parts { AreParts netlist.now.design netlist.now.flat netlist.now.order.nodes }
 {
     let mapped = cover_mapper::map(alloc, &netlist.flat, &netlist.order)?;
-    check_list(alloc, &mapped.list)
+    expect_list(alloc, &mapped.list)
 }
 
 // Compares the lanes and columns of a netlist's plan with the tour.
-fn check_planned(alloc: Global, netlist: &Netlist) -> Result<(), Fail>
+fn expect_planned(alloc: Global, netlist: &Netlist) -> Result<(), Fail>
     requires of_text { (text : List ℕ) × IsNetlist text netlist.now.design }
     requires parts { AreParts netlist.now.design netlist.now.flat netlist.now.order.nodes }
 {
     let planned = plan_netlist(alloc, &netlist.flat, &netlist.order)?;
-    check_plan(alloc, &netlist.flat, &planned.plan)
+    expect_plan(alloc, &netlist.flat, &planned.plan)
 }
 
 // Compares the stages of a netlist with the tour: flat, as cells, and as lanes and columns.
-fn check_netlist(alloc: Global, netlist: &Netlist) -> Result<(), Fail>
+fn expect_netlist(alloc: Global, netlist: &Netlist) -> Result<(), Fail>
     requires of_text { (text : List ℕ) × IsNetlist text netlist.now.design }
     requires parts { AreParts netlist.now.design netlist.now.flat netlist.now.order.nodes }
 {
-    check_flat(alloc, &netlist.flat)?;
-    check_cells(alloc, netlist)?;
-    check_planned(alloc, netlist)
+    expect_flat(alloc, &netlist.flat)?;
+    expect_cells(alloc, netlist)?;
+    expect_planned(alloc, netlist)
 }
 
 // Compares the stages of a text's netlist with the tour.
-fn check_stages(alloc: Global, text: &[u8]) -> Result<(), Fail> {
+fn expect_stages(alloc: Global, text: &[u8]) -> Result<(), Fail> {
     let netlist = netlist_of(alloc, text)?;
-    check_netlist(alloc, &netlist)
+    expect_netlist(alloc, &netlist)
 }
 
 #[test]
 fn stages_of_the_toggle_are_those_of_the_tour(rt: HostRuntime) -> Result<(), Fail> {
-    check_stages(rt.alloc(), TOGGLE)
+    expect_stages(rt.alloc(), TOGGLE)
 }

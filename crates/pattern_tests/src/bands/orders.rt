@@ -17,11 +17,11 @@ use ww_rule::{Injection, Pattern, Plane, step_driven};
 const LAST: u64 = 6;
 
 #[derive(Clone, Copy)]
-struct Dice {
+struct Draw {
     state: u32,
 }
 
-impl Dice {
+impl Draw {
     fn below(&mut self, n: u64) -> u64
         requires { 0 < n }
         ensures { result < n }
@@ -32,9 +32,9 @@ impl Dice {
 }
 
 // Appends a row of random cells.
-fn push_random_row(text: &mut Vec<u8>, dice: &mut Dice, width: u64) -> Result<(), AllocError> {
+fn push_random_row(text: &mut Vec<u8>, draw: &mut Draw, width: u64) -> Result<(), AllocError> {
     for _x in 0..width {
-        let letter = match dice.below(8) {
+        let letter = match draw.below(8) {
             0 => b'.',
             1 => b'A',
             2 => b'B',
@@ -46,27 +46,27 @@ fn push_random_row(text: &mut Vec<u8>, dice: &mut Dice, width: u64) -> Result<()
 }
 
 // Appends five rows of random cells, and the pattern's end.
-fn push_random_rows(text: &mut Vec<u8>, dice: &mut Dice, width: u64) -> Result<(), AllocError> {
+fn push_random_rows(text: &mut Vec<u8>, draw: &mut Draw, width: u64) -> Result<(), AllocError> {
     for _y in 0..5 {
-        push_random_row(text, dice, width)?;
+        push_random_row(text, draw, width)?;
     }
     text.extend_from_slice(b"!")
 }
 
 // The text of a random pattern of five rows.
-fn random_text(alloc: Global, dice: &mut Dice, width: u64) -> Result<Vec<u8>, AllocError> {
+fn random_text(alloc: Global, draw: &mut Draw, width: u64) -> Result<Vec<u8>, AllocError> {
     let mut text = format!(in alloc; "x = {width}, y = 5, rule = WireWorld\n")?.into_bytes();
-    push_random_rows(&mut text, dice, width)?;
+    push_random_rows(&mut text, draw, width)?;
     Ok(text)
 }
 
 // A random pattern of five rows.
-fn random_pattern(alloc: Global, dice: &mut Dice, width: u64) -> Result<Pattern, Fail>
+fn random_pattern(alloc: Global, draw: &mut Draw, width: u64) -> Result<Pattern, Fail>
     ensures width { IfOk result (λ pattern. pattern.width ≡ width) }
     ensures height { IfOk result (λ pattern. pattern.height ≡ 5) }
     ensures rows { IfOk result (λ pattern. length pattern.rows ≡ 5) }
 {
-    let pattern = read(alloc, &random_text(alloc, dice, width)?)?;
+    let pattern = read(alloc, &random_text(alloc, draw, width)?)?;
     if pattern.width != width || pattern.height != 5 || pattern.rows.len() != 5 {
         return Err(Fail::new("another size"));
     }
@@ -75,20 +75,20 @@ fn random_pattern(alloc: Global, dice: &mut Dice, width: u64) -> Result<Pattern,
 
 // Two injections at one cell and generation, one at most two generations later, and one that is
 // never reached.
-fn random_drive(alloc: Global, dice: &mut Dice, width: u64) -> Result<Vec<Injection>, AllocError>
+fn random_drive(alloc: Global, draw: &mut Draw, width: u64) -> Result<Vec<Injection>, AllocError>
     requires { 0 < width }
     ensures in_order { IfOk result (λ drive. AreInOrderFrom 0 drive.items) }
     ensures inside { IfOk result (λ drive. AreInside width 5 drive.items) }
 {
     let first = Injection {
-        generation: dice.below(3) as u128,
-        x: dice.below(width),
-        y: dice.below(5),
+        generation: draw.below(3) as u128,
+        x: draw.below(width),
+        y: draw.below(5),
     };
     let next = Injection {
-        generation: first.generation + dice.below(3) as u128,
-        x: dice.below(width),
-        y: dice.below(5),
+        generation: first.generation + draw.below(3) as u128,
+        x: draw.below(width),
+        y: draw.below(5),
     };
     let never = Injection {
         generation: 18_446_744_073_709_551_617,
@@ -169,27 +169,27 @@ fn planes(alloc: Global, pattern: &Pattern, drive: &[Injection]) -> Result<Vec<P
 }
 
 // Makes one call on a band, whatever it answers.
-fn call(bands: &mut Bands, b: usize, dice: &mut Dice)
+fn call(bands: &mut Bands, b: usize, draw: &mut Draw)
     requires band { b < length bands.old.generations }
     requires room { generation_of bands.old b < 6 }
     ensures { IsSamePattern bands.old bands.new }
 {
-    if dice.below(2) == 0 {
+    if draw.below(2) == 0 {
         let _answer = bands.skip(b);
     } else {
         let _answer = bands.advance(b);
     }
 }
 
-fn call_at_random(bands: &mut Bands, dice: &mut Dice)
+fn call_at_random(bands: &mut Bands, draw: &mut Draw)
     ensures { IsSamePattern bands.old bands.new }
 {
     for turn in 0..40 {
         let count = bands.bands();
         if count > 0 {
-            let b = dice.below(count as u64) as usize;
+            let b = draw.below(count as u64) as usize;
             if bands.generation(b) < LAST {
-                call(bands, b, dice);
+                call(bands, b, draw);
             }
         }
     }
@@ -255,7 +255,7 @@ fn are_right(
 // Makes random calls, and returns whether the bands then show all rows as the planes have them.
 fn calls_are_right(
     alloc: Global,
-    dice: &mut Dice,
+    draw: &mut Draw,
     bands: &mut Bands,
     height: u32,
     width: u64,
@@ -265,45 +265,45 @@ fn calls_are_right(
     requires width { width ≡ bands.old.grid.width }
     requires rows { length bands.old.grid.rows ≡ 5 }
 {
-    call_at_random(bands, dice);
+    call_at_random(bands, draw);
     are_right(alloc, bands, height, width, planes)
 }
 
 // Whether the bands of a random pattern with random injections are right after random calls.
-fn order_is_right(alloc: Global, dice: &mut Dice, height: u32, width: u64) -> Result<bool, Fail>
+fn order_is_right(alloc: Global, draw: &mut Draw, height: u32, width: u64) -> Result<bool, Fail>
     requires height { 0 < height }
     requires width { 0 < width }
 {
-    let pattern = random_pattern(alloc, dice, width)?;
-    let drive = random_drive(alloc, dice, width)?;
+    let pattern = random_pattern(alloc, draw, width)?;
+    let drive = random_drive(alloc, draw, width)?;
     let planes = planes(alloc, &pattern, &drive)?;
     let mut bands = Bands::new(alloc, pattern, drive, height)?;
-    Ok(calls_are_right(alloc, dice, &mut bands, height, width, &planes)?)
+    Ok(calls_are_right(alloc, draw, &mut bands, height, width, &planes)?)
 }
 
-fn expect_right(alloc: Global, dice: &mut Dice, height: u32, width: u64) -> Result<(), Fail>
+fn expect_right(alloc: Global, draw: &mut Draw, height: u32, width: u64) -> Result<(), Fail>
     requires height { 0 < height }
     requires width { 0 < width }
 {
-    if order_is_right(alloc, dice, height, width)? {
+    if order_is_right(alloc, draw, height, width)? {
         Ok(())
     } else {
         Err(Fail::new(format_args!("bands of {height} rows, {width} columns")))
     }
 }
 
-fn expect_all_right(alloc: Global, dice: &mut Dice) -> Result<(), Fail> {
+fn expect_all_right(alloc: Global, draw: &mut Draw) -> Result<(), Fail> {
     for (height, width) in [(1, 3), (2, 3), (3, 65), (1, 65), (2, 64), (7, 1)] {
-        expect_right(alloc, dice, height, width)?;
+        expect_right(alloc, draw, height, width)?;
     }
     Ok(())
 }
 
 #[test]
 fn random_orders_show_the_driven_planes(rt: HostRuntime) -> Result<(), Fail> {
-    let mut dice = Dice { state: 1 };
+    let mut draw = Draw { state: 1 };
     for _round in 0..334 {
-        expect_all_right(rt.alloc(), &mut dice)?;
+        expect_all_right(rt.alloc(), &mut draw)?;
     }
     Ok(())
 }

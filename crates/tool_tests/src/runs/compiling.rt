@@ -1,5 +1,5 @@
 // What `compile` writes, and what it shows when streams drive it.
-use crate::runs::{Case, case_of, expect, run_after, text_of, written};
+use crate::runs::{Case, case_of, expect_holds, run_after, text_of, written};
 use std::alloc::Global;
 use std::test::Fail;
 
@@ -37,7 +37,6 @@ C.C$15.C$11.2C.C$10.2C.C$9.C.2C$8.C$7.C$6.C$5.C$5C26.C!
 #C BLIFWW 2 P 32 L 0 C 1
 x = 0, y = 0, rule = WireWorld
 !
-...
 > compile
 .model or
 .inputs a b
@@ -230,7 +229,7 @@ q=01
 fn expect_printed(alloc: Global, commands: &str, case: &Case, shown: &str) -> Result<(), Fail> {
     let asked = text_of(alloc, &[commands, case.commands])?;
     let got = run_after(alloc, &asked, case.text.as_bytes())?;
-    expect(got.ends(case), shown)
+    expect_holds(shown, got.ends(case))
 }
 
 // Fails if a netlist or its pattern prints something else.
@@ -256,7 +255,7 @@ fn what_compile_writes_shows_the_netlist(rt: HostRuntime) -> Result<(), Fail> {
 fn expect_same(alloc: Global, command: &str) -> Result<(), Fail> {
     let pattern = written(alloc, "compile", TOGGLE.as_bytes())?;
     let other = written(alloc, command, TOGGLE.as_bytes())?;
-    expect(pattern == other, command)
+    expect_holds(command, pattern == other)
 }
 
 // One context without words for its starts, and a tape without inputs.

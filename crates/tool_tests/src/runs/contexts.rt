@@ -1,6 +1,6 @@
 // What `compile` makes of several contexts, and what such patterns show.
 use crate::runs::compiling::TOGGLE;
-use crate::runs::{expect, run_amply, text_of, written};
+use crate::runs::{expect_holds, run_amply, text_of, written};
 use itoa::Buffer;
 use std::alloc::{AllocError, Global};
 use std::test::Fail;
@@ -55,9 +55,6 @@ stream: BadBit 1:q=10
 > compile --contexts 4294967295 q=1 -- the words are looked at before the room
 == 9
 stream: BadContext q=1
-> compile 1:q=1
-== 2
-usage: blifww compile|simulate|eval|probe|window|make|self|tape|aiger|vcd|lift
 > compile --contexts 2 1:q=1 | simulate --cycles 4 -- each context starts as its words say: of the toggle's two one starts with 1
 == 0
 0:q=0101
@@ -146,7 +143,7 @@ fn expect_contexts(
     let mut digits = Buffer::new();
     let command = text_of(alloc, &["compile --contexts ", digits.format(contexts)])?;
     let got = run_amply(alloc, &command, TOGGLE.as_bytes())?;
-    expect(got.is(status, out, err), &command)
+    expect_holds(&command, got.is(status, out, err))
 }
 
 // The line that refuses `more` contexts if there is room for `room`.
@@ -176,5 +173,5 @@ fn as_many_contexts_as_have_room_are_compiled(rt: HostRuntime) -> Result<(), Fai
     let room = room_of(alloc, TOGGLE)?;
     expect_contexts(alloc, room, 0, "#C BLIFWW 2 P ...\n", "")?;
     expect_no_room(alloc, room)?;
-    expect(room >= 6, "the room of the toggle")
+    expect_holds("the room of the toggle", room >= 6)
 }

@@ -2,56 +2,6 @@
 
 /// Netlists that run, and texts and words that give no run.
 pub const CASES: &str = "
-> eval --cycles 4 -- netlists show their runs
-.model t
-.outputs q
-.latch n q 0
-.names q n
-0 1
-.end
-== 0
-q=0101
-> eval --cycles 4 d=0010
-.model r
-.inputs d
-.outputs q
-.latch d q 1
-.end
-== 0
-q=1001
-> eval --cycles 2 d=10
-.model m
-.inputs d \\
-clk # two
-.outputs q
-.latch d q re clk 2
-.end
-== 0
-q=01
-> eval --cycles 1 a0=1 a1=1 b0=1 b1=0 ci=0
-.model add
-.inputs a0 a1 b0 b1 ci
-.outputs s0 s1 c
-.subckt fa a=a0 b=b0 c=ci s=s0 co=k
-.subckt fa a=a1 b=b1 c=k s=s1 co=c
-.end
-.model fa
-.inputs a b c
-.outputs s co
-.names a b c s
-100 1
-010 1
-001 1
-111 1
-.names a b c co
-11- 1
-1-1 1
--11 1
-.end
-== 0
-s0=0
-s1=0
-c=1
 > eval --cycles 1 -- texts that are no netlists
 == 1
 B22 NoModel line 1: -

@@ -20,12 +20,12 @@ const MADE: &str =
 const TOLD: &str =
     "weight 22\nlanes ...\nsim g1=1011\neval g1=1011\nsim q0=0111\neval q0=0111\nsim q1=1001\neval q1=1001\n";
 
-// A command, a text, the calls of the source that fail, the rooms of the sinks, the status, and
-// what the run writes to the output and to the errors.
+// A command, a text, the call of the source that fails, the rooms of the sinks, the status, and what
+// the run writes to the output and to the errors. No source has more than 98 calls.
 type Run = (
     &'static str,
     &'static str,
-    &'static [u64],
+    u64,
     (usize, usize),
     u8,
     &'static str,
@@ -33,20 +33,16 @@ type Run = (
 );
 
 const RUNS: &[Run] = &[
-    // A failure is reported as far as the errors have room. Nothing is read if the words are no
-    // command.
-    ("compile", GATE, &[9], (179, 99), 6, FRONT, "write fault\n"),
-    ("compile", GATE, &[9], (179, 5), 6, FRONT, "write"),
-    ("compile", GATE, &[1], (321, 99), 5, "", "read fault\n"),
-    ("compile", GATE, &[1], (321, 4), 6, "", "read"),
-    ("", GATE, &[0], (321, 99), 2, "", USAGE),
-    ("compile compile", GATE, &[0], (321, 99), 2, "", USAGE),
-    ("simulate", GATE, &[0], (321, 99), 2, "", USAGE),
-    ("", GATE, &[0], (321, 20), 6, "", "usage: blifww compil"),
+    // A failure is reported as far as the errors have room.
+    ("compile", GATE, 9, (179, 99), 6, FRONT, "write fault\n"),
+    ("compile", GATE, 9, (179, 5), 6, FRONT, "write"),
+    ("compile", GATE, 1, (321, 99), 5, "", "read fault\n"),
+    ("compile", GATE, 1, (321, 4), 6, "", "read"),
+    ("", GATE, 0, (321, 20), 6, "", "usage: blifww compil"),
     (
         "window --gen 1 --x 0 --y 0 --width 3 --height 2",
         GATE,
-        &[0],
+        0,
         (321, 99),
         5,
         "",
@@ -55,30 +51,28 @@ const RUNS: &[Run] = &[
     (
         "make --seed 1 --size 2",
         GATE,
-        &[0],
+        0,
         (0, 99),
         6,
         "",
         "write fault\n",
     ),
-    // `lift` refuses texts and words, and output is cut off if there is no room for it.
-    ("lift", GATE, &[], (99, 99), 8, "", "G1 NoHeader line 1\n"),
-    ("lift", "", &[], (99, 99), 8, "", "G1 NoHeader line 1\n"),
-    ("lift x", PATTERN, &[], (99, 99), 2, "", USAGE),
+    // `lift` refuses texts, and output is cut off if there is no room for it.
+    ("lift", GATE, 99, (99, 99), 8, "", "G1 NoHeader line 1\n"),
+    ("lift", "", 99, (99, 99), 8, "", "G1 NoHeader line 1\n"),
     (
         "lift",
         PATTERN,
-        &[],
+        99,
         (20, 99),
         6,
         ".model lifted\n.input",
         "write fault\n",
     ),
-    ("lift", PATTERN, &[], (0, 99), 6, "", "write fault\n"),
     (
         "simulate --cycles 4 a=0011 b=0101",
         PATTERN,
-        &[],
+        99,
         (4, 99),
         6,
         "y=01",
@@ -88,38 +82,41 @@ const RUNS: &[Run] = &[
     (
         "simulate --cycles 4 a=0011 b=0101",
         PATTERN,
-        &[],
+        99,
         (7, 0),
         0,
         "y=0111\n",
         "",
     ),
-    ("compile", GATE, &[], (321, 0), 0, PATTERN, ""),
+    ("compile", GATE, 99, (321, 0), 0, PATTERN, ""),
     // `make` and `self` read nothing: the first call of the source would fail.
-    ("make --seed 1 --size 2", "", &[0], (999, 0), 0, MADE, ""),
+    ("make --seed 1 --size 2", "", 0, (999, 0), 0, MADE, ""),
     (
         "self --seed 1 --size 2 --cycles 4",
         "",
-        &[0],
+        0,
         (999, 0),
         0,
         TOLD,
         "",
     ),
     // Neither sink holds anything if the line of a refusal fails at once.
-    ("", "", &[], (99, 0), 6, "", ""),
+    ("", "", 99, (99, 0), 6, "", ""),
 ];
 
 // Fails if a run ends otherwise.
 fn expect_run(
     alloc: Global,
-    (command, text, fails, rooms, status, out, err): Run,
+    (command, text, call, rooms, status, out, err): Run,
 ) -> Result<(), Fail> {
-    let got = run_over(alloc, command, text.as_bytes(), (16, fails), rooms)?;
+    let got = run_over(alloc, command, text.as_bytes(), (16, &[call]), rooms)?;
     if got.is(status, out, err) {
         Ok(())
     } else {
-        Err(Fail::new(format_args!("{command}, {fails:?}, {rooms:?}: {}", got.status)))
+        Err(Fail::new(format_args!(
+            "{command}, {call}, {}, {}: {}",
+            rooms.0, rooms.1, got.status
+        )))
     }
 }
 
@@ -148,11 +145,8 @@ const COMMANDS: &[(&str, &str)] = &[
 
 // Fails if a command does not report that the source fails, or that the output does.
 fn expect_told(alloc: Global, command: &'static str, text: &'static str) -> Result<(), Fail> {
-    expect_run(
-        alloc,
-        (command, text, &[0], (99, 99), 5, "", "read fault\n"),
-    )?;
-    expect_run(alloc, (command, text, &[], (0, 99), 6, "", "write fault\n"))
+    expect_run(alloc, (command, text, 0, (99, 99), 5, "", "read fault\n"))?;
+    expect_run(alloc, (command, text, 99, (0, 99), 6, "", "write fault\n"))
 }
 
 #[test]
@@ -254,7 +248,7 @@ fn expect_counts(
     if got == counts {
         Ok(())
     } else {
-        Err(Fail::new(format_args!("{command}, {calls:?}: {got:?}")))
+        Err(Fail::new(format_args!("{command}, {}, {}: {}", calls.0, calls.1, got.0)))
     }
 }
 

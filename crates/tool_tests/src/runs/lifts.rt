@@ -48,19 +48,7 @@ C.C$15.C$11.2C.C$10.2C.C$9.C.2C$8.C$7.C$6.C$5.C$5C26.C!
 .names _g1 z
 1 1
 .end
-> aiger | lift -- what the commands write is lifted in one context
-aag 3 2 0 1 1
-2
-4
-7
-6 2 4
-i0 a
-i1 b
-o0 y
-== 0
-.model lifted
-...
-> aiger | lift
+> aiger | lift -- names that no netlist can have
 aag 1 1 0 1 0
 2
 2
@@ -124,11 +112,7 @@ not a circuit: Ports
 == 0
 y=0111
 @ toggle
-> compile --contexts 1 0:q=1 | lift -- what the commands write is lifted in one context
-== 0
-.model lifted
-...
-> compile --contexts 2 | lift
+> compile --contexts 2 | lift -- what the commands write is lifted in one context
 == 12
 not a circuit: Ports
 > compile | lift | eval --cycles 4 -- what is lifted prints what the pattern does

@@ -1,5 +1,5 @@
-// Runs of many cycles: as many as no short way round serves.
-use crate::runs::{expect, matches, written};
+// Runs of many cycles.
+use crate::runs::{expect_holds, matches, run_amply, written};
 use std::alloc::{AllocError, Global};
 use std::test::Fail;
 
@@ -170,16 +170,16 @@ fn tape_command(alloc: Global) -> Result<String, AllocError> {
 
 // Fails if the text is no tape whose pattern shows 0 and then 1.
 fn expect_tape(alloc: Global, tape: &[u8]) -> Result<(), Fail> {
-    expect(
-        matches(tape, "#C BLIFWW 2 P 32 L ...!\n"),
+    expect_holds(
         "the tape has its text",
+        matches(tape, "#C BLIFWW 2 P 32 L ...!\n"),
     )?;
-    let shown = written(alloc, "simulate --cycles 2", tape)?;
-    expect(matches(&shown, "y=01\n"), "the tape shows 0 and 1")
+    let shown = run_amply(alloc, "simulate --cycles 2", tape)?;
+    expect_holds("the tape shows 0 and 1", shown.is(0, "y=01\n", ""))
 }
 
 #[test]
-fn a_tape_of_eight_inputs_has_the_most_cycles(rt: HostRuntime) -> Result<(), Fail> {
+fn the_longest_tape_begins_right(rt: HostRuntime) -> Result<(), Fail> {
     let command = tape_command(rt.alloc())?;
     let tape = written(rt.alloc(), &command, EIGHT.as_bytes())?;
     expect_tape(rt.alloc(), &tape)

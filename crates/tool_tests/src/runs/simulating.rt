@@ -153,12 +153,6 @@ stream: TwiceInput a=01
 > simulate --cycles 3 a=011 b=012
 == 9
 stream: BadBit b=012
-> simulate --cycles 0
-== 2
-usage: blifww compile|simulate|eval|probe|window|make|self|tape|aiger|vcd|lift
-> simulate a=01 b=01
-== 2
-usage: blifww compile|simulate|eval|probe|window|make|self|tape|aiger|vcd|lift
 > probe --cycles 2 --net y a=01 b=00 -- a net and a part of the plane are shown
 == 0
 y=01

@@ -62,12 +62,6 @@ y=1
 == 0
 y=10
 @ toggle
-> tape --cycles 4097 -- texts that give no tape
-== 2
-usage: blifww compile|simulate|eval|probe|window|make|self|tape|aiger|vcd|lift
-> tape --cycles 0
-== 2
-usage: blifww compile|simulate|eval|probe|window|make|self|tape|aiger|vcd|lift
 > tape --cycles 4 | simulate --cycles 6
 == 0
 q=010101

@@ -1,7 +1,7 @@
 // Netlists that are compiled twice in one process.
 use crate::runs::compiling::{INVERTER, TOGGLE};
 use crate::runs::nets::{ADDER, COUNTER};
-use crate::runs::{GATE, expect, written};
+use crate::runs::{GATE, expect_holds, written};
 use std::alloc::Global;
 use std::test::Fail;
 
@@ -19,7 +19,7 @@ const COMMANDS: &[(&str, &str)] = &[
 fn expect_one_text(alloc: Global, (command, netlist): (&str, &str)) -> Result<(), Fail> {
     let first = written(alloc, command, netlist.as_bytes())?;
     let second = written(alloc, command, netlist.as_bytes())?;
-    expect(first.as_slice() == second.as_slice(), netlist)
+    expect_holds(netlist, first.as_slice() == second.as_slice())
 }
 
 #[test]
