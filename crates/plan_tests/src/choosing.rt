@@ -4,7 +4,7 @@ ghost use Rattle.cell_plans.specs.PlanOf.{IsPlannable};
 
 use crate::written::{Written, list_of, must};
 use cell_core::{Cell, CellList, Src};
-use cell_plans::best_plan;
+use cell_plans::{Chosen, PlanError, best_plan};
 use std::alloc::Global;
 use std::test::Fail;
 
@@ -47,21 +47,18 @@ const FOUR_CELLS: Written<'static> = Written {
     nets: &[Src::Input(0), Src::Input(1), Src::Cell(3)],
 };
 
-// The place of the chosen list, and how many lanes and columns its plan has.
-type Choice = (usize, u32, usize);
-
-// Lists, each given by its number of cells, and the choice: the list with the smallest plan.
-const CHOICES: &[(&str, Choice)] = &[
-    ("1", (0, 2, 1)),
-    ("3", (0, 4, 6)),
-    ("4", (0, 4, 7)),
-    ("13", (0, 2, 1)),
-    ("31", (1, 2, 1)),
-    ("34", (0, 4, 6)),
-    ("43", (1, 4, 6)),
-    ("314", (1, 2, 1)),
-    ("431", (2, 2, 1)),
-    ("143", (0, 2, 1)),
+// Lists, each given by its number of cells, and that of the list whose plan is kept: the smallest.
+const CHOICES: &[(&str, u8)] = &[
+    ("1", b'1'),
+    ("3", b'3'),
+    ("4", b'4'),
+    ("13", b'1'),
+    ("31", b'1'),
+    ("34", b'3'),
+    ("43", b'3'),
+    ("314", b'1'),
+    ("431", b'1'),
+    ("143", b'1'),
 ];
 
 // The list of one, three or four cells.
@@ -82,17 +79,34 @@ fn push_list(alloc: Global, lists: &mut Vec<CellList>, cells: u8) -> Result<(), 
     ensures { OnOk result (All IsPlannable lists.new.items) }
 {
     let list = list_by(alloc, cells)?;
-    Ok(lists.push(list)?)
+    lists.push(list)?;
+    Ok(())
 }
 
-fn lists_of(alloc: Global, numbers: &[u8]) -> Result<Vec<CellList>, Fail>
-    ensures { IfOk result (λ lists. All IsPlannable lists.items) }
+fn push_lists(alloc: Global, lists: &mut Vec<CellList>, numbers: &[u8]) -> Result<(), Fail>
+    requires { All IsPlannable lists.old.items }
+    ensures { OnOk result (All IsPlannable lists.new.items) }
 {
-    let mut lists = Vec::new(alloc);
     for cells in numbers {
-        push_list(alloc, &mut lists, *cells)?;
+        push_list(alloc, lists, *cells)?;
     }
-    Ok(lists)
+    Ok(())
+}
+
+// The place of the chosen list, and how many lanes and columns its plan has.
+#[derive(Clone, Copy)]
+struct Choice {
+    list: usize,
+    lanes: u32,
+    columns: usize,
+}
+
+fn choice_in(chosen: &Chosen) -> Choice {
+    Choice {
+        list: chosen.list,
+        lanes: chosen.plan.lanes,
+        columns: chosen.plan.columns.len(),
+    }
 }
 
 // The choice that `best_plan` makes.
@@ -100,30 +114,40 @@ fn choice_of(alloc: Global, lists: &[CellList]) -> Result<Choice, Fail>
     requires { All IsPlannable lists.now }
 {
     must(!lists.is_empty())?;
-    let chosen = best_plan(alloc, lists)?;
-    Ok((chosen.list, chosen.plan.lanes, chosen.plan.columns.len()))
+    match best_plan(alloc, lists) {
+        Ok(chosen) => Ok(choice_in(&chosen)),
+        Err(PlanError::NoMemory) => Err(Fail::new("no plan")),
+    }
 }
 
-fn choice(alloc: Global, numbers: &[u8]) -> Result<Choice, Fail> {
-    let lists = lists_of(alloc, numbers)?;
+fn choice_by(alloc: Global, numbers: &[u8]) -> Result<Choice, Fail> {
+    let mut lists = Vec::new(alloc);
+    push_lists(alloc, &mut lists, numbers)?;
     choice_of(alloc, &lists)
 }
 
-fn expect_choice(alloc: Global, numbers: &str, want: Choice) -> Result<(), Fail> {
-    let made = choice(alloc, numbers.as_bytes())?;
-    if made == want {
+// Fails unless the kept plan is that of the list with `kept` cells, and has its lanes and columns.
+fn expect_choice(alloc: Global, numbers: &str, kept: u8) -> Result<(), Fail> {
+    let made = choice_by(alloc, numbers.as_bytes())?;
+    let (lanes, columns) = match kept {
+        b'1' => (2, 1),
+        b'3' => (4, 6),
+        _ => (4, 7),
+    };
+    let is_kept = made.list < numbers.len() && numbers.as_bytes()[made.list] == kept;
+    if is_kept && made.lanes == lanes && made.columns == columns {
         return Ok(());
     }
     Err(Fail::new(format_args!(
-        "{numbers}: {}, {} lanes, {} columns",
-        made.0, made.1, made.2
+        "{numbers}: list {}, {} lanes, {} columns",
+        made.list, made.lanes, made.columns
     )))
 }
 
 #[test]
 fn the_list_with_the_smallest_plan_is_kept(rt: HostRuntime) -> Result<(), Fail> {
-    for (numbers, want) in CHOICES {
-        expect_choice(rt.alloc(), numbers, *want)?;
+    for (numbers, kept) in CHOICES {
+        expect_choice(rt.alloc(), numbers, *kept)?;
     }
     Ok(())
 }

@@ -4,7 +4,6 @@ ghost use Rattle.lane_core.specs.Plans.{IsAdmissible};
 ghost use Rattle.aiger_text.specs.SoundAig.{IsSoundAig};
 
 use crate::running::plays;
-use crate::written::must;
 use aiger_meaning::LowerError;
 use aiger_plans::plan_circuit;
 use aiger_reader::Aig;
@@ -12,13 +11,16 @@ use netlist_plans::Planned;
 use std::alloc::Global;
 use std::test::Fail;
 
-// A circuit, its input and output streams, and whether the period of its plan is 32.
+// A circuit, its input and output streams, the period of its plan, and how many lanes and columns
+// the plan has. It has no plan if its gates form a circle, and then all three are 0.
 struct Case {
     text: &'static str,
     cycles: usize,
     ins: &'static [&'static [u8]],
     outs: &'static [&'static [u8]],
-    is_short: bool,
+    period: u64,
+    lanes: u32,
+    columns: usize,
 }
 
 const CASES: &[Case] = &[
@@ -27,21 +29,27 @@ const CASES: &[Case] = &[
         cycles: 4,
         ins: &[b"0011", b"0101"],
         outs: &[b"1110"],
-        is_short: false,
+        period: 512,
+        lanes: 4,
+        columns: 6,
     },
     Case {
         text: "aag 1 0 1 1 0\n2 3\n2\n",
         cycles: 4,
         ins: &[],
         outs: &[b"0101"],
-        is_short: false,
+        period: 640,
+        lanes: 4,
+        columns: 6,
     },
     Case {
         text: "aag 0 0 0 1 0\n1\n",
         cycles: 3,
         ins: &[],
         outs: &[b"111"],
-        is_short: false,
+        period: 256,
+        lanes: 2,
+        columns: 2,
     },
     // no latch, and nothing that needs constant 1
     Case {
@@ -49,7 +57,9 @@ const CASES: &[Case] = &[
         cycles: 4,
         ins: &[b"0011", b"0101"],
         outs: &[b"0001", b"0100"],
-        is_short: true,
+        period: 32,
+        lanes: 3,
+        columns: 4,
     },
     // a latch that starts as 1, and one that starts as its own literal
     Case {
@@ -57,7 +67,9 @@ const CASES: &[Case] = &[
         cycles: 4,
         ins: &[b"0110"],
         outs: &[b"1011", b"0101"],
-        is_short: false,
+        period: 576,
+        lanes: 4,
+        columns: 5,
     },
     // two outputs that are one input, and an output that is constant 0
     Case {
@@ -65,7 +77,46 @@ const CASES: &[Case] = &[
         cycles: 2,
         ins: &[b"01"],
         outs: &[b"01", b"00", b"01"],
-        is_short: true,
+        period: 32,
+        lanes: 3,
+        columns: 2,
+    },
+    // constant 0, and a gate that reaches no output, take no lane
+    Case {
+        text: "aag 0 0 0 0 0\n",
+        cycles: 1,
+        ins: &[],
+        outs: &[],
+        period: 32,
+        lanes: 0,
+        columns: 0,
+    },
+    Case {
+        text: "aag 4 2 0 1 2\n2\n4\n6\n6 2 4\n8 2 6\n",
+        cycles: 4,
+        ins: &[b"0011", b"0101"],
+        outs: &[b"0001"],
+        period: 32,
+        lanes: 3,
+        columns: 3,
+    },
+    Case {
+        text: "aag 3 2 0 1 1\n2\n4\n6\n6 2 4\n",
+        cycles: 4,
+        ins: &[b"0011", b"0101"],
+        outs: &[b"0001"],
+        period: 32,
+        lanes: 3,
+        columns: 3,
+    },
+    Case {
+        text: "aag 1 0 0 1 1\n2\n2 2 2\n",
+        cycles: 0,
+        ins: &[],
+        outs: &[],
+        period: 0,
+        lanes: 0,
+        columns: 0,
     },
 ];
 
@@ -78,95 +129,45 @@ fn circuit_of(alloc: Global, text: &[u8]) -> Result<Aig, Fail>
     }
 }
 
-// The input and output streams of a circuit.
-#[derive(Clone, Copy)]
-struct Run {
-    cycles: usize,
-    ins: &'static [&'static [u8]],
-    outs: &'static [&'static [u8]],
-}
-
-// Whether a circuit's plan makes the streams, its period, and how many nets its port table lists
-// and how many lanes and columns it has.
-#[derive(Clone, Copy)]
-struct Played {
-    plays: bool,
-    period: u64,
-    nets: usize,
-    lanes: u32,
-    columns: usize,
-}
-
-// How a circuit's plan plays, or that there is no plan, since the gates of CIRCLE form a circle.
-#[derive(Clone, Copy)]
-enum Seen {
-    Plan(Played),
-    Circle,
-}
-
-fn look(alloc: Global, run: Run, planned: &Planned) -> Result<Seen, Fail>
+// Fails if the plan does not make the case's streams, has another period or size than the case
+// says, or has a port table that lists nets.
+fn expect_planned(alloc: Global, case: &Case, planned: &Planned) -> Result<(), Fail>
     requires { IsAdmissible planned.now.plan }
 {
-    let plays = plays(alloc, &planned.plan, run.cycles, run.ins, run.outs)?;
-    Ok(Seen::Plan(Played {
-        plays,
-        period: planned.ports.p,
-        nets: planned.ports.nets.len(),
-        lanes: planned.plan.lanes,
-        columns: planned.plan.columns.len(),
-    }))
-}
-
-// The literals of the one circle that the tests expect.
-const CIRCLE: &[u64] = &[2];
-
-// Fails if a circle has other literals than CIRCLE.
-fn look_at_circle(literals: &[u64]) -> Result<Seen, Fail> {
-    if literals != CIRCLE {
-        return Err(Fail::new(format_args!("a circle of {} literals", literals.len())));
-    }
-    Ok(Seen::Circle)
-}
-
-fn see(alloc: Global, run: Run, aig: &Aig) -> Result<Seen, Fail>
-    requires { IsSoundAig aig.now }
-{
-    match plan_circuit(alloc, aig) {
-        Ok(planned) => look(alloc, run, &planned),
-        Err(LowerError::Loop(literals)) => look_at_circle(literals.as_slice()),
-        Err(_) => Err(Fail::new("no plan")),
-    }
-}
-
-fn look_at(alloc: Global, text: &[u8], run: Run) -> Result<Seen, Fail> {
-    let aig = circuit_of(alloc, text)?;
-    see(alloc, run, &aig)
-}
-
-// Fails if a plan does not make the case's streams, has another period than the case says, or has a
-// port table that lists nets.
-fn expect_played(case: &Case, played: Played) -> Result<(), Fail> {
-    let is_short = played.period == 32;
-    if played.plays && is_short == case.is_short && played.nets == 0 {
+    let plays = plays(alloc, &planned.plan, case.cycles, case.ins, case.outs)?;
+    let (lanes, columns) = (planned.plan.lanes, planned.plan.columns.len());
+    let (period, nets) = (planned.ports.p, planned.ports.nets.len());
+    let is_so = period == case.period && lanes == case.lanes && columns == case.columns;
+    if plays && is_so && nets == 0 {
         return Ok(());
     }
     Err(Fail::new(format_args!(
-        "{}: plays {}, period 32 {is_short}, {} nets",
-        case.text, played.plays, played.nets
+        "{}: plays {plays}, period {period}, {lanes} lanes, {columns} columns, {nets} nets",
+        case.text
     )))
 }
 
-// Fails if the circuit has no plan, or one that is not as the case says.
-fn expect_case(alloc: Global, case: &Case) -> Result<(), Fail> {
-    let run = Run {
-        cycles: case.cycles,
-        ins: case.ins,
-        outs: case.outs,
-    };
-    match look_at(alloc, case.text.as_bytes(), run)? {
-        Seen::Plan(played) => expect_played(case, played),
-        Seen::Circle => Err(Fail::new(format_args!("{}: gates in a circle", case.text))),
+// Fails if the case has a plan, or the gates form no circle of literal 2 alone.
+fn expect_circle(case: &Case, error: &LowerError) -> Result<(), Fail> {
+    match error {
+        LowerError::Loop(literals) if literals.as_slice() == [2].as_slice() && case.period == 0 =>
+            Ok(()),
+        _ => Err(Fail::new(format_args!("{}: no plan", case.text))),
     }
+}
+
+fn expect_circuit(alloc: Global, case: &Case, aig: &Aig) -> Result<(), Fail>
+    requires { IsSoundAig aig.now }
+{
+    match plan_circuit(alloc, aig) {
+        Ok(planned) => expect_planned(alloc, case, &planned),
+        Err(error) => expect_circle(case, &error),
+    }
+}
+
+fn expect_case(alloc: Global, case: &Case) -> Result<(), Fail> {
+    let aig = circuit_of(alloc, case.text.as_bytes())?;
+    expect_circuit(alloc, case, &aig)
 }
 
 #[test]
@@ -175,40 +176,4 @@ fn circuits_do_what_they_say(rt: HostRuntime) -> Result<(), Fail> {
         expect_case(rt.alloc(), case)?;
     }
     Ok(())
-}
-
-// What `look_at` returns for a circuit that is run for no cycle.
-fn seen_at_rest(alloc: Global, text: &[u8]) -> Result<Seen, Fail> {
-    let run = Run {
-        cycles: 0,
-        ins: &[],
-        outs: &[],
-    };
-    look_at(alloc, text, run)
-}
-
-// How many lanes and columns the circuit's plan has.
-fn box_of(alloc: Global, text: &[u8]) -> Result<(u32, usize), Fail> {
-    match seen_at_rest(alloc, text)? {
-        Seen::Plan(played) => Ok((played.lanes, played.columns)),
-        Seen::Circle => Err(Fail::new("gates in a circle")),
-    }
-}
-
-// Constant 0, and a gate that reaches no output, take no lane.
-#[test]
-fn what_nobody_reads_takes_no_lane(rt: HostRuntime) -> Result<(), Fail> {
-    let nothing = box_of(rt.alloc(), b"aag 0 0 0 0 0\n")?;
-    let unread = box_of(rt.alloc(), b"aag 4 2 0 1 2\n2\n4\n6\n6 2 4\n8 2 6\n")?;
-    let read = box_of(rt.alloc(), b"aag 3 2 0 1 1\n2\n4\n6\n6 2 4\n")?;
-    must(nothing == (0, 0) && unread == read)?;
-    Ok(())
-}
-
-#[test]
-fn gates_in_a_circle_have_no_plan(rt: HostRuntime) -> Result<(), Fail> {
-    match seen_at_rest(rt.alloc(), b"aag 1 0 0 1 1\n2\n2 2 2\n")? {
-        Seen::Plan(_) => Err(Fail::new("a plan")),
-        Seen::Circle => Ok(()),
-    }
 }

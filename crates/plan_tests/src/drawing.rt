@@ -1,30 +1,23 @@
 // Random lists of cells.
-ghost use Rattle.std.specs.Prelude.{◌≡◌, ◌<◌, ◌^◌, IfOk, length};
+ghost use Rattle.std.specs.Prelude.{IfOk};
 ghost use Rattle.cell_plans.specs.PlanOf.{IsPlannable};
 
-use crate::written::{Written, list_of};
+use crate::written::{Parts, list_in, no_parts};
 use cell_core::{Cell, CellList, Src};
 use std::alloc::{AllocError, Global};
 use std::test::Fail;
 
 /// A generator of random numbers.
-#[derive(Drop)]
+#[derive(Clone, Copy)]
 pub struct Draw {
     pub state: u32,
 }
 
 impl Draw {
-    /// Draws a number that is below `n` and below 2 ^ 16, or 0 if `n` is 0.
-    pub fn below(&mut self, n: u32) -> u32
-        ensures { result < 2 ^ 16 }
-    {
+    /// Draws a number that is below `n`, or 0 if `n` is 0.
+    fn below(&mut self, n: u32) -> u32 {
         self.state = self.state.wrapping_mul(1664525).wrapping_add(1013904223);
-        ((self.state >> 16) % n.max(1)) & 0xffff
-    }
-
-    /// Draws a bit.
-    fn bit(&mut self) -> bool {
-        self.below(2) == 1
+        (self.state >> 16) % n.max(1)
     }
 }
 
@@ -56,27 +49,15 @@ fn draw_source(draw: &mut Draw, counts: Counts) -> Src {
 }
 
 fn draw_sources(
-    alloc: Global,
     draw: &mut Draw,
     counts: Counts,
     many: u32,
-) -> Result<Vec<Src>, AllocError> {
-    let mut sources = Vec::new(alloc);
+    sources: &mut Vec<Src>,
+) -> Result<(), AllocError> {
     for turn in 0..many {
         sources.push(draw_source(draw, counts))?;
     }
-    Ok(sources)
-}
-
-/// Draws `count` bits.
-pub fn draw_bits(alloc: Global, draw: &mut Draw, count: u32) -> Result<Vec<bool>, AllocError>
-    ensures { IfOk result (λ bits. length bits.items ≡ count) }
-{
-    let mut bits = Vec::new(alloc);
-    for turn in 0..count {
-        bits.push(draw.bit())?;
-    }
-    Ok(bits)
+    Ok(())
 }
 
 fn draw_cell(draw: &mut Draw, counts: Counts) -> Cell {
@@ -90,49 +71,40 @@ fn draw_cell(draw: &mut Draw, counts: Counts) -> Cell {
 }
 
 // Draws cells that read only inputs, latches, constants and earlier cells.
-fn draw_cells(alloc: Global, draw: &mut Draw, counts: Counts) -> Result<Vec<Cell>, AllocError> {
-    let mut drawn = Vec::new(alloc);
+fn draw_cells(draw: &mut Draw, counts: Counts, drawn: &mut Vec<Cell>) -> Result<(), AllocError> {
     for cells in 0..counts.cells {
         drawn.push(draw_cell(draw, Counts { cells, ..counts }))?;
     }
-    Ok(drawn)
+    Ok(())
 }
 
-// The list with these starts and cells, and random outputs, sources of latches and nets.
-fn draw_ports(
-    alloc: Global,
-    draw: &mut Draw,
-    counts: Counts,
-    starts: &[bool],
-    cells: &[Cell],
-) -> Result<CellList, Fail>
-    ensures { IfOk result IsPlannable }
-{
-    let (many, more) = (draw.below(6), draw.below(10));
-    let outs = draw_sources(alloc, draw, counts, many)?;
-    let latches = draw_sources(alloc, draw, counts, counts.latches)?;
-    let nets = draw_sources(alloc, draw, counts, more)?;
-    let written = Written {
-        inputs: counts.inputs,
-        cells,
-        outs: &outs,
-        latches: &latches,
-        starts,
-        nets: &nets,
+fn draw_bits(draw: &mut Draw, many: u32, bits: &mut Vec<bool>) -> Result<(), AllocError> {
+    for turn in 0..many {
+        bits.push(draw.below(2) == 1)?;
+    }
+    Ok(())
+}
+
+// Draws all parts but the number of inputs.
+fn draw_parts(draw: &mut Draw, parts: &mut Parts) -> Result<(), AllocError> {
+    let counts = Counts {
+        inputs: parts.inputs,
+        latches: draw.below(4),
+        cells: draw.below(14),
     };
-    list_of(alloc, &written)
+    draw_bits(draw, counts.latches, &mut parts.starts)?;
+    draw_cells(draw, counts, &mut parts.cells)?;
+    let (outs, nets) = (draw.below(6), draw.below(10));
+    draw_sources(draw, counts, outs, &mut parts.outs)?;
+    draw_sources(draw, counts, counts.latches, &mut parts.latches)?;
+    draw_sources(draw, counts, nets, &mut parts.nets)
 }
 
 /// Draws a list with at most 4 inputs, 3 latches, 13 cells, 5 outputs and 9 nets.
 pub fn draw_list(alloc: Global, draw: &mut Draw) -> Result<CellList, Fail>
     ensures { IfOk result IsPlannable }
 {
-    let counts = Counts {
-        inputs: draw.below(5),
-        latches: draw.below(4),
-        cells: draw.below(14),
-    };
-    let starts = draw_bits(alloc, draw, counts.latches)?;
-    let cells = draw_cells(alloc, draw, counts)?;
-    draw_ports(alloc, draw, counts, &starts, &cells)
+    let mut parts = no_parts(alloc, draw.below(5));
+    draw_parts(draw, &mut parts)?;
+    list_in(parts)
 }

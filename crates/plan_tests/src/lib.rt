@@ -10,13 +10,9 @@ mod climbing;
 #[cfg(test)]
 mod drawing;
 #[cfg(test)]
-mod lifting;
-#[cfg(test)]
 mod netlists;
 #[cfg(test)]
 mod plans;
-#[cfg(test)]
-mod ports;
 #[cfg(test)]
 mod rows;
 #[cfg(test)]

@@ -1,22 +1,23 @@
 // The BLIF texts of netlists that are lifted from plans.
 ghost use Rattle.lane_core.specs.Plans.{IsAdmissible};
 
-use crate::ports::{PortRow, ports_of};
-use crate::written::{Written, plan_of_written};
+use crate::written::{Written, must, plan_of_written};
 use blif_write::{Lift, of, write};
 use cell_core::{Cell, Src};
+use circuit_plans::starts_of_bits;
 use lane_core::Plan;
-use pattern_reading::Ports;
+use lists::{List, copied};
+use pattern_reading::{PortLine, Ports};
 use std::alloc::Global;
 use std::test::Fail;
 use ww_base::{MemSink, expect};
 
-// A list of cells, the ports of its inputs and outputs, and the BLIF text of the netlist that is
+// A list of cells, the names of its inputs and outputs, and the BLIF text of the netlist that is
 // lifted from its plan.
 struct Case {
     written: Written<'static>,
-    ins: &'static [PortRow],
-    outs: &'static [PortRow],
+    ins: &'static [&'static [u8]],
+    outs: &'static [&'static [u8]],
     text: &'static [u8],
 }
 
@@ -28,10 +29,10 @@ const CASES: &[Case] = &[
             outs: &[Src::Cell(0)],
             latches: &[],
             starts: &[],
-            nets: &[],
+            nets: &[Src::Input(0), Src::Input(1), Src::Cell(0)],
         },
-        ins: &[(0, 0, b"a"), (0, 0, b"b")],
-        outs: &[(0, 0, b"y")],
+        ins: &[b"a", b"b"],
+        outs: &[b"y"],
         text: b".model lifted\n.inputs a b\n.outputs y\n.names _z\n.names a b _g0\n1- 1\n-1 1\n.names _g0 y\n1 1\n.end\n",
     },
     Case {
@@ -57,8 +58,8 @@ const CASES: &[Case] = &[
             starts: &[],
             nets: &[],
         },
-        ins: &[(0, 0, b"_z"), (0, 0, b"a\\b")],
-        outs: &[(0, 0, b"__")],
+        ins: &[b"_z", b"a\\b"],
+        outs: &[b"__"],
         text: b".model lifted\n.inputs _z a\\b\n.outputs __\n.names ___z\n.names _z a\\b ___g0\n10 1\n01 1\n.names ___g0 __\n1 1\n.end\n",
     },
     // an input at two outputs, with names that have `=`, `.` and `\` in them
@@ -71,8 +72,8 @@ const CASES: &[Case] = &[
             starts: &[],
             nets: &[],
         },
-        ins: &[(0, 0, b"a=b")],
-        outs: &[(0, 0, b".names"), (0, 0, b"y\\1")],
+        ins: &[b"a=b"],
+        outs: &[b".names", b"y\\1"],
         text: b".model lifted\n.inputs a=b\n.outputs .names y\\1\n.names _z\n.names a=b .names\n1 1\n.names a=b y\\1\n1 1\n.end\n",
     },
     // two loops that read each other
@@ -86,7 +87,7 @@ const CASES: &[Case] = &[
             nets: &[],
         },
         ins: &[],
-        outs: &[(0, 0, b"y")],
+        outs: &[b"y"],
         text: b".model lifted\n.inputs\n.outputs y\n.names _z\n.latch _q1 _q0 1\n.latch _q0 _q1 0\n.names _q0 y\n1 1\n.end\n",
     },
     // a gate that reads an input and a latch and feeds the latch, and an output that is constant 0
@@ -99,42 +100,87 @@ const CASES: &[Case] = &[
             starts: &[true],
             nets: &[],
         },
-        ins: &[(0, 0, b"in")],
-        outs: &[(0, 0, b"zero")],
+        ins: &[b"in"],
+        outs: &[b"zero"],
         text: b".model lifted\n.inputs in\n.outputs zero\n.names _z\n.latch _g0 _q0 1\n.names in _q0 _g0\n10 1\n.names _z zero\n1 1\n.end\n",
+    },
+    // a latch that starts with 1, and is 1 after a cycle if the input was 1 and the latch 0 in it
+    Case {
+        written: Written {
+            inputs: 1,
+            cells: &[Cell::AndNot(Src::Input(0), Src::Latch(0))],
+            outs: &[Src::Latch(0)],
+            latches: &[Src::Cell(0)],
+            starts: &[true],
+            nets: &[],
+        },
+        ins: &[b"in"],
+        outs: &[b"y"],
+        text: b".model lifted\n.inputs in\n.outputs y\n.names _z\n.latch _g0 _q0 1\n.names in _q0 _g0\n10 1\n.names _q0 y\n1 1\n.end\n",
     },
 ];
 
-// The BLIF text of a lifted netlist.
-fn text_of_lift(alloc: Global, lift: &Lift) -> Result<MemSink, Fail> {
-    let mut sink = MemSink::new(alloc, 1000, 7, &[])?;
-    write(lift, &mut sink)?;
-    Ok(sink)
+// Appends a port.
+fn push_port(alloc: Global, lines: &mut Vec<PortLine>, name: &[u8]) -> Result<(), Fail> {
+    let name = copied(alloc, name)?;
+    Ok(lines.push(PortLine { x: 0, y: 0, name })?)
 }
 
-// The BLIF text of a plan with these ports. Fails unless there is one for each output.
-fn text_of(alloc: Global, plan: &Plan, ports: &Ports) -> Result<MemSink, Fail>
+fn port_lines(alloc: Global, names: &[&[u8]]) -> Result<List<PortLine>, Fail> {
+    let mut lines = Vec::new(alloc);
+    for name in names {
+        push_port(alloc, &mut lines, name)?;
+    }
+    Ok(List::of(lines))
+}
+
+// A port table with the case's names.
+fn ports_of(alloc: Global, case: &Case) -> Result<Ports, Fail> {
+    let ins = port_lines(alloc, case.ins)?;
+    let outs = port_lines(alloc, case.outs)?;
+    Ok(Ports {
+        p: 32,
+        l: 32,
+        c: 1,
+        ins,
+        outs,
+        nets: List::of(Vec::new(alloc)),
+    })
+}
+
+fn write_lift(lift: &Lift, sink: &mut MemSink) -> Result<(), Fail> {
+    Ok(write(lift, sink)?)
+}
+
+// Writes the BLIF text of a plan with these ports. Fails unless there is one for each output.
+fn write_plan(alloc: Global, plan: &Plan, ports: &Ports, sink: &mut MemSink) -> Result<(), Fail>
     requires { IsAdmissible plan.now }
 {
     if ports.outs.len() != plan.outs.len() {
         return Err(Fail::new("an output without a port"));
     }
     let lift = of(alloc, plan, ports)?;
-    text_of_lift(alloc, &lift)
+    write_lift(&lift, sink)
 }
 
-fn text_with(alloc: Global, written: &Written<'_>, ports: &Ports) -> Result<MemSink, Fail> {
+fn write_with(
+    alloc: Global,
+    written: &Written<'_>,
+    ports: &Ports,
+    sink: &mut MemSink,
+) -> Result<(), Fail> {
     let plan = plan_of_written(alloc, written)?;
-    text_of(alloc, &plan, ports)
+    write_plan(alloc, &plan, ports, sink)
 }
 
-fn text_of_case(alloc: Global, case: &Case) -> Result<MemSink, Fail> {
-    let ports = ports_of(alloc, case.ins, case.outs, &[])?;
-    text_with(alloc, &case.written, &ports)
+fn write_case(alloc: Global, case: &Case, sink: &mut MemSink) -> Result<(), Fail> {
+    let ports = ports_of(alloc, case)?;
+    write_with(alloc, &case.written, &ports, sink)
 }
 
 fn expect_case(alloc: Global, case: &Case) -> Result<(), Fail> {
-    let sink = text_of_case(alloc, case)?;
+    let mut sink = MemSink::new(alloc, 1000, 7, &[])?;
+    write_case(alloc, case, &mut sink)?;
     expect(sink.held(), case.text)
 }
 
@@ -144,4 +190,12 @@ fn plans_are_lifted_to_netlists(rt: HostRuntime) -> Result<(), Fail> {
         expect_case(rt.alloc(), case)?;
     }
     Ok(())
+}
+
+// Of two loops on four lanes the second starts with 1.
+#[test]
+fn loops_start_where_they_enter(rt: HostRuntime) -> Result<(), Fail> {
+    let starts = starts_of_bits(rt.alloc(), 4, &[false, true])?;
+    let second = starts.has(64, 56) && !starts.has(64, 40) && starts.list.len() == 1;
+    Ok(must(second)?)
 }

@@ -2,7 +2,7 @@
 ghost use Rattle.cell_plans.specs.PlanOf.{IsPlannable};
 ghost use Rattle.lane_core.specs.Plans.{IsAdmissible};
 
-use crate::running::{agrees_for_all, plays};
+use crate::running::{agrees, plays};
 use crate::written::{Written, list_of, plan_of_list};
 use cell_core::{Cell, CellList, Src};
 use lane_core::Plan;
@@ -52,6 +52,21 @@ const CASES: &[Case] = &[
         cycles: 4,
         ins: &[b"0011", b"0101"],
         outs: &[b"0010"],
+    },
+    Case {
+        name: "nothing",
+        plain: 0,
+        list: Written {
+            inputs: 0,
+            cells: &[],
+            outs: &[],
+            latches: &[],
+            starts: &[],
+            nets: &[],
+        },
+        cycles: 1,
+        ins: &[],
+        outs: &[],
     },
     Case {
         name: "constant 0",
@@ -204,7 +219,7 @@ pub fn tiles_of(plan: &Plan) -> u64 {
 fn expect_plan(alloc: Global, case: &Case, list: &CellList, plan: &Plan) -> Result<(), Fail>
     requires { IsAdmissible plan.now }
 {
-    let agrees = agrees_for_all(alloc, list, plan)?;
+    let agrees = agrees(alloc, list, plan)?;
     let plays = plays(alloc, plan, case.cycles, case.ins, case.outs)?;
     let tiles = tiles_of(plan);
     if agrees && plays && tiles <= case.plain {

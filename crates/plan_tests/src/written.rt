@@ -8,7 +8,7 @@ use cell_core::{Cell, CellList, Src};
 use cell_plans::{PlanError, plan_of};
 use lane_core::Plan;
 use lists::List;
-use std::alloc::Global;
+use std::alloc::{AllocError, Global};
 use std::test::Fail;
 
 /// A list of cells as a test writes it down. `latches` are the sources of the latches, and `starts`
@@ -58,29 +58,52 @@ fn are_there(sources: &[Src], inputs: usize, latches: usize, cells: usize) -> bo
     true
 }
 
-// Fails unless a list is written down whose sources are all there, and a small one: fewer than
-// 1,000 inputs, latches, outputs and cells each.
-fn check(written: &Written<'_>) -> Result<(), &'static str>
-    ensures order { OnOk result (IsTrue (are_in_order written.now.inputs
-        (length written.now.starts.now) 0 written.now.cells.now)) }
-    ensures outs { OnOk result (IsTrue (are_there written.now.inputs (length written.now.starts.now)
-        (length written.now.cells.now) written.now.outs.now)) }
-    ensures latches { OnOk result (IsTrue (are_there written.now.inputs
-        (length written.now.starts.now) (length written.now.cells.now) written.now.latches.now)) }
-    ensures nets { OnOk result (IsTrue (are_there written.now.inputs (length written.now.starts.now)
-        (length written.now.cells.now) written.now.nets.now)) }
-    ensures starts { OnOk result (length written.now.starts.now ≡ length written.now.latches.now) }
-    ensures small { OnOk result (written.now.inputs + length written.now.starts.now +
-        length written.now.outs.now + length written.now.cells.now < 4000) }
+/// The parts of which a list of cells is made.
+#[derive(Drop)]
+pub struct Parts {
+    pub inputs: u32,
+    pub cells: Vec<Cell>,
+    pub outs: Vec<Src>,
+    pub latches: Vec<Src>,
+    pub starts: Vec<bool>,
+    pub nets: Vec<Src>,
+}
+
+/// Returns the parts of a list with these inputs and nothing else.
+pub fn no_parts(alloc: Global, inputs: u32) -> Parts {
+    Parts {
+        inputs,
+        cells: Vec::new(alloc),
+        outs: Vec::new(alloc),
+        latches: Vec::new(alloc),
+        starts: Vec::new(alloc),
+        nets: Vec::new(alloc),
+    }
+}
+
+// Fails unless the sources are all there, and the list is a small one: fewer than 1,000 inputs,
+// latches, outputs and cells each.
+fn check(parts: &Parts) -> Result<(), &'static str>
+    ensures order { OnOk result (IsTrue (are_in_order parts.now.inputs
+        (length parts.now.starts.items) 0 parts.now.cells.items)) }
+    ensures outs { OnOk result (IsTrue (are_there parts.now.inputs (length parts.now.starts.items)
+        (length parts.now.cells.items) parts.now.outs.items)) }
+    ensures latches { OnOk result (IsTrue (are_there parts.now.inputs
+        (length parts.now.starts.items) (length parts.now.cells.items) parts.now.latches.items)) }
+    ensures nets { OnOk result (IsTrue (are_there parts.now.inputs (length parts.now.starts.items)
+        (length parts.now.cells.items) parts.now.nets.items)) }
+    ensures starts { OnOk result (length parts.now.starts.items ≡ length parts.now.latches.items) }
+    ensures small { OnOk result (parts.now.inputs + length parts.now.starts.items +
+        length parts.now.outs.items + length parts.now.cells.items < 4000) }
 {
-    let inputs = written.inputs as usize;
-    let (latches, cells) = (written.starts.len(), written.cells.len());
-    let order = are_in_order(written.cells, inputs, latches);
-    let outs_there = are_there(written.outs, inputs, latches, cells);
-    let latches_there = are_there(written.latches, inputs, latches, cells);
-    let nets_there = are_there(written.nets, inputs, latches, cells);
-    let fit = latches == written.latches.len();
-    let few = written.inputs < 1000 && latches < 1000 && written.outs.len() < 1000 && cells < 1000;
+    let inputs = parts.inputs as usize;
+    let (latches, cells) = (parts.starts.len(), parts.cells.len());
+    let order = are_in_order(&parts.cells, inputs, latches);
+    let outs_there = are_there(&parts.outs, inputs, latches, cells);
+    let latches_there = are_there(&parts.latches, inputs, latches, cells);
+    let nets_there = are_there(&parts.nets, inputs, latches, cells);
+    let fit = latches == parts.latches.len();
+    let few = parts.inputs < 1000 && latches < 1000 && parts.outs.len() < 1000 && cells < 1000;
     if order && outs_there && latches_there && nets_there && fit && few {
         Ok(())
     } else {
@@ -88,24 +111,37 @@ fn check(written: &Written<'_>) -> Result<(), &'static str>
     }
 }
 
+/// Makes the list of these parts, or fails if they make none or it is not small.
+pub fn list_in(parts: Parts) -> Result<CellList, Fail>
+    ensures { IfOk result IsPlannable }
+{
+    check(&parts)?;
+    Ok(CellList {
+        inputs: parts.inputs,
+        cells: List::of(parts.cells),
+        outs: List::of(parts.outs),
+        latches: List::of(parts.latches),
+        starts: List::of(parts.starts),
+        nets: List::of(parts.nets),
+    })
+}
+
+// Appends what is written down to empty parts.
+fn fill(parts: &mut Parts, written: &Written<'_>) -> Result<(), AllocError> {
+    parts.cells.extend_from_slice(written.cells)?;
+    parts.outs.extend_from_slice(written.outs)?;
+    parts.latches.extend_from_slice(written.latches)?;
+    parts.starts.extend_from_slice(written.starts)?;
+    parts.nets.extend_from_slice(written.nets)
+}
+
 /// Makes the list that is written down, or fails if it is none or not small.
 pub fn list_of(alloc: Global, written: &Written<'_>) -> Result<CellList, Fail>
     ensures { IfOk result IsPlannable }
 {
-    check(written)?;
-    let cells = written.cells.to_vec(alloc)?;
-    let outs = written.outs.to_vec(alloc)?;
-    let latches = written.latches.to_vec(alloc)?;
-    let starts = written.starts.to_vec(alloc)?;
-    let nets = written.nets.to_vec(alloc)?;
-    Ok(CellList {
-        inputs: written.inputs,
-        cells: List::of(cells),
-        outs: List::of(outs),
-        latches: List::of(latches),
-        starts: List::of(starts),
-        nets: List::of(nets),
-    })
+    let mut parts = no_parts(alloc, written.inputs);
+    fill(&mut parts, written)?;
+    list_in(parts)
 }
 
 /// Makes the plan of a list.

@@ -1,13 +1,13 @@
 // The commands that lists of words ask for.
 use crate::runs::{USAGE, expect_holds, run_over, words_of};
 use command_words::{Command, View, WordsError, command_of};
-use lists::List;
+use itoa::Buffer;
 use std::alloc::{AllocError, Global};
-use std::fmt::Display;
 use std::test::Fail;
 
 // The words after the program's name, where `''` is an empty word, and what they ask for: a
-// command's name, its numbers and its words, or `usage` if the program prints the usage line.
+// command's name, its numbers and its words, or `usage` if the program prints the usage line. The
+// net and the path of `probe` follow `of`.
 const CASES: &str = "\
 compile -> compile 1
 compile --contexts 1 -> compile 1
@@ -23,8 +23,8 @@ simulate --cycles '' -> usage
 simulate --cycles 1048576 -> simulate 1048576
 simulate --cycles=3 a=011 -> simulate 3 a=011
 eval --cycles 2 a=01 b=10 -> eval 2 a=01 b=10
-probe --cycles 1 --net co --path 0 a=1 -> probe 1 co 0 a=1
-probe --cycles 1 --net co -> probe 1 co -
+probe --cycles 1 --net co --path 0 a=1 -> probe 1 a=1 of co 0
+probe --cycles 1 --net co -> probe 1 of co -
 window --gen 1 --x 0 --y 0 --width 3 --height 2 a=1 -> window 1 0 0 3 2 a=1
 make --seed 007 --size 2 -> make 7 2
 self --seed 1 --size 2 --cycles 4 -> self 1 2 4
@@ -74,14 +74,6 @@ help -> usage
 simulate --help -> usage
 ";
 
-// A command as a case writes it: `head`, which is its name and numbers, and the words that stand
-// last.
-fn line<D: Display + Drop>(alloc: Global, head: D, words: &[String]) -> Result<String, AllocError> {
-    let mut line = head.to_string(alloc)?;
-    push_words(&mut line, words)?;
-    Ok(line)
-}
-
 fn push_words(line: &mut String, words: &[String]) -> Result<(), AllocError> {
     for word in words {
         line.push(' ')?;
@@ -90,51 +82,31 @@ fn push_words(line: &mut String, words: &[String]) -> Result<(), AllocError> {
     Ok(())
 }
 
-// A command with a number of cycles and streams, as a case writes it.
-fn driven(
-    alloc: Global,
+// Adds a command's name, its numbers and its words.
+fn push_line(
+    line: &mut String,
     name: &str,
-    cycles: usize,
-    streams: &List<String>,
-) -> Result<String, AllocError> {
-    line(alloc, format_args!("{name} {cycles}"), streams.as_slice())
-}
-
-// A command as a case writes it.
-fn said(alloc: Global, command: &Command) -> Result<String, AllocError> {
-    match command {
-        Command::Compile { contexts, starts } => line(
-            alloc,
-            format_args!("compile {contexts}"),
-            starts.as_slice(),
-        ),
-        Command::Simulate { cycles, streams } => driven(alloc, "simulate", *cycles, streams),
-        Command::Eval { cycles, streams } => driven(alloc, "eval", *cycles, streams),
-        Command::Probe {
-            cycles,
-            net,
-            path,
-            streams,
-        } => line(
-            alloc,
-            format_args!("probe {cycles} {net} {path}"),
-            streams.as_slice(),
-        ),
-        Command::Window { view, streams } => window(alloc, view, streams.as_slice()),
-        Command::Make { seed, size } => line(alloc, format_args!("make {seed} {size}"), &[]),
-        Command::Self_ { seed, size, cycles } => line(
-            alloc,
-            format_args!("self {seed} {size} {cycles}"),
-            &[],
-        ),
-        Command::Tape { cycles, streams } => driven(alloc, "tape", *cycles, streams),
-        Command::Aiger => line(alloc, "aiger", &[]),
-        Command::Vcd { cycles, streams } => driven(alloc, "vcd", *cycles, streams),
-        Command::Lift => line(alloc, "lift", &[]),
+    numbers: &[u64],
+    words: &[String],
+) -> Result<(), AllocError> {
+    let mut digits = Buffer::new();
+    line.push_str(name)?;
+    for number in numbers {
+        line.push(' ')?;
+        line.push_str(digits.format(*number))?;
     }
+    push_words(line, words)
 }
 
-fn window(alloc: Global, view: &View, words: &[String]) -> Result<String, AllocError> {
+// Adds the net and the path of `probe`.
+fn push_net(line: &mut String, net: &str, path: &str) -> Result<(), AllocError> {
+    line.push_str(" of ")?;
+    line.push_str(net)?;
+    line.push(' ')?;
+    line.push_str(path)
+}
+
+fn push_view(line: &mut String, view: &View, words: &[String]) -> Result<(), AllocError> {
     let View {
         generation,
         x,
@@ -142,29 +114,66 @@ fn window(alloc: Global, view: &View, words: &[String]) -> Result<String, AllocE
         width,
         height,
     } = *view;
-    line(
-        alloc,
-        format_args!("window {generation} {x} {y} {width} {height}"),
-        words,
-    )
+    push_line(line, "window", &[generation, x, y, width, height], words)
 }
 
-// What words ask for, as a case writes it.
-fn answer(alloc: Global, words: &[String]) -> Result<String, AllocError> {
-    match command_of(alloc, words) {
-        Ok(command) => said(alloc, &command),
-        Err(WordsError::Usage) => String::from_str(alloc, "usage"),
+// Adds a command as a case writes it.
+fn push_command(line: &mut String, command: &Command) -> Result<(), AllocError> {
+    match command {
+        Command::Compile { contexts, starts } => {
+            push_line(line, "compile", &[*contexts], starts.as_slice())
+        }
+        Command::Simulate { cycles, streams } => {
+            push_line(line, "simulate", &[*cycles as u64], streams.as_slice())
+        }
+        Command::Eval { cycles, streams } => {
+            push_line(line, "eval", &[*cycles as u64], streams.as_slice())
+        }
+        Command::Probe {
+            cycles,
+            net,
+            path,
+            streams,
+        } => {
+            push_line(line, "probe", &[*cycles as u64], streams.as_slice())?;
+            push_net(line, net, path)
+        }
+        Command::Window { view, streams } => push_view(line, view, streams.as_slice()),
+        Command::Make { seed, size } => push_line(line, "make", &[*seed as u64, *size as u64], &[]),
+        Command::Self_ { seed, size, cycles } => push_line(
+            line,
+            "self",
+            &[*seed as u64, *size as u64, *cycles as u64],
+            &[],
+        ),
+        Command::Tape { cycles, streams } => {
+            push_line(line, "tape", &[*cycles as u64], streams.as_slice())
+        }
+        Command::Aiger => line.push_str("aiger"),
+        Command::Vcd { cycles, streams } => {
+            push_line(line, "vcd", &[*cycles as u64], streams.as_slice())
+        }
+        Command::Lift => line.push_str("lift"),
+    }
+}
+
+// Adds what words ask for, as a case writes it.
+fn push_answer(line: &mut String, asked: &Result<Command, WordsError>) -> Result<(), AllocError> {
+    match asked {
+        Ok(command) => push_command(line, command),
+        Err(WordsError::Usage) => line.push_str("usage"),
         Err(WordsError::NoMemory) => Err(AllocError),
     }
 }
 
 // Fails if words ask for something else.
 fn expect_answer(alloc: Global, words: &[String], want: &str, about: &str) -> Result<(), Fail> {
-    let got = answer(alloc, words)?;
-    if got.as_str() == want {
+    let mut line = String::new(alloc);
+    push_answer(&mut line, &command_of(alloc, words))?;
+    if line.as_str() == want {
         Ok(())
     } else {
-        Err(Fail::new(format_args!("{about}: {got}")))
+        Err(Fail::new(format_args!("{about}: {line}")))
     }
 }
 

@@ -33,7 +33,9 @@ fn push_node(page: &mut Page, flat: &Flat, number: usize, node: &Node) {
         page.push_str(" ");
         push_name(page, flat, net.0 as usize);
     }
-    writeln!(page, ", line {}", node.line);
+    page.push_str(", line ");
+    page.push_number(node.line);
+    page.push_str("\n");
 }
 
 // Appends a line for a net, with the kind and the number of the item that the net belongs to.
@@ -44,8 +46,8 @@ fn push_line(page: &mut Page, flat: &Flat, what: &str, number: usize, net: usize
 }
 
 fn push_ports(page: &mut Page, flat: &Flat, what: &str, ports: &[FlatPort]) {
-    for (number, port) in ports.iter().enumerate() {
-        push_line(page, flat, what, number, port.net.0 as usize);
+    for number in 0..ports.len() {
+        push_line(page, flat, what, number, ports[number].net.0 as usize);
     }
 }
 
@@ -54,30 +56,35 @@ fn push_latch(page: &mut Page, flat: &Flat, number: usize, latch: &FlatLatch) {
     push_name(page, flat, latch.input.0 as usize);
     page.push_str(" to ");
     push_name(page, flat, latch.output.0 as usize);
-    writeln!(page, ", init {}", latch.init);
+    page.push_str(", init ");
+    page.push_number(latch.init as u64);
+    page.push_str("\n");
 }
 
 // Appends the weight of a flat netlist, its nets, ports, covers and latches.
 fn push_flat(page: &mut Page, flat: &Flat) {
-    writeln!(page, "weight {}", flat.weight);
+    page.push_str("weight ");
+    page.push_number(flat.weight);
+    page.push_str("\n");
     for net in 0..flat.nets.len() {
         push_line(page, flat, "net", net, net);
     }
     push_ports(page, flat, "input", flat.ins.as_slice());
     push_ports(page, flat, "output", flat.outs.as_slice());
-    for (number, node) in flat.nodes.as_slice().iter().enumerate() {
-        push_node(page, flat, number, node);
+    for number in 0..flat.nodes.len() {
+        push_node(page, flat, number, flat.nodes.get(number));
     }
-    for (number, latch) in flat.latches.as_slice().iter().enumerate() {
-        push_latch(page, flat, number, latch);
+    for number in 0..flat.latches.len() {
+        push_latch(page, flat, number, flat.latches.get(number));
     }
 }
 
 // Appends a line for each item.
 fn push_items<T: Debug>(page: &mut Page, what: &str, items: &[T]) {
-    for (number, item) in items.iter().enumerate() {
+    for number in 0..items.len() {
         page.push_start(what, number);
-        writeln!(page, "{item:?}");
+        page.push_item(&items[number]);
+        page.push_str("\n");
     }
 }
 
@@ -89,75 +96,49 @@ fn push_list(page: &mut Page, list: &CellList) {
     push_items(page, "net", list.nets.as_slice());
 }
 
-// What stands on a lane: nothing, the bit of the net with this number, or the bit of a gate that no
-// net names.
-#[derive(Clone, Copy)]
-enum Label {
-    Nothing,
-    Net(usize),
-    Made(&'static str),
-}
-
-fn push_label(page: &mut Page, flat: &Flat, label: Label) {
+// Appends the name of the net on a lane, or nothing if no net is there.
+fn push_label(page: &mut Page, flat: &Flat, label: Option<usize>) {
     page.push_str(" ");
-    match label {
-        Label::Nothing => {}
-        Label::Net(net) => push_name(page, flat, net),
-        Label::Made(gate) => page.push_str(gate),
+    if let Some(net) = label {
+        push_name(page, flat, net);
     }
     page.push_str(" |");
 }
 
-// What an instruction leaves on its two lanes, from what stood there.
-fn labels_after(instr: Instr, upper: Label, lower: Label) -> (Label, Label) {
-    match instr {
-        Instr::Swap(_) => (lower, upper),
-        Instr::Fork(_) => (upper, upper),
-        Instr::Xor(_) => (Label::Made("xor"), Label::Nothing),
-        Instr::Or(_) => (Label::Made("or"), Label::Nothing),
-        Instr::AndNot(_) => (Label::Made("and-not"), Label::Nothing),
+// Changes the labels as an instruction does. A gate's lane has no label until a net names it.
+fn step(labels: &mut [Option<usize>], instr: Instr) {
+    let lane = instr.lane() as usize;
+    if lane + 1 < labels.len() {
+        let (upper, lower) = (labels[lane], labels[lane + 1]);
+        let (above, below) = match instr {
+            Instr::Swap(_) => (lower, upper),
+            Instr::Fork(_) => (upper, upper),
+            Instr::Xor(_) | Instr::Or(_) | Instr::AndNot(_) => (None, None),
+        };
+        labels[lane] = above;
+        labels[lane + 1] = below;
     }
-}
-
-fn label_on(labels: &[Label], lane: u32) -> Label {
-    match labels.get(lane as usize) {
-        Some(label) => *label,
-        None => Label::Nothing,
-    }
-}
-
-fn put(labels: &mut [Label], lane: u32, label: Label) {
-    if let Some(place) = labels.get_mut(lane as usize) {
-        *place = label;
-    }
-}
-
-// Changes the labels as an instruction does.
-fn step(labels: &mut [Label], instr: Instr) {
-    let lane = instr.lane();
-    let next = lane.saturating_add(1);
-    let (above, below) = labels_after(instr, label_on(labels, lane), label_on(labels, next));
-    put(labels, lane, above);
-    put(labels, next, below);
 }
 
 // Changes the labels as the instructions of a column do.
-fn step_all(labels: &mut [Label], column: &Column) {
+fn step_all(labels: &mut [Option<usize>], column: &Column) {
     for instr in column.instrs.as_slice() {
         step(labels, *instr);
     }
 }
 
 // Labels the lanes of the nets whose place is here: at the entry, or at the exit of a column.
-fn name(labels: &mut [Label], plan: &Plan, after: Option<u64>) {
-    for (net, place) in plan.nets.as_slice().iter().enumerate() {
-        if place.after == after {
-            put(labels, place.lane, Label::Net(net));
+fn name(labels: &mut [Option<usize>], plan: &Plan, after: Option<u64>) {
+    for net in 0..plan.nets.len() {
+        let place = plan.nets.get(net);
+        let lane = place.lane as usize;
+        if place.after == after && lane < labels.len() {
+            labels[lane] = Some(net);
         }
     }
 }
 
-fn push_row(page: &mut Page, flat: &Flat, labels: &[Label]) {
+fn push_row(page: &mut Page, flat: &Flat, labels: &[Option<usize>]) {
     for label in labels {
         push_label(page, flat, *label);
     }
@@ -165,9 +146,12 @@ fn push_row(page: &mut Page, flat: &Flat, labels: &[Label]) {
 }
 
 fn push_column(page: &mut Page, number: usize, column: &Column) {
-    write!(page, "| {number} |");
+    page.push_str("| ");
+    page.push_number(number as u64);
+    page.push_str(" |");
     for instr in column.instrs.as_slice() {
-        write!(page, " {instr:?}");
+        page.push_str(" ");
+        page.push_item(instr);
     }
     page.push_str(" |");
 }
@@ -175,7 +159,9 @@ fn push_column(page: &mut Page, number: usize, column: &Column) {
 fn push_head(page: &mut Page, lanes: u32) {
     page.push_str("| column | instructions |");
     for lane in 0..lanes {
-        write!(page, " lane {lane} |");
+        page.push_str(" lane ");
+        page.push_number(lane as u64);
+        page.push_str(" |");
     }
     page.push_str("\n|---|---|");
     for _lane in 0..lanes {
@@ -185,12 +171,13 @@ fn push_head(page: &mut Page, lanes: u32) {
 }
 
 // Appends the columns of a plan as a table: their instructions, and what stands on each lane after
-// them. There is a label for each lane.
-fn push_plan(page: &mut Page, flat: &Flat, plan: &Plan, labels: &mut [Label]) {
+// them. For each lane there is a label: the number of the net whose bit stands there.
+fn push_plan(page: &mut Page, flat: &Flat, plan: &Plan, labels: &mut [Option<usize>]) {
     push_head(page, plan.lanes);
     name(labels, plan, None);
     push_row(page, flat, labels);
-    for (number, column) in plan.columns.as_slice().iter().enumerate() {
+    for number in 0..plan.columns.len() {
+        let column = plan.columns.get(number);
         push_column(page, number, column);
         step_all(labels, column);
         name(labels, plan, Some(number as u64));
@@ -210,14 +197,19 @@ fn expect_list(alloc: Global, list: &CellList) -> Result<(), Fail> {
     page.expect(CELLS)
 }
 
-fn expect_lanes(alloc: Global, flat: &Flat, plan: &Plan, labels: &mut [Label]) -> Result<(), Fail> {
+fn expect_lanes(
+    alloc: Global,
+    flat: &Flat,
+    plan: &Plan,
+    labels: &mut [Option<usize>],
+) -> Result<(), Fail> {
     let mut page = Page::new(alloc);
     push_plan(&mut page, flat, plan, labels);
     page.expect(LANES)
 }
 
 fn expect_plan(alloc: Global, flat: &Flat, plan: &Plan) -> Result<(), Fail> {
-    let mut labels = vec![in alloc; Label::Nothing; plan.lanes as usize]?;
+    let mut labels = vec![in alloc; None; plan.lanes as usize]?;
     expect_lanes(alloc, flat, plan, &mut labels)
 }
 

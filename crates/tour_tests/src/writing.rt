@@ -1,6 +1,6 @@
 // A page of text, written part by part.
 use std::alloc::{AllocError, Global};
-use std::fmt::Display;
+use std::fmt::Debug;
 use std::test::Fail;
 
 // A text, and whether memory ran out for a part of it.
@@ -33,16 +33,24 @@ impl Page {
         }
     }
 
-    // What `write!` and `writeln!` call.
-    pub fn write_fmt<D: Display + Drop>(&mut self, part: D) {
-        if self.text.write_fmt(part).is_err() {
+    pub fn push_number(&mut self, number: u64) {
+        if write!(self.text, "{number}").is_err() {
+            self.is_cut = true;
+        }
+    }
+
+    pub fn push_item<T: Debug>(&mut self, item: &T) {
+        if write!(self.text, "{item:?}").is_err() {
             self.is_cut = true;
         }
     }
 
     // Begins a line with the kind and the number of its item.
     pub fn push_start(&mut self, what: &str, number: usize) {
-        write!(self, "{what} {number}: ");
+        self.push_str(what);
+        self.push_str(" ");
+        self.push_number(number as u64);
+        self.push_str(": ");
     }
 
     // Fails if a part of the page is missing, or the page is not the stage.

@@ -1,7 +1,4 @@
 // What `compile` writes, and what it shows when streams drive it.
-use crate::runs::{Case, case_of, expect_holds, run_after, text_of, written};
-use std::alloc::Global;
-use std::test::Fail;
 
 /// The netlist of a latch that flips in each cycle.
 pub const TOGGLE: &str = ".model t\n.outputs q\n.latch n q 0\n.names q n\n0 1\n.end\n";
@@ -9,7 +6,8 @@ pub const TOGGLE: &str = ".model t\n.outputs q\n.latch n q 0\n.names q n\n0 1\n.
 /// The netlist of an inverter.
 pub const INVERTER: &str = ".model n\n.inputs a\n.outputs y\n.names a y\n0 1\n";
 
-/// Netlists and how their patterns begin: with the times and the names, some of which have escapes.
+/// Netlists and how their patterns begin: with the times and the names, some of which have escapes;
+/// then netlists that print what their patterns print.
 pub const CASES: &str = "
 > compile -- a gate is compiled by its names
 .model X
@@ -62,12 +60,7 @@ x = 0, y = 0, rule = WireWorld
 #C BLIFWW OUT 32 8 y
 #C BLIFWW NET 0 8 0 a%25 -
 ...
-";
-
-// Cases that have, in place of commands, a number of cycles and streams, then a netlist, and what
-// both the netlist and its pattern print.
-const SHOWN: &str = "
-> 4 a=0011 b=0101
+> eval --cycles 4 a=0011 b=0101 & compile | simulate --cycles 4 a=0011 b=0101 -- both the netlist and its pattern print this
 .model or
 .inputs a b
 .outputs y
@@ -77,7 +70,7 @@ const SHOWN: &str = "
 .end
 == 0
 y=0111
-> 4 a=0011 b=0101
+> eval --cycles 4 a=0011 b=0101 & compile | simulate --cycles 4 a=0011 b=0101
 .model or
 .inputs a b
 .outputs y
@@ -86,7 +79,7 @@ y=0111
 .end
 == 0
 y=0010
-> 4 a=0110
+> eval --cycles 4 a=0110 & compile | simulate --cycles 4 a=0110
 .model n
 .inputs a
 .outputs y
@@ -94,7 +87,7 @@ y=0010
 0 1
 == 0
 y=1001
-> 4 a=0011 b=0101
+> eval --cycles 4 a=0011 b=0101 & compile | simulate --cycles 4 a=0011 b=0101
 .model or
 .inputs a b
 .outputs y
@@ -103,7 +96,7 @@ y=1001
 .end
 == 0
 y=1110
-> 3
+> eval --cycles 3 & compile | simulate --cycles 3
 .model c
 .outputs y
 .names y
@@ -111,14 +104,14 @@ y=1110
 .end
 == 0
 y=111
-> 3
+> eval --cycles 3 & compile | simulate --cycles 3
 .model c
 .outputs y
 .names y
 .end
 == 0
 y=000
-> 4
+> eval --cycles 4 & compile | simulate --cycles 4
 .model t
 .outputs q
 .latch n q 0
@@ -127,7 +120,7 @@ y=000
 .end
 == 0
 q=0101
-> 4 d=0010
+> eval --cycles 4 d=0010 & compile | simulate --cycles 4 d=0010
 .model r
 .inputs d
 .outputs q
@@ -135,7 +128,7 @@ q=0101
 .end
 == 0
 q=1001
-> 4 a=0011 b=0101
+> eval --cycles 4 a=0011 b=0101 & compile | simulate --cycles 4 a=0011 b=0101
 .model x
 .inputs a b
 .outputs p q
@@ -147,7 +140,7 @@ q=1001
 == 0
 p=0101
 q=0011
-> 2 d=11
+> eval --cycles 2 d=11 & compile | simulate --cycles 2 d=11
 .model r
 .inputs d
 .outputs q
@@ -155,7 +148,7 @@ q=0011
 .end
 == 0
 q=01
-> 2 a=01
+> eval --cycles 2 a=01 & compile | simulate --cycles 2 a=01
 .model f
 .inputs a
 .outputs y0 y1 y2 y3 y4
@@ -176,7 +169,7 @@ y1=01
 y2=01
 y3=01
 y4=01
-> 5
+> eval --cycles 5 & compile | simulate --cycles 5
 .model k
 .outputs q0 q1
 .latch n0 q0 0
@@ -190,7 +183,7 @@ y4=01
 == 0
 q0=01010
 q1=00110
-> 1 a0=1 a1=1 b0=1 b1=0 ci=0
+> eval --cycles 1 a0=1 a1=1 b0=1 b1=0 ci=0 & compile | simulate --cycles 1 a0=1 a1=1 b0=1 b1=0 ci=0
 .model add
 .inputs a0 a1 b0 b1 ci
 .outputs s0 s1 c
@@ -214,7 +207,7 @@ q1=00110
 s0=0
 s1=0
 c=1
-> 2 d=10
+> eval --cycles 2 d=10 & compile | simulate --cycles 2 d=10
 .model m
 .inputs d \\
 clk # two
@@ -224,43 +217,3 @@ clk # two
 == 0
 q=01
 ";
-
-// Fails if the commands, followed by the words of a case, print something else for its netlist.
-fn expect_printed(alloc: Global, commands: &str, case: &Case, shown: &str) -> Result<(), Fail> {
-    let asked = text_of(alloc, &[commands, case.commands])?;
-    let got = run_after(alloc, &asked, case.text.as_bytes())?;
-    expect_holds(shown, got.ends(case))
-}
-
-// Fails if a netlist or its pattern prints something else.
-fn expect_shown(alloc: Global, shown: &str) -> Result<(), Fail> {
-    match case_of(shown) {
-        Some(case) => {
-            expect_printed(alloc, "eval --cycles ", &case, shown)?;
-            expect_printed(alloc, "compile | simulate --cycles ", &case, shown)
-        }
-        None => Err(Fail::new("no case")),
-    }
-}
-
-#[test]
-fn what_compile_writes_shows_the_netlist(rt: HostRuntime) -> Result<(), Fail> {
-    for shown in SHOWN.split('>').skip(1) {
-        expect_shown(rt.alloc(), shown)?;
-    }
-    Ok(())
-}
-
-// Fails if a command writes something else for the toggle than `compile` does.
-fn expect_same(alloc: Global, command: &str) -> Result<(), Fail> {
-    let pattern = written(alloc, "compile", TOGGLE.as_bytes())?;
-    let other = written(alloc, command, TOGGLE.as_bytes())?;
-    expect_holds(command, pattern == other)
-}
-
-// One context without words for its starts, and a tape without inputs.
-#[test]
-fn these_write_what_compile_writes(rt: HostRuntime) -> Result<(), Fail> {
-    expect_same(rt.alloc(), "compile --contexts 1")?;
-    expect_same(rt.alloc(), "tape --cycles 4")
-}

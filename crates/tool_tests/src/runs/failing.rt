@@ -1,161 +1,156 @@
 // Sources and sinks that fail, and what such runs leave behind.
 ghost use Rattle.std.specs.Prelude.{◌≤◌};
 
-use crate::runs::circuits::NAND;
-use crate::runs::compiling::INVERTER;
 use crate::runs::{GATE, PATTERN, USAGE, run_over, words_of};
 use blifww_tool::run;
 use std::alloc::Global;
 use std::test::Fail;
 use ww_base::{MemSink, MemSource};
 
-// The first 179 bytes of the gate's pattern.
-const FRONT: &str =
-    "#C BLIFWW 2 P 32 L 32 C 1\n#C BLIFWW IN 0 8 a\n#C BLIFWW IN 0 24 b\n#C BLIFWW OUT 32 8 y\n#C BLIFWW NET 0 8 0 a -\n#C BLIFWW NET 0 24 0 b -\n#C BLIFWW NET 31 8 31 y -\nx = 33, y = 32, ru";
-
-const MADE: &str =
-    ".model made\n.inputs i0 i1 i2 i3\n.outputs g1 q0 q1\n.latch i2 q0 0\n.latch i3 q1 1\n.names q0 i3 g0\n10 1\n01 1\n.names g0 g0 g1\n11 0\n.end\n";
-
-// What `self` writes for the same netlist, with three full stops for what follows `lanes`.
-const TOLD: &str =
-    "weight 22\nlanes ...\nsim g1=1011\neval g1=1011\nsim q0=0111\neval q0=0111\nsim q1=1001\neval q1=1001\n";
-
-// A command, a text, the call of the source that fails, the rooms of the sinks, the status, and what
-// the run writes to the output and to the errors. No source has more than 98 calls.
-type Run = (
-    &'static str,
-    &'static str,
-    u64,
-    (usize, usize),
-    u8,
-    &'static str,
-    &'static str,
-);
-
-const RUNS: &[Run] = &[
-    // A failure is reported as far as the errors have room.
-    ("compile", GATE, 9, (179, 99), 6, FRONT, "write fault\n"),
-    ("compile", GATE, 9, (179, 5), 6, FRONT, "write"),
-    ("compile", GATE, 1, (321, 99), 5, "", "read fault\n"),
-    ("compile", GATE, 1, (321, 4), 6, "", "read"),
-    ("", GATE, 0, (321, 20), 6, "", "usage: blifww compil"),
-    (
-        "window --gen 1 --x 0 --y 0 --width 3 --height 2",
-        GATE,
-        0,
-        (321, 99),
-        5,
-        "",
-        "read fault\n",
-    ),
-    (
-        "make --seed 1 --size 2",
-        GATE,
-        0,
-        (0, 99),
-        6,
-        "",
-        "write fault\n",
-    ),
-    // `lift` refuses texts, and output is cut off if there is no room for it.
-    ("lift", GATE, 99, (99, 99), 8, "", "G1 NoHeader line 1\n"),
-    ("lift", "", 99, (99, 99), 8, "", "G1 NoHeader line 1\n"),
-    (
-        "lift",
-        PATTERN,
-        99,
-        (20, 99),
-        6,
-        ".model lifted\n.input",
-        "write fault\n",
-    ),
-    (
-        "simulate --cycles 4 a=0011 b=0101",
-        PATTERN,
-        99,
-        (4, 99),
-        6,
-        "y=01",
-        "write fault\n",
-    ),
-    // Just enough room for the output, and none for errors.
-    (
-        "simulate --cycles 4 a=0011 b=0101",
-        PATTERN,
-        99,
-        (7, 0),
-        0,
-        "y=0111\n",
-        "",
-    ),
-    ("compile", GATE, 99, (321, 0), 0, PATTERN, ""),
-    // `make` and `self` read nothing: the first call of the source would fail.
-    ("make --seed 1 --size 2", "", 0, (999, 0), 0, MADE, ""),
-    (
-        "self --seed 1 --size 2 --cycles 4",
-        "",
-        0,
-        (999, 0),
-        0,
-        TOLD,
-        "",
-    ),
-    // Neither sink holds anything if the line of a refusal fails at once.
-    ("", "", 99, (99, 0), 6, "", ""),
-];
-
-// Fails if a run ends otherwise.
-fn expect_run(
-    alloc: Global,
-    (command, text, call, rooms, status, out, err): Run,
-) -> Result<(), Fail> {
-    let got = run_over(alloc, command, text.as_bytes(), (16, &[call]), rooms)?;
-    if got.is(status, out, err) {
-        Ok(())
-    } else {
-        Err(Fail::new(format_args!(
-            "{command}, {call}, {}, {}: {}",
-            rooms.0, rooms.1, got.status
-        )))
-    }
-}
-
-#[test]
-fn each_failure_is_told(rt: HostRuntime) -> Result<(), Fail> {
-    for run in RUNS {
-        expect_run(rt.alloc(), *run)?;
-    }
-    Ok(())
-}
-
-// Commands, and the text that each reads.
-const COMMANDS: &[(&str, &str)] = &[
-    ("eval --cycles 4 a=0110", INVERTER),
-    ("simulate --cycles 1 a=0 b=1", PATTERN),
-    ("probe --cycles 1 --net y a=0 b=1", PATTERN),
-    (
-        "window --gen 0 --x 0 --y 0 --width 1 --height 1 a= b=",
-        PATTERN,
-    ),
-    ("tape --cycles 1 a=0", INVERTER),
-    ("aiger", NAND),
-    ("vcd --cycles 1 a=0 b=1", PATTERN),
-    ("lift", PATTERN),
-];
-
-// Fails if a command does not report that the source fails, or that the output does.
-fn expect_told(alloc: Global, command: &'static str, text: &'static str) -> Result<(), Fail> {
-    expect_run(alloc, (command, text, 0, (99, 99), 5, "", "read fault\n"))?;
-    expect_run(alloc, (command, text, 99, (0, 99), 6, "", "write fault\n"))
-}
-
-#[test]
-fn each_command_tells_what_failed(rt: HostRuntime) -> Result<(), Fail> {
-    for (command, text) in COMMANDS {
-        expect_told(rt.alloc(), command, text)?;
-    }
-    Ok(())
-}
+/// Runs with a source or a sink that fails. No run makes a call of the source with the number 99.
+pub const CASES: &str = "
+> lift [99 99 99] -- an empty text is no pattern
+== 8
+G1 NoHeader line 1
+> make --seed 1 --size 2 [0 999 0] -- `make` and `self` read nothing: the first call of the source would fail
+== 0
+.model made
+.inputs i0 i1 i2 i3
+.outputs g1 q0 q1
+.latch i2 q0 0
+.latch i3 q1 1
+.names q0 i3 g0
+10 1
+01 1
+.names g0 g0 g1
+11 0
+.end
+> self --seed 1 --size 2 --cycles 4 [0 999 0]
+== 0
+weight 22
+lanes ...
+sim g1=1011
+eval g1=1011
+sim q0=0111
+eval q0=0111
+sim q1=1001
+eval q1=1001
+> [99 99 0] -- neither sink holds anything if the line of a refusal fails at once
+== 6
+@ gate
+> compile [9 179 99] -- a failure is reported as far as the errors have room
+== 6
+#C BLIFWW 2 P 32 L 32 C 1
+#C BLIFWW IN 0 8 a
+#C BLIFWW IN 0 24 b
+#C BLIFWW OUT 32 8 y
+#C BLIFWW NET 0 8 0 a -
+#C BLIFWW NET 0 24 0 b -
+#C BLIFWW NET 31 8 31 y -
+x = 33, y = 32, ru== err
+write fault
+> compile [9 179 5]
+== 6
+#C BLIFWW 2 P 32 L 32 C 1
+#C BLIFWW IN 0 8 a
+#C BLIFWW IN 0 24 b
+#C BLIFWW OUT 32 8 y
+#C BLIFWW NET 0 8 0 a -
+#C BLIFWW NET 0 24 0 b -
+#C BLIFWW NET 31 8 31 y -
+x = 33, y = 32, ru== err
+write> compile [1 321 99]
+== 5
+read fault
+> compile [1 321 4]
+== 6
+read> [0 321 20]
+== 6
+usage: blifww compil> window --gen 1 --x 0 --y 0 --width 3 --height 2 [0 321 99]
+== 5
+read fault
+> make --seed 1 --size 2 [0 0 99]
+== 6
+write fault
+> lift [99 99 99] -- a netlist is no pattern
+== 8
+G1 NoHeader line 1
+> compile [99 321 0] -- there is just enough room for the output, and none for errors
+== 0
+#C BLIFWW 2 P 32 L 32 C 1
+#C BLIFWW IN 0 8 a
+#C BLIFWW IN 0 24 b
+#C BLIFWW OUT 32 8 y
+#C BLIFWW NET 0 8 0 a -
+#C BLIFWW NET 0 24 0 b -
+#C BLIFWW NET 31 8 31 y -
+x = 33, y = 32, rule = WireWorld
+8$5C18.10C$5.C16.C$6.C14.C$7.C12.C$8.C10.C$9.C.2C5.C$10.2C.C3.C$11.2C.
+C.C$15.C$11.2C.C$10.2C.C$9.C.2C$8.C$7.C$6.C$5.C$5C26.C!
+@ gate's pattern
+> simulate --cycles 4 a=0011 b=0101 [99 7 0]
+== 0
+y=0111
+> simulate --cycles 4 a=0011 b=0101 [99 4 99] -- the output is cut off if there is no room for it
+== 6
+y=01== err
+write fault
+> lift [99 20 99]
+== 6
+.model lifted
+.input== err
+write fault
+> simulate --cycles 1 a=0 b=1 [0 99 99] -- each command tells that the source fails, or that the output does
+== 5
+read fault
+> simulate --cycles 1 a=0 b=1 [99 0 99]
+== 6
+write fault
+> probe --cycles 1 --net y a=0 b=1 [0 99 99]
+== 5
+read fault
+> probe --cycles 1 --net y a=0 b=1 [99 0 99]
+== 6
+write fault
+> window --gen 0 --x 0 --y 0 --width 1 --height 1 a= b= [0 99 99]
+== 5
+read fault
+> window --gen 0 --x 0 --y 0 --width 1 --height 1 a= b= [99 0 99]
+== 6
+write fault
+> vcd --cycles 1 a=0 b=1 [0 99 99]
+== 5
+read fault
+> vcd --cycles 1 a=0 b=1 [99 0 99]
+== 6
+write fault
+> lift [0 99 99]
+== 5
+read fault
+> lift [99 0 99]
+== 6
+write fault
+@ inverter
+> eval --cycles 4 a=0110 [0 99 99]
+== 5
+read fault
+> eval --cycles 4 a=0110 [99 0 99]
+== 6
+write fault
+> tape --cycles 1 a=0 [0 99 99]
+== 5
+read fault
+> tape --cycles 1 a=0 [99 0 99]
+== 6
+write fault
+@ circuit
+> aiger [0 99 99]
+== 5
+read fault
+> aiger [99 0 99]
+== 6
+write fault
+";
 
 // Fails if `compile`, which reads the gate byte by byte, does not report a read that fails, or does
 // not write the pattern though no read fails.
@@ -248,7 +243,7 @@ fn expect_counts(
     if got == counts {
         Ok(())
     } else {
-        Err(Fail::new(format_args!("{command}, {}, {}: {}", calls.0, calls.1, got.0)))
+        Err(Fail::new(format_args!("{command}, calls from {} and {}", calls.0, calls.1)))
     }
 }
 

@@ -1,5 +1,8 @@
 // Runs of `lift`.
-/// Circuits that are lifted, and what is lifted from what `aiger`, `compile` and `tape` write.
+
+/// Circuits that are lifted, and what is lifted from what `aiger`, `compile` and `tape` write; then
+/// changes to the gate's pattern and to that of two loops. Nothing is lifted if the pattern is no
+/// longer a circuit; else the ports keep their names, and loops are lifted cell by cell.
 pub const CASES: &str = "
 > lift
 #C BLIFWW 2 P 32 L 0 C 1
@@ -121,38 +124,7 @@ q=0101
 > compile --contexts 1 0:q=1 | lift | eval --cycles 4
 == 0
 q=1010
-";
-
-// The gate's pattern without its nets, with each row of the drawing on a line of its own.
-pub const GATE_LINES: &str = "\
-#C BLIFWW 2 P 32 L 32 C 1
-#C BLIFWW IN 0 8 a
-#C BLIFWW IN 0 24 b
-#C BLIFWW OUT 32 8 y
-x = 33, y = 32, rule = WireWorld
-8$
-5C18.10C$
-5.C16.C$
-6.C14.C$
-7.C12.C$
-8.C10.C$
-9.C.2C5.C$
-10.2C.C3.C$
-11.2C.C.C$
-15.C$
-11.2C.C$
-10.2C.C$
-9.C.2C$
-8.C$
-7.C$
-6.C$
-5.C$
-5C26.C!
-";
-
-// Changes to the gate's pattern, and what is lifted. Nothing is lifted if the pattern is no longer
-// a circuit; else the ports keep their names.
-pub const GATE_CHANGES: &str = "
+@ gate's lines: lift
 > #C BLIFWW 2 P 32 L 32 C 1
 #C BLIFWW 2 P 32 L 33 C 1
 == 12
@@ -390,44 +362,7 @@ G6 NoEnd line 23
 .names _g0 .y
 1 1
 .end
-";
-
-// The pattern of two loops that feed each other. The first starts with 1.
-pub const RING_LINES: &str = "\
-#C BLIFWW 2 P 384 L 64 C 1
-#C BLIFWW OUT 128 8 q
-x = 193, y = 80, rule = WireWorld
-5$85.2C$67.19C.C11.C$66.C18.2C.2C8.C.C$64.2C23.9C3.28C$66.C18.2C.2C8.C
-$67.C16.2C.C11.C$68.C14.C.2C13.C$69.C12.C18.C$70.C.2C7.C20.C
-$71.2C.C5.C22.C$72.2C.2C2.C24.C$76.3C26.C$72.2C.2C2.C26.C
-$71.2C.C5.C26.C$70.C.2C7.C26.C$69.C12.C26.C$68.C14.C.2C23.C
-$67.C16.2C.C23.C$66.C18.2C.2C22.C
-$10.53CBAC23.8C16.70C
-$9.C56.C18.2C.2C93.C$10.4C53.19C.C92.3C$14.C70.2C92.C$15.C162.C
-$16.C160.C$16.C159.C$16.C159.C$16.C159.C$16.C159.C$17.9C151.9C
-$26.C159.C$17.9C151.9C$16.C159.C$16.C159.C$16.C159.C
-$16.C25.109C25.C
-$16.C24.C109.C24.C$16.C25.4C102.3C25.C$16.C29.C100.C28.C
-$16.C30.C98.C29.C
-$16.C31.C96.C30.C
-$16.C31.C95.C31.C$16.C31.C95.C31.C$16.C31.C95.C31.C$16.C31.C95.C31.C
-$17.9C22.C96.C31.9C$26.C20.C98.C39.C$17.9C20.C100.C29.9C
-$16.C28.C59.2C41.C27.C$16.C25.3C59.C.19C24.2C25.C
-$16.C24.C60.2C.2C18.C25.C24.C
-$16.C25.61C23.25C25.C
-$16.C85.2C.2C18.C50.C$16.C87.C.2C16.C51.C$16.C88.2C.C14.C52.C
-$16.C92.C12.C53.C$16.C93.C7.2C.C54.C$16.C94.C5.C.2C55.C
-$16.C95.C2.2C.2C56.C
-$16.C96.3C60.C
-$16.C95.C2.2C.2C56.C$16.C94.C5.C.2C56.C$15.C94.C7.2C.C56.C
-$14.C94.C12.C56.C$13.C91.2C.C14.C56.C$10.3C91.C.2C16.C56.2C
-$9.C92.2C.2C18.C57.C
-$10.93C23.57C
-$102.2C.2C18.C$104.C.19C$105.2C!
-";
-
-// Changes to that pattern, and what is lifted: loops are lifted cell by cell.
-pub const RING_CHANGES: &str = "
+@ ring's lines: lift
 > #C BLIFWW 2 P 384 L 64 C 1
 #C BLIFWW 2 P 32 L 64 C 1
 == 12
@@ -508,4 +443,65 @@ not a circuit: Cells
 $10.92C24.57C
 == 12
 not a circuit: Cells
+";
+
+// The gate's pattern without its nets, with each row of the drawing on a line of its own.
+pub const GATE_LINES: &str = "\
+#C BLIFWW 2 P 32 L 32 C 1
+#C BLIFWW IN 0 8 a
+#C BLIFWW IN 0 24 b
+#C BLIFWW OUT 32 8 y
+x = 33, y = 32, rule = WireWorld
+8$
+5C18.10C$
+5.C16.C$
+6.C14.C$
+7.C12.C$
+8.C10.C$
+9.C.2C5.C$
+10.2C.C3.C$
+11.2C.C.C$
+15.C$
+11.2C.C$
+10.2C.C$
+9.C.2C$
+8.C$
+7.C$
+6.C$
+5.C$
+5C26.C!
+";
+
+// The pattern of two loops that feed each other. The first starts with 1.
+pub const RING_LINES: &str = "\
+#C BLIFWW 2 P 384 L 64 C 1
+#C BLIFWW OUT 128 8 q
+x = 193, y = 80, rule = WireWorld
+5$85.2C$67.19C.C11.C$66.C18.2C.2C8.C.C$64.2C23.9C3.28C$66.C18.2C.2C8.C
+$67.C16.2C.C11.C$68.C14.C.2C13.C$69.C12.C18.C$70.C.2C7.C20.C
+$71.2C.C5.C22.C$72.2C.2C2.C24.C$76.3C26.C$72.2C.2C2.C26.C
+$71.2C.C5.C26.C$70.C.2C7.C26.C$69.C12.C26.C$68.C14.C.2C23.C
+$67.C16.2C.C23.C$66.C18.2C.2C22.C
+$10.53CBAC23.8C16.70C
+$9.C56.C18.2C.2C93.C$10.4C53.19C.C92.3C$14.C70.2C92.C$15.C162.C
+$16.C160.C$16.C159.C$16.C159.C$16.C159.C$16.C159.C$17.9C151.9C
+$26.C159.C$17.9C151.9C$16.C159.C$16.C159.C$16.C159.C
+$16.C25.109C25.C
+$16.C24.C109.C24.C$16.C25.4C102.3C25.C$16.C29.C100.C28.C
+$16.C30.C98.C29.C
+$16.C31.C96.C30.C
+$16.C31.C95.C31.C$16.C31.C95.C31.C$16.C31.C95.C31.C$16.C31.C95.C31.C
+$17.9C22.C96.C31.9C$26.C20.C98.C39.C$17.9C20.C100.C29.9C
+$16.C28.C59.2C41.C27.C$16.C25.3C59.C.19C24.2C25.C
+$16.C24.C60.2C.2C18.C25.C24.C
+$16.C25.61C23.25C25.C
+$16.C85.2C.2C18.C50.C$16.C87.C.2C16.C51.C$16.C88.2C.C14.C52.C
+$16.C92.C12.C53.C$16.C93.C7.2C.C54.C$16.C94.C5.C.2C55.C
+$16.C95.C2.2C.2C56.C
+$16.C96.3C60.C
+$16.C95.C2.2C.2C56.C$16.C94.C5.C.2C56.C$15.C94.C7.2C.C56.C
+$14.C94.C12.C56.C$13.C91.2C.C14.C56.C$10.3C91.C.2C16.C56.2C
+$9.C92.2C.2C18.C57.C
+$10.93C23.57C
+$102.2C.2C18.C$104.C.19C$105.2C!
 ";

@@ -9,7 +9,8 @@ pub const COUNTER: &str =
 pub const ADDER: &str =
     ".model add\n.inputs a0 a1 b0 b1 ci\n.outputs s0 s1 c\n.subckt fa a=a0 b=b0 c=ci s=s0 co=k\n.subckt fa a=a1 b=b1 c=k s=s1 co=c\n.end\n.model fa\n.inputs a b c\n.outputs s co\n.names a b c s\n100 1\n010 1\n001 1\n111 1\n.names a b c co\n11- 1\n1-1 1\n-11 1\n.end\n";
 
-/// What the netlists' patterns show at each net.
+/// What the netlists' patterns show at each net, and changes that make a net the first output. A
+/// port cannot become an output again.
 pub const CASES: &str = "
 @ toggle
 > compile | probe --net q --path - --cycles 4
@@ -89,10 +90,7 @@ s=0
 > compile | probe --net co --path 1 --cycles 1 a0=1 a1=1 b0=1 b1=0 ci=0
 == 0
 co=1
-";
-
-/// Changes that make a net the first output of the toggle. A port cannot become an output again.
-pub const OUTPUTS_OF_THE_TOGGLE: &str = "
+@ toggle: eval --cycles 4
 > .model t
 .model t
 .outputs q
@@ -104,10 +102,7 @@ B12 DuplicatePort line 3: q
 == 0
 n=1010
 q=0101
-";
-
-/// Changes that make a net the first output of the counter. A port cannot become an output again.
-pub const OUTPUTS_OF_THE_COUNTER: &str = "
+@ counter: eval --cycles 5
 > .model k
 .model k
 .outputs q0
@@ -132,10 +127,7 @@ q1=00110
 n1=01100
 q0=01010
 q1=00110
-";
-
-/// Changes that make a net the first output of the adder. A port cannot become an output again.
-pub const OUTPUTS_OF_THE_ADDER: &str = "
+@ adder: eval --cycles 1 a0=1 a1=1 b0=1 b1=0 ci=0
 > .model add
 .model add
 .outputs a0

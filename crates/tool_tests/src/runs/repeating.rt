@@ -1,202 +1,166 @@
 // Texts that repeat a part: models inside models, weights near the limit and far beyond it, and
 // texts at the limit of length and beyond it.
-use crate::runs::run_over;
+use crate::runs::{Case, case_of, ends, expect_holds};
 use itoa::Buffer;
 use std::alloc::{AllocError, Global};
 use std::test::Fail;
 
-// A text with repetitions: how it begins, what each repetition has (parts, each followed by the
-// number of the repetition, counted from 0, and the rest), and how it ends.
-struct Repeating {
-    begin: &'static [u8],
-    numbered: &'static [&'static [u8]],
-    rest: &'static [u8],
-    end: &'static [u8],
-}
+// Cases that each begin with a number of repetitions and a command. Their texts repeat what stands
+// in braces, where `%` stands for the number of the repetition, counted from 0.
+const CASES: &str = "
+> 300 eval --cycles 3 a=011 -- models that each place the next; the last one inverts its input
+.model c{
+.inputs a
+.outputs y
+.subckt c% a=a y=y
+.end
+.model c%}
+.inputs a
+.outputs y
+.names a y
+0 1
+.end
+== 0
+y=100
+> 500 eval --cycles 1 -- a model that places another in each repetition
+.model m
+.outputs y
+.names y
+1
+{.subckt leaf
+}.end
+.model leaf
+.end
+== 0
+y=1
+> 8190 compile -- a model with an input for each repetition: the greatest weight, and a greater one
+.model m
+.inputs{ i%}
+.outputs y
+.names y
+.end
+== 0
+#C BLIFWW 2 P 32 L ...
+> 8190 eval --cycles 1
+.model m
+.inputs{ i%}
+.outputs y
+.names y
+.end
+== 9
+stream: MissingInput i0
+> 8191 eval --cycles 1
+.model m
+.inputs{ i%}
+.outputs y
+.names y
+.end
+== 4
+too large: weight 8193 limit 8192
+> 2048 aiger -- each output of a circuit weighs 4, and every circuit 2 more
+aag 0 0 0 2048 0
+{0
+}== 4
+too large: weight 8194 limit 8192
+> 40 eval --cycles 1 -- models that each place the next one twice
+.model h{
+.subckt h%
+.subckt h%
+.end
+.model h%}
+.names y
+.end
+== 4
+too large: weight 3298534883326 limit 8192
+> 62 eval --cycles 1
+.model h{
+.subckt h%
+.subckt h%
+.end
+.model h%}
+.names y
+.end
+== 4
+too large: weight 13835058055282163710 limit 8192
+> 63 eval --cycles 1
+.model h{
+.subckt h%
+.subckt h%
+.end
+.model h%}
+.names y
+.end
+== 4
+too large: weight 18446744073709551615 limit 8192
+> 1048576 compile -- a text of 16,777,216 bytes, and one that is a byte longer
+{################}== 1
+B22 NoModel line 1: -
+> 1048576 compile
+{################}#== 4
+too long: limit 16777216
+";
 
-// Models that each place the next. The last one inverts its input.
-const CHAIN: &Repeating = &Repeating {
-    begin: b".model c",
-    numbered: &[
-        b"\n.inputs a\n.outputs y\n.subckt c",
-        b" a=a y=y\n.end\n.model c",
-    ],
-    rest: b"",
-    end: b"\n.inputs a\n.outputs y\n.names a y\n0 1\n.end\n",
-};
-
-// A model that places another once in each repetition.
-const BROAD: &Repeating = &Repeating {
-    begin: b".model m\n.outputs y\n.names y\n1\n",
-    numbered: &[],
-    rest: b".subckt leaf\n",
-    end: b".end\n.model leaf\n.end\n",
-};
-
-// A model with an input for each repetition, and one output.
-const WIDE: &Repeating = &Repeating {
-    begin: b".model m\n.inputs",
-    numbered: &[b" i"],
-    rest: b"",
-    end: b"\n.outputs y\n.names y\n.end\n",
-};
-
-// Models that each place the next one twice.
-const DEEP: &Repeating = &Repeating {
-    begin: b".model h",
-    numbered: &[b"\n.subckt h", b"\n.subckt h", b"\n.end\n.model h"],
-    rest: b"",
-    end: b"\n.names y\n.end\n",
-};
-
-// A circuit with 2048 outputs. Each output weighs 4, and every circuit 2 more.
-const OUTPUTS: &Repeating = &Repeating {
-    begin: b"aag 0 0 0 2048 0\n",
-    numbered: &[],
-    rest: b"0\n",
-    end: b"",
-};
-
-const COMMENT: &Repeating = &Repeating {
-    begin: b"",
-    numbered: &[],
-    rest: b"################",
-    end: b"",
-};
-
-const LONGER: &Repeating = &Repeating {
-    begin: b"",
-    numbered: &[],
-    rest: b"################",
-    end: b"#",
-};
-
-// Adds parts, each followed by the number.
-fn push_numbered(text: &mut Vec<u8>, parts: &[&[u8]], number: &[u8]) -> Result<(), AllocError> {
-    for part in parts {
-        text.extend_from_slice(part)?;
-        text.extend_from_slice(number)?;
+// Adds a part with a number in place of each `%`.
+fn push_numbered(text: &mut Vec<u8>, part: &str, number: &str) -> Result<(), AllocError> {
+    for piece in part.split_inclusive('%') {
+        match piece.strip_suffix('%') {
+            Some(front) => {
+                text.extend_from_slice(front.as_bytes())?;
+                text.extend_from_slice(number.as_bytes())?;
+            }
+            None => text.extend_from_slice(piece.as_bytes())?,
+        }
     }
     Ok(())
 }
 
-// Adds `times` repetitions.
-fn push_repeated(text: &mut Vec<u8>, of: &Repeating, times: usize) -> Result<(), AllocError> {
+// Adds `times` repetitions of a part.
+fn push_repeated(text: &mut Vec<u8>, part: &str, times: usize) -> Result<(), AllocError> {
     let mut digits = Buffer::new();
     for number in 0..times {
-        push_numbered(text, of.numbered, digits.format(number).as_bytes())?;
-        text.extend_from_slice(of.rest)?;
+        push_numbered(text, part, digits.format(number))?;
     }
     Ok(())
 }
 
-// The text with `times` repetitions.
-fn repeated(alloc: Global, of: &Repeating, times: usize) -> Result<Vec<u8>, AllocError> {
-    let mut text = of.begin.to_vec(alloc)?;
-    push_repeated(&mut text, of, times)?;
-    text.extend_from_slice(of.end)?;
-    Ok(text)
+// Adds the text that a case has, with the repetitions.
+fn push_text(text: &mut Vec<u8>, of: &str, times: usize) -> Result<(), AllocError> {
+    for piece in of.split('}') {
+        match piece.split_once('{') {
+            Some((begin, part)) => {
+                text.extend_from_slice(begin.as_bytes())?;
+                push_repeated(text, part, times)?;
+            }
+            None => text.extend_from_slice(piece.as_bytes())?,
+        }
+    }
+    Ok(())
 }
 
-// A command, its text and the number of repetitions, the status, and what the run writes to the
-// output and to the errors.
-type Run = (
-    &'static str,
-    &'static Repeating,
-    usize,
-    u8,
-    &'static str,
-    &'static str,
-);
+// A case, its number of repetitions and its command.
+fn run_of(said: &str) -> Option<(Case<'_>, usize, &str)> {
+    let case = case_of(said)?;
+    let (number, command) = case.commands.split_once(' ')?;
+    let times = number.parse().ok()?;
+    Some((case, times, command))
+}
 
-const RUNS: &[Run] = &[
-    // Models inside models are run.
-    ("eval --cycles 3 a=011", CHAIN, 300, 0, "y=100\n", ""),
-    ("eval --cycles 1", BROAD, 500, 0, "y=1\n", ""),
-    // The greatest weight, which is compiled, and weights beyond it.
-    ("compile", WIDE, 8190, 0, "#C BLIFWW 2 P 32 L ...\n", ""),
-    (
-        "eval --cycles 1",
-        WIDE,
-        8190,
-        9,
-        "",
-        "stream: MissingInput i0\n",
-    ),
-    (
-        "eval --cycles 1",
-        WIDE,
-        8191,
-        4,
-        "",
-        "too large: weight 8193 limit 8192\n",
-    ),
-    (
-        "aiger",
-        OUTPUTS,
-        2048,
-        4,
-        "",
-        "too large: weight 8194 limit 8192\n",
-    ),
-    (
-        "eval --cycles 1",
-        DEEP,
-        40,
-        4,
-        "",
-        "too large: weight 3298534883326 limit 8192\n",
-    ),
-    (
-        "eval --cycles 1",
-        DEEP,
-        62,
-        4,
-        "",
-        "too large: weight 13835058055282163710 limit 8192\n",
-    ),
-    (
-        "eval --cycles 1",
-        DEEP,
-        63,
-        4,
-        "",
-        "too large: weight 18446744073709551615 limit 8192\n",
-    ),
-    // A text of 16,777,216 bytes, and one that is a byte longer.
-    (
-        "compile",
-        COMMENT,
-        1_048_576,
-        1,
-        "",
-        "B22 NoModel line 1: -\n",
-    ),
-    (
-        "compile",
-        LONGER,
-        1_048_576,
-        4,
-        "",
-        "too long: limit 16777216\n",
-    ),
-];
-
-// Fails if a run over the text ends otherwise.
-fn expect_run(alloc: Global, (command, of, times, status, out, err): Run) -> Result<(), Fail> {
-    let text = repeated(alloc, of, times)?;
-    let got = run_over(alloc, command, &text, (1 << 20, &[]), (1 << 20, 99))?;
-    if got.is(status, out, err) {
-        Ok(())
-    } else {
-        Err(Fail::new(format_args!("{command}, {times} times: {}", got.status)))
+// Fails if a case does not end as it wants.
+fn expect_run(alloc: Global, said: &str) -> Result<(), Fail> {
+    match run_of(said) {
+        Some((case, times, command)) => {
+            let mut text = Vec::new(alloc);
+            push_text(&mut text, case.text, times)?;
+            expect_holds(said, ends(alloc, &case, command, &text)?)
+        }
+        None => Err(Fail::new("no case")),
     }
 }
 
 #[test]
 fn texts_that_repeat_are_read_or_too_large(rt: HostRuntime) -> Result<(), Fail> {
-    for run in RUNS {
-        expect_run(rt.alloc(), *run)?;
+    for said in CASES.split('>').skip(1) {
+        expect_run(rt.alloc(), said)?;
     }
     Ok(())
 }
