@@ -1,10 +1,11 @@
 // Bands of small patterns, which are moved in given orders.
-ghost use Rattle.std.specs.Prelude.{◌≡◌, ◌<◌, length, IfOk};
+ghost use Rattle.std.specs.Prelude.{◌≡◌, ◌<◌, length};
 ghost use Rattle.band_core.specs.Bands.{IsSamePattern};
 
 mod orders;
 mod shown;
 
+use crate::texts::cut;
 use band_core::{Bands, NotReady, NotSkipped};
 use rle_read::read;
 use shown::push_row;
@@ -12,32 +13,8 @@ use std::alloc::{AllocError, Global};
 use std::test::Fail;
 use ww_base::expect;
 
-// The bands of a text's pattern, without injections. Fails if the pattern has another size.
-fn bands_of(alloc: Global, text: &[u8], width: u64, rows: usize, height: u32) -> Result<Bands, Fail>
-    requires { 0 < height }
-    ensures height { IfOk result (λ bands. bands.height ≡ height) }
-    ensures width { IfOk result (λ bands. bands.grid.width ≡ width) }
-    ensures rows { IfOk result (λ bands. length bands.grid.rows ≡ rows) }
-{
-    let pattern = read(alloc, text)?;
-    if pattern.width != width || pattern.rows.len() != rows {
-        return Err(Fail::new("another size"));
-    }
-    Ok(Bands::new(alloc, pattern, Vec::new(alloc), height)?)
-}
-
-// A head above two conductors.
-const COLUMN: &[u8] = b"x = 1, y = 3, rule = WireWorld\nA$C$C!";
-
-// A call on a band.
+// What a call on a band answers.
 #[derive(Clone, Copy)]
-enum Call {
-    Advance(usize),
-    Skip(usize),
-}
-
-// What a call answers.
-#[derive(Clone, Copy, PartialEq)]
 enum Answer {
     Moved,
     NotReady { neighbour: usize, generation: u64 },
@@ -88,105 +65,44 @@ fn skipped(bands: &mut Bands, b: usize) -> Answer
     }
 }
 
-fn answered(bands: &mut Bands, call: Call) -> Answer
+// What a call answers: `advance` or `skip`, and the number of a band.
+fn answered(bands: &mut Bands, call: &str) -> Answer
     ensures { IsSamePattern bands.old bands.new }
 {
-    match call {
-        Call::Advance(b) => advanced(bands, b),
-        Call::Skip(b) => skipped(bands, b),
+    let (name, number) = call.split_once(' ').unwrap_or((call, ""));
+    let b = number.parse::<usize>().unwrap_or(usize::MAX);
+    if name == "skip" {
+        skipped(bands, b)
+    } else {
+        advanced(bands, b)
     }
 }
 
-// Makes the calls, and returns whether all had these answers.
-fn answers_are_right(bands: &mut Bands, calls: &[(Call, Answer)]) -> bool
-    ensures { IsSamePattern bands.old bands.new }
-{
-    let mut are_right = true;
-    for (call, answer) in calls {
-        are_right &= answered(bands, *call) == *answer;
+fn push_answer(text: &mut String, answer: Answer) -> Result<(), AllocError> {
+    match answer {
+        Answer::Moved => text.push_str("moved, "),
+        Answer::NotReady {
+            neighbour,
+            generation,
+        } => write!(text, "{neighbour} at {generation}, "),
+        Answer::Awake { x, y } => write!(text, "lit {x} {y}, "),
+        Answer::NoSuchBand => text.push_str("no band, "),
     }
-    are_right
 }
 
-const OK: Answer = Answer::Moved;
-
-// The answers of a band that waits for the middle one, and of one that waits for the bottom one.
-const BEHIND_MIDDLE: Answer = Answer::NotReady {
-    neighbour: 1,
-    generation: 0,
-};
-
-const BEHIND_BOTTOM: Answer = Answer::NotReady {
-    neighbour: 2,
-    generation: 0,
-};
-
-// Calls with their answers, and the cells of COLUMN after them.
-const ORDERS: &[(&[(Call, Answer)], &[u8])] = &[
-    (
-        &[
-            (Call::Advance(2), OK),
-            (Call::Advance(2), BEHIND_MIDDLE),
-            (Call::Advance(3), Answer::NoSuchBand),
-        ],
-        b"ACC",
-    ),
-    (
-        &[
-            (Call::Advance(1), OK),
-            (Call::Advance(0), OK),
-            (Call::Advance(2), OK),
-            (Call::Advance(2), OK),
-        ],
-        b"BAA",
-    ),
-    (
-        &[
-            (Call::Advance(2), OK),
-            (Call::Advance(1), OK),
-            (Call::Advance(0), OK),
-            (Call::Advance(2), OK),
-        ],
-        b"BAA",
-    ),
-    (
-        &[
-            (Call::Advance(0), OK),
-            (Call::Advance(0), BEHIND_MIDDLE),
-            (Call::Advance(1), OK),
-            (Call::Advance(1), BEHIND_BOTTOM),
-            (Call::Advance(2), OK),
-            (Call::Advance(2), OK),
-            (Call::Advance(0), OK),
-            (Call::Advance(1), OK),
-            (Call::Advance(2), OK),
-        ],
-        b"CBB",
-    ),
-    // a lit cell keeps bands awake
-    (
-        &[
-            (Call::Skip(2), OK),
-            (Call::Skip(1), Answer::Awake { x: 0, y: 0 }),
-            (Call::Advance(1), OK),
-            (Call::Skip(0), Answer::Awake { x: 0, y: 0 }),
-            (Call::Skip(2), Answer::Awake { x: 0, y: 1 }),
-            (Call::Advance(2), OK),
-            (
-                Call::Advance(2),
-                Answer::NotReady {
-                    neighbour: 1,
-                    generation: 1,
-                },
-            ),
-        ],
-        b"AAA",
-    ),
-];
+// Makes the calls, and appends what each answers.
+fn push_answers(text: &mut String, bands: &mut Bands, calls: &str) -> Result<(), AllocError>
+    ensures { IsSamePattern bands.old bands.new }
+{
+    for call in calls.split(", ") {
+        push_answer(text, answered(bands, call))?;
+    }
+    Ok(())
+}
 
 // Appends all rows, one after the other.
 fn push_rows(
-    text: &mut Vec<u8>,
+    text: &mut String,
     bands: &Bands,
     height: u32,
     width: u64,
@@ -202,97 +118,131 @@ fn push_rows(
     Ok(())
 }
 
-// Fails unless the rows, one after the other, are these cells.
-fn expect_rows(
+// What the calls answer, and the cells after them from the top down.
+fn calls_said(
     alloc: Global,
-    bands: &Bands,
+    bands: &mut Bands,
+    calls: &str,
     height: u32,
     width: u64,
     count: u64,
-    cells: &[u8],
-) -> Result<(), Fail>
-    requires height { height ≡ bands.now.height }
-    requires width { width ≡ bands.now.grid.width }
-    requires count { count ≡ length bands.now.grid.rows }
+) -> Result<String, AllocError>
+    requires height { height ≡ bands.old.height }
+    requires width { width ≡ bands.old.grid.width }
+    requires count { count ≡ length bands.old.grid.rows }
 {
-    let mut rows = Vec::new(alloc);
-    push_rows(&mut rows, bands, height, width, count)?;
-    expect(&rows, cells)
+    let mut text = String::new(alloc);
+    push_answers(&mut text, bands, calls)?;
+    push_rows(&mut text, bands, height, width, count)?;
+    Ok(text)
 }
 
-// Makes the calls on bands of COLUMN. Fails unless they have these answers, and leave these cells
-// from the top down.
-fn expect_order(alloc: Global, calls: &[(Call, Answer)], cells: &[u8]) -> Result<(), Fail> {
-    let mut bands = bands_of(alloc, COLUMN, 1, 3, 1)?;
-    if !answers_are_right(&mut bands, calls) {
-        return Err(Fail::new(format_args!("another answer before {cells:?}")));
-    }
-    expect_rows(alloc, &bands, 1, 1, 3, cells)
-}
-
-#[test]
-fn bands_advance_in_any_order(rt: HostRuntime) -> Result<(), Fail> {
-    for (calls, cells) in ORDERS {
-        expect_order(rt.alloc(), calls, cells)?;
-    }
-    Ok(())
-}
-
-// Advances each band by one generation, from the top down.
-fn advance_all(bands: &mut Bands)
-    ensures { IsSamePattern bands.old bands.new }
-{
-    for b in 0..bands.bands() {
-        let _answer = advanced(bands, b);
-    }
-}
-
-// Fails unless a pattern of two rows and three columns has these cells a generation later, in bands
-// of this height.
-fn expect_both_rows(alloc: Global, text: &[u8], height: u32, cells: &[u8]) -> Result<(), Fail>
+// What the calls on bands of this height answer, and the cells of the pattern after them.
+fn said(alloc: Global, text: &[u8], height: u32, calls: &str) -> Result<String, Fail>
     requires { 0 < height }
 {
-    let mut bands = bands_of(alloc, text, 3, 2, height)?;
-    advance_all(&mut bands);
-    expect_rows(alloc, &bands, height, 3, 2, cells)
+    let pattern = read(alloc, text)?;
+    let width = pattern.width;
+    let count = pattern.rows.len() as u64;
+    let mut bands = Bands::new(alloc, pattern, Vec::new(alloc), height)?;
+    Ok(calls_said(alloc, &mut bands, calls, height, width, count)?)
 }
 
-// Patterns of three cells above a conductor, and their two rows a generation later.
-const ABOVE: &[(&[u8], &[u8])] = &[
-    (b"x = 3, y = 2, rule = WireWorld\nAAA$.C.!", b"BBB.C."),
-    (b"x = 3, y = 2, rule = WireWorld\nAA.$.C.!", b"BB..A."),
-];
+// Fails unless the calls of a case answer, and leave the cells, that it says. The case's first line
+// has the height of the bands and the calls.
+fn expect_case(alloc: Global, case: &str) -> Result<(), Fail> {
+    let (head, text, want) = cut(case);
+    let (height, calls) = head.split_once(", ").unwrap_or((head, ""));
+    let height = height.parse::<u32>().unwrap_or(0);
+    if height == 0 {
+        return Err(Fail::new(head));
+    }
+    expect(
+        said(alloc, text.as_bytes(), height, calls)?.as_bytes(),
+        want.as_bytes(),
+    )
+}
+
+const ORDERS: &str = "\
+1, advance 2, advance 2, advance 3
+x = 1, y = 3, rule = WireWorld
+A$C$C!
+== moved, 1 at 0, no band, ACC
+> 1, advance 1, advance 0, advance 2, advance 2
+x = 1, y = 3, rule = WireWorld
+A$C$C!
+== moved, moved, moved, moved, BAA
+> 1, advance 2, advance 1, advance 0, advance 2
+x = 1, y = 3, rule = WireWorld
+A$C$C!
+== moved, moved, moved, moved, BAA
+> 1, advance 0, advance 0, advance 1, advance 1, advance 2, advance 2, advance 0, advance 1, advance 2
+x = 1, y = 3, rule = WireWorld
+A$C$C!
+== moved, 1 at 0, moved, 2 at 0, moved, moved, moved, moved, moved, CBB
+> 1, skip 2, skip 1, advance 1, skip 0, skip 2, advance 2, advance 2 -- a lit cell keeps bands awake
+x = 1, y = 3, rule = WireWorld
+A$C$C!
+== moved, lit 0 0, moved, lit 0 0, lit 0 1, moved, 1 at 1, AAA
+> 1, advance 0, advance 1 -- two heads light a conductor, and three do not
+x = 3, y = 2, rule = WireWorld
+AAA$.C.!
+== moved, moved, BBB.C.
+> 2, advance 0
+x = 3, y = 2, rule = WireWorld
+AAA$.C.!
+== moved, BBB.C.
+> 1, advance 0, advance 1
+x = 3, y = 2, rule = WireWorld
+AA.$.C.!
+== moved, moved, BB..A.
+> 2, advance 0
+x = 3, y = 2, rule = WireWorld
+AA.$.C.!
+== moved, BB..A.";
 
 #[test]
-fn two_heads_light_a_conductor_and_three_do_not(rt: HostRuntime) -> Result<(), Fail> {
-    for (text, cells) in ABOVE {
-        expect_both_rows(rt.alloc(), text, 1, cells)?;
-        expect_both_rows(rt.alloc(), text, 2, cells)?;
+fn bands_move_in_any_order(rt: HostRuntime) -> Result<(), Fail> {
+    for case in ORDERS.split("\n>") {
+        expect_case(rt.alloc(), case)?;
     }
     Ok(())
 }
 
 // Patterns, and how many bands of the greatest height they have.
-const COUNTS: &[(&[u8], usize)] = &[
-    (b"x = 18446744073709551615, y = 0, rule = WireWorld\n!", 0),
-    (b"x = 0, y = 18446744073709551615, rule = WireWorld\n!", 0),
-    (COLUMN, 1),
-];
+const COUNTS: &str = "\
+no rows
+x = 18446744073709551615, y = 0, rule = WireWorld
+!
+== 0
+> no columns
+x = 0, y = 18446744073709551615, rule = WireWorld
+!
+== 0
+> three cells
+x = 1, y = 3, rule = WireWorld
+A$C$C!
+== 1";
 
-fn expect_count(alloc: Global, text: &[u8], count: usize) -> Result<(), Fail> {
+fn count_of(alloc: Global, text: &[u8]) -> Result<usize, Fail> {
     let pattern = read(alloc, text)?;
     let bands = Bands::new(alloc, pattern, Vec::new(alloc), u32::MAX)?;
-    if bands.bands() == count {
+    Ok(bands.bands())
+}
+
+fn expect_count(alloc: Global, case: &str) -> Result<(), Fail> {
+    let (head, text, want) = cut(case);
+    if want.parse::<usize>().unwrap_or(usize::MAX) == count_of(alloc, text.as_bytes())? {
         Ok(())
     } else {
-        Err(Fail::new(format_args!("not {count} bands of {text:?}")))
+        Err(Fail::new(head))
     }
 }
 
 #[test]
 fn a_pattern_without_cells_has_no_band(rt: HostRuntime) -> Result<(), Fail> {
-    for (text, count) in COUNTS {
-        expect_count(rt.alloc(), text, *count)?;
+    for case in COUNTS.split("\n>") {
+        expect_count(rt.alloc(), case)?;
     }
     Ok(())
 }

@@ -1,10 +1,9 @@
 // Rows written by hand: the heads above, the row's heads, the heads below, the row's tails and
 // wires, and its new heads and wires.
 use lane_kernel::step_rows;
-use std::test::Fail;
 
 #[test]
-fn a_head_crosses_the_border_of_words(rt: HostRuntime) -> Result<(), Fail> {
+fn a_head_crosses_the_border_of_words(rt: HostRuntime) {
     let mut heads = [0u64; 2];
     let mut wires = [0u64; 2];
     step_rows(
@@ -16,22 +15,17 @@ fn a_head_crosses_the_border_of_words(rt: HostRuntime) -> Result<(), Fail> {
         &mut heads,
         &mut wires,
     );
-    if heads == [1 << 63, 0] && wires == [2, 0] {
-        Ok(())
-    } else {
-        Err(Fail::new("other heads or wires"))
-    }
+    assert!(&rt;
+        heads == [1 << 63, 0] && wires == [2, 0],
+        "a row of two words"
+    );
 }
 
 #[test]
-fn three_heads_light_nothing(rt: HostRuntime) -> Result<(), Fail> {
-    step_rows(&[], &[], &[], &[], &[], &mut [], &mut []);
+fn three_heads_light_nothing(rt: HostRuntime) {
     let mut heads = [0u64; 1];
     let mut wires = [0u64; 1];
     step_rows(&[7], &[0], &[0], &[0], &[10], &mut heads, &mut wires);
-    if heads == [8] && wires == [2] {
-        Ok(())
-    } else {
-        Err(Fail::new("other heads or wires"))
-    }
+    assert!(&rt; heads == [8] && wires == [2], "a row of one word");
+    step_rows(&[], &[], &[], &[], &[], &mut [], &mut []);
 }

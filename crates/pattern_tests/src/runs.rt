@@ -56,12 +56,15 @@ CCCCC..........................C.$
 .................................$
 .................................!";
 
-fn strings_of(alloc: Global, words: &[&str]) -> Result<Vec<String>, AllocError> {
-    let mut strings = Vec::new(alloc);
-    for word in words {
-        strings.push(String::from_str(alloc, word)?)?;
+// The words of a text, which has `, ` between any two.
+fn words_of(alloc: Global, text: &str) -> Result<Vec<String>, AllocError> {
+    let mut words = Vec::new(alloc);
+    for word in text.split(", ") {
+        if !word.is_empty() {
+            words.push(String::from_str(alloc, word)?)?;
+        }
     }
-    Ok(strings)
+    Ok(words)
 }
 
 fn push_bits(text: &mut Vec<u8>, bits: &[bool]) -> Result<(), AllocError> {
@@ -93,7 +96,7 @@ fn fault_shown(alloc: Global, error: &StreamError) -> Result<Vec<u8>, AllocError
 fn streams_for(
     alloc: Global,
     inputs: &[PortLine],
-    words: &[&str],
+    words: &str,
     cycles: usize,
     contexts: u64,
 ) -> Result<Streams, StreamError>
@@ -102,7 +105,7 @@ fn streams_for(
     ensures many { IfOk result (λ streams. length streams.bits ≡ contexts * length inputs.now) }
     ensures long { IfOk result (λ streams. All (λ bits. length bits ≡ cycles) streams.bits) }
 {
-    let words = strings_of(alloc, words)?;
+    let words = words_of(alloc, words)?;
     let names = names_of(alloc, inputs)?;
     Streams::read(alloc, &words, &names, cycles, contexts)
 }
@@ -115,7 +118,7 @@ pub enum Asked {
 }
 
 /// Writes as text why a pattern is not run.
-pub fn refusal_said(alloc: Global, error: SimulateError) -> Result<Vec<u8>, AllocError> {
+pub fn refusal_said(alloc: Global, error: &SimulateError) -> Result<Vec<u8>, AllocError> {
     let said = match error {
         SimulateError::TooFar { generations } => format!(in alloc; "TooFar {generations}"),
         SimulateError::NotQuiet { generation, x, y } => format!(in alloc;
@@ -129,7 +132,7 @@ pub fn refusal_said(alloc: Global, error: SimulateError) -> Result<Vec<u8>, Allo
 // The bits that the outputs show, or why the pattern is not run.
 fn outputs_said(
     alloc: Global,
-    outputs: Result<List<List<bool>>, SimulateError>,
+    outputs: &Result<List<List<bool>>, SimulateError>,
 ) -> Result<Vec<u8>, AllocError> {
     match outputs {
         Ok(outputs) => shown(alloc, outputs.as_slice()),
@@ -150,7 +153,7 @@ fn run(
     requires in_box { AreInBox pattern.width pattern.height (cells_of ports.now.ins) }
 {
     match asked {
-        Asked::Outputs => outputs_said(alloc, simulate(alloc, pattern, ports, streams)),
+        Asked::Outputs => outputs_said(alloc, &simulate(alloc, pattern, ports, streams)),
         Asked::Dump => dump_said(alloc, pattern, ports, streams),
     }
 }
@@ -159,7 +162,7 @@ fn run(
 fn said(
     alloc: Global,
     text: &[u8],
-    words: &[&str],
+    words: &str,
     cycles: usize,
     asked: Asked,
 ) -> Result<Vec<u8>, Fail>
@@ -172,23 +175,6 @@ fn said(
         Err(error) => fault_shown(alloc, &error),
     };
     Ok(said?)
-}
-
-// Joins a table and a pattern to one text, and returns what is asked of the pattern, or why there
-// are no streams or no run.
-fn said_of(
-    alloc: Global,
-    table: &[u8],
-    pattern: &[u8],
-    words: &[&str],
-    cycles: usize,
-    asked: Asked,
-) -> Result<Vec<u8>, Fail> {
-    if cycles == 0 {
-        return Err(Fail::new("no cycles"));
-    }
-    let text = joined(alloc, &[table, b"\n", pattern])?;
-    said(alloc, &text, words, cycles, asked)
 }
 
 // A ring on which an electron circles for ever.
@@ -377,44 +363,41 @@ wire, 2, a=11 -- a wire of each period
 #C BLIFWW IN 0 0 a
 == MissingInput 1:a";
 
-// The pattern of a name, if there is one.
-fn pattern_named(name: &str) -> Option<&'static [u8]> {
+// The pattern of a name, or no text.
+fn pattern_named(name: &str) -> &'static [u8] {
     match name {
-        "wire" => Some(WIRE),
-        "wire_down" => Some(WIRE_DOWN),
-        "two_rows" => Some(TWO_ROWS),
-        "ring" => Some(RING),
-        "or" => Some(OR_GATE),
-        "latch" => Some(LATCH),
-        "dark_latch" => Some(DARK_LATCH),
-        "cut_latch" => Some(CUT_LATCH),
-        "late_latch" => Some(LATE_LATCH),
-        _ => None,
+        "wire" => WIRE,
+        "wire_down" => WIRE_DOWN,
+        "two_rows" => TWO_ROWS,
+        "ring" => RING,
+        "or" => OR_GATE,
+        "latch" => LATCH,
+        "dark_latch" => DARK_LATCH,
+        "cut_latch" => CUT_LATCH,
+        "late_latch" => LATE_LATCH,
+        _ => b"",
     }
 }
 
-/// Returns what is asked of a pattern with this table. `head` has the pattern's name, the number of
-/// cycles and the words.
+fn text_of(alloc: Global, table: &str, pattern: &[u8]) -> Result<Vec<u8>, AllocError> {
+    joined(alloc, &[table.as_bytes(), b"\n", pattern])
+}
+
+/// Returns what is asked of a pattern with this table, or why there are no streams or no run.
+/// `head` has the pattern's name, the number of cycles and the words.
 pub fn said_at(alloc: Global, head: &str, table: &str, asked: Asked) -> Result<Vec<u8>, Fail> {
-    let mut parts = head.split(", ");
-    let Some(pattern) = pattern_named(parts.next().unwrap_or("")) else {
+    let (name, rest) = head.split_once(", ").unwrap_or((head, ""));
+    let (cycles, words) = rest.split_once(", ").unwrap_or((rest, ""));
+    let cycles = cycles.parse::<usize>().unwrap_or(0);
+    if cycles == 0 {
         return Err(Fail::new(head));
-    };
-    let cycles = parts.next().unwrap_or("").parse::<usize>().unwrap_or(0);
-    let mut words = Vec::new(alloc);
-    for word in parts {
-        words.push(word)?;
     }
-    said_of(alloc, table.as_bytes(), pattern, &words, cycles, asked)
+    let text = text_of(alloc, table, pattern_named(name))?;
+    said(alloc, &text, words, cycles, asked)
 }
 
-fn expect_case(
-    alloc: Global,
-    head: &str,
-    table: &str,
-    asked: Asked,
-    want: &str,
-) -> Result<(), Fail> {
+fn expect_case(alloc: Global, case: &str, asked: Asked) -> Result<(), Fail> {
+    let (head, table, want) = cut(case);
     expect(&said_at(alloc, head, table, asked)?, want.as_bytes())
 }
 
@@ -425,8 +408,7 @@ fn expect_case(
 /// proof time for each row.
 pub fn expect_cases(alloc: Global, cases: &str, asked: Asked) -> Result<(), Fail> {
     for case in cases.split("\n>") {
-        let (head, table, want) = cut(case);
-        expect_case(alloc, head, table, asked, want)?;
+        expect_case(alloc, case, asked)?;
     }
     Ok(())
 }

@@ -278,7 +278,10 @@ x = 3, y = 1, rule = WireWorld
 // The two numbers of a text, or 99 for what is no number.
 fn size_in(text: &str) -> (u64, u64) {
     let (width, height) = text.split_once(' ').unwrap_or((text, ""));
-    (width.parse().unwrap_or(99), height.parse().unwrap_or(99))
+    (
+        width.parse::<u64>().unwrap_or(99),
+        height.parse::<u64>().unwrap_or(99),
+    )
 }
 
 #[test]

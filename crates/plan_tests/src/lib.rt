@@ -10,6 +10,8 @@ mod climbing;
 #[cfg(test)]
 mod drawing;
 #[cfg(test)]
+mod lifting;
+#[cfg(test)]
 mod netlists;
 #[cfg(test)]
 mod plans;

@@ -1,10 +1,9 @@
 // The BLIF texts of netlists that are lifted from plans.
 ghost use Rattle.lane_core.specs.Plans.{IsAdmissible};
 
-use crate::written::{Written, must, plan_of_written};
+use crate::written::{Written, plan_of_written};
 use blif_write::{Lift, of, write};
 use cell_core::{Cell, Src};
-use circuit_plans::starts_of_bits;
 use lane_core::Plan;
 use lists::{List, copied};
 use pattern_reading::{PortLine, Ports};
@@ -190,12 +189,4 @@ fn plans_are_lifted_to_netlists(rt: HostRuntime) -> Result<(), Fail> {
         expect_case(rt.alloc(), case)?;
     }
     Ok(())
-}
-
-// Of two loops on four lanes the second starts with 1.
-#[test]
-fn loops_start_where_they_enter(rt: HostRuntime) -> Result<(), Fail> {
-    let starts = starts_of_bits(rt.alloc(), 4, &[false, true])?;
-    let second = starts.has(64, 56) && !starts.has(64, 40) && starts.list.len() == 1;
-    Ok(must(second)?)
 }

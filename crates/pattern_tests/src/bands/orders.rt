@@ -5,9 +5,9 @@ ghost use Rattle.ww_rule.specs.Grid.{AreInBox};
 ghost use Rattle.ww_rule.specs.Injections.{AreInside};
 ghost use Rattle.band_core.specs.Bands.{IsSamePattern, generation_of};
 
-use super::shown::push_row;
-use crate::texts::push_cells;
+use super::shown::letter_at;
 use band_core::Bands;
+use pattern_writing::tag_of;
 use rle_read::read;
 use std::alloc::{AllocError, Global};
 use std::test::Fail;
@@ -195,29 +195,8 @@ fn call_at_random(bands: &mut Bands, draw: &mut Draw)
     }
 }
 
-// The letters of a row in the plane of a generation, or none if there is no such plane.
-fn plane_row(
-    alloc: Global,
-    planes: &[Plane],
-    generation: u64,
-    y: u64,
-) -> Result<Vec<u8>, AllocError> {
-    let mut row = Vec::new(alloc);
-    if let Some(plane) = planes.get(generation as usize) {
-        push_cells(&mut row, plane.rows.row_or_none(y as usize))?;
-    }
-    Ok(row)
-}
-
 // Whether a row has cells, and the bands show it as the plane of its band's generation has it.
-fn is_right(
-    alloc: Global,
-    bands: &Bands,
-    height: u32,
-    width: u64,
-    y: u64,
-    planes: &[Plane],
-) -> Result<bool, AllocError>
+fn is_right(bands: &Bands, height: u32, width: u64, y: u64, planes: &[Plane]) -> bool
     requires height { height ≡ bands.now.height }
     requires width { width ≡ bands.now.grid.width }
     requires row { y < length bands.now.grid.rows }
@@ -225,48 +204,48 @@ fn is_right(
     let count = bands.bands();
     let b = y as usize / height as usize;
     if b >= count {
-        return Ok(false);
+        return false;
     }
-    let want = plane_row(alloc, planes, bands.generation(b), y)?;
-    let mut shown = Vec::new(alloc);
-    push_row(&mut shown, bands, height, width, y)?;
-    Ok(!shown.is_empty() && shown == want)
+    let Some(plane) = planes.get(bands.generation(b) as usize) else {
+        return false;
+    };
+    let row = plane.rows.row_or_none(y as usize);
+    let mut is_right = !row.is_empty() && row.len() as u64 == width;
+    for x in 0..width {
+        if let Some(state) = row.get(x as usize) {
+            is_right &= tag_of(*state) == letter_at(bands, height, x, y);
+        }
+    }
+    is_right
 }
 
 // Whether the bands show all five rows as the planes have them.
-fn are_right(
-    alloc: Global,
-    bands: &Bands,
-    height: u32,
-    width: u64,
-    planes: &[Plane],
-) -> Result<bool, AllocError>
+fn are_right(bands: &Bands, height: u32, width: u64, planes: &[Plane]) -> bool
     requires height { height ≡ bands.now.height }
     requires width { width ≡ bands.now.grid.width }
     requires rows { length bands.now.grid.rows ≡ 5 }
 {
     let mut are_right = true;
     for y in 0..5 {
-        are_right &= is_right(alloc, bands, height, width, y, planes)?;
+        are_right &= is_right(bands, height, width, y, planes);
     }
-    Ok(are_right)
+    are_right
 }
 
 // Makes random calls, and returns whether the bands then show all rows as the planes have them.
 fn calls_are_right(
-    alloc: Global,
     draw: &mut Draw,
     bands: &mut Bands,
     height: u32,
     width: u64,
     planes: &[Plane],
-) -> Result<bool, AllocError>
+) -> bool
     requires height { height ≡ bands.old.height }
     requires width { width ≡ bands.old.grid.width }
     requires rows { length bands.old.grid.rows ≡ 5 }
 {
     call_at_random(bands, draw);
-    are_right(alloc, bands, height, width, planes)
+    are_right(bands, height, width, planes)
 }
 
 // Whether the bands of a random pattern with random injections are right after random calls.
@@ -278,7 +257,7 @@ fn order_is_right(alloc: Global, draw: &mut Draw, height: u32, width: u64) -> Re
     let drive = random_drive(alloc, draw, width)?;
     let planes = planes(alloc, &pattern, &drive)?;
     let mut bands = Bands::new(alloc, pattern, drive, height)?;
-    Ok(calls_are_right(alloc, draw, &mut bands, height, width, &planes)?)
+    Ok(calls_are_right(draw, &mut bands, height, width, &planes))
 }
 
 fn expect_right(alloc: Global, draw: &mut Draw, height: u32, width: u64) -> Result<(), Fail>

@@ -1,13 +1,28 @@
-// Rows that bands show, as letters.
+// The letters of cells that bands show.
 ghost use Rattle.std.specs.Prelude.{◌≡◌, ◌<◌, length};
 
 use band_core::Bands;
 use pattern_writing::tag_of;
 use std::alloc::AllocError;
 
+/// Returns the letter of a cell of the pattern, at the generation of its band.
+pub fn letter_at(bands: &Bands, height: u32, x: u64, y: u64) -> u8
+    requires height { height ≡ bands.now.height }
+    requires column { x < bands.now.grid.width }
+    requires row { y < length bands.now.grid.rows }
+{
+    let count = bands.bands();
+    let b = y as usize / height as usize;
+    if b < count {
+        tag_of(bands.cell(b, x, y))
+    } else {
+        b'?'
+    }
+}
+
 /// Appends a row of the pattern, at the generation of its band.
 pub fn push_row(
-    text: &mut Vec<u8>,
+    text: &mut String,
     bands: &Bands,
     height: u32,
     width: u64,
@@ -17,12 +32,8 @@ pub fn push_row(
     requires width { width ≡ bands.now.grid.width }
     requires row { y < length bands.now.grid.rows }
 {
-    let count = bands.bands();
-    let b = y as usize / height as usize;
-    if b < count {
-        for x in 0..width {
-            text.push(tag_of(bands.cell(b, x, y)))?;
-        }
+    for x in 0..width {
+        text.push(letter_at(bands, height, x, y) as char)?;
     }
     Ok(())
 }
