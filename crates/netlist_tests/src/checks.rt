@@ -167,7 +167,7 @@ const CASES: &str = "
 #[test]
 fn the_lowest_rule_and_there_the_earliest_word(rt: HostRuntime) -> Result<(), Fail> {
     for case in CASES.split("\n>") {
-        let (_, text, want) = cut(case);
+        let (text, want) = cut(case);
         expect_check(rt.alloc(), text.as_bytes(), want.as_bytes())?;
     }
     Ok(())

@@ -1,5 +1,5 @@
 // Circles of models, whose subckt lines name one another.
-use crate::texts::{cut, fault_shown};
+use crate::texts::fault_shown;
 use lists::{Bytes, List, copied};
 use model_circles::circle_fault;
 use model_index::NamedModels;
@@ -9,19 +9,25 @@ use std::alloc::{AllocError, Global};
 use std::test::Fail;
 use ww_base::expect;
 
-fn subckt(alloc: Global, word: &str) -> Result<Subckt, AllocError> {
-    let (line, model) = word.split_once(':').unwrap_or(("", word));
+// A model: its name, and for each of its subckt lines the line's number and the name of the model
+// that it instantiates. Names are single letters.
+struct Written {
+    name: u8,
+    subckts: &'static [(u64, u8)],
+}
+
+fn subckt(alloc: Global, line: u64, letter: u8) -> Result<Subckt, AllocError> {
     Ok(Subckt {
-        line: line.parse::<u64>().unwrap_or(0),
-        model: copied(alloc, model.as_bytes())?,
+        line,
+        model: copied(alloc, &[letter])?,
         pins: List::of(Vec::new(alloc)),
     })
 }
 
-fn subckts_of(alloc: Global, words: &str) -> Result<Vec<Subckt>, AllocError> {
+fn subckts_of(alloc: Global, written: &[(u64, u8)]) -> Result<Vec<Subckt>, AllocError> {
     let mut subckts = Vec::new(alloc);
-    for word in words.split_ascii_whitespace() {
-        subckts.push(subckt(alloc, word)?)?;
+    for (line, letter) in written {
+        subckts.push(subckt(alloc, *line, *letter)?)?;
     }
     Ok(subckts)
 }
@@ -39,18 +45,15 @@ fn model_with(alloc: Global, name: Bytes, subckts: Vec<Subckt>) -> Model {
     }
 }
 
-fn model(alloc: Global, line: &str) -> Result<Model, AllocError> {
-    let (name, words) = line.split_once(' ').unwrap_or((line, ""));
-    let name = copied(alloc, name.as_bytes())?;
-    Ok(model_with(alloc, name, subckts_of(alloc, words)?))
+fn model(alloc: Global, written: &Written) -> Result<Model, AllocError> {
+    let name = copied(alloc, &[written.name])?;
+    Ok(model_with(alloc, name, subckts_of(alloc, written.subckts)?))
 }
 
-// A model for each line, which has its name, and for each of its subckt lines the line's number and
-// the name of the model that it instantiates.
-fn models_of(alloc: Global, text: &str) -> Result<Vec<Model>, AllocError> {
+fn models_of(alloc: Global, written: &[Written]) -> Result<Vec<Model>, AllocError> {
     let mut models = Vec::new(alloc);
-    for line in text.split('\n') {
-        models.push(model(alloc, line)?)?;
+    for it in written {
+        models.push(model(alloc, it)?)?;
     }
     Ok(models)
 }
@@ -68,55 +71,118 @@ fn said(alloc: Global, models: &[Model]) -> Result<Vec<u8>, AllocError> {
     }
 }
 
-fn expect_fault(alloc: Global, text: &str, want: &[u8]) -> Result<(), Fail> {
-    let models = models_of(alloc, text)?;
+fn expect_fault(alloc: Global, written: &[Written], want: &[u8]) -> Result<(), Fail> {
+    let models = models_of(alloc, written)?;
     expect(&said(alloc, &models)?, want)
 }
 
-// Models, and the text of their fault.
-const CIRCLES: &str = "\
-a circle of one model
-a 2:a
-== B19 line 2: a
->
-m 2:a 3:c
-a 8:b
-b 9:a
-c 5:d
-d 7:c
-== B19 line 5: c d
->
-m 2:a
-a 4:b 5:a
-b
-== B19 line 5: a
->
-m 2:a
-a 4:b
-b
-==\x20
->
-m 2:n
-n
-n 6:m
-==\x20";
+// Many subckt lines of one model, which make no circle.
+const MANY: &[(u64, u8)] = &[(50, b'b'); 500];
 
-// Two models, of which the first has 500 subckt lines.
-fn long_model(alloc: Global) -> Result<String, AllocError> {
-    let mut text = String::from_str(alloc, "a")?;
-    for _i in 0..500 {
-        text.push_str(" 50:b")?;
-    }
-    text.push_str("\nb")?;
-    Ok(text)
-}
+// Models, and the text of their fault.
+const CIRCLES: &[(&[Written], &[u8])] = &[
+    (
+        &[Written {
+            name: b'a',
+            subckts: &[(2, b'a')],
+        }],
+        b"B19 line 2: a",
+    ),
+    (
+        &[
+            Written {
+                name: b'm',
+                subckts: &[(2, b'a'), (3, b'c')],
+            },
+            Written {
+                name: b'a',
+                subckts: &[(8, b'b')],
+            },
+            Written {
+                name: b'b',
+                subckts: &[(9, b'a')],
+            },
+            Written {
+                name: b'c',
+                subckts: &[(5, b'd')],
+            },
+            Written {
+                name: b'd',
+                subckts: &[(7, b'c')],
+            },
+        ],
+        b"B19 line 5: c d",
+    ),
+    (
+        &[
+            Written {
+                name: b'm',
+                subckts: &[(2, b'a')],
+            },
+            Written {
+                name: b'a',
+                subckts: &[(4, b'b'), (5, b'a')],
+            },
+            Written {
+                name: b'b',
+                subckts: &[],
+            },
+        ],
+        b"B19 line 5: a",
+    ),
+    (
+        &[
+            Written {
+                name: b'm',
+                subckts: &[(2, b'a')],
+            },
+            Written {
+                name: b'a',
+                subckts: &[(4, b'b')],
+            },
+            Written {
+                name: b'b',
+                subckts: &[],
+            },
+        ],
+        b"",
+    ),
+    (
+        &[
+            Written {
+                name: b'm',
+                subckts: &[(2, b'n')],
+            },
+            Written {
+                name: b'n',
+                subckts: &[],
+            },
+            Written {
+                name: b'n',
+                subckts: &[(6, b'm')],
+            },
+        ],
+        b"",
+    ),
+    (
+        &[
+            Written {
+                name: b'a',
+                subckts: MANY,
+            },
+            Written {
+                name: b'b',
+                subckts: &[],
+            },
+        ],
+        b"",
+    ),
+];
 
 #[test]
 fn the_earliest_line_on_a_circle_is_the_fault(rt: HostRuntime) -> Result<(), Fail> {
-    for case in CIRCLES.split("\n>") {
-        let (_, text, want) = cut(case);
-        expect_fault(rt.alloc(), text, want.as_bytes())?;
+    for (models, want) in CIRCLES {
+        expect_fault(rt.alloc(), models, want)?;
     }
-    let text = long_model(rt.alloc())?;
-    expect_fault(rt.alloc(), &text, b"")
+    Ok(())
 }

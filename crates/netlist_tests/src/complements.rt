@@ -1,16 +1,13 @@
 // Lists of cells in which what is 1 at zero is kept as its complement.
 use crate::rewriting::{is_shown, list_of};
+use crate::texts::expect_number;
 use cell_core::{Cell, CellList, Src};
 use cell_polarity::complemented;
 use std::alloc::Global;
 use std::test::Fail;
 
 fn expect_text(alloc: Global, list: &CellList, want: &str) -> Result<(), Fail> {
-    if is_shown(alloc, list, want)? {
-        Ok(())
-    } else {
-        Err(Fail::new(want))
-    }
+    expect_number(want, is_shown(alloc, list, want)? as u64, 1)
 }
 
 fn expect_complemented(

@@ -1,99 +1,115 @@
 // The values of covers.
-use crate::texts::{cover_in, cut, models_of};
-use blif_reader::Model;
+use crate::texts::copies_of;
+use lists::List;
 use netlist_core::Cover;
 use netlist_meaning::cover_value;
 use std::alloc::{AllocError, Global};
 use std::test::Fail;
+use ww_base::expect;
 
-// Covers, and for some lists of input bits `>` and the value.
-const COVERS: &str = "\
-two inputs
-.model m
-.names a b y
-1- 1
--1 1
-== 00>0 01>1 10>1 11>1
->
-.model m
-.names a b y
-10 1
-== 00>0 01>0 10>1 11>0
->
-.model m
-.names a b y
-11 0
-== 00>1 01>1 10>1 11>0
->
-.model m
-.names a b y
-10 1
-01 1
-== 00>0 01>1 10>1 11>0
->
-.model m
-.names a b y
-== 00>0 01>0 10>0 11>0
-> one input
-.model m
-.names a y
-0 1
-== 0>1 1>0
-> no inputs
-.model m
-.names y
-1
-== >1
->
-.model m
-.names y
-== >0
-> three inputs
-.model m
-.names a b c y
-11- 1
-1-1 1
--11 1
-== 110>1 100>0";
-
-fn bits_of(alloc: Global, letters: &str) -> Result<Vec<bool>, AllocError> {
-    let mut bits = Vec::new(alloc);
-    for letter in letters.as_bytes() {
-        bits.push(*letter == b'1')?;
-    }
-    Ok(bits)
+// A cover: its rows, whether they end in `1`, some lists of input bits, and its value for each of
+// these as a letter.
+struct Written {
+    rows: &'static [&'static [u8]],
+    on: bool,
+    inputs: &'static [&'static [bool]],
+    values: &'static [u8],
 }
 
-fn expect_value(alloc: Global, cover: &Cover, case: &str) -> Result<(), Fail> {
-    let (letters, want) = case.split_once('>').unwrap_or((case, ""));
-    let bits = bits_of(alloc, letters)?;
-    let value = if cover_value(cover, &bits) { "1" } else { "0" };
-    if value == want {
-        Ok(())
-    } else {
-        Err(Fail::new(case))
-    }
+// The input bits 00, 01, 10 and 11.
+const TWO: &[&[bool]] = &[
+    &[false, false],
+    &[false, true],
+    &[true, false],
+    &[true, true],
+];
+
+const COVERS: &[Written] = &[
+    Written {
+        rows: &[b"1-", b"-1"],
+        on: true,
+        inputs: TWO,
+        values: b"0111",
+    },
+    Written {
+        rows: &[b"10"],
+        on: true,
+        inputs: TWO,
+        values: b"0010",
+    },
+    Written {
+        rows: &[b"11"],
+        on: false,
+        inputs: TWO,
+        values: b"1110",
+    },
+    Written {
+        rows: &[b"10", b"01"],
+        on: true,
+        inputs: TWO,
+        values: b"0110",
+    },
+    Written {
+        rows: &[],
+        on: true,
+        inputs: TWO,
+        values: b"0000",
+    },
+    Written {
+        rows: &[b"0"],
+        on: true,
+        inputs: &[&[false], &[true]],
+        values: b"10",
+    },
+    // no inputs
+    Written {
+        rows: &[b""],
+        on: true,
+        inputs: &[&[]],
+        values: b"1",
+    },
+    Written {
+        rows: &[],
+        on: true,
+        inputs: &[&[]],
+        values: b"0",
+    },
+    Written {
+        rows: &[b"11-", b"1-1", b"-11"],
+        on: true,
+        inputs: &[&[true, true, false], &[true, false, false]],
+        values: b"10",
+    },
+];
+
+// A cover of which only the fields that `cover_value` reads are filled in.
+fn cover(alloc: Global, written: &Written) -> Result<Cover, AllocError> {
+    Ok(Cover {
+        line: 1,
+        ins: List::of(Vec::new(alloc)),
+        out: List::of(Vec::new(alloc)),
+        rows: List::of(copies_of(alloc, written.rows)?),
+        on: written.on,
+    })
 }
 
-fn expect_values(alloc: Global, models: &[Model], values: &str) -> Result<(), Fail> {
-    let Some(cover) = cover_in(models) else {
-        return Err(Fail::new("no cover"));
-    };
-    for case in values.split(' ') {
-        expect_value(alloc, cover, case)?;
+fn values_of(alloc: Global, cover: &Cover, inputs: &[&[bool]]) -> Result<Vec<u8>, AllocError> {
+    let mut values = Vec::new(alloc);
+    for bits in inputs {
+        values.push(if cover_value(cover, bits) { b'1' } else { b'0' })?;
     }
-    Ok(())
+    Ok(values)
 }
 
-fn expect_case(alloc: Global, case: &str) -> Result<(), Fail> {
-    let (_, text, values) = cut(case);
-    expect_values(alloc, models_of(alloc, text.as_bytes())?.as_slice(), values)
+fn expect_values(alloc: Global, written: &Written) -> Result<(), Fail> {
+    let cover = cover(alloc, written)?;
+    expect(&values_of(alloc, &cover, written.inputs)?, written.values)
 }
 
 #[test]
 fn covers_have_the_values_of_their_rows(rt: HostRuntime) -> Result<(), Fail> {
-    for case in COVERS.split("\n>") {
-        expect_case(rt.alloc(), case)?;
+    for written in COVERS {
+        expect_values(rt.alloc(), written)?;
     }
     Ok(())
 }

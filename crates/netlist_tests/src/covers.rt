@@ -2,14 +2,12 @@
 ghost use Rattle.std.specs.Prelude.{◌≡◌, length};
 ghost use Rattle.cell_core.specs.Sources.{are_there};
 
-use crate::texts::{cover_in, cut, expect_number, models_of};
-use blif_reader::Model;
+use crate::texts::{copies_of, expect_number};
 use cell_core::{CellError, CellList, Src};
 use cell_sharing::Places;
 use cover_cells::map_cover;
 use lists::{Bytes, List};
-use netlist_core::Cover;
-use std::alloc::{AllocError, Global};
+use std::alloc::Global;
 use std::test::Fail;
 
 /// Returns a list with this many inputs and nothing else.
@@ -34,105 +32,143 @@ pub fn are_there(list: &CellList, sources: &[Src]) -> bool
     })
 }
 
-// Covers, whose nets are the numbers of inputs and `zero`, and how many cells each takes.
-const COVERS: &str = "\
-an OR
-.model m
-.names 0 1 y
-1- 1
--1 1
-== 1
-> an AND
-.model m
-.names 0 1 y
-11 1
-== 2
-> a NAND
-.model m
-.names 0 1 y
-11 0
-== 3
-> a NOT
-.model m
-.names 0 y
-0 1
-== 1
-> constant 1
-.model m
-.names y
-1
-== 0
-> constant 0
-.model m
-.names y
-== 0
-> a choice
-.model m
-.names 0 1 2 y
-11- 1
-0-1 1
-== 3
-> a sum
-.model m
-.names 0 1 2 y
-100 1
-010 1
-001 1
-111 1
-== 2
-> a carry
-.model m
-.names 0 1 2 y
-11- 1
-1-1 1
--11 1
-== 4
-> an AND of four
-.model m
-.names 0 1 2 3 y
-1111 1
-== 6
-> an AND of six
-.model m
-.names 0 1 2 3 4 5 y
-111111 1
-== 10
-> an AND of eight
-.model m
-.names 0 1 2 3 4 5 6 7 y
-11111111 1
-== 14
-> an AND of one net
-.model m
-.names 0 0 y
-11 1
-== 0
-> a NAND of one net
-.model m
-.names 0 0 y
-11 0
-== 1
-> an AND of constant 0
-.model m
-.names 0 zero y
-11 1
-== 0";
-
-// The source that a name stands for.
-fn source_of(name: &[u8]) -> Src {
-    match name {
-        [digit] => Src::Input(u32::from(digit.wrapping_sub(b'0'))),
-        _ => Src::Zero,
-    }
+// A cover: its sources, its rows and whether they end in `1`, and how many cells it takes.
+struct Written {
+    about: &'static str,
+    sources: &'static [Src],
+    rows: &'static [&'static [u8]],
+    on: bool,
+    cells: u64,
 }
 
-fn sources_of(alloc: Global, names: &[Bytes]) -> Result<Vec<Src>, AllocError> {
-    let mut sources = Vec::new(alloc);
-    for name in names {
-        sources.push(source_of(name.as_slice()))?;
-    }
-    Ok(sources)
-}
+const TWO: &[Src] = &[Src::Input(0), Src::Input(1)];
+
+const THREE: &[Src] = &[Src::Input(0), Src::Input(1), Src::Input(2)];
+
+const COVERS: &[Written] = &[
+    Written {
+        about: "an OR",
+        sources: TWO,
+        rows: &[b"1-", b"-1"],
+        on: true,
+        cells: 1,
+    },
+    Written {
+        about: "an AND",
+        sources: TWO,
+        rows: &[b"11"],
+        on: true,
+        cells: 2,
+    },
+    Written {
+        about: "a NAND",
+        sources: TWO,
+        rows: &[b"11"],
+        on: false,
+        cells: 3,
+    },
+    Written {
+        about: "a NOT",
+        sources: &[Src::Input(0)],
+        rows: &[b"0"],
+        on: true,
+        cells: 1,
+    },
+    Written {
+        about: "constant 1",
+        sources: &[],
+        rows: &[b""],
+        on: true,
+        cells: 0,
+    },
+    Written {
+        about: "constant 0",
+        sources: &[],
+        rows: &[],
+        on: true,
+        cells: 0,
+    },
+    Written {
+        about: "a choice",
+        sources: THREE,
+        rows: &[b"11-", b"0-1"],
+        on: true,
+        cells: 3,
+    },
+    Written {
+        about: "a sum",
+        sources: THREE,
+        rows: &[b"100", b"010", b"001", b"111"],
+        on: true,
+        cells: 2,
+    },
+    Written {
+        about: "a carry",
+        sources: THREE,
+        rows: &[b"11-", b"1-1", b"-11"],
+        on: true,
+        cells: 4,
+    },
+    Written {
+        about: "an AND of four",
+        sources: &[Src::Input(0), Src::Input(1), Src::Input(2), Src::Input(3)],
+        rows: &[b"1111"],
+        on: true,
+        cells: 6,
+    },
+    Written {
+        about: "an AND of six",
+        sources: &[
+            Src::Input(0),
+            Src::Input(1),
+            Src::Input(2),
+            Src::Input(3),
+            Src::Input(4),
+            Src::Input(5),
+        ],
+        rows: &[b"111111"],
+        on: true,
+        cells: 10,
+    },
+    Written {
+        about: "an AND of eight",
+        sources: &[
+            Src::Input(0),
+            Src::Input(1),
+            Src::Input(2),
+            Src::Input(3),
+            Src::Input(4),
+            Src::Input(5),
+            Src::Input(6),
+            Src::Input(7),
+        ],
+        rows: &[b"11111111"],
+        on: true,
+        cells: 14,
+    },
+    // covers that read one source twice, or constant 0
+    Written {
+        about: "an AND of one net",
+        sources: &[Src::Input(0), Src::Input(0)],
+        rows: &[b"11"],
+        on: true,
+        cells: 0,
+    },
+    Written {
+        about: "a NAND of one net",
+        sources: &[Src::Input(0), Src::Input(0)],
+        rows: &[b"11"],
+        on: false,
+        cells: 1,
+    },
+    Written {
+        about: "an AND of constant 0",
+        sources: &[Src::Input(0), Src::Zero],
+        rows: &[b"11"],
+        on: true,
+        cells: 0,
+    },
+];
 
 // How many cells the list has after the cover is mapped into it, or 99 if a source is not there.
 fn count_in(
@@ -151,34 +187,21 @@ fn count_in(
 }
 
 // How many cells the cover takes in a list with eight inputs and no cells.
-fn count_of(alloc: Global, cover: &Cover) -> Result<usize, CellError> {
-    let sources = sources_of(alloc, cover.ins.as_slice())?;
+fn count_of(alloc: Global, written: &Written) -> Result<usize, CellError> {
+    let rows = copies_of(alloc, written.rows)?;
     let mut list = empty(alloc, 8);
-    count_in(&mut list, alloc, &sources, cover.rows.as_slice(), cover.on)
+    count_in(&mut list, alloc, written.sources, &rows, written.on)
 }
 
-fn expect_count(alloc: Global, about: &str, models: &[Model], want: &str) -> Result<(), Fail> {
-    let Some(cover) = cover_in(models) else {
-        return Err(Fail::new(about));
-    };
-    let count = count_of(alloc, cover)?;
-    expect_number(about, count as u64, want.parse::<u64>().unwrap_or(98))
-}
-
-fn expect_case(alloc: Global, case: &str) -> Result<(), Fail> {
-    let (about, text, want) = cut(case);
-    expect_count(
-        alloc,
-        about,
-        models_of(alloc, text.as_bytes())?.as_slice(),
-        want,
-    )
+fn expect_count(alloc: Global, written: &Written) -> Result<(), Fail> {
+    let count = count_of(alloc, written)?;
+    expect_number(written.about, count as u64, written.cells)
 }
 
 #[test]
 fn covers_take_few_cells(rt: HostRuntime) -> Result<(), Fail> {
-    for case in COVERS.split("\n>") {
-        expect_case(rt.alloc(), case)?;
+    for written in COVERS {
+        expect_count(rt.alloc(), written)?;
     }
     Ok(())
 }

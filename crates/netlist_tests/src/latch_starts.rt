@@ -30,15 +30,15 @@ fn fault_shown(alloc: Global, fault: &StartFault) -> Result<Vec<u8>, AllocError>
     joined(alloc, &[kind.as_bytes(), fault.word.as_slice()])
 }
 
-// Appends the bits, and a comma after them.
+// Appends the bits, and a blank after them.
 fn push_bits(shown: &mut Vec<u8>, bits: &[bool]) -> Result<(), AllocError> {
     for bit in bits {
         shown.push(if *bit { b'1' } else { b'0' })?;
     }
-    shown.extend_from_slice(b",")
+    shown.extend_from_slice(b" ")
 }
 
-// The latches' bits as letters, with a comma after each context.
+// The latches' bits as letters, with one word for each context.
 fn bits_shown(alloc: Global, starts: &List<List<bool>>) -> Result<Vec<u8>, AllocError> {
     let mut shown = Vec::new(alloc);
     for bits in starts.as_slice() {
@@ -47,9 +47,9 @@ fn bits_shown(alloc: Global, starts: &List<List<bool>>) -> Result<Vec<u8>, Alloc
     Ok(shown)
 }
 
-fn words_of(alloc: Global, text: &str) -> Result<Vec<String>, AllocError> {
+fn words_of(alloc: Global, words: &[&str]) -> Result<Vec<String>, AllocError> {
     let mut strings = Vec::new(alloc);
-    for word in text.split_ascii_whitespace() {
+    for word in words {
         strings.push(String::from_str(alloc, word)?)?;
     }
     Ok(strings)
@@ -76,49 +76,52 @@ fn said(alloc: Global, flat: &Flat, words: &[String], contexts: u64) -> Result<V
 }
 
 // The bits with which two latches start in each context, or the fault of the words.
-fn shown(alloc: Global, flat: &Flat, words: &str, contexts: u64) -> Result<Vec<u8>, AllocError>
+fn shown(alloc: Global, flat: &Flat, words: &[&str], contexts: u64) -> Result<Vec<u8>, AllocError>
     requires { length flat.now.latches ≡ 2 }
 {
     let words = words_of(alloc, words)?;
     said(alloc, flat, &words, contexts)
 }
 
-// Numbers of contexts, words, and after `=>` the bits that the words set in each context, first
-// that of q1, or the words' fault.
-const CASES: &str = "\
-1 => 10,
-3 2:q0=1 0:q1=0 => 00,10,11,
-2 1:q0=1 0:q0=1 1:q1=0 => 11,01,
-2 q0 => NoEquals q0
-2 q0=1 => BadContext q0=1
-2 2:q0=1 => BadContext 2:q0=1
-2 01:q0=1 => BadContext 01:q0=1
-2 1:n=1 => NoSuchLatch 1:n=1
-2 1:q=1 => NoSuchLatch 1:q=1
-2 1:q0=1 0:q0=0 1:q0=1 => TwiceLatch 1:q0=1
-2 1:q0= => BadBit 1:q0=
-2 1:q0=10 1:q0 => BadBit 1:q0=10";
-
-// Fails unless the words set the bits, or have the fault, that the case says.
-fn expect_case(alloc: Global, flat: &Flat, case: &str) -> Result<(), Fail> {
-    let (asked, want) = case.split_once(" => ").unwrap_or((case, "no case"));
-    let (contexts, words) = asked.split_once(' ').unwrap_or((asked, ""));
+fn expect_shown(
+    alloc: Global,
+    flat: &Flat,
+    contexts: u64,
+    words: &[&str],
+    want: &[u8],
+) -> Result<(), Fail> {
     if flat.latches.len() != 2 {
         return Err(Fail::new("two latches"));
     }
-    let contexts = contexts.parse::<u64>().unwrap_or(0);
-    expect(&shown(alloc, flat, words, contexts)?, want.as_bytes())
+    expect(&shown(alloc, flat, words, contexts)?, want)
 }
 
-fn expect_cases(alloc: Global, flat: &Flat) -> Result<(), Fail> {
-    for case in CASES.split('\n') {
-        expect_case(alloc, flat, case)?;
-    }
-    Ok(())
+// Fails unless the words set these bits in COUNTER, or have this fault.
+fn expect_starts(alloc: Global, contexts: u64, words: &[&str], want: &[u8]) -> Result<(), Fail> {
+    let netlist = netlist_of(alloc, COUNTER)?;
+    expect_shown(alloc, &netlist.flat, contexts, words, want)
 }
+
+// Numbers of contexts, words, and the bits that the words set, first that of q1, or their fault.
+const CASES: &[(u64, &[&str], &[u8])] = &[
+    (1, &[], b"10 "),
+    (3, &["2:q0=1", "0:q1=0"], b"00 10 11 "),
+    (2, &["1:q0=1", "0:q0=1", "1:q1=0"], b"11 01 "),
+    (2, &["q0"], b"NoEquals q0"),
+    (2, &["q0=1"], b"BadContext q0=1"),
+    (2, &["2:q0=1"], b"BadContext 2:q0=1"),
+    (2, &["01:q0=1"], b"BadContext 01:q0=1"),
+    (2, &["1:n=1"], b"NoSuchLatch 1:n=1"),
+    (2, &["1:q=1"], b"NoSuchLatch 1:q=1"),
+    (2, &["1:q0=1", "0:q0=0", "1:q0=1"], b"TwiceLatch 1:q0=1"),
+    (2, &["1:q0="], b"BadBit 1:q0="),
+    (2, &["1:q0=10", "1:q0"], b"BadBit 1:q0=10"),
+];
 
 #[test]
 fn words_set_the_starts_of_latches(rt: HostRuntime) -> Result<(), Fail> {
-    let netlist = netlist_of(rt.alloc(), COUNTER)?;
-    expect_cases(rt.alloc(), &netlist.flat)
+    for (contexts, words, want) in CASES {
+        expect_starts(rt.alloc(), *contexts, words, want)?;
+    }
+    Ok(())
 }

@@ -1,5 +1,5 @@
 // Texts and their logical lines, each written as `number:word,word,;`.
-use crate::texts::{cut, push_all};
+use crate::texts::push_all;
 use blif_lex::{Logical, lines};
 use std::alloc::{AllocError, Global};
 use std::test::Fail;
@@ -32,103 +32,38 @@ fn expect_lines(alloc: Global, text: &[u8], want: &[u8]) -> Result<(), Fail> {
 }
 
 // Texts and their logical lines.
-const LINES: &str = "\
-no lines
-
-==\x20
->
-
-
-==\x20
->
-\\
-==\x20
->
-\\
-
-==\x20
->
-\\
-\\
-\\
-==\x20
->
-a
-== 1:a,;
->
-a b\r
-c\r
-== 1:a,b,;2:c,;
->
-a\rb\r\r
-c
-== 1:a,b,;2:c,;
->
-a\\
-b
-== 1:ab,;
->
-a \\\r
- b
-== 1:a,b,;
->
-a\\ \t\x0b\x0c\r
-b
-== 1:ab,;
->
-a\\b\\\\
-c
-== 1:a\\b\\c,;
->
-a # b \\
-c
-== 1:a,;2:c,;
->
-a \\ # b
-c
-== 1:a,c,;
->
-a\\#\\
-c
-== 1:ac,;
->
-\\
-\\
-#
-x
-== 4:x,;
->
-
-
- \t
-a\\
-\\
-b
-
-c
-== 4:ab,;8:c,;
->
-a\\
-#b
-c
-== 1:a,;3:c,;
->
-a\x0bb\x0cc\td
-== 1:a,b,c,d,;
->
-a\\
-== 1:a,;";
+const LINES: &[(&[u8], &[u8])] = &[
+    (b"", b""),
+    (b"\n", b""),
+    (b"\\", b""),
+    (b"\\\n", b""),
+    (b"\\\n\\\n\\", b""),
+    (b"a", b"1:a,;"),
+    (b"a b\r\nc\r", b"1:a,b,;2:c,;"),
+    (b"a\rb\r\r\nc", b"1:a,b,;2:c,;"),
+    (b"a\\\nb", b"1:ab,;"),
+    (b"a \\\r\n b", b"1:a,b,;"),
+    (b"a\\ \t\x0b\x0c\r\nb", b"1:ab,;"),
+    (b"a\\b\\\\\nc", b"1:a\\b\\c,;"),
+    (b"a # b \\\nc", b"1:a,;2:c,;"),
+    (b"a \\ # b\nc", b"1:a,c,;"),
+    (b"a\\#\\\nc", b"1:ac,;"),
+    (b"\\\n\\\n#\nx", b"4:x,;"),
+    (b"\n\n \t\na\\\n\\\nb\n\nc", b"4:ab,;8:c,;"),
+    (b"a\\\n#b\nc", b"1:a,;3:c,;"),
+    (b"a\x0bb\x0cc\td", b"1:a,b,c,d,;"),
+    (b"a\\", b"1:a,;"),
+    // only five bytes are blanks
+    (
+        b"a\0b\x85c\xa0d\x1ce\xff\xe2\x80\x83f",
+        b"1:a\0b\x85c\xa0d\x1ce\xff\xe2\x80\x83f,;",
+    ),
+];
 
 #[test]
 fn lines_are_joined_and_cut(rt: HostRuntime) -> Result<(), Fail> {
-    for case in LINES.split("\n>") {
-        let (_, text, want) = cut(case);
-        expect_lines(rt.alloc(), text.as_bytes(), want.as_bytes())?;
+    for (text, want) in LINES {
+        expect_lines(rt.alloc(), text, want)?;
     }
-    // only five bytes are blanks
-    expect_lines(
-        rt.alloc(),
-        b"a\0b\x85c\xa0d\x1ce\xff\xe2\x80\x83f",
-        b"1:a\0b\x85c\xa0d\x1ce\xff\xe2\x80\x83f,;",
-    )
+    Ok(())
 }

@@ -278,7 +278,7 @@ no lines
 #[test]
 fn models_are_read(rt: HostRuntime) -> Result<(), Fail> {
     for case in TEXTS.split("\n>") {
-        let (_, text, want) = cut(case);
+        let (text, want) = cut(case);
         expect_models(rt.alloc(), text.as_bytes(), want.as_bytes())?;
     }
     Ok(())

@@ -34,9 +34,10 @@ fn with_nets(list: CellList, nets: Vec<Src>) -> CellList {
 
 // A list with three inputs and these cells and nets.
 pub fn list_of(alloc: Global, cells: &[Cell], nets: &[Src]) -> Result<CellList, CellError> {
+    let nets = nets.to_vec(alloc)?;
     let mut list = empty(alloc, 3);
     add_cells(&mut list, alloc, cells)?;
-    Ok(with_nets(list, nets.to_vec(alloc)?))
+    Ok(with_nets(list, nets))
 }
 
 // Adds the list's cells, and the sources of its nets.
@@ -69,7 +70,6 @@ fn count_of(alloc: Global, lists: &[CellList], want: &str) -> Result<u64, AllocE
     Ok(count)
 }
 
-// Fails unless exactly eight of the lists have this text, the first one among them.
 fn expect_eight(alloc: Global, lists: &[CellList], want: &str) -> Result<(), Fail> {
     expect_number(want, count_of(alloc, lists, want)?, 8)
 }

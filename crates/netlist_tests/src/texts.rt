@@ -1,8 +1,7 @@
 // Texts of several parts, the models and faults of texts, and a comparison of numbers.
 use blif_lex::lines;
 use blif_reader::{Fault, Model, ReadError, read};
-use lists::List;
-use netlist_core::Cover;
+use lists::{Bytes, List, copied};
 use std::alloc::{AllocError, Global};
 use std::test::Fail;
 
@@ -14,11 +13,10 @@ pub fn push_all(text: &mut Vec<u8>, parts: &[&[u8]]) -> Result<(), AllocError> {
     Ok(())
 }
 
-/// Cuts a case into its first line, its text and what is wanted.
-pub fn cut(case: &str) -> (&str, &str, &str) {
-    let (head, rest) = case.split_once('\n').unwrap_or((case, ""));
-    let (text, want) = rest.split_once("\n== ").unwrap_or((rest, "no case"));
-    (head.trim(), text, want)
+/// Cuts a case after its first line, which may be a remark, into its text and what is wanted.
+pub fn cut(case: &str) -> (&str, &str) {
+    let (_, rest) = case.split_once('\n').unwrap_or(("", case));
+    rest.split_once("\n== ").unwrap_or((rest, "no case"))
 }
 
 /// Joins the parts to one text.
@@ -26,6 +24,15 @@ pub fn joined(alloc: Global, parts: &[&[u8]]) -> Result<Vec<u8>, AllocError> {
     let mut text = Vec::new(alloc);
     push_all(&mut text, parts)?;
     Ok(text)
+}
+
+/// Returns copies of the texts.
+pub fn copies_of(alloc: Global, texts: &[&[u8]]) -> Result<Vec<Bytes>, AllocError> {
+    let mut copies = Vec::new(alloc);
+    for text in texts {
+        copies.push(copied(alloc, text)?)?;
+    }
+    Ok(copies)
 }
 
 /// Writes the rule, the line and the word of a fault as text.
@@ -40,11 +47,6 @@ pub fn models_of(alloc: Global, text: &[u8]) -> Result<List<Model>, ReadError> {
         Ok(lines) => read(alloc, lines.as_slice()),
         Err(_) => Err(ReadError::NoMemory),
     }
-}
-
-/// Returns the first cover of the first model.
-pub fn cover_in(models: &[Model]) -> Option<&Cover> {
-    models.first()?.covers.as_slice().first()
 }
 
 /// Fails if a number is not the wanted one. The message has both, and what the number is about.
