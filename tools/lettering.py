@@ -14,6 +14,7 @@ COLUMNS = """
 """.split()
 UNKNOWN = "7f4141417f"
 WIDE, HIGH = 6, 8  # a letter's points, with the empty column behind it
+ROWS = [bytes(255 * (column >> y & 1) for column in range(256)) for y in range(HIGH)]  # of each row the mask of a column there
 
 
 def columns_of(letter):
@@ -22,10 +23,16 @@ def columns_of(letter):
     return bytes.fromhex(COLUMNS[place] if 0 <= place < len(COLUMNS) else UNKNOWN)
 
 
-def points_of(text, size):
-    """Returns the points (x, y) of a text, from its upper left corner; each is `size` points square."""
-    for place, letter in enumerate(text):
-        for x, column in enumerate(columns_of(letter)):
-            for y in range(HIGH):
-                if column >> y & 1:
-                    yield (place * WIDE + x) * size, y * size
+def masks_of(text, size):
+    """Returns the rows of a text's points, each `size` points square, from the top: bytes, 255 where the text is and 0 beside it."""
+    columns = b"".join(columns_of(it) + b"\0" for it in text)
+    wide = bytes(it for it in columns for _ in range(size))
+    return [wide.translate(it) for it in ROWS for _ in range(size)]
+
+
+def grown(masks):
+    """Returns masks which mark what is beside a marked point, too: they begin a row higher and a column further left, and end so much later."""
+    own = [int.from_bytes(b"\0" + it + b"\0", "big") for it in masks]
+    across = [it << 8 | it | it >> 8 for it in own]
+    rows = zip([0, 0, *across], [0, *across, 0], [*across, 0, 0])
+    return [(above | row | below).to_bytes(len(masks[0]) + 2, "big") for above, row, below in rows]

@@ -3,6 +3,7 @@ import struct
 import zlib
 
 START = b"\x89PNG\r\n\x1a\n"
+OTHER = b"\0" + b"\xff" * 255  # of the bits in which two points differ: none if these are the same, and all if they are not
 
 
 def chunk(name, body):
@@ -25,11 +26,25 @@ def still(rows, palette):
     return front(rows, palette) + chunk(b"IDAT", packed(rows)) + chunk(b"IEND", b"")
 
 
+def painted(row, mask, points):
+    """Returns a row with the points of another one where a mask has the byte 255, and with its own where it has 0."""
+    own, other, where = (int.from_bytes(it, "big") for it in (row, points, mask))
+    return (own & ~where | other & where).to_bytes(len(row), "big")
+
+
+def new_points(old, row, clear):
+    """Returns a row of points, with clear ones where they are the old ones."""
+    if old == row:
+        return bytes([clear]) * len(row)
+    differ = (int.from_bytes(old, "big") ^ int.from_bytes(row, "big")).to_bytes(len(row), "big")
+    return painted(bytes([clear]) * len(row), differ.translate(OTHER), row)
+
+
 def changed(before, rows, clear):
     """Returns what is new in a picture, with clear points where nothing is, and its left and top: a part of at least one point."""
     new = [y for y, (old, row) in enumerate(zip(before, rows)) if old != row] or [0]
     top, bottom = new[0], new[-1] + 1
-    part = [bytes(clear if a == b else b for a, b in zip(*pair)) for pair in zip(before[top:bottom], rows[top:bottom])]
+    part = [new_points(old, row, clear) for old, row in zip(before[top:bottom], rows[top:bottom])]
     left = min(len(row) - len(row.lstrip(bytes([clear]))) for row in part)
     right = max(len(row.rstrip(bytes([clear]))) for row in part)
     if left >= right:
