@@ -158,7 +158,7 @@ class Drawing:
         if strand not in self.points:
             return None
         x, y = self.points[strand][-1 if strand.input in self.entries else 0]
-        return (x, y, x) if x in self.plane.rows.get(y, ()) else None
+        return (x, y, x) if self.plane.has(x, y) else None
 
     def text(self, inputs, outputs, nets):
         """Returns the pattern's text. Inputs and outputs are pairs of a name in the table and one in the circuit; nets are the words of NET lines."""

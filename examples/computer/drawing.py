@@ -4,7 +4,7 @@ from dataclasses import dataclass, field
 from pathlib import Path
 
 from lamps import BAR, lamps
-from wires import FORK, LANE, TILE, Plane, by_row, cells_of, fan, lanes, sort, steps_of
+from wires import FORK, LANE, TILE, Cells, Plane, by_row, fan, lanes, sort, steps_of
 
 sys.path.append(str(Path(__file__).resolve().parents[2] / "tools"))
 from patterns import Part, Wire, read_pattern  # noqa: E402
@@ -46,9 +46,7 @@ def west_of(plane, core, ins):
     x = fan(part, 0, lanes(len(ins), 4), lanes(len(ins)))
     x = sort(part, x, 8, ins, labels)
     x = fan(part, x, lanes(len(ins)), rows)
-    for y, row in part.rows.items():
-        for column in row:
-            plane.put(column - x, y)
+    plane.add(part, -x)
     for row in rows:
         plane.run(0, row, core.inputs[labels[0]][0])
     return -x
@@ -93,10 +91,9 @@ class Serpentine:
             raise ValueError("the memory does not fit above this processor")
         found = []
         for j in range(self.wires):
-            cells = list(cells_of(list(self.corners(j, left, short, short - over[j] // 2))))
-            for cell in cells:
-                plane.put(*cell)
-            found.append(cells[::-1])
+            corners = list(self.corners(j, left, short, short - over[j] // 2))
+            plane.wire(corners)
+            found.append(Cells(corners))
         return found
 
     def top(self):
@@ -156,7 +153,7 @@ class Display:
 
     def wiring(self, plane, first):
         """Returns the part that it is, whose first cycle begins at that generation after the computer's last column, and the wires to it."""
-        right, bottom = max(max(it) for it in plane.rows.values()), max(plane.rows)
+        _, _, right, bottom = plane.box()
         late = first + steps_of(self.corners(0, self.begin)) + 1
         part = Part(self.begin, self.y - 1, right - self.begin + 1, bottom - self.y + 2, TILE, late, self.inner)
         ways = [self.corners(i, self.begin) for i in range(len(self.taps))]
