@@ -53,6 +53,17 @@ pub fn column_of(alloc: Global, instrs: &[Instr]) -> Result<Column, Fail>
     }
 }
 
+/// Returns the items in a list of their own, or notes in `refused` that memory ran out.
+pub fn list_of<T: Copy>(alloc: Global, items: &[T], refused: &mut bool) -> List<T> {
+    match items.to_vec(alloc) {
+        Ok(items) => List::of(items),
+        Err(_) => {
+            *refused = true;
+            List::of(Vec::new(alloc))
+        }
+    }
+}
+
 fn columns_of(alloc: Global, written: &[&[Instr]]) -> Result<List<Column>, Fail> {
     let mut columns = Vec::new(alloc);
     for instrs in written {
@@ -62,7 +73,10 @@ fn columns_of(alloc: Global, written: &[&[Instr]]) -> Result<List<Column>, Fail>
 }
 
 fn bits_of(alloc: Global, letters: &[u8]) -> Result<List<bool>, AllocError> {
-    let bits = letters.iter().map(|letter| *letter == b'1').collect(alloc)?;
+    let mut bits = Vec::new(alloc);
+    for letter in letters {
+        bits.push(*letter == b'1')?;
+    }
     Ok(List::of(bits))
 }
 
@@ -75,32 +89,26 @@ pub fn lists_of(alloc: Global, written: &[&[u8]]) -> Result<Vec<List<bool>>, All
     Ok(lists)
 }
 
-// A plan of these columns, with the lanes and loops that are written down and all else empty.
-fn with_columns(alloc: Global, written: &Written<'_>, columns: List<Column>) -> Plan
+// The plan of these columns and this tape, with all else as it is written down.
+fn with_columns(
+    alloc: Global,
+    written: &Written<'_>,
+    columns: List<Column>,
+    tape: Vec<List<bool>>,
+    refused: &mut bool,
+) -> Plan
     ensures { result.lanes ≡ written.now.lanes }
 {
     Plan {
         lanes: written.lanes,
         columns,
         latches: written.latches,
-        starts: Starts::of(Vec::new(alloc)),
-        ins: List::of(Vec::new(alloc)),
-        outs: List::of(Vec::new(alloc)),
-        nets: List::of(Vec::new(alloc)),
-        tape: List::of(Vec::new(alloc)),
+        starts: Starts::of(list_of(alloc, written.starts, refused).into_vec()),
+        ins: list_of(alloc, written.ins, refused),
+        outs: list_of(alloc, written.outs, refused),
+        nets: list_of(alloc, written.nets, refused),
+        tape: List::of(tape),
     }
-}
-
-// Fills in the rest of a plan.
-fn fill(plan: &mut Plan, alloc: Global, written: &Written<'_>) -> Result<(), AllocError>
-    ensures { IfOk result (λ _. plan.new.lanes ≡ plan.old.lanes) }
-{
-    plan.starts = Starts::of(written.starts.to_vec(alloc)?);
-    plan.ins = List::of(written.ins.to_vec(alloc)?);
-    plan.outs = List::of(written.outs.to_vec(alloc)?);
-    plan.nets = List::of(written.nets.to_vec(alloc)?);
-    plan.tape = List::of(lists_of(alloc, written.tape)?);
-    Ok(())
 }
 
 /// Makes the plan that is written down, admissible or not.
@@ -108,8 +116,13 @@ pub fn plan_of(alloc: Global, written: &Written<'_>) -> Result<Plan, Fail>
     ensures { IfOk result (λ plan. plan.lanes ≡ written.now.lanes) }
 {
     let columns = columns_of(alloc, written.columns)?;
-    let mut plan = with_columns(alloc, written, columns);
-    fill(&mut plan, alloc, written)?;
+    let tape = lists_of(alloc, written.tape)?;
+    let mut refused = false;
+    let plan = with_columns(alloc, written, columns, tape, &mut refused);
+    if refused {
+        drop(plan);
+        return Err(Fail::new("no memory for a plan"));
+    }
     Ok(plan)
 }
 

@@ -106,7 +106,9 @@ fn changed(change: &Change) -> Written<'static> {
 
 fn expect_rule(alloc: Global, number: u64, change: &Change, want: bool) -> Result<(), Fail> {
     let plan = plan_of(alloc, &changed(change))?;
-    expect_turn("rule", number, admissible(&plan) == want)
+    let is_kept = admissible(&plan) == want;
+    drop(plan);
+    expect_turn("rule", number, is_kept)
 }
 
 #[test]
