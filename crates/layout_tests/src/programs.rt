@@ -3,6 +3,7 @@ ghost use Rattle.std.specs.Prelude.{◌<◌, ◌≤◌, ◌^◌, IsTrue, All, If
 ghost use Rattle.lane_core.specs.Instrs.{IsOnLanes};
 ghost use Rattle.lane_core.specs.Places.{IsPlaceWithin};
 
+use crate::plans::list_of;
 use lane_core::{Instr, NetPlace, Program};
 use lists::List;
 use std::alloc::Global;
@@ -43,17 +44,16 @@ fn are_within(places: &[NetPlace], lanes: u32, steps: u64) -> bool
 }
 
 // Whether what is written down is a program with fewer than 1000 instructions.
-fn is_program(listed: &Listed<'_>) -> bool
-    ensures few { IsTrue result → length listed.now.instrs.now < 1000 }
-    ensures loops { IsTrue result → length listed.now.latches.now ≤ listed.now.lanes }
-    ensures instrs { IsTrue result → All (IsOnLanes listed.now.lanes) listed.now.instrs.now }
-    ensures nets { IsTrue result → All (IsPlaceWithin listed.now.lanes
-        (length listed.now.instrs.now)) listed.now.nets.now }
+fn is_program(lanes: u32, instrs: &[Instr], latches: &[bool], nets: &[NetPlace]) -> bool
+    ensures few { IsTrue result → length instrs.now < 1000 }
+    ensures loops { IsTrue result → length latches.now ≤ lanes }
+    ensures instrs { IsTrue result → All (IsOnLanes lanes) instrs.now }
+    ensures nets { IsTrue result → All (IsPlaceWithin lanes (length instrs.now)) nets.now }
 {
-    listed.instrs.len() < 1000
-        && (listed.latches.len() as u64) <= listed.lanes as u64
-        && are_on_lanes(listed.instrs, listed.lanes)
-        && are_within(listed.nets, listed.lanes, listed.instrs.len() as u64)
+    instrs.len() < 1000
+        && (latches.len() as u64) <= lanes as u64
+        && are_on_lanes(instrs, lanes)
+        && are_within(nets, lanes, instrs.len() as u64)
 }
 
 /// Makes the program that is written down. It fails if the program has 1000 instructions or more,
@@ -61,12 +61,23 @@ fn is_program(listed: &Listed<'_>) -> bool
 pub fn program_of(alloc: Global, listed: &Listed<'_>) -> Result<Program, Fail>
     ensures { IfOk result (λ program. length program.instrs < 2 ^ 40) }
 {
-    if !is_program(listed) {
+    let mut refused = false;
+    let instrs = list_of(alloc, listed.instrs, &mut refused);
+    let latches = list_of(alloc, listed.latches, &mut refused);
+    let nets = list_of(alloc, listed.nets, &mut refused);
+    if refused
+        || !is_program(
+            listed.lanes,
+            instrs.as_slice(),
+            latches.as_slice(),
+            nets.as_slice(),
+        )
+    {
+        drop(instrs);
+        drop(latches);
+        drop(nets);
         return Err(Fail::new("no program"));
     }
-    let instrs = List::of(listed.instrs.to_vec(alloc)?);
-    let latches = List::of(listed.latches.to_vec(alloc)?);
-    let nets = List::of(listed.nets.to_vec(alloc)?);
     Ok(Program {
         lanes: listed.lanes,
         instrs,
