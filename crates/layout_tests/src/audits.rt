@@ -106,12 +106,18 @@ fn answer_said(answer: &Result<Plan, AuditError>) -> &'static [u8] {
 // Fails if the audit of a pattern, with the port table of a text, gives another answer.
 fn expect_audit(alloc: Global, text: &[u8], pattern: &Pattern, want: &[u8]) -> Result<(), Fail> {
     let ports = port_table::read(alloc, text, pattern.width, pattern.height)?;
-    expect(answer_said(&audit(alloc, pattern, &ports)), want)
+    let answer = audit(alloc, pattern, &ports);
+    let said = answer_said(&answer);
+    drop(answer);
+    drop(ports);
+    expect(said, want)
 }
 
 fn expect_said(alloc: Global, text: &[u8], want: &[u8]) -> Result<(), Fail> {
     let pattern = rle_read::read(alloc, text)?;
-    expect_audit(alloc, text, &pattern, want)
+    let told = expect_audit(alloc, text, &pattern, want);
+    drop(pattern);
+    told
 }
 
 fn text_of(alloc: Global, case: &Case) -> Result<Vec<u8>, AllocError> {
@@ -171,12 +177,19 @@ fn expect_read(alloc: Global, about: &str, plan: &Plan, want: &Written<'_>) -> R
 {
     let pattern = pattern_of(alloc, plan)?;
     let ports = ports_of(alloc, plan);
-    expect_holds(about, is_plan(&audit(alloc, &pattern, &ports), want))
+    let answer = audit(alloc, &pattern, &ports);
+    let is_same = is_plan(&answer, want);
+    drop(answer);
+    drop(ports);
+    drop(pattern);
+    expect_holds(about, is_same)
 }
 
 fn expect_read_again(alloc: Global, about: &str, want: &Written<'_>) -> Result<(), Fail> {
     let plan = admitted(alloc, want)?;
-    expect_read(alloc, about, &plan, want)
+    let told = expect_read(alloc, about, &plan, want);
+    drop(plan);
+    told
 }
 
 #[test]

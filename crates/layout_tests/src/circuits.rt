@@ -216,7 +216,9 @@ fn expect_start(alloc: Global, heads: &'static [Start]) -> Result<(), Fail> {
         ..written(Sample::Loop)
     };
     let plan = admitted(alloc, &started)?;
-    expect_heads(alloc, &plan, heads)
+    let told = expect_heads(alloc, &plan, heads);
+    drop(plan);
+    told
 }
 
 // A plan whose starts name these cells has its heads there.

@@ -74,5 +74,7 @@ pub fn closed(alloc: Global, listed: &Listed<'_>) -> Result<Plan, Fail>
     ensures starts { IfOk result HasStartEdges }
 {
     let program = program_of(alloc, listed)?;
-    closed_of(alloc, &program)
+    let plan = closed_of(alloc, &program);
+    drop(program);
+    plan
 }

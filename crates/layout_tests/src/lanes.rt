@@ -96,7 +96,9 @@ fn expect_order(plan: &Plan) -> Result<(), Fail>
 #[test]
 fn instructions_and_columns_are_done_in_order(rt: HostRuntime) -> Result<(), Fail> {
     let plan = admitted(rt.alloc(), &FORK_AND_XOR)?;
-    expect_order(&plan)
+    let told = expect_order(&plan);
+    drop(plan);
+    told
 }
 
 // Lanes, and the instruction that the column has on each.
@@ -122,5 +124,7 @@ fn expect_found(column: &Column) -> Result<(), Fail> {
 #[test]
 fn a_column_is_searched_by_lane(rt: HostRuntime) -> Result<(), Fail> {
     let column = column_of(rt.alloc(), &[Instr::Or(1), Instr::Swap(4)])?;
-    expect_found(&column)
+    let told = expect_found(&column);
+    drop(column);
+    told
 }

@@ -40,7 +40,9 @@ fn expect_packed(
     want: &[&[Instr]],
 ) -> Result<(), Fail> {
     let columns = pack(alloc, program)?;
-    expect_holds(about, are_columns(&columns, want))
+    let is_same = are_columns(&columns, want);
+    drop(columns);
+    expect_holds(about, is_same)
 }
 
 fn expect_columns(
@@ -50,7 +52,9 @@ fn expect_columns(
     want: &[&[Instr]],
 ) -> Result<(), Fail> {
     let program = program_of(alloc, listed)?;
-    expect_packed(alloc, about, &program, want)
+    let told = expect_packed(alloc, about, &program, want);
+    drop(program);
+    told
 }
 
 // What a case shows, a program, and the columns that it is packed into.

@@ -132,11 +132,11 @@ pub fn checked(plan: Plan) -> Result<Plan, Fail>
     ensures starts { IfOk result HasStartEdges }
     ensures lanes { IfOk result (λ p. p.lanes ≡ plan.lanes) }
 {
-    if admissible(&plan) {
-        Ok(plan)
-    } else {
-        Err(Fail::new("the plan is refused"))
+    if !admissible(&plan) {
+        drop(plan);
+        return Err(Fail::new("the plan is refused"));
     }
+    Ok(plan)
 }
 
 /// Makes the plan that is written down, and fails if it is not admissible.

@@ -27,9 +27,17 @@ fn without_memory(_error: LoadError) -> Fail {
 // lists have the same length, from 1 to 4,096.
 fn loaded(alloc: Global, plan: Plan, bits: &[List<bool>]) -> Result<Plan, Fail> {
     if bits.len() != plan.ins.len() || !are_tape_lists(bits) {
+        drop(plan);
         return Err(Fail::new("these bits do not fit"));
     }
     load(alloc, plan, bits).map_err(without_memory)
+}
+
+fn with_tape(alloc: Global, written: &Written<'_>, bits: &[List<bool>]) -> Result<Plan, Fail>
+    ensures admissible { IfOk result IsAdmissible }
+    ensures starts { IfOk result HasStartEdges }
+{
+    checked(loaded(alloc, plan_of(alloc, written)?, bits)?)
 }
 
 /// Makes the plan that is written down, with these bits on its tape. It fails if the bits do not
@@ -39,5 +47,7 @@ pub fn taped(alloc: Global, written: &Written<'_>, bits: &[&[u8]]) -> Result<Pla
     ensures starts { IfOk result HasStartEdges }
 {
     let bits = lists_of(alloc, bits)?;
-    checked(loaded(alloc, plan_of(alloc, written)?, &bits)?)
+    let plan = with_tape(alloc, written, &bits);
+    drop(bits);
+    plan
 }

@@ -290,7 +290,9 @@ fn made(alloc: Global, origin: &Origin) -> Result<Plan, Fail>
 
 fn expect_case(alloc: Global, case: &Case) -> Result<(), Fail> {
     let plan = made(alloc, &case.plan)?;
-    expect_facts(alloc, case.about, &plan, case.facts)
+    let told = expect_facts(alloc, case.about, &plan, case.facts);
+    drop(plan);
+    told
 }
 
 #[test]
