@@ -160,7 +160,11 @@ fn expect_circuit(alloc: Global, case: &Case, aig: &Aig) -> Result<(), Fail>
     requires { IsSoundAig aig.now }
 {
     match plan_circuit(alloc, aig) {
-        Ok(planned) => expect_planned(alloc, case, &planned),
+        Ok(planned) => {
+            let said = expect_planned(alloc, case, &planned);
+            drop(planned);
+            said
+        }
         Err(error) => expect_circle(case, &error),
     }
 }

@@ -55,7 +55,9 @@ fn expect_pulse(alloc: Global, plan: &Plan) -> Result<(), Fail>
 #[test]
 fn a_plan_makes_the_cells_of_its_list(rt: HostRuntime) -> Result<(), Fail> {
     let plan = plan_of_written(rt.alloc(), &PULSE)?;
-    expect_pulse(rt.alloc(), &plan)
+    let said = expect_pulse(rt.alloc(), &plan);
+    drop(plan);
+    said
 }
 
 // Of two loops on four lanes the second starts with 1.

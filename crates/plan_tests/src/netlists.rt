@@ -169,7 +169,9 @@ fn write_with(
     sink: &mut MemSink,
 ) -> Result<(), Fail> {
     let plan = plan_of_written(alloc, written)?;
-    write_plan(alloc, &plan, ports, sink)
+    let said = write_plan(alloc, &plan, ports, sink);
+    drop(plan);
+    said
 }
 
 fn write_case(alloc: Global, case: &Case, sink: &mut MemSink) -> Result<(), Fail> {

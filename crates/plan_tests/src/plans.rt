@@ -42,7 +42,9 @@ fn list_agrees(alloc: Global, list: &CellList) -> Result<bool, Fail>
     requires { IsPlannable list.now }
 {
     let plan = plan_of_list(alloc, list)?;
-    Ok(agrees(alloc, list, &plan)?)
+    let said = agrees(alloc, list, &plan);
+    drop(plan);
+    Ok(said?)
 }
 
 fn is_right(alloc: Global, climbs: bool, list: &CellList) -> Result<bool, Fail>
@@ -57,7 +59,9 @@ fn is_right(alloc: Global, climbs: bool, list: &CellList) -> Result<bool, Fail>
 
 fn drawn_is_right(alloc: Global, climbs: bool, draw: &mut Draw) -> Result<bool, Fail> {
     let list = draw_list(alloc, draw)?;
-    is_right(alloc, climbs, &list)
+    let said = is_right(alloc, climbs, &list);
+    drop(list);
+    said
 }
 
 fn expect_run(alloc: Global, run: &Run) -> Result<(), Fail> {

@@ -235,12 +235,16 @@ fn expect_list(alloc: Global, case: &Case, list: &CellList) -> Result<(), Fail>
     requires { IsPlannable list.now }
 {
     let plan = plan_of_list(alloc, list)?;
-    expect_plan(alloc, case, list, &plan)
+    let said = expect_plan(alloc, case, list, &plan);
+    drop(plan);
+    said
 }
 
 fn expect_case(alloc: Global, case: &Case) -> Result<(), Fail> {
     let list = list_of(alloc, &case.list)?;
-    expect_list(alloc, case, &list)
+    let said = expect_list(alloc, case, &list);
+    drop(list);
+    said
 }
 
 #[test]

@@ -160,5 +160,7 @@ pub fn plan_of_written(alloc: Global, written: &Written<'_>) -> Result<Plan, Fai
     ensures { IfOk result IsAdmissible }
 {
     let list = list_of(alloc, written)?;
-    plan_of_list(alloc, &list)
+    let plan = plan_of_list(alloc, &list);
+    drop(list);
+    plan
 }
