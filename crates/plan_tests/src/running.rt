@@ -1,11 +1,10 @@
 // Compares what a list of cells does in a cycle with what its plan does. The bits of several
 // sources, lanes, loops or streams are a word, whose lowest bit is that of the first; no test has
 // more than 64 of them.
-ghost use Rattle.std.specs.Prelude.{◌≡◌, length, IfOk};
 ghost use Rattle.lane_core.specs.Plans.{IsAdmissible};
 
 use cell_core::{Cell, CellList, Src};
-use lane_core::{NetPlace, Plan, run_columns};
+use lane_core::{Plan, run_columns};
 use std::alloc::{AllocError, Global};
 
 // The i-th bit of a word.
@@ -50,9 +49,9 @@ impl Cycle {
 
     fn make(self, cell: Cell) -> bool {
         match cell {
-            Cell::Or(a, b) => self.read(a) || self.read(b),
+            Cell::Or(a, b) => self.read(a) | self.read(b),
             Cell::Xor(a, b) => self.read(a) != self.read(b),
-            Cell::AndNot(a, b) => self.read(a) && !self.read(b),
+            Cell::AndNot(a, b) => self.read(a) & !self.read(b),
         }
     }
 }
@@ -74,47 +73,36 @@ fn cycle_of(list: &CellList, inputs: u64, state: u64) -> Cycle {
     cycle
 }
 
-fn put(bits: &mut [bool], lane: u32, bit: bool)
-    ensures { length bits.new ≡ length bits.old }
-{
+fn put(bits: &mut [bool], lane: u32, bit: bool) {
     if (lane as usize) < bits.len() {
         bits[lane as usize] = bit;
     }
 }
 
-// The bits on all lanes at the entry of the first column, if the inputs and the loops bring these.
-fn entry(alloc: Global, plan: &Plan, inputs: u64, loops: u64) -> Result<Vec<bool>, AllocError>
-    ensures { IfOk result (λ bits. length bits.items ≡ plan.now.lanes) }
-{
-    let mut bits = vec![in alloc; false; plan.lanes as usize]?;
+// Sets the bits on all lanes to those at the entry of the first column, if the inputs and the loops
+// bring these.
+fn enter(plan: &Plan, inputs: u64, loops: u64, bits: &mut [bool]) {
+    bits.fill(false);
     let mut rest = inputs;
     for lane in plan.ins.as_slice() {
-        put(&mut bits, *lane, rest % 2 == 1);
+        put(bits, *lane, rest % 2 == 1);
         rest /= 2;
     }
     let mut rest = loops;
     for last in plan.lanes.saturating_sub(plan.latches)..plan.lanes {
-        put(&mut bits, last, rest % 2 == 1);
+        put(bits, last, rest % 2 == 1);
         rest /= 2;
     }
-    Ok(bits)
 }
 
-// The bits on all lanes after this many columns.
-fn leave(
-    alloc: Global,
-    plan: &Plan,
-    columns: usize,
-    entry: &[bool],
-) -> Result<Vec<bool>, AllocError>
-    requires admissible { IsAdmissible plan.now }
-    requires wide { length entry.now ≡ plan.now.lanes }
-    ensures { IfOk result (λ bits. length bits.items ≡ plan.now.lanes) }
+// Changes the bits on all lanes as this many columns do.
+fn run(plan: &Plan, columns: usize, bits: &mut [bool])
+    requires { IsAdmissible plan.now }
 {
-    let mut bits = entry.to_vec(alloc)?;
     let all = plan.columns.as_slice();
-    run_columns(&all[..columns.min(all.len())], &mut bits);
-    Ok(bits)
+    if bits.len() == plan.lanes as usize {
+        run_columns(&all[..columns.min(all.len())], bits);
+    }
 }
 
 // The bits of the outputs.
@@ -192,32 +180,24 @@ fn ports_agree(list: &CellList, plan: &Plan) -> bool {
         && plan.latches as usize == loops
 }
 
-// The bit that stands at a net's place.
-fn net_bit(alloc: Global, plan: &Plan, place: NetPlace, entry: &[bool]) -> Result<bool, AllocError>
-    requires admissible { IsAdmissible plan.now }
-    requires wide { length entry.now ≡ plan.now.lanes }
-{
-    let columns = match place.after {
-        None => 0,
-        Some(column) => (column as usize).saturating_add(1),
-    };
-    let bits = leave(alloc, plan, columns, entry)?;
-    Ok(bit_on(&bits, place.lane))
-}
-
-// The bits of the nets.
-fn net_bits(alloc: Global, plan: &Plan, entry: &[bool]) -> Result<u64, AllocError>
-    requires admissible { IsAdmissible plan.now }
-    requires wide { length entry.now ≡ plan.now.lanes }
+// The bits of the nets, if the inputs and the loops bring these.
+fn net_bits(plan: &Plan, inputs: u64, loops: u64, bits: &mut [bool]) -> u64
+    requires { IsAdmissible plan.now }
 {
     let (mut word, mut place) = (0u64, 1u64);
     for net in plan.nets.as_slice() {
-        if net_bit(alloc, plan, *net, entry)? {
+        let columns = match net.after {
+            None => 0,
+            Some(column) => (column as usize).saturating_add(1),
+        };
+        enter(plan, inputs, loops, bits);
+        run(plan, columns, bits);
+        if bit_on(bits, net.lane) {
             word |= place;
         }
         place <<= 1;
     }
-    Ok(word)
+    word
 }
 
 // Whether the bits that leave the plan are those of the list's outputs, and those of its latches in
@@ -228,29 +208,28 @@ fn ends_agree(list: &CellList, plan: &Plan, cycle: Cycle, end: &[bool]) -> bool 
         && brought(plan, end) == loops_of(list, plan, next)
 }
 
-// Whether the plan does what the list does, with these bits at its entry.
-fn agrees_from(
-    alloc: Global,
-    list: &CellList,
-    plan: &Plan,
-    cycle: Cycle,
-    entry: &[bool],
-) -> Result<bool, AllocError>
-    requires admissible { IsAdmissible plan.now }
-    requires wide { length entry.now ≡ plan.now.lanes }
-{
-    let nets = net_bits(alloc, plan, entry)? == cycle.read_all(list.nets.as_slice());
-    let end = leave(alloc, plan, plan.columns.len(), entry)?;
-    Ok(ends_agree(list, plan, cycle, &end) && nets)
-}
-
 // Whether the plan does in a cycle what the list does.
-fn agrees_in(alloc: Global, list: &CellList, plan: &Plan, cycle: Cycle) -> Result<bool, AllocError>
+fn agrees_in(list: &CellList, plan: &Plan, cycle: Cycle, bits: &mut [bool]) -> bool
     requires { IsAdmissible plan.now }
 {
     let loops = loops_of(list, plan, cycle.state);
-    let entry = entry(alloc, plan, cycle.inputs, loops)?;
-    agrees_from(alloc, list, plan, cycle, &entry)
+    let nets = net_bits(plan, cycle.inputs, loops, bits);
+    enter(plan, cycle.inputs, loops, bits);
+    run(plan, plan.columns.len(), bits);
+    ends_agree(list, plan, cycle, bits) && nets == cycle.read_all(list.nets.as_slice())
+}
+
+fn agrees_on(list: &CellList, plan: &Plan, bits: &mut [bool]) -> bool
+    requires { IsAdmissible plan.now }
+{
+    let mut same = starts_agree(list, plan) && ports_agree(list, plan);
+    let free = list.inputs.saturating_add(plan.latches).min(16);
+    // The lowest bits of the number are those of the inputs.
+    for number in 0..1u64.wrapping_shl(free) {
+        let cycle = cycle_of(list, number, number.wrapping_shr(list.inputs));
+        same &= agrees_in(list, plan, cycle, bits);
+    }
+    same
 }
 
 /// Returns whether the plan starts with the list's bits, and does what the list does in a cycle
@@ -258,14 +237,8 @@ fn agrees_in(alloc: Global, list: &CellList, plan: &Plan, cycle: Cycle) -> Resul
 pub fn agrees(alloc: Global, list: &CellList, plan: &Plan) -> Result<bool, AllocError>
     requires { IsAdmissible plan.now }
 {
-    let mut same = starts_agree(list, plan) && ports_agree(list, plan);
-    let bits = list.inputs.saturating_add(plan.latches).min(16);
-    // The lowest bits of the number are those of the inputs.
-    for number in 0..1u64.wrapping_shl(bits) {
-        let cycle = cycle_of(list, number, number.wrapping_shr(list.inputs));
-        same = agrees_in(alloc, list, plan, cycle)? && same;
-    }
-    Ok(same)
+    let mut bits = vec![in alloc; false; plan.lanes as usize]?;
+    Ok(agrees_on(list, plan, &mut bits))
 }
 
 // The letters of the streams in a cycle, as bits.
@@ -280,12 +253,19 @@ fn letters(streams: &[&[u8]], cycle: usize) -> u64 {
     word
 }
 
-// The bits that leave the plan if its inputs and its loops bring these.
-fn end_of(alloc: Global, plan: &Plan, inputs: u64, loops: u64) -> Result<Vec<bool>, AllocError>
+// Whether the plan makes the streams, on bits for all its lanes.
+fn plays_on(plan: &Plan, cycles: usize, ins: &[&[u8]], outs: &[&[u8]], bits: &mut [bool]) -> bool
     requires { IsAdmissible plan.now }
 {
-    let entry = entry(alloc, plan, inputs, loops)?;
-    leave(alloc, plan, plan.columns.len(), &entry)
+    let mut loops = starting(plan);
+    let mut same = plan.outs.len() == outs.len();
+    for cycle in 0..cycles {
+        enter(plan, letters(ins, cycle), loops, bits);
+        run(plan, plan.columns.len(), bits);
+        same &= shown(plan, bits) == letters(outs, cycle);
+        loops = brought(plan, bits);
+    }
+    same
 }
 
 /// Returns whether the plan, from its starts on, makes the streams `outs` from the streams `ins`.
@@ -298,12 +278,6 @@ pub fn plays(
 ) -> Result<bool, AllocError>
     requires { IsAdmissible plan.now }
 {
-    let mut loops = starting(plan);
-    let mut same = plan.outs.len() == outs.len();
-    for cycle in 0..cycles {
-        let end = end_of(alloc, plan, letters(ins, cycle), loops)?;
-        same &= shown(plan, &end) == letters(outs, cycle);
-        loops = brought(plan, &end);
-    }
-    Ok(same)
+    let mut bits = vec![in alloc; false; plan.lanes as usize]?;
+    Ok(plays_on(plan, cycles, ins, outs, &mut bits))
 }
