@@ -3,12 +3,13 @@
 // A list of cases is one text, since each row of a table adds to the cost of its proof. A case
 // begins with `>` and a line of commands with `|` between them; each command reads what the one
 // before wrote. A command alone may have three numbers in brackets: the number of the source's call
-// that fails, counted from 0, and the rooms of the output and of the errors. Other commands that
-// write the same may follow ` & `, and a remark on the case ` -- `. Then come the lines of the text
-// that the first command reads; a case without them reads the text that the last line with `@`
-// names. Then come `== ` with the status, and the lines that the last command writes: to the output
-// if the status is 0, and else to the errors, or to the output up to `== err` and to the errors
-// after it. It writes nothing more. In the output, three full stops stand for anything.
+// that fails, counted from 0, and the rooms of the output and of the errors; a case with malformed
+// brackets fails. Other commands that write the same may follow ` & `, and a remark on the case
+// ` -- `. Then come the lines of the text that the first command reads; a case without them reads
+// the text that the last line with `@` names. Then come `== ` with the status, and the lines that
+// the last command writes: to the output if the status is 0, and else to the errors, or to the
+// output up to `== err` and to the errors after it. It writes nothing more. In the output, three
+// full stops stand for anything.
 //
 // If a command follows the name after `@`, the cases are changes: the command reads the named text
 // with the lines of the case in place of each line that is the case's first.
@@ -55,25 +56,29 @@ pub struct Outcome {
 impl Outcome {
     /// Returns whether the run ended with this status, `out` and `err`. In `out`, three full stops
     /// stand for anything.
-    pub fn is(&self, status: u8, out: &str, err: &str) -> bool {
-        self.status == status
+    pub fn is(&self, status: u64, out: &str, err: &str) -> bool {
+        u64::from(self.status) == status
             && self.err.as_slice() == err.as_bytes()
             && matches(self.out.as_slice(), out)
     }
+}
 
-    /// Returns whether the run ended as the case wants.
-    pub fn ends(&self, case: &Case) -> bool {
-        self.is(case.status, case.out, case.err)
+/// Returns what stands before a mark and what stands after it: the whole text and the empty text if
+/// the mark is not there.
+pub fn halves<'a>(text: &'a str, mark: &str) -> (&'a str, &'a str) {
+    match text.split_once(mark) {
+        Some(both) => both,
+        None => (text, ""),
     }
 }
 
 // Whether a text is `said`, or, if three full stops stand in `said`, begins with what precedes them
 // and ends with what follows them.
 fn matches(text: &[u8], said: &str) -> bool {
-    match said.split_once("...") {
-        Some((begin, end)) => text.starts_with(begin.as_bytes()) && text.ends_with(end.as_bytes()),
-        None => text == said.as_bytes(),
-    }
+    let (begin, end) = halves(said, "...");
+    text.starts_with(begin.as_bytes())
+        && text.ends_with(end.as_bytes())
+        && (begin.len() < said.len() || text.len() == said.len())
 }
 
 // Adds a word of a command, where `''` stands for the empty word.
@@ -124,6 +129,17 @@ pub fn run_over(
     run_on(alloc, &words, &mut src, rooms)
 }
 
+/// Runs a command line. This is the one call of the program: its contract is long.
+pub fn status_of(
+    alloc: Global,
+    words: &[String],
+    src: &mut MemSource,
+    out: &mut MemSink,
+    err: &mut MemSink,
+) -> u8 {
+    run(alloc, words, src, out, err)
+}
+
 // Runs a command line over a source and sinks with these rooms.
 fn run_on(
     alloc: Global,
@@ -133,7 +149,7 @@ fn run_on(
 ) -> Result<Outcome, Fail> {
     let mut out = MemSink::new(alloc, rooms.0, 7, &[])?;
     let mut err = MemSink::new(alloc, rooms.1, 7, &[])?;
-    let status = run(alloc, words, src, &mut out, &mut err);
+    let status = status_of(alloc, words, src, &mut out, &mut err);
     ended(alloc, status, out.held(), err.held())
 }
 
@@ -144,9 +160,20 @@ fn ended(alloc: Global, status: u8, out: &[u8], err: &[u8]) -> Result<Outcome, F
     Ok(Outcome { status, out, err })
 }
 
+// The call of the source that fails, and the rooms of the output and of the errors.
+type Limits = (u64, (usize, usize));
+
+// No run makes so many calls of the source, and none in these tests writes more.
+const AMPLE: Limits = (u64::MAX, (1 << 20, 99));
+
+// Runs a command within limits.
+fn run_within(alloc: Global, command: &str, text: &[u8], limits: Limits) -> Result<Outcome, Fail> {
+    run_over(alloc, command, text, (16, &[limits.0]), limits.1)
+}
+
 /// Runs a command with ample room for what it writes.
 pub fn run_amply(alloc: Global, command: &str, text: &[u8]) -> Result<Outcome, Fail> {
-    run_over(alloc, command, text, (16, &[]), (1 << 20, 99))
+    run_within(alloc, command, text, AMPLE)
 }
 
 // Whether a run ended well, and wrote a pattern or a lifted netlist.
@@ -174,79 +201,89 @@ fn text_after(alloc: Global, commands: &str, text: &[u8]) -> Result<Vec<u8>, Fai
     Ok(read)
 }
 
-// A run of the last of the commands, if each reads what the one before wrote.
-fn run_after(alloc: Global, commands: &str, text: &[u8]) -> Result<Outcome, Fail> {
+// A run of the last of the commands within limits, if each reads what the one before wrote.
+fn run_after(alloc: Global, commands: &str, text: &[u8], limits: Limits) -> Result<Outcome, Fail> {
     match commands.rsplit_once('|') {
         Some((before, last)) => {
             let read = text_after(alloc, before, text)?;
-            run_amply(alloc, last, &read)
+            run_within(alloc, last, &read, limits)
         }
-        None => run_amply(alloc, commands, text),
+        None => run_within(alloc, commands, text, limits),
     }
 }
-
-// The call of the source that fails, and the rooms of the output and of the errors.
-type Limits = (u64, (usize, usize));
 
 /// A case, without its `>`.
 #[derive(Clone, Copy)]
 pub struct Case<'a> {
     commands: &'a str,
-    limits: Option<Limits>,
+    limits: Limits,
     text: &'a str,
-    status: u8,
+    status: u64,
     out: &'a str,
     err: &'a str,
 }
 
-// What stands before a mark, or the whole line if the mark is not there.
-fn before<'a>(line: &'a str, mark: &str) -> &'a str {
-    match line.split_once(mark) {
-        Some((begin, _)) => begin,
-        None => line,
+/// Returns the number that digits write.
+pub fn number_of(digits: &str) -> Option<u64> {
+    digits.parse().ok()
+}
+
+// The three numbers before a bracket that ends the line. There are none if it is malformed.
+fn limits_of(numbers: &str) -> Option<Limits> {
+    let (call, rooms) = halves(numbers, " ");
+    let (out, rest) = halves(rooms, " ");
+    let (err, end) = halves(rest, "]");
+    let is_closed = err.len() < rest.len() && end.is_empty();
+    match (number_of(call), number_of(out), number_of(err)) {
+        (Some(call), Some(out), Some(err)) if is_closed => {
+            Some((call, (out as usize, err as usize)))
+        }
+        _ => None,
     }
 }
 
-// The number that ends at a mark, and what follows it.
-fn number_in(text: &str, mark: char) -> Option<(u64, &str)> {
-    let (digits, rest) = text.split_once(mark)?;
-    let number = digits.parse().ok()?;
-    Some((number, rest))
-}
-
-// The three numbers in brackets.
-fn limits_of(line: &str) -> Option<Limits> {
-    let (_, numbers) = line.split_once('[')?;
-    let (call, rooms) = number_in(numbers, ' ')?;
-    let (out, rest) = number_in(rooms, ' ')?;
-    let (err, _) = number_in(rest, ']')?;
-    Some((call, (out as usize, err as usize)))
+// The commands of a line without its remark, and their limits, which are ample if there are no
+// brackets.
+fn asked_of(line: &str) -> (&str, Option<Limits>) {
+    let (commands, numbers) = halves(line, " [");
+    if commands.len() == line.len() {
+        (line.trim(), Some(AMPLE))
+    } else {
+        (commands.trim(), limits_of(numbers))
+    }
 }
 
 // What a run with this status writes to the output and to the errors.
-fn written_of(status: u8, said: &str) -> (&str, &str) {
-    match said.split_once("== err\n") {
-        Some(both) => both,
-        None if status == 0 => (said, ""),
-        None => ("", said),
+fn written_of(status: u64, said: &str) -> (&str, &str) {
+    let (out, err) = halves(said, "== err\n");
+    if status == 0 || out.len() < said.len() {
+        (out, err)
+    } else {
+        ("", said)
     }
 }
 
 /// Reads a case from its text, without its `>`. There is none if the text is malformed.
 pub fn case_of(case: &str) -> Option<Case<'_>> {
-    let (asked, wanted) = case.split_once("== ")?;
-    let (line, text) = asked.split_once('\n')?;
-    let (number, said) = wanted.split_once('\n')?;
-    let status = number.parse().ok()?;
-    let (out, err) = written_of(status, said);
-    Some(Case {
-        commands: before(before(line, " -- "), " [").trim(),
-        limits: limits_of(line),
-        text,
-        status,
-        out,
-        err,
-    })
+    let (asked, wanted) = halves(case, "== ");
+    let (line, text) = halves(asked, "\n");
+    let (number, said) = halves(wanted, "\n");
+    let has_lines = line.len() < asked.len() && number.len() < wanted.len();
+    let (commands, limits) = asked_of(halves(line, " -- ").0);
+    match (number_of(number), limits) {
+        (Some(status), Some(limits)) if has_lines => {
+            let (out, err) = written_of(status, said);
+            Some(Case {
+                commands,
+                limits,
+                text,
+                status,
+                out,
+                err,
+            })
+        }
+        _ => None,
+    }
 }
 
 /// Fails with `about` if `holds` is false.
@@ -285,107 +322,83 @@ struct Group<'a> {
     cases: &'a str,
 }
 
-fn group_of(group: &str) -> Option<Group<'_>> {
-    let (head, cases) = group.split_once('\n')?;
-    let (name, command) = match head.split_once(": ") {
-        Some(both) => both,
-        None => (head, ""),
-    };
-    let text = text_named(name.trim())?;
-    Some(Group {
-        text,
-        command,
-        cases,
-    })
+/// Returns whether the commands end as a case wants when they read this text.
+pub fn is_end(alloc: Global, case: &Case, commands: &str, text: &[u8]) -> Result<bool, Fail> {
+    let got = run_after(alloc, commands, text, case.limits)?;
+    Ok(got.is(case.status, case.out, case.err))
 }
 
-// A run of a case's commands over a text.
-fn run_case(alloc: Global, case: &Case, commands: &str, text: &[u8]) -> Result<Outcome, Fail> {
-    match case.limits {
-        Some((call, rooms)) => run_over(alloc, commands, text, (16, &[call]), rooms),
-        None => run_after(alloc, commands, text),
-    }
-}
-
-// Fails if the commands do not end as a case wants.
-fn expect_end(
-    alloc: Global,
-    said: &str,
-    case: &Case,
-    commands: &str,
-    text: &[u8],
-) -> Result<(), Fail> {
-    let got = run_case(alloc, case, commands, text)?;
-    expect_holds(said, got.ends(case))
-}
-
-// Fails if a case does not end as it wants. A case without a text reads `other`.
-fn expect_ends(alloc: Global, said: &str, case: &Case, other: &str) -> Result<(), Fail> {
+// Whether a case ends as it wants, with its commands and with those after ` & `. A case without a
+// text reads `other`.
+fn is_met(alloc: Global, case: &Case, other: &str) -> Result<bool, Fail> {
     let text = if case.text.is_empty() {
-        other.as_bytes()
+        other
     } else {
-        case.text.as_bytes()
+        case.text
     };
-    match case.commands.split_once(" & ") {
-        Some((first, second)) => {
-            expect_end(alloc, said, case, first, text)?;
-            expect_end(alloc, said, case, second, text)
-        }
-        None => expect_end(alloc, said, case, case.commands, text),
+    let (first, second) = halves(case.commands, " & ");
+    let is_so = is_end(alloc, case, first, text.as_bytes())?;
+    if second.is_empty() {
+        Ok(is_so)
+    } else {
+        Ok(is_end(alloc, case, second, text.as_bytes())? && is_so)
     }
 }
 
-// The text of these lines, with `new` in place of each line that is `old`.
-fn changed(alloc: Global, lines: &str, old: &str, new: &str) -> Result<Vec<u8>, AllocError> {
-    let mut text = Vec::new(alloc);
+// Adds a part to a text.
+pub fn push(text: &mut Vec<u8>, part: &str) -> Result<(), AllocError> {
+    text.extend_from_slice(part.as_bytes())
+}
+
+// Adds these lines, with `new` in place of each line that is `old`.
+fn push_changed(text: &mut Vec<u8>, lines: &str, old: &str, new: &str) -> Result<(), AllocError> {
     for line in lines.split_inclusive('\n') {
         let kept = if line.trim_end() == old { new } else { line };
-        text.extend_from_slice(kept.as_bytes())?;
+        push(text, kept)?;
     }
-    Ok(text)
+    Ok(())
 }
 
-/// Returns whether a run of a command with ample room ends as a case wants.
-pub fn ends(alloc: Global, case: &Case, command: &str, text: &[u8]) -> Result<bool, Fail> {
-    let got = run_amply(alloc, command, text)?;
-    Ok(got.ends(case))
+// Whether the command over the changed lines ends as the change wants, and the change changes
+// something.
+fn is_change_met(alloc: Global, change: &Case, group: &Group) -> Result<bool, Fail> {
+    let mut text = Vec::new(alloc);
+    push_changed(&mut text, group.text, change.commands, change.text)?;
+    let is_so = is_end(alloc, change, group.command, &text)?;
+    Ok(is_so && text.as_slice() != group.text.as_bytes())
 }
 
-// Fails if the command over the changed lines does not end as the change wants, or if the change
-// changes nothing.
-fn expect_change(alloc: Global, said: &str, change: &Case, group: &Group) -> Result<(), Fail> {
-    let text = changed(alloc, group.text, change.commands, change.text)?;
-    let is_so = ends(alloc, change, group.command, &text)?;
-    expect_holds(said, is_so && text.as_slice() != group.text.as_bytes())
-}
-
-// Fails if a case of a group does not end as it wants.
-fn expect_case(alloc: Global, said: &str, group: &Group) -> Result<(), Fail> {
+// Whether a case of a group ends as it wants.
+fn is_case_met(alloc: Global, said: &str, group: &Group) -> Result<bool, Fail> {
     match case_of(said) {
-        Some(case) => {
-            if group.command.is_empty() {
-                expect_ends(alloc, said, &case, group.text)
-            } else {
-                expect_change(alloc, said, &case, group)
-            }
-        }
-        None => Err(Fail::new("no case")),
+        Some(case) if group.command.is_empty() => is_met(alloc, &case, group.text),
+        Some(change) => is_change_met(alloc, &change, group),
+        None => Ok(false),
     }
 }
 
 // Fails if one of the cases of a group does not end as it wants.
 fn expect_cases(alloc: Global, group: &Group) -> Result<(), Fail> {
     for case in group.cases.split('>').skip(1) {
-        expect_case(alloc, case, group)?;
+        expect_holds(case, is_case_met(alloc, case, group)?)?;
     }
     Ok(())
 }
 
 // Fails if a case of a group does not end as it wants.
 fn expect_group(alloc: Global, group: &str) -> Result<(), Fail> {
-    match group_of(group) {
-        Some(group) => expect_cases(alloc, &group),
-        None => Err(Fail::new("no text has this name")),
+    let (head, cases) = halves(group, "\n");
+    let (name, command) = halves(head, ": ");
+    match text_named(name.trim()) {
+        Some(text) => expect_cases(
+            alloc,
+            &Group {
+                text,
+                command,
+                cases,
+            },
+        ),
+        None => expect_holds(head, false),
     }
 }
 

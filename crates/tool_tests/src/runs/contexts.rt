@@ -136,7 +136,7 @@ fn room_of(alloc: Global, netlist: &str) -> Result<u64, Fail> {
 fn expect_contexts(
     alloc: Global,
     contexts: u64,
-    status: u8,
+    status: u64,
     out: &str,
     err: &str,
 ) -> Result<(), Fail> {

@@ -1,8 +1,7 @@
 // Sources and sinks that fail, and what such runs leave behind.
 ghost use Rattle.std.specs.Prelude.{◌≤◌};
 
-use crate::runs::{GATE, PATTERN, USAGE, run_over, words_of};
-use blifww_tool::run;
+use crate::runs::{GATE, PATTERN, USAGE, run_over, status_of, words_of};
 use std::alloc::Global;
 use std::test::Fail;
 use ww_base::{MemSink, MemSource};
@@ -222,7 +221,7 @@ fn counts_of(
 {
     let mut out = MemSink::new(alloc, 99, 7, &CALLS[calls.0..])?;
     let mut err = MemSink::new(alloc, 99, 7, &CALLS[calls.1..])?;
-    let status = run(alloc, words, src, &mut out, &mut err);
+    let status = status_of(alloc, words, src, &mut out, &mut err);
     let held = (out.held().len(), err.held().len());
     Ok((status, out.faults(), err.faults(), held.0, held.1))
 }

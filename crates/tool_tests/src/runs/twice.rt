@@ -1,5 +1,5 @@
 // Netlists of which two commands write one text in one process.
-use crate::runs::{expect_holds, text_named, written};
+use crate::runs::{expect_holds, halves, text_named, written};
 use std::alloc::Global;
 use std::test::Fail;
 
@@ -17,22 +17,17 @@ toggle: compile & compile --contexts 1
 toggle: compile & tape --cycles 4
 ";
 
-// The netlist of a line, and its commands.
-fn commands_of(line: &str) -> Option<(&'static str, &str, &str)> {
-    let (name, commands) = line.split_once(": ")?;
-    let (first, second) = commands.split_once(" & ")?;
-    Some((text_named(name)?, first, second))
-}
-
 // Fails if the commands of a line write two texts.
 fn expect_one_text(alloc: Global, line: &str) -> Result<(), Fail> {
-    match commands_of(line) {
-        Some((netlist, first, second)) => {
+    let (name, commands) = halves(line, ": ");
+    let (first, second) = halves(commands, " & ");
+    match text_named(name) {
+        Some(netlist) => {
             let made = written(alloc, first, netlist.as_bytes())?;
             let again = written(alloc, second, netlist.as_bytes())?;
             expect_holds(line, made.as_slice() == again.as_slice())
         }
-        None => Err(Fail::new("no commands")),
+        None => expect_holds(line, false),
     }
 }
 
