@@ -1,34 +1,30 @@
 // Texts whose models are a design, and texts whose models have a fault.
-use crate::texts::{cut, fault_shown, models_of};
+use crate::pages::Page;
+use crate::texts::{cut, models_of};
 use blif_check::{CheckError, Design, check};
-use std::alloc::{AllocError, Global};
 use std::test::Fail;
-use ww_base::expect;
 
 // How many models the design has, or the models' fault.
-fn checked_shown(
-    alloc: Global,
-    checked: &Result<Design, CheckError>,
-) -> Result<Vec<u8>, AllocError> {
+fn push_checked(page: &mut Page, checked: &Result<Design, CheckError>) {
     match checked {
-        Ok(design) => Ok(format!(in alloc; "{} models", design.models.len())?.into_bytes()),
-        Err(CheckError::Fault(fault)) => fault_shown(alloc, fault),
-        Err(CheckError::NoMemory) => Err(AllocError),
+        Ok(design) => {
+            page.push_number(design.models.len() as u64);
+            page.push(b" models");
+        }
+        Err(CheckError::Fault(fault)) => page.push_fault(fault),
+        Err(CheckError::NoMemory) => page.cut(),
     }
 }
 
-fn expect_checked(
-    alloc: Global,
-    checked: &Result<Design, CheckError>,
-    want: &[u8],
-) -> Result<(), Fail> {
-    expect(&checked_shown(alloc, checked)?, want)
-}
-
-// Fails unless the check of the text's models gives this design size or fault.
-fn expect_check(alloc: Global, text: &[u8], want: &[u8]) -> Result<(), Fail> {
-    let models = models_of(alloc, text)?;
-    expect_checked(alloc, &check(alloc, models), want)
+// The design size or fault of a text's models.
+fn push_check(page: &mut Page, text: &[u8]) {
+    match models_of(page.alloc(), text) {
+        Ok(models) => {
+            let checked = check(page.alloc(), models);
+            push_checked(page, &checked);
+        }
+        Err(_) => page.push(b"not read"),
+    }
 }
 
 // Texts, and after `== ` how many models their designs have, or their faults. A line that begins
@@ -166,9 +162,11 @@ const CASES: &str = "
 
 #[test]
 fn the_lowest_rule_and_there_the_earliest_word(rt: HostRuntime) -> Result<(), Fail> {
+    let mut page = Page::new(rt.alloc());
     for case in CASES.split("\n>") {
         let (text, want) = cut(case);
-        expect_check(rt.alloc(), text.as_bytes(), want.as_bytes())?;
+        push_check(&mut page, text.as_bytes());
+        page.expect(want.as_bytes());
     }
-    Ok(())
+    page.end()
 }

@@ -1,13 +1,12 @@
 // Circles of models, whose subckt lines name one another.
-use crate::texts::fault_shown;
-use lists::{Bytes, List, copied};
+use crate::pages::Page;
+use lists::{Bytes, List};
 use model_circles::circle_fault;
 use model_index::NamedModels;
 use netlist_core::{Model, Subckt};
 use netlist_rules::Fault;
 use std::alloc::{AllocError, Global};
 use std::test::Fail;
-use ww_base::expect;
 
 // A model: its name, and for each of its subckt lines the line's number and the name of the model
 // that it instantiates. Names are single letters.
@@ -16,20 +15,18 @@ struct Written {
     subckts: &'static [(u64, u8)],
 }
 
-fn subckt(alloc: Global, line: u64, letter: u8) -> Result<Subckt, AllocError> {
-    Ok(Subckt {
-        line,
-        model: copied(alloc, &[letter])?,
-        pins: List::of(Vec::new(alloc)),
-    })
+fn push_subckt(page: &mut Page, subckts: &mut Vec<Subckt>, line: u64, letter: u8) {
+    let model = page.copy(&[letter]);
+    let pins = List::of(Vec::new(page.alloc()));
+    page.put(subckts, Subckt { line, model, pins });
 }
 
-fn subckts_of(alloc: Global, written: &[(u64, u8)]) -> Result<Vec<Subckt>, AllocError> {
-    let mut subckts = Vec::new(alloc);
+fn subckts_of(page: &mut Page, written: &[(u64, u8)]) -> Vec<Subckt> {
+    let mut subckts = Vec::new(page.alloc());
     for (line, letter) in written {
-        subckts.push(subckt(alloc, *line, *letter)?)?;
+        push_subckt(page, &mut subckts, *line, *letter);
     }
-    Ok(subckts)
+    subckts
 }
 
 fn model_with(alloc: Global, name: Bytes, subckts: Vec<Subckt>) -> Model {
@@ -45,17 +42,19 @@ fn model_with(alloc: Global, name: Bytes, subckts: Vec<Subckt>) -> Model {
     }
 }
 
-fn model(alloc: Global, written: &Written) -> Result<Model, AllocError> {
-    let name = copied(alloc, &[written.name])?;
-    Ok(model_with(alloc, name, subckts_of(alloc, written.subckts)?))
+fn push_model(page: &mut Page, models: &mut Vec<Model>, written: &Written) {
+    let name = page.copy(&[written.name]);
+    let subckts = subckts_of(page, written.subckts);
+    page.put(models, model_with(page.alloc(), name, subckts));
 }
 
-fn models_of(alloc: Global, written: &[Written]) -> Result<Vec<Model>, AllocError> {
-    let mut models = Vec::new(alloc);
+// The models. The page notes if one is missing.
+fn models_of(page: &mut Page, written: &[Written]) -> Vec<Model> {
+    let mut models = Vec::new(page.alloc());
     for it in written {
-        models.push(model(alloc, it)?)?;
+        push_model(page, &mut models, it);
     }
-    Ok(models)
+    models
 }
 
 fn fault_of(alloc: Global, models: &[Model]) -> Result<Option<Fault>, AllocError> {
@@ -63,17 +62,13 @@ fn fault_of(alloc: Global, models: &[Model]) -> Result<Option<Fault>, AllocError
     circle_fault(alloc, models, &named)
 }
 
-// The models' fault as text, or no text.
-fn said(alloc: Global, models: &[Model]) -> Result<Vec<u8>, AllocError> {
-    match fault_of(alloc, models)? {
-        Some(fault) => fault_shown(alloc, &fault),
-        None => Ok(Vec::new(alloc)),
+// The fault, or nothing.
+fn push_fault(page: &mut Page, found: &Result<Option<Fault>, AllocError>) {
+    match found {
+        Ok(Some(fault)) => page.push_fault(fault),
+        Ok(None) => {}
+        Err(_) => page.cut(),
     }
-}
-
-fn expect_fault(alloc: Global, written: &[Written], want: &[u8]) -> Result<(), Fail> {
-    let models = models_of(alloc, written)?;
-    expect(&said(alloc, &models)?, want)
 }
 
 // Many subckt lines of one model, which make no circle.
@@ -181,8 +176,11 @@ const CIRCLES: &[(&[Written], &[u8])] = &[
 
 #[test]
 fn the_earliest_line_on_a_circle_is_the_fault(rt: HostRuntime) -> Result<(), Fail> {
-    for (models, want) in CIRCLES {
-        expect_fault(rt.alloc(), models, want)?;
+    let mut page = Page::new(rt.alloc());
+    for (written, want) in CIRCLES {
+        let models = models_of(&mut page, written);
+        push_fault(&mut page, &fault_of(rt.alloc(), &models));
+        page.expect(want);
     }
-    Ok(())
+    page.end()
 }

@@ -1,36 +1,24 @@
 // Lists of cells in which what is 1 at zero is kept as its complement.
-use crate::rewriting::{is_shown, list_of};
-use crate::texts::expect_number;
-use cell_core::{Cell, CellList, Src};
-use cell_polarity::complemented;
-use std::alloc::Global;
+use crate::pages::Page;
+use crate::rewriting::{list_of, push_list};
+use cell_core::{Cell, Src};
+use cell_polarity::{KeptList, PolarityError, complemented};
 use std::test::Fail;
 
-fn expect_text(alloc: Global, list: &CellList, want: &str) -> Result<(), Fail> {
-    expect_number(want, is_shown(alloc, list, want)? as u64, 1)
+fn push_low(page: &mut Page, low: &Result<KeptList, PolarityError>) {
+    match low {
+        Ok(low) => push_list(page, &low.list),
+        Err(_) => page.cut(),
+    }
 }
 
-fn expect_complemented(
-    alloc: Global,
-    list: &CellList,
-    kept: &[Src],
-    want: &str,
-) -> Result<(), Fail> {
-    let low = complemented(alloc, list, kept)?;
-    expect_text(alloc, &low.list, want)
-}
-
-// Fails unless the list of these cells and nets becomes one with this text. The sources in `kept`
-// are kept.
-fn expect_list(
-    alloc: Global,
-    cells: &[Cell],
-    nets: &[Src],
-    kept: &[Src],
-    want: &str,
-) -> Result<(), Fail> {
-    let list = list_of(alloc, cells, nets)?;
-    expect_complemented(alloc, &list, kept, want)
+// The list that the list of these cells and nets becomes. The sources in `kept` are kept.
+fn push_complemented(page: &mut Page, cells: &[Cell], nets: &[Src], kept: &[Src]) {
+    let list = list_of(page, cells, nets);
+    let low = complemented(page.alloc(), &list, kept);
+    drop(list);
+    push_low(page, &low);
+    drop(low);
 }
 
 // A NAND of two inputs, and its AND with a third.
@@ -78,8 +66,10 @@ const LISTS: &[(&[Cell], &[Src], &[Src], &str)] = &[
 
 #[test]
 fn what_is_one_at_zero_is_kept_as_its_complement(rt: HostRuntime) -> Result<(), Fail> {
+    let mut page = Page::new(rt.alloc());
     for (cells, nets, kept, want) in LISTS {
-        expect_list(rt.alloc(), cells, nets, kept, want)?;
+        push_complemented(&mut page, cells, nets, kept);
+        page.expect(want.as_bytes());
     }
-    Ok(())
+    page.end()
 }

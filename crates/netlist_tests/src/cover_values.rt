@@ -1,11 +1,11 @@
 // The values of covers.
+use crate::pages::Page;
 use crate::texts::copies_of;
-use lists::List;
+use lists::{Bytes, List};
 use netlist_core::Cover;
 use netlist_meaning::cover_value;
-use std::alloc::{AllocError, Global};
+use std::alloc::Global;
 use std::test::Fail;
-use ww_base::expect;
 
 // A cover: its rows, whether they end in `1`, some lists of input bits, and its value for each of
 // these as a letter.
@@ -83,33 +83,35 @@ const COVERS: &[Written] = &[
 ];
 
 // A cover of which only the fields that `cover_value` reads are filled in.
-fn cover(alloc: Global, written: &Written) -> Result<Cover, AllocError> {
-    Ok(Cover {
+fn cover(alloc: Global, rows: Vec<Bytes>, on: bool) -> Cover {
+    Cover {
         line: 1,
         ins: List::of(Vec::new(alloc)),
         out: List::of(Vec::new(alloc)),
-        rows: List::of(copies_of(alloc, written.rows)?),
-        on: written.on,
-    })
-}
-
-fn values_of(alloc: Global, cover: &Cover, inputs: &[&[bool]]) -> Result<Vec<u8>, AllocError> {
-    let mut values = Vec::new(alloc);
-    for bits in inputs {
-        values.push(if cover_value(cover, bits) { b'1' } else { b'0' })?;
+        rows: List::of(rows),
+        on,
     }
-    Ok(values)
 }
 
-fn expect_values(alloc: Global, written: &Written) -> Result<(), Fail> {
-    let cover = cover(alloc, written)?;
-    expect(&values_of(alloc, &cover, written.inputs)?, written.values)
+fn push_values(page: &mut Page, cover: &Cover, inputs: &[&[bool]]) {
+    for bits in inputs {
+        page.push(if cover_value(cover, bits) { b"1" } else { b"0" });
+    }
+}
+
+fn push_cover(page: &mut Page, written: &Written) {
+    let rows = copies_of(page, written.rows);
+    let cover = cover(page.alloc(), rows, written.on);
+    push_values(page, &cover, written.inputs);
+    drop(cover);
 }
 
 #[test]
 fn covers_have_the_values_of_their_rows(rt: HostRuntime) -> Result<(), Fail> {
+    let mut page = Page::new(rt.alloc());
     for written in COVERS {
-        expect_values(rt.alloc(), written)?;
+        push_cover(&mut page, written);
+        page.expect(written.values);
     }
-    Ok(())
+    page.end()
 }

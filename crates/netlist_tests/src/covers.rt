@@ -2,7 +2,8 @@
 ghost use Rattle.std.specs.Prelude.{◌≡◌, length};
 ghost use Rattle.cell_core.specs.Sources.{are_there};
 
-use crate::texts::{copies_of, expect_number};
+use crate::pages::Page;
+use crate::texts::copies_of;
 use cell_core::{CellError, CellList, Src};
 use cell_sharing::Places;
 use cover_cells::map_cover;
@@ -186,22 +187,24 @@ fn count_in(
     Ok(list.cells.len())
 }
 
-// How many cells the cover takes in a list with eight inputs and no cells.
-fn count_of(alloc: Global, written: &Written) -> Result<usize, CellError> {
-    let rows = copies_of(alloc, written.rows)?;
-    let mut list = empty(alloc, 8);
-    count_in(&mut list, alloc, written.sources, &rows, written.on)
-}
-
-fn expect_count(alloc: Global, written: &Written) -> Result<(), Fail> {
-    let count = count_of(alloc, written)?;
-    expect_number(written.about, count as u64, written.cells)
+// How many cells the cover takes in a list with eight inputs and no cells, and how many it is to
+// take.
+fn expect_count(page: &mut Page, written: &Written) {
+    let rows = copies_of(page, written.rows);
+    let mut list = empty(page.alloc(), 8);
+    let count = count_in(&mut list, page.alloc(), written.sources, &rows, written.on);
+    drop(list);
+    match count {
+        Ok(count) => page.expect_number(written.about, count as u64, written.cells),
+        Err(_) => page.cut(),
+    }
 }
 
 #[test]
 fn covers_take_few_cells(rt: HostRuntime) -> Result<(), Fail> {
+    let mut page = Page::new(rt.alloc());
     for written in COVERS {
-        expect_count(rt.alloc(), written)?;
+        expect_count(&mut page, written);
     }
-    Ok(())
+    page.end()
 }

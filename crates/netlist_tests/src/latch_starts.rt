@@ -1,14 +1,13 @@
 // Words that set the bits with which latches start, context by context.
 ghost use Rattle.std.specs.Prelude.{◌≡◌, length};
 
-use crate::texts::joined;
+use crate::pages::Page;
 use lists::List;
 use netlist_core::Flat;
-use netlist_text::netlist_of;
+use netlist_text::{Netlist, NetlistError, netlist_of};
 use start_words::{StartError, StartFault, StartFaultKind, Starts};
-use std::alloc::{AllocError, Global};
+use std::alloc::AllocError;
 use std::test::Fail;
-use ww_base::expect;
 
 // Two latches: q1 of the main model starts with 1, and the one of model `l` starts with 0. The main
 // model connects its net q0 to the output of `l`, and drives n by a cover.
@@ -25,81 +24,94 @@ fn kind_name(kind: StartFaultKind) -> &'static str {
     }
 }
 
-fn fault_shown(alloc: Global, fault: &StartFault) -> Result<Vec<u8>, AllocError> {
-    let kind = format!(in alloc; "{} ", kind_name(fault.kind))?;
-    joined(alloc, &[kind.as_bytes(), fault.word.as_slice()])
+fn push_fault(page: &mut Page, fault: &StartFault) {
+    page.push(kind_name(fault.kind).as_bytes());
+    page.push_word(fault.word.as_slice());
 }
 
 // Appends the bits, and a blank after them.
-fn push_bits(shown: &mut Vec<u8>, bits: &[bool]) -> Result<(), AllocError> {
+fn push_bits(page: &mut Page, bits: &[bool]) {
     for bit in bits {
-        shown.push(if *bit { b'1' } else { b'0' })?;
+        page.push(if *bit { b"1" } else { b"0" });
     }
-    shown.extend_from_slice(b" ")
+    page.push(b" ");
 }
 
 // The latches' bits as letters, with one word for each context.
-fn bits_shown(alloc: Global, starts: &List<List<bool>>) -> Result<Vec<u8>, AllocError> {
-    let mut shown = Vec::new(alloc);
-    for bits in starts.as_slice() {
-        push_bits(&mut shown, bits.as_slice())?;
+fn push_starts(page: &mut Page, starts: &Result<List<List<bool>>, AllocError>) {
+    match starts {
+        Ok(starts) => {
+            for bits in starts.as_slice() {
+                push_bits(page, bits.as_slice());
+            }
+        }
+        Err(_) => page.cut(),
     }
-    Ok(shown)
-}
-
-fn words_of(alloc: Global, words: &[&str]) -> Result<Vec<String>, AllocError> {
-    let mut strings = Vec::new(alloc);
-    for word in words {
-        strings.push(String::from_str(alloc, word)?)?;
-    }
-    Ok(strings)
-}
-
-fn starts_shown(
-    alloc: Global,
-    flat: &Flat,
-    starts: &Starts,
-    contexts: u64,
-) -> Result<Vec<u8>, AllocError> {
-    bits_shown(alloc, &starts.in_contexts(alloc, flat, contexts)?)
 }
 
 // The bits with which the latches start in each context, or the fault of the words.
-fn said(alloc: Global, flat: &Flat, words: &[String], contexts: u64) -> Result<Vec<u8>, AllocError>
-    requires { length flat.now.latches ≡ 2 }
-{
-    match Starts::read(alloc, flat, words, contexts) {
-        Ok(starts) => starts_shown(alloc, flat, &starts, contexts),
-        Err(StartError::Fault(fault)) => fault_shown(alloc, &fault),
-        Err(StartError::NoMemory) => Err(AllocError),
+fn push_read(page: &mut Page, flat: &Flat, read: &Result<Starts, StartError>, contexts: u64) {
+    match read {
+        Ok(starts) => {
+            let bits = starts.in_contexts(page.alloc(), flat, contexts);
+            push_starts(page, &bits);
+        }
+        Err(StartError::Fault(fault)) => push_fault(page, fault),
+        Err(StartError::NoMemory) => page.cut(),
     }
 }
 
-// The bits with which two latches start in each context, or the fault of the words.
-fn shown(alloc: Global, flat: &Flat, words: &[&str], contexts: u64) -> Result<Vec<u8>, AllocError>
-    requires { length flat.now.latches ≡ 2 }
-{
-    let words = words_of(alloc, words)?;
-    said(alloc, flat, &words, contexts)
+fn push_string(page: &mut Page, strings: &mut Vec<String>, word: &str) {
+    match String::from_str(page.alloc(), word) {
+        Ok(string) => page.put(strings, string),
+        Err(_) => page.cut(),
+    }
 }
 
-fn expect_shown(
-    alloc: Global,
-    flat: &Flat,
+// The words. The page notes if one is missing.
+fn words_of(page: &mut Page, words: &[&str]) -> Vec<String> {
+    let mut strings = Vec::new(page.alloc());
+    for word in words {
+        push_string(page, &mut strings, word);
+    }
+    strings
+}
+
+// What these words are read as in a netlist with two latches.
+fn push_words(page: &mut Page, flat: &Flat, contexts: u64, words: &[String])
+    requires { length flat.now.latches ≡ 2 }
+{
+    let read = Starts::read(page.alloc(), flat, words, contexts);
+    push_read(page, flat, &read, contexts);
+}
+
+fn push_shown(page: &mut Page, flat: &Flat, contexts: u64, words: &[&str]) {
+    let words = words_of(page, words);
+    if flat.latches.len() == 2 {
+        push_words(page, flat, contexts, &words);
+    } else {
+        page.push(b"not two latches");
+    }
+}
+
+fn push_case(
+    page: &mut Page,
+    netlist: &Result<Netlist, NetlistError>,
     contexts: u64,
     words: &[&str],
-    want: &[u8],
-) -> Result<(), Fail> {
-    if flat.latches.len() != 2 {
-        return Err(Fail::new("two latches"));
+) {
+    match netlist {
+        Ok(netlist) => push_shown(page, &netlist.flat, contexts, words),
+        Err(_) => page.push(b"no netlist"),
     }
-    expect(&shown(alloc, flat, words, contexts)?, want)
 }
 
 // Fails unless the words set these bits in COUNTER, or have this fault.
-fn expect_starts(alloc: Global, contexts: u64, words: &[&str], want: &[u8]) -> Result<(), Fail> {
-    let netlist = netlist_of(alloc, COUNTER)?;
-    expect_shown(alloc, &netlist.flat, contexts, words, want)
+fn expect_starts(page: &mut Page, contexts: u64, words: &[&str], want: &[u8]) {
+    let netlist = netlist_of(page.alloc(), COUNTER);
+    push_case(page, &netlist, contexts, words);
+    drop(netlist);
+    page.expect(want);
 }
 
 // Numbers of contexts, words, and the bits that the words set, first that of q1, or their fault.
@@ -120,8 +132,9 @@ const CASES: &[(u64, &[&str], &[u8])] = &[
 
 #[test]
 fn words_set_the_starts_of_latches(rt: HostRuntime) -> Result<(), Fail> {
+    let mut page = Page::new(rt.alloc());
     for (contexts, words, want) in CASES {
-        expect_starts(rt.alloc(), *contexts, words, want)?;
+        expect_starts(&mut page, *contexts, words, want);
     }
-    Ok(())
+    page.end()
 }

@@ -20,6 +20,8 @@ mod made;
 #[cfg(test)]
 mod models;
 #[cfg(test)]
+mod pages;
+#[cfg(test)]
 mod rewriting;
 #[cfg(test)]
 mod rule_names;

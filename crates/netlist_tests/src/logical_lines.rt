@@ -1,34 +1,30 @@
 // Texts and their logical lines, each written as `number:word,word,;`.
-use crate::texts::push_all;
-use blif_lex::{Logical, lines};
-use std::alloc::{AllocError, Global};
+use crate::pages::Page;
+use blif_lex::{LexError, Logical, lines};
+use lists::List;
 use std::test::Fail;
-use ww_base::expect;
 
-fn push_number(alloc: Global, shown: &mut Vec<u8>, number: u64) -> Result<(), AllocError> {
-    let digits = format!(in alloc; "{number}:")?;
-    shown.extend_from_slice(digits.as_bytes())
-}
-
-fn push_line(alloc: Global, shown: &mut Vec<u8>, line: &Logical) -> Result<(), AllocError> {
-    push_number(alloc, shown, line.line)?;
+fn push_line(page: &mut Page, line: &Logical) {
+    page.push_number(line.line);
+    page.push(b":");
     for word in line.words.as_slice() {
-        push_all(shown, &[word.as_slice(), b","])?;
+        page.push(word.as_slice());
+        page.push(b",");
     }
-    shown.extend_from_slice(b";")
+    page.push(b";");
 }
 
-fn lines_shown(alloc: Global, lines: &[Logical]) -> Result<Vec<u8>, AllocError> {
-    let mut shown = Vec::new(alloc);
+fn push_lines(page: &mut Page, lines: &[Logical]) {
     for line in lines {
-        push_line(alloc, &mut shown, line)?;
+        push_line(page, line);
     }
-    Ok(shown)
 }
 
-fn expect_lines(alloc: Global, text: &[u8], want: &[u8]) -> Result<(), Fail> {
-    let found = lines(alloc, text)?;
-    expect(&lines_shown(alloc, found.as_slice())?, want)
+fn push_found(page: &mut Page, found: &Result<List<Logical>, LexError>) {
+    match found {
+        Ok(lines) => push_lines(page, lines.as_slice()),
+        Err(_) => page.cut(),
+    }
 }
 
 // Texts and their logical lines.
@@ -62,8 +58,10 @@ const LINES: &[(&[u8], &[u8])] = &[
 
 #[test]
 fn lines_are_joined_and_cut(rt: HostRuntime) -> Result<(), Fail> {
+    let mut page = Page::new(rt.alloc());
     for (text, want) in LINES {
-        expect_lines(rt.alloc(), text, want)?;
+        push_found(&mut page, &lines(rt.alloc(), text));
+        page.expect(want);
     }
-    Ok(())
+    page.end()
 }

@@ -1,5 +1,4 @@
 // The first numbers that are drawn, and the text and the state that `make` returns.
-use crate::texts::expect_number;
 use made_netlists::{Made, draw, make};
 use std::test::Fail;
 use ww_base::expect;
@@ -20,9 +19,17 @@ fn numbers_are_drawn(rt: HostRuntime) -> Result<(), Fail> {
 const TEXT: &[u8] =
     b".model made\n.inputs i0 i1 i2 i3\n.outputs g1 q0 q1\n.latch i2 q0 0\n.latch i3 q1 1\n.names q0 i3 g0\n10 1\n01 1\n.names g0 g0 g1\n11 0\n.end\n";
 
+fn expect_state(state: u32, want: u32) -> Result<(), Fail> {
+    if state == want {
+        Ok(())
+    } else {
+        Err(Fail::new(format_args!("the state: {state}, and not {want}")))
+    }
+}
+
 fn expect_made(made: &Made, text: &[u8], state: u32) -> Result<(), Fail> {
     expect(made.text.as_slice(), text)?;
-    expect_number("the state", u64::from(made.state), u64::from(state))
+    expect_state(made.state, state)
 }
 
 #[test]

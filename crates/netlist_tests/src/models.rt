@@ -1,135 +1,102 @@
 // Texts with the models that are read from them, and texts with faults.
-use crate::texts::{cut, fault_shown, models_of, push_all};
+use crate::pages::Page;
+use crate::texts::{cut, models_of};
 use blif_reader::{Model, ReadError};
 use lists::{Bytes, List};
 use netlist_core::{Cover, LatchRow, Port, Subckt};
-use std::alloc::{AllocError, Global};
 use std::test::Fail;
-use ww_base::expect;
 
-fn push_words(shown: &mut Vec<u8>, words: &List<Bytes>) -> Result<(), AllocError> {
-    for word in words.as_slice() {
-        push_all(shown, &[b" ", word.as_slice()])?;
+fn push_words(page: &mut Page, words: &[Bytes]) {
+    for word in words {
+        page.push_word(word.as_slice());
     }
-    Ok(())
 }
 
-fn push_port(alloc: Global, shown: &mut Vec<u8>, port: &Port) -> Result<(), AllocError> {
-    let start = format!(in alloc; " {}/", port.line)?;
-    push_all(shown, &[start.as_bytes(), port.name.as_slice()])
-}
-
-fn push_ports(
-    alloc: Global,
-    shown: &mut Vec<u8>,
-    kind: &[u8],
-    ports: &[Port],
-) -> Result<(), AllocError> {
-    shown.extend_from_slice(kind)?;
+fn push_ports(page: &mut Page, kind: &[u8], ports: &[Port]) {
+    page.push(kind);
     for port in ports {
-        push_port(alloc, shown, port)?;
+        page.push(b" ");
+        page.push_number(port.line);
+        page.push(b"/");
+        page.push(port.name.as_slice());
     }
-    Ok(())
 }
 
-fn push_head(alloc: Global, shown: &mut Vec<u8>, model: &Model) -> Result<(), AllocError> {
-    push_all(shown, &[b"model ", model.name.as_slice()])?;
-    push_ports(alloc, shown, b" in", model.ins.as_slice())?;
-    push_ports(alloc, shown, b" out", model.outs.as_slice())?;
-    push_ports(alloc, shown, b" clock", model.clocks.as_slice())?;
-    shown.extend_from_slice(b";")
-}
-
-fn push_cover(alloc: Global, shown: &mut Vec<u8>, cover: &Cover) -> Result<(), AllocError> {
-    push_start(alloc, shown, "names", cover.line, cover.on)?;
-    push_words(shown, &cover.ins)?;
-    push_all(shown, &[b" >", cover.out.as_slice()])?;
-    push_words(shown, &cover.rows)?;
-    shown.extend_from_slice(b";")
+fn push_head(page: &mut Page, model: &Model) {
+    page.push(b"model ");
+    page.push(model.name.as_slice());
+    push_ports(page, b" in", model.ins.as_slice());
+    push_ports(page, b" out", model.outs.as_slice());
+    push_ports(page, b" clock", model.clocks.as_slice());
+    page.push(b";");
 }
 
 // Appends the line of a cover or latch, and whether the cover's rows end in `1` or the latch has a
 // kind.
-fn push_start(
-    alloc: Global,
-    shown: &mut Vec<u8>,
-    about: &str,
-    line: u64,
-    has: bool,
-) -> Result<(), AllocError> {
-    let start = format!(in alloc; " {about} {line} {has}")?;
-    shown.extend_from_slice(start.as_bytes())
+fn push_start(page: &mut Page, about: &[u8], line: u64, has: bool) {
+    page.push(about);
+    page.push_number(line);
+    page.push(if has { b" true" } else { b" false" });
 }
 
-fn init_name(init: u8) -> &'static [u8] {
-    match init {
-        0 => b" 0",
-        1 => b" 1",
-        2 => b" 2",
-        3 => b" 3",
-        _ => b" ?",
-    }
+fn push_cover(page: &mut Page, cover: &Cover) {
+    push_start(page, b" names ", cover.line, cover.on);
+    push_words(page, cover.ins.as_slice());
+    page.push(b" >");
+    page.push(cover.out.as_slice());
+    push_words(page, cover.rows.as_slice());
+    page.push(b";");
 }
 
-fn push_latch(alloc: Global, shown: &mut Vec<u8>, latch: &LatchRow) -> Result<(), AllocError> {
-    push_start(alloc, shown, "latch", latch.line, latch.kind.is_some())?;
-    push_all(shown, &[init_name(latch.init)])?;
+fn push_latch(page: &mut Page, latch: &LatchRow) {
+    push_start(page, b" latch ", latch.line, latch.kind.is_some());
+    page.push(b" ");
+    page.push_number(u64::from(latch.init));
     if let Some(control) = &latch.control {
-        push_all(shown, &[b" ", control.as_slice()])?;
+        page.push_word(control.as_slice());
     }
-    shown.extend_from_slice(b";")
+    page.push(b";");
 }
 
-fn push_subckt(alloc: Global, shown: &mut Vec<u8>, subckt: &Subckt) -> Result<(), AllocError> {
-    let start = format!(in alloc; " subckt {} ", subckt.line)?;
-    push_all(shown, &[start.as_bytes(), subckt.model.as_slice()])
-}
-
-fn push_pins(shown: &mut Vec<u8>, subckt: &Subckt) -> Result<(), AllocError> {
+fn push_subckt(page: &mut Page, subckt: &Subckt) {
+    page.push(b" subckt ");
+    page.push_number(subckt.line);
+    page.push_word(subckt.model.as_slice());
     for pin in subckt.pins.as_slice() {
-        push_all(
-            shown,
-            &[b" ", pin.formal.as_slice(), b"|", pin.actual.as_slice()],
-        )?;
+        page.push_word(pin.formal.as_slice());
+        page.push(b"|");
+        page.push(pin.actual.as_slice());
     }
-    shown.extend_from_slice(b";")
+    page.push(b";");
 }
 
-fn push_model(alloc: Global, shown: &mut Vec<u8>, model: &Model) -> Result<(), AllocError> {
-    push_head(alloc, shown, model)?;
+fn push_model(page: &mut Page, model: &Model) {
+    push_head(page, model);
     for cover in model.covers.as_slice() {
-        push_cover(alloc, shown, cover)?;
+        push_cover(page, cover);
     }
     for latch in model.latches.as_slice() {
-        push_latch(alloc, shown, latch)?;
+        push_latch(page, latch);
     }
     for subckt in model.subckts.as_slice() {
-        push_subckt(alloc, shown, subckt)?;
-        push_pins(shown, subckt)?;
+        push_subckt(page, subckt);
     }
-    Ok(())
 }
 
 // The models as text, one after the other.
-fn models_shown(alloc: Global, models: &[Model]) -> Result<Vec<u8>, AllocError> {
-    let mut shown = Vec::new(alloc);
+fn push_models(page: &mut Page, models: &[Model]) {
     for model in models {
-        push_model(alloc, &mut shown, model)?;
+        push_model(page, model);
     }
-    Ok(shown)
 }
 
-// The models that were read, or the fault, as text.
-fn read_shown(alloc: Global, read: &Result<List<Model>, ReadError>) -> Result<Vec<u8>, AllocError> {
+// The models that were read, or the fault.
+fn push_read(page: &mut Page, read: &Result<List<Model>, ReadError>) {
     match read {
-        Ok(models) => models_shown(alloc, models.as_slice()),
-        Err(ReadError::Fault(fault)) => fault_shown(alloc, fault),
-        Err(ReadError::NoMemory) => Err(AllocError),
+        Ok(models) => push_models(page, models.as_slice()),
+        Err(ReadError::Fault(fault)) => page.push_fault(fault),
+        Err(ReadError::NoMemory) => page.cut(),
     }
-}
-
-fn expect_models(alloc: Global, text: &[u8], want: &[u8]) -> Result<(), Fail> {
-    expect(&read_shown(alloc, &models_of(alloc, text))?, want)
 }
 
 // Texts, and after `== ` their models or faults. A line that begins with `>` parts two texts, and
@@ -277,9 +244,11 @@ no lines
 // The fault is on the earliest line at fault, and there of the lowest rule.
 #[test]
 fn models_are_read(rt: HostRuntime) -> Result<(), Fail> {
+    let mut page = Page::new(rt.alloc());
     for case in TEXTS.split("\n>") {
         let (text, want) = cut(case);
-        expect_models(rt.alloc(), text.as_bytes(), want.as_bytes())?;
+        push_read(&mut page, &models_of(rt.alloc(), text.as_bytes()));
+        page.expect(want.as_bytes());
     }
-    Ok(())
+    page.end()
 }

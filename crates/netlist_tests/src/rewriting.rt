@@ -1,20 +1,22 @@
 // Lists of cells that are rewritten to fewer cells.
 use crate::covers::{are_there, empty};
-use crate::texts::expect_number;
-use cell_core::{Cell, CellError, CellList, Src};
-use cell_rewriting::rewritten;
+use crate::pages::Page;
+use cell_core::{Cell, CellList, Src};
+use cell_rewriting::{RewriteError, rewritten};
 use lists::List;
-use std::alloc::{AllocError, Global};
 use std::test::Fail;
 
-// Adds these cells, and skips those that read a source that is not there.
-fn add_cells(list: &mut CellList, alloc: Global, cells: &[Cell]) -> Result<(), CellError> {
-    for cell in cells {
-        if cell.reads_there(list.inputs as usize, list.starts.len(), list.cells.len()) {
-            list.push(alloc, *cell)?;
-        }
+fn push_cell(page: &mut Page, list: &mut CellList, cell: Cell) {
+    if cell.reads_there(list.inputs as usize, list.starts.len(), list.cells.len()) {
+        page.note_refusal(list.push(page.alloc(), cell).is_err());
     }
-    Ok(())
+}
+
+// Adds these cells, and skips those that read a source that is not there.
+fn push_cells(page: &mut Page, list: &mut CellList, cells: &[Cell]) {
+    for cell in cells {
+        push_cell(page, list, *cell);
+    }
 }
 
 // The list with nets of these sources, or unchanged if one of these is not there.
@@ -33,63 +35,59 @@ fn with_nets(list: CellList, nets: Vec<Src>) -> CellList {
 }
 
 // A list with three inputs and these cells and nets.
-pub fn list_of(alloc: Global, cells: &[Cell], nets: &[Src]) -> Result<CellList, CellError> {
-    let nets = nets.to_vec(alloc)?;
-    let mut list = empty(alloc, 3);
-    add_cells(&mut list, alloc, cells)?;
-    Ok(with_nets(list, nets))
+pub fn list_of(page: &mut Page, cells: &[Cell], nets: &[Src]) -> CellList {
+    let mut list = empty(page.alloc(), 3);
+    push_cells(page, &mut list, cells);
+    match nets.to_vec(page.alloc()) {
+        Ok(nets) => with_nets(list, nets),
+        Err(_) => {
+            page.cut();
+            list
+        }
+    }
 }
 
-// Adds the list's cells, and the sources of its nets.
-fn push_list(page: &mut String, list: &CellList) -> Result<(), AllocError> {
+/// Appends the list's cells, and the sources of its nets.
+pub fn push_list(page: &mut Page, list: &CellList) {
     for cell in list.cells.as_slice() {
-        write!(page, "{cell:?} ")?;
+        page.push_item(cell);
     }
     for src in list.nets.as_slice() {
-        write!(page, "{src:?} ")?;
+        page.push_item(src);
     }
-    Ok(())
-}
-
-pub fn is_shown(alloc: Global, list: &CellList, want: &str) -> Result<bool, AllocError> {
-    let mut page = String::new(alloc);
-    push_list(&mut page, list)?;
-    Ok(page.as_str() == want)
 }
 
 // How many of the lists have this text, or 0 if the first one has another.
-fn count_of(alloc: Global, lists: &[CellList], want: &str) -> Result<u64, AllocError> {
+fn count_of(page: &mut Page, lists: &[CellList], want: &str) -> u64 {
     let mut count: u64 = 0;
     for list in lists {
-        if is_shown(alloc, list, want)? {
+        push_list(page, list);
+        if page.tells(want.as_bytes()) {
             count = count.saturating_add(1);
         } else if count == 0 {
-            return Ok(0);
+            return 0;
         }
     }
-    Ok(count)
+    count
 }
 
-fn expect_eight(alloc: Global, lists: &[CellList], want: &str) -> Result<(), Fail> {
-    expect_number(want, count_of(alloc, lists, want)?, 8)
+fn expect_eight(page: &mut Page, lists: &Result<Vec<CellList>, RewriteError>, want: &str) {
+    match lists {
+        Ok(lists) => {
+            let count = count_of(page, lists, want);
+            page.expect_number(want, count, 8);
+        }
+        Err(_) => page.cut(),
+    }
 }
 
-fn expect_rewritten(alloc: Global, list: &CellList, kept: &[Src], want: &str) -> Result<(), Fail> {
-    let lists = rewritten(alloc, list, kept)?;
-    expect_eight(alloc, &lists, want)
-}
-
-// Fails unless exactly eight of the lists to which these cells and nets are rewritten have this
+// Notes it unless exactly eight of the lists to which these cells and nets are rewritten have this
 // text, the first one among them. The sources in `kept` are kept.
-fn expect_lists(
-    alloc: Global,
-    cells: &[Cell],
-    nets: &[Src],
-    kept: &[Src],
-    want: &str,
-) -> Result<(), Fail> {
-    let list = list_of(alloc, cells, nets)?;
-    expect_rewritten(alloc, &list, kept, want)
+fn expect_lists(page: &mut Page, cells: &[Cell], nets: &[Src], kept: &[Src], want: &str) {
+    let list = list_of(page, cells, nets);
+    let lists = rewritten(page.alloc(), &list, kept);
+    drop(list);
+    expect_eight(page, &lists, want);
 }
 
 // An XOR of two inputs as two AND-NOTs and an OR.
@@ -129,8 +127,9 @@ const LISTS: &[(&[Cell], &[Src], &[Src], &str)] = &[
 
 #[test]
 fn lists_come_to_have_fewer_cells(rt: HostRuntime) -> Result<(), Fail> {
+    let mut page = Page::new(rt.alloc());
     for (cells, nets, kept, want) in LISTS {
-        expect_lists(rt.alloc(), cells, nets, kept, want)?;
+        expect_lists(&mut page, cells, nets, kept, want);
     }
-    Ok(())
+    page.end()
 }

@@ -1,15 +1,23 @@
 // The weights of models.
-use crate::texts::{expect_number, joined, models_of};
-use blif_reader::Model;
+use crate::pages::Page;
+use crate::texts::models_of;
+use blif_reader::{Model, ReadError};
+use lists::List;
 use netlist_core::weight_of;
-use std::alloc::Global;
 use std::test::Fail;
 
-// Fails unless there is exactly one model, and it has this weight.
-fn expect_weight(about: &str, models: &[Model], want: u64) -> Result<(), Fail> {
+// Notes it unless there is exactly one model, and it has this weight.
+fn expect_weight(page: &mut Page, about: &str, read: &Result<List<Model>, ReadError>, want: u64) {
+    match read {
+        Ok(models) => expect_one(page, about, models.as_slice(), want),
+        Err(_) => page.expect(b"models"),
+    }
+}
+
+fn expect_one(page: &mut Page, about: &str, models: &[Model], want: u64) {
     match models {
-        [model] => expect_number(about, weight_of(model), want),
-        _ => Err(Fail::new("not one model")),
+        [model] => page.expect_number(about, weight_of(model), want),
+        _ => page.expect(b"one model"),
     }
 }
 
@@ -35,15 +43,19 @@ const CLOCKS: &[(&str, &[u8], u64)] = &[
     ("a clock beside the inputs", b".clock a clk", 33),
 ];
 
-fn expect_adder(alloc: Global, about: &str, clocks: &[u8], want: u64) -> Result<(), Fail> {
-    let text = joined(alloc, &[FULL_ADDER, clocks])?;
-    expect_weight(about, models_of(alloc, &text)?.as_slice(), want)
+fn text_with(page: &mut Page, clocks: &[u8]) -> Vec<u8> {
+    let mut text = Vec::new(page.alloc());
+    page.note_refusal(text.extend_from_slice(FULL_ADDER).is_err());
+    page.note_refusal(text.extend_from_slice(clocks).is_err());
+    text
 }
 
 #[test]
 fn a_full_adder_has_its_weight(rt: HostRuntime) -> Result<(), Fail> {
+    let mut page = Page::new(rt.alloc());
     for (about, clocks, want) in CLOCKS {
-        expect_adder(rt.alloc(), about, clocks, *want)?;
+        let text = text_with(&mut page, clocks);
+        expect_weight(&mut page, about, &models_of(rt.alloc(), &text), *want);
     }
-    Ok(())
+    page.end()
 }
