@@ -1,0 +1,9 @@
+//! Texts of routed planes carry netlists.
+#![tactic(auto)]
+
+mod laws;
+
+pub use laws::{
+    routed_are_lifted, routed_carry_designs, routed_designs_are_carried, routed_show_runs,
+    routed_texts_carry,
+};
