@@ -72,7 +72,8 @@ SpreadCrossingsAreLawful =
     (c : Crossing) → KeepsCrossingLaw c → (d : ℕ) → c.time ≤ d → KeepsGateLaw (spread c d)
 
 -- So at each period it answers each row of bits, for each difference, also beyond the period, if
--- the inputs' generations are far enough apart within each period.
+-- the inputs' generations are far enough apart within each period. Where the second input comes
+-- first, exchange the two: the crossing's law says the same of both.
 abbrev pub CrossingsAnswerEachRow : Type 0
 CrossingsAnswerEachRow =
     (c : Crossing) → KeepsCrossingLaw c → (period d : ℕ) → c.time ≤ d % period
@@ -80,7 +81,7 @@ CrossingsAnswerEachRow =
     → AnswersEachRow period (spread c d).plane (spread c d).ins (spread c d).outs
     (gate_answer (spread c d))
 
--- and is a gate of routed planes
+-- and is a gate for this period
 abbrev pub CrossingsAreGates : Type 0
 CrossingsAreGates =
     (c : Crossing) → KeepsCrossingLaw c → (period d : ℕ) → c.time ≤ d % period

@@ -13,7 +13,7 @@ pub fn crossings_answer_each_row()
     ensures { CrossingsAnswerEachRow }
 {}
 
-/// So it is a gate of routed planes there.
+/// So it is a gate for this period.
 pub fn crossings_are_gates()
     ensures { CrossingsAreGates }
 {}

@@ -1,4 +1,6 @@
 //! Crossings: gates with two inputs that may be lit at any generations that are far enough apart.
+//!
+//! Theorem: `keeps_crossing_law`, `crossings_answer_each_row`.
 #![tactic(auto)]
 
 mod laws;

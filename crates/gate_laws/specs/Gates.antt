@@ -7,9 +7,11 @@ use Rattle.wire_laws.specs.Signals.{cell_state, IsReady}
 use Rattle.wire_laws.specs.Wires.{IsNear}
 use Rattle.wire_laws.specs.Rows.{Port, AnswersEachRow}
 
--- A gate: its cells, which are conductors; the cells of its inputs, each with the generation at
--- which it is lit; the cells of its outputs, each with its delay; its answer to the bits of the
--- inputs, by the number of the output; and the generations after which it takes new bits.
+-- A gate: a drawing with ports, which is used again and again. A port is a cell, and a generation of
+-- a use: an input is lit then if its bit is 1, an output if its bit of the answer is. So an output's
+-- generation is its delay. The answer gives the bit of each output, by its number, for the bits of
+-- the inputs. The next use begins after the gate's time, or later. An output may be an input's cell,
+-- as in a gate of one cell, and a gate may have no outputs.
 pub record Gate : Type 0 where
   pub plane : Plane
   pub ins : List Port
@@ -62,7 +64,8 @@ pub record AnswersInTime (gate : Gate) (bits : List Bool) : Type 0 where
   pub calm : (cell : ℤ × ℤ) → IsCalmCell gate (used gate bits gate.time) cell
 
 -- The cells are conductors, the ports among them, and each port's generation is below the gate's
--- time.
+-- time. So two uses never overlap: a gate that could take new bits before its last output is lit
+-- keeps the law of gates with a longer time.
 pub record IsGateDrawn (gate : Gate) : Type 0 where
   pub long : 3 ≤ gate.time
   pub cells : (cell : ℤ × ℤ) → (cell_state gate.plane cell ≡ Empty)
@@ -92,14 +95,15 @@ GatesAnswerEachRow =
     (gate : Gate) → KeepsGateLaw gate → (period : ℕ) → gate.time ≤ period
     → AnswersEachRow period gate.plane gate.ins gate.outs (gate_answer gate)
 
--- The gate's cells are conductors, and at this period it is a part that answers each row of bits,
--- from the times of its ports on.
+-- The gate's cells are conductors, and at this period it is a part: it answers the row of bits of
+-- each cycle. The first cycle of each port begins at its generation. Nothing is said of the gate's
+-- time.
 pub record IsGateForPeriod (period : ℕ) (gate : Gate) : Type 0 where
   pub cells : (cell : ℤ × ℤ) → (cell_state gate.plane cell ≡ Empty)
       ⊎ (cell_state gate.plane cell ≡ Conductor)
   pub answers : AnswersEachRow period gate.plane gate.ins gate.outs (gate_answer gate)
 
--- a gate that keeps its law is one at each period from its time on
+-- a gate that keeps its law is one for each period from its time on
 abbrev pub LawfulAreGates : Type 0
 LawfulAreGates =
     (gate : Gate) → KeepsGateLaw gate → (period : ℕ) → gate.time ≤ period → IsGateForPeriod period gate

@@ -519,7 +519,7 @@ pub fn has_cells(
 /// Returns whether a drawing keeps the law of gates: rows of `width` cells, at most 1,024 in all,
 /// with up to three inputs, each lit at its own generation if its bit is 1; the outputs answer each
 /// row of bits by their tables, after their delays, and the gate takes new bits after `time`
-/// generations.
+/// generations. Uses that overlap are not tested: `time` must be above each delay.
 pub fn keeps_law(
     cells: &[State],
     width: usize,

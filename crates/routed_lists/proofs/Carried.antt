@@ -11,6 +11,7 @@ use Rattle.ww_rule.specs.Wireworld.{Plane}
 use Rattle.wire_laws.specs.Signals.{Signal, cell_state, is_lit, CarriesSignals}
 use Rattle.wire_laws.specs.Wires.{Wire, IsWireDrawn, IsLaid, ShareNoCell, AreDisjointWires, IsAwayFrom, AreWiresDrawn, ComesCyclesLater}
 use Rattle.wire_laws.proofs.Early.{lit_same}
+use Rattle.gate_laws.specs.Gates.{IsGateForPeriod}
 use Rattle.routed_planes.specs.Routed.{PlacedGate, placed_ins, placed_outs, placed_port, gates_plane, signals_of, AreGates, IsRouted}
 use Rattle.routed_planes.proofs.Routed.{routed_carry}
 use Rattle.cell_core.specs.declared.list.CellList.{CellList}

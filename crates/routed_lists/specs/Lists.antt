@@ -4,6 +4,7 @@ use Rattle.ww_rule.specs.Wireworld.{Plane}
 use Rattle.wire_laws.specs.Signals.{Signal, CarriesSignals}
 use Rattle.wire_laws.specs.Wires.{Wire, AreWiresDrawn}
 use Rattle.wire_laws.specs.Rows.{Port, signal_of}
+use Rattle.gate_laws.specs.Gates.{IsGateForPeriod}
 use Rattle.routed_planes.specs.Routed.{PlacedGate, placed_ins, placed_outs, gates_plane, StandAllApart}
 use Rattle.cell_core.specs.declared.cells.Src.{Src}
 use Rattle.cell_core.specs.declared.list.CellList.{CellList}
@@ -59,8 +60,8 @@ wire_in_run list rows wire =
       to = point_signal list rows wire.to;
     }
 
--- The gate is one at this period. Each of its ports has a
--- source, and those of its outputs have the bits of its answer to those of its inputs.
+-- The gate is one for this period. Each of its ports has a source, and those of its outputs have the
+-- bits of its answer to those of its inputs.
 pub record ComputesSources (period : ℕ) (list : CellList) (gate : SourcedGate) : Type 0 where
   pub law : IsGateForPeriod period gate.placed.gate
   pub ins : length gate.ins ≡ length gate.placed.gate.ins

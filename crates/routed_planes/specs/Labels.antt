@@ -4,6 +4,7 @@ use Rattle.ww_rule.specs.declared.pattern.State.TheVariants.{Empty, Head, Conduc
 use Rattle.ww_rule.specs.Wireworld.{Plane}
 use Rattle.wire_laws.specs.Signals.{Signal, cell_state, is_lit}
 use Rattle.wire_laws.specs.Wires.{Wire, IsNear, wire_state, AreWiresDrawn}
+use Rattle.gate_laws.specs.Gates.{IsGateForPeriod}
 use Rattle.routed_planes.specs.Routed.{PlacedGate, gate_plane, gates_plane, StandAllApart}
 
 -- whose a cell is: nobody's, that of a gate, or that of a wire and of a place on it

@@ -9,8 +9,8 @@ use Rattle.wire_laws.specs.Rows.{Port, signals_at}
 use Rattle.wire_laws.specs.Laws.{StandApart, side_by_side}
 use Rattle.gate_laws.specs.Gates.{Gate, gate_answer, IsGateForPeriod}
 
--- a gate that stands so many columns east and rows south of its drawing, and whose cycles begin at
--- a generation
+-- a gate that stands so many columns east and rows south of its drawing, and the generation at which
+-- its first use begins
 pub record PlacedGate : Type 0 where
   pub gate : Gate
   pub x : ℤ
@@ -50,7 +50,7 @@ signals_of ports [] bits = []
 signals_of ports (placed ∷ gates) bits =
     signals_at (ports placed) (bits 0) ++ signals_of ports gates (λ gate. bits (suc gate))
 
--- Each gate is one at this period. The gates stand apart, and the bits of their outputs are their
+-- Each gate is one for this period. The gates stand apart, and the bits of their outputs are their
 -- answers to those of their inputs.
 pub record AreGates (period : ℕ) (gates : List PlacedGate)
     (in_bits out_bits : (gate t i : ℕ) → Bool) : Type 0 where
@@ -68,8 +68,9 @@ GatesCarry =
     → CarriesSignals period (gates_plane gates) (signals_of placed_ins gates in_bits)
     (signals_of placed_outs gates out_bits)
 
--- The plane has the gates, and wires between them. Each input of a gate is at the end of a wire, or
--- is driven. Each wire begins at a port, and brings its bits some cycles later.
+-- The plane has the gates, and wires between them. Each input of a gate is at the end of one wire, or
+-- is driven. Each wire begins at a port, an output or an input, where any number of wires may begin;
+-- it ends at another cell, and brings its bits some cycles later.
 pub record IsRouted (period : ℕ) (gates : List PlacedGate)
     (in_bits out_bits : (gate t i : ℕ) → Bool) (wires : List Wire) (ins : List Signal)
     (plane : Plane) : Type 0 where
@@ -83,7 +84,8 @@ pub record IsRouted (period : ℕ) (gates : List PlacedGate)
   pub come : (wire : Wire) → Contains wires wire
       → (m : ℕ) × ComesCyclesLater period wire.size m wire.from wire.to
 
--- a routed plane carries the signals of its driven inputs to those of all ports
+-- A routed plane carries the signals of its driven inputs to those of all ports. Of the cells of
+-- wires nothing is said: a lone cell, which is a gate, splits a wire and shows its bits.
 abbrev pub RoutedCarry : Type 0
 RoutedCarry =
     (period : ℕ) → 3 ≤ period → (gates : List PlacedGate)

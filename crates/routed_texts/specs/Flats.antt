@@ -1,4 +1,4 @@
--- Texts of routed planes carry flat netlists.
+-- Texts of routed circuits carry flat netlists.
 use Rattle.std.specs.Prelude.{ℕ, ◌≡◌, Bool, List}
 use Rattle.ww_rule.specs.Grid.{Grid, plane_of}
 use Rattle.pattern_reading.specs.declared.ports.Ports.{Ports}

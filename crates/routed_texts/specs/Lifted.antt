@@ -1,4 +1,4 @@
--- Texts of routed planes carry the netlists that are lifted from them.
+-- Texts of routed circuits carry the netlists that are lifted from them.
 use Rattle.std.specs.Prelude.{ℕ, ◌<◌, ◌^◌, ◌≡◌, false, List, length}
 use Rattle.ww_rule.specs.Grid.{Grid, plane_of}
 use Rattle.pattern_reading.specs.declared.ports.Ports.{Ports}

@@ -18,7 +18,8 @@ in_point line i = (((pos line.x, pos line.y), 0), Input i)
 
 -- The table of a routed plane. The driven inputs are those of the IN lines, and others that have
 -- constant 0, which nothing drives. The OUT and NET lines are points that have the sources of the
--- list's outputs and nets, in order: an OUT line at the latency, a NET line at its offset.
+-- list's outputs and nets, in order: an OUT line at the latency, a NET line at its offset. So both
+-- stand at ports of gates, never on a wire.
 pub record IsTableOfPoints (list : CellList) (ins points : List Point) (ports : Ports)
     (plane : Plane) : Type 0 where
   pub in_lines : (i : ℕ) (line : PortLine) → slice_get ports.ins i ≡ Some line

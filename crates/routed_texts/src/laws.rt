@@ -1,4 +1,4 @@
-//! Laws of texts of routed planes: each function does nothing, and its contract is the law.
+//! Laws of texts of routed circuits: each function does nothing, and its contract is the law.
 ghost use Rattle.routed_texts.specs.Tables.{RoutedShowRuns};
 ghost use Rattle.routed_texts.specs.Flats.{RoutedTextsCarry, RoutedDesignsAreCarried};
 ghost use Rattle.routed_texts.specs.Lifted.{RoutedCarryDesigns, RoutedAreLifted};

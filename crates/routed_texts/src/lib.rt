@@ -1,4 +1,6 @@
-//! Texts of routed planes carry netlists.
+//! Texts of routed circuits, which are gates and wires, carry netlists.
+//!
+//! Theorem: `routed_show_runs`, `routed_designs_are_carried`, `routed_are_lifted`.
 #![tactic(auto)]
 
 mod laws;
