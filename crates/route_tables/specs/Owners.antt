@@ -5,7 +5,7 @@ use Rattle.tile_timing.specs.Window.{shown}
 use Rattle.wire_laws.specs.Wires.{Wire, IsNear}
 use Rattle.routed_planes.specs.Routed.{PlacedGate}
 use Rattle.routed_planes.specs.Labels.{Owner, Nobody, OfGate, OfWire, IsGateCell, IsWireCell, AreLabels}
-use Rattle.route_check.specs.Serials.{label_at, listed_cell, AreLabelled}
+use Rattle.route_tables.specs.Serials.{label_at, listed_cell, AreLabelled}
 
 -- The listed cells are those of the gates and of the wires, and no others: `own` says whose each is.
 -- A gate's number is the group of its cells, below the limit; wires have groups that are not.

@@ -1,0 +1,8 @@
+//! Drawings of gates that keep their laws.
+#![tactic(auto)]
+
+mod lawful;
+mod laws;
+
+pub use lawful::LawfulGate;
+pub use laws::lawful_are_gates_at_period;

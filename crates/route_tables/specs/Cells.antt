@@ -1,0 +1,89 @@
+-- What a check of tables shows of the cells of gates and wires.
+use Rattle.std.specs.Prelude.{ℤ, pos, ℕ, suc, ◌+◌, ◌/◌, ◌%◌, ◌<◌, ◌≤◌, ◌≡◌, ◌≢◌, ◌⊎◌, List, length, get_or, Some, slice_get}
+use Rattle.ww_rule.specs.declared.pattern.State.{State}
+use Rattle.ww_rule.specs.declared.pattern.State.TheVariants.{Empty, Conductor}
+use Rattle.wire_laws.specs.Signals.{cell_state}
+use Rattle.wire_laws.specs.Wires.{IsNear}
+use Rattle.routed_planes.specs.Routed.{gate_plane}
+use Rattle.lawful_gates.specs.Lawful.{IsLawful}
+use Rattle.route_tables.specs.declared.tables.Feed.{Feed}
+use Rattle.route_tables.specs.declared.tables.Feed.TheVariants.{Wire, Driven}
+use Rattle.route_tables.specs.declared.tables.GateInput.{GateInput}
+use Rattle.route_tables.specs.declared.tables.Tables.{Tables}
+use Rattle.route_tables.specs.Serials.{listed_cell}
+use Rattle.route_tables.specs.Tables.{table_gate, table_wire, gate_drawing, sourced_gate, IsPort, input_port, point_at, input_point, wire_path, box_plane, label, group, wire_number}
+
+-- an input of a gate is fed so
+abbrev pub IsFed : Tables → GateInput → Feed → Type 0
+IsFed t at feed = slice_get (table_gate t at.gate).feeds at.input ≡ Some feed
+
+-- the cell at a place of a gate's drawing
+abbrev pub gate_cell : Tables → (gate place : ℕ) → ℤ × ℤ
+gate_cell t k m = (
+  pos ((table_gate t k).x + m % (gate_drawing t (table_gate t k)).width),
+  pos ((table_gate t k).y + m / (gate_drawing t (table_gate t k)).width),
+)
+
+-- The cell is listed, in the gate's group. It is a conductor, or an input that a wire feeds.
+pub record IsCellOfGate (t : Tables) (states : List State) (k : ℕ) (cell : ℤ × ℤ) : Type 0 where
+  pub number : ℕ
+  pub listed : label t cell ≡ suc number
+  pub grouped : group t number ≡ k
+  pub state : (cell_state (box_plane t states) cell ≡ Conductor)
+      ⊎ ((i w : ℕ) × IsFed t (record { gate = k; input = i }) (Wire w)
+      × ((input_point t (record { gate = k; input = i })).0.0 ≡ cell))
+
+-- the gate's drawing keeps its law, and each of its cells is there
+pub record IsGateThere (t : Tables) (states : List State) (k : ℕ) : Type 0 where
+  pub lawful : IsLawful (gate_drawing t (table_gate t k))
+  pub cells : (m : ℕ) → get_or (gate_drawing t (table_gate t k)).cells m Empty ≢ Empty
+      → IsCellOfGate t states k (gate_cell t k m)
+
+-- a listed cell in a gate's group is drawn in the gate
+abbrev pub IsDrawnInGate : Tables → (n : ℕ) → Type 0
+IsDrawnInGate t n =
+    group t n < length t.gates
+    → cell_state (gate_plane (sourced_gate t (table_gate t (group t n))).placed)
+    (listed_cell t.cells n) ≢ Empty
+
+-- A wire leads from a port to another cell, that of an input. It has a cell, its cells are listed,
+-- in its group, and each cell of its path is beside the next.
+pub record IsWireThere (t : Tables) (w : ℕ) : Type 0 where
+  pub begins : IsPort t (table_wire t w).from
+  pub ends : IsPort t (input_port (table_wire t w).to)
+  pub two_ends : (point_at t (table_wire t w).from).0.0 ≢ (input_point t (table_wire t w).to).0.0
+  pub some : 0 < (table_wire t w).size
+  pub inside : (table_wire t w).start + (table_wire t w).size ≤ length t.cells
+  pub grouped : (i : ℕ) → i < (table_wire t w).size
+      → group t ((table_wire t w).start + i) ≡ length t.gates + w
+  pub goes_on : (i : ℕ) → i ≤ (table_wire t w).size
+      → IsNear (wire_path t (table_wire t w) i) (wire_path t (table_wire t w) (suc i))
+
+-- a listed cell in a wire's group is one of the wire's cells
+abbrev pub IsOnWire : Tables → (n : ℕ) → Type 0
+IsOnWire t n =
+    length t.gates ≤ group t n
+    → (wire_number t n < length t.wires) × ((table_wire t (wire_number t n)).start ≤ n)
+    × (n < (table_wire t (wire_number t n)).start + (table_wire t (wire_number t n)).size)
+
+-- beside a wire's cell there is nothing but its path: the cell before it, itself, the one after it
+abbrev pub IsAlone : Tables → (w i : ℕ) → Type 0
+IsAlone t w i =
+    (cell : ℤ × ℤ) → IsNear cell (wire_path t (table_wire t w) (suc i))
+    → (label t cell ≡ 0)
+    ⊎ ((j : ℕ) × (j < 3) × (label t cell ≡ label t (wire_path t (table_wire t w) (i + j))))
+
+-- the input at the end of a wire is fed by this wire, and a driven one by its drive
+abbrev pub FeedsItsEnd : Tables → (w : ℕ) → Type 0
+FeedsItsEnd t w = IsFed t (table_wire t w).to (Wire w)
+
+abbrev pub IsDrivenInput : Tables → (d : ℕ) → GateInput → Type 0
+IsDrivenInput t d at = IsPort t (input_port at) × IsFed t at (Driven d)
+
+-- what feeds an input leads there
+abbrev pub FeedsInput : Tables → GateInput → Feed → Type 0
+FeedsInput t at (Wire w) = (w < length t.wires) × ((table_wire t w).to ≡ at)
+FeedsInput t at (Driven d) = slice_get t.driven d ≡ Some at
+
+abbrev pub IsFedRightly : Tables → GateInput → Type 0
+IsFedRightly t at = (feed : Feed) × IsFed t at feed × FeedsInput t at feed
