@@ -1,6 +1,8 @@
 //! Tables of a routed circuit: its gates, wires and cells, and what a check of them shows.
 #![tactic(auto)]
 
+mod reading;
 mod tables;
 
+pub use reading::state_at;
 pub use tables::{Feed, GateInput, TableGate, TableWire, Tables};
