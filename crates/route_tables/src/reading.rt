@@ -4,7 +4,7 @@ ghost use Rattle.tile_timing.specs.Window.{shown};
 ghost use Rattle.routed_lists.specs.Runs.{src_at};
 ghost use Rattle.lawful_gates.specs.Lawful.{port_in_cell};
 ghost use Rattle.route_tables.specs.Serials.{label_at};
-ghost use Rattle.route_tables.specs.Tables.{sourced_by, gate_drawing, table_gate, table_wire, point_at, group, label};
+ghost use Rattle.route_tables.specs.Tables.{sourced_by, gate_drawing, table_gate, table_wire, IsPort, point_at, wire_path, group, label};
 ghost use Rattle.route_tables.specs.Reading.{placed_at, StandsAt, IsPortAt};
 
 use crate::{GateInput, TableGate, TableWire, Tables};
@@ -186,5 +186,33 @@ impl Tables {
         ensures { result ≡ label self.now (pos cell.0, pos cell.1) }
     {
         self.label_before(cell.0 as usize + 1, cell.1 as usize + 1)
+    }
+
+    // The cell of a port, if it is there and has a source.
+    fn port_cell(&self, at: DrawnPort) -> Option<(u32, u32)>
+        ensures { IfSome result (λ cell. IsPort self.now at
+            × ((pos cell.0, pos cell.1) ≡ (point_at self.now at).0.0)) }
+    {
+        match self.port(at) {
+            Some(port) => Some((port.x, port.y)),
+            None => None,
+        }
+    }
+
+    /// Returns the cell of a wire's path at a place, if it is there: first that of the port, then
+    /// the wire's own cells, and last that of the input.
+    pub fn path_cell(&self, wire: TableWire, i: usize) -> Option<(u32, u32)>
+        ensures { IfSome result (λ cell. (pos cell.0, pos cell.1) ≡ wire_path self.now wire i) }
+    {
+        if i == 0 {
+            return self.port_cell(wire.from);
+        }
+        if i <= wire.size as usize {
+            return Some(self.cell(wire.start as usize + (i - 1)));
+        }
+        self.port_cell(DrawnPort {
+            gate: wire.to.gate,
+            port: GatePort::In(wire.to.input),
+        })
     }
 }
