@@ -1,5 +1,5 @@
 // What stands in the tables.
-ghost use Rattle.std.specs.Prelude.{◌≡◌, ◌+◌, ◌<◌, ◌≤◌, ◌^◌, pos, ◌-ℤ◌, get_or, length, IfSome};
+ghost use Rattle.std.specs.Prelude.{◌≡◌, ◌+◌, ◌<◌, ◌≤◌, ◌^◌, pos, ◌-ℤ◌, get_or, length, slice_get, IfSome};
 ghost use Rattle.tile_timing.specs.Window.{shown};
 ghost use Rattle.routed_lists.specs.Runs.{src_at};
 ghost use Rattle.lawful_gates.specs.Lawful.{port_in_cell};
@@ -7,7 +7,7 @@ ghost use Rattle.route_tables.specs.Serials.{label_at};
 ghost use Rattle.route_tables.specs.Tables.{sourced_by, gate_drawing, table_gate, table_wire, IsPort, point_at, wire_path, group, label};
 ghost use Rattle.route_tables.specs.Reading.{placed_at, StandsAt, IsPortAt};
 
-use crate::{GateInput, TableGate, TableWire, Tables};
+use crate::{Feed, GateInput, TableGate, TableWire, Tables};
 use cell_core::Src;
 use lawful_gates::{LawfulGate, PortCell};
 use routed_core::{DrawnPort, GatePort};
@@ -131,6 +131,19 @@ impl Tables {
                 GatePort::Out(o) => source_at(gate.outs.as_slice(), o),
             },
             None => Src::Zero,
+        }
+    }
+
+    /// Returns what feeds an input, if it is there.
+    pub fn feed(&self, at: GateInput) -> Option<Feed>
+        ensures { result ≡ slice_get (table_gate self.now at.gate).feeds at.input }
+    {
+        match self.gates.as_slice().get(at.gate as usize) {
+            Some(gate) => match gate.feeds.as_slice().get(at.input as usize) {
+                Some(feed) => Some(*feed),
+                None => None,
+            },
+            None => None,
         }
     }
 
