@@ -1,6 +1,7 @@
 -- Drawings of gates that keep their laws, and the gates that they draw.
-use Rattle.std.specs.Prelude.{ℕ, ◌+◌, ◌<◌, ◌≤◌, ◌≡◌, ◌%◌, Bool, ◌&&◌, ◌||◌, not, List, length, get_or}
+use Rattle.std.specs.Prelude.{pos, ℕ, ◌+◌, ◌<◌, ◌≤◌, ◌≡◌, ◌%◌, Bool, ◌&&◌, ◌||◌, not, List, length, get_or}
 use Rattle.lists.specs.Items.{flag_at}
+use Rattle.wire_laws.specs.Rows.{Port}
 use Rattle.gate_laws.specs.Gates.{Gate, KeepsGateLaw, IsGateForPeriod}
 use Rattle.gate_laws.specs.Drawings.{window_gate, in_at}
 use Rattle.crossing_laws.specs.Crossings.{Crossing, KeepsCrossingLaw, spread}
@@ -10,6 +11,7 @@ use Rattle.gate_library.specs.declared.gate.Answer.TheVariants.{Copy, Or, Xor, A
 use Rattle.gate_library.specs.declared.gate.Timing.{Timing}
 use Rattle.gate_library.specs.declared.gate.Timing.TheVariants.{Together, Apart}
 use Rattle.gate_library.specs.declared.gate.GateDrawing.{GateDrawing}
+use Rattle.lawful_gates.specs.declared.ports.PortCell.{PortCell}
 
 -- the gate that is drawn, if its inputs are lit together
 abbrev pub gate_together : GateDrawing → Gate
@@ -70,3 +72,7 @@ abbrev pub LawfulAreGatesAtPeriod : Type 0
 LawfulAreGatesAtPeriod =
     (d : GateDrawing) → IsLawful d → (period later : ℕ) → FitsPeriod d.timing d.time period later
     → IsGateForPeriod period (gate_at d later)
+
+-- a port of a drawing, or of a gate that stands somewhere
+abbrev pub port_in_cell : PortCell → Port
+port_in_cell port = ((pos port.x, pos port.y), port.time)

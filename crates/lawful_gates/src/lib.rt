@@ -3,6 +3,8 @@
 
 mod lawful;
 mod laws;
+mod ports;
 
 pub use lawful::LawfulGate;
 pub use laws::lawful_are_gates_at_period;
+pub use ports::PortCell;

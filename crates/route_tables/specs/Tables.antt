@@ -60,12 +60,12 @@ abbrev pub gate_drawing : Tables → TableGate → GateDrawing
 gate_drawing t gate = get_or t.kinds gate.kind no_drawing
 
 -- the gates, where they stand and with their sources
-abbrev pub sourced_gate : Tables → TableGate → SourcedGate
-sourced_gate t gate =
+abbrev pub sourced_by : GateDrawing → TableGate → SourcedGate
+sourced_by drawing gate =
     record {
       placed =
           record {
-            gate = gate_at (gate_drawing t gate) gate.later;
+            gate = gate_at drawing gate.later;
             x = pos gate.x;
             y = pos gate.y;
             first = gate.first;
@@ -73,6 +73,9 @@ sourced_gate t gate =
       ins = gate.ins;
       outs = gate.outs;
     }
+
+abbrev pub sourced_gate : Tables → TableGate → SourcedGate
+sourced_gate t gate = sourced_by (gate_drawing t gate) gate
 
 abbrev pub sourced_gates : Tables → List SourcedGate
 sourced_gates t = map (sourced_gate t) t.gates

@@ -1,6 +1,10 @@
 //! Tables of a routed circuit: its gates, wires and cells, and what a check of them shows.
 #![tactic(auto)]
 
+mod fault;
+mod reading;
 mod tables;
 
+pub use fault::{CellFault, FaultWord};
+pub use reading::state_at;
 pub use tables::{Feed, GateInput, TableGate, TableWire, Tables};

@@ -1,0 +1,25 @@
+-- What is read in tables.
+use Rattle.std.specs.Prelude.{pos, ◌+ℤ◌, ◌+◌, ◌≡◌}
+use Rattle.wire_laws.specs.Rows.{Port}
+use Rattle.routed_lists.specs.Lists.{SourcedGate}
+use Rattle.routed_core.specs.declared.drawing.DrawnPort.{DrawnPort}
+use Rattle.routed_core.specs.declared.drawing.GatePort.{GatePort}
+use Rattle.lawful_gates.specs.declared.ports.PortCell.{PortCell}
+use Rattle.lawful_gates.specs.Lawful.{port_in_cell}
+use Rattle.route_tables.specs.declared.tables.TableGate.{TableGate}
+use Rattle.route_tables.specs.declared.tables.Tables.{Tables}
+use Rattle.route_tables.specs.Tables.{HasPort, IsPort, gate_point, point_at}
+
+-- a port of a gate's drawing, where the gate stands
+abbrev pub placed_at : TableGate → PortCell → Port
+placed_at gate port = (
+  (pos port.x +ℤ pos gate.x, pos port.y +ℤ pos gate.y),
+  gate.first + port.time,
+)
+
+-- the port is there, and stands here
+abbrev pub StandsAt : SourcedGate → GatePort → PortCell → Type 0
+StandsAt gate port here = HasPort gate port × (port_in_cell here ≡ (gate_point gate port).0)
+
+abbrev pub IsPortAt : Tables → DrawnPort → PortCell → Type 0
+IsPortAt t at here = IsPort t at × (port_in_cell here ≡ (point_at t at).0)
