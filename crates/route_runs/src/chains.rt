@@ -1,5 +1,5 @@
 // Rows of latches.
-ghost use Rattle.std.specs.Prelude.{◌≡◌, ◌×◌, length, IfOk, IfSome};
+ghost use Rattle.std.specs.Prelude.{◌≡◌, length, IfOk, IfSome};
 ghost use Rattle.route_runs.specs.Chains.{IsLatch, LeadsBack};
 
 use cell_core::{CellList, Src, is_same_src};
@@ -7,6 +7,7 @@ use lists::OutOfMemory;
 use std::alloc::Global;
 
 // A latch's start bit, and what it reads.
+#[derive(Clone, Copy)]
 struct LatchRow {
     reads: Src,
     start: bool,

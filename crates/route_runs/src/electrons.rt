@@ -1,21 +1,24 @@
 // Electrons on wires.
-ghost use Rattle.std.specs.Prelude.{◌≡◌, ◌<◌, ◌≤◌, ◌+◌, ◌*◌, ◌^◌, suc, pos, true, false, ℕ, length, get_or, if◌then◌else◌, IsTrue};
+ghost use Rattle.std.specs.Prelude.{◌≡◌, ◌<◌, ◌≤◌, ◌+◌, ◌*◌, ◌^◌, suc, pos, false, ℕ, length, if◌then◌else◌, IsTrue};
 ghost use Rattle.lists.specs.Items.{flag_at};
-ghost use Rattle.tile_timing.specs.Window.{shown};
+ghost use Rattle.wire_laws.specs.Signals.{cell_state};
+ghost use Rattle.route_tables.specs.Serials.{listed_cell};
+ghost use Rattle.route_tables.specs.Tables.{box_plane};
 ghost use Rattle.route_runs.specs.Electrons.{comes_at, state_before};
 
-use route_tables::state_at;
+use route_tables::{TableWire, Tables, state_at};
 use ww_rule::State;
 
-fn is_same(a: State, b: State) -> bool
+/// Returns whether two states are one.
+pub fn is_same(a: State, b: State) -> bool
     ensures { IsTrue result → a ≡ b }
 {
     a == b
 }
 
-/// Returns whether a signal is lit at generation `g` that comes first at `first`, and has these bits
-/// in its cycles.
-pub fn comes_at(first: u64, period: u64, bits: &[bool], g: u64) -> bool
+// Whether a signal is lit at generation `g` that comes first at `first`, and has these bits in its
+// cycles.
+fn comes_at(first: u64, period: u64, bits: &[bool], g: u64) -> bool
     requires some { 0 < period }
     ensures { result ≡ comes_at first period bits.now g }
 {
@@ -32,8 +35,8 @@ pub fn comes_at(first: u64, period: u64, bits: &[bool], g: u64) -> bool
     }
 }
 
-/// Returns the state at generation 0 of a wire's cell after which so many cells come.
-pub fn state_before(first: u64, period: u64, bits: &[bool], after: u64) -> State
+// The state at generation 0 of a wire's cell after which so many cells come.
+fn state_before(first: u64, period: u64, bits: &[bool], after: u64) -> State
     requires some { 0 < period }
     requires low { after + 1 < 2 ^ 64 }
     ensures { result ≡ state_before first period bits.now after }
@@ -47,31 +50,65 @@ pub fn state_before(first: u64, period: u64, bits: &[bool], after: u64) -> State
     }
 }
 
-/// Returns whether a wire's cells have the states of the bits that come out at its end.
-pub fn show_bits(
+// Whether cell `i` of a wire has the state of the bits that come out at its end.
+fn shows_cell(
+    t: &Tables,
     states: &[State],
-    width: u32,
-    cells: &[(u32, u32)],
+    wire: TableWire,
+    i: u32,
     first: u64,
     period: u64,
     bits: &[bool],
 ) -> bool
     requires some { 0 < period }
-    requires low { length cells.now < 2 ^ 32 }
-    ensures { IsTrue result → ((i rest : ℕ) → i + suc rest ≡ length cells.now →
-        shown states.now width (pos (get_or cells.now i (0, 0)).0) (pos (get_or cells.now i (0, 0)).1)
+    requires inside { i < wire.size }
+    ensures { IsTrue result → ((rest : ℕ) → i + suc rest ≡ wire.size →
+        cell_state (box_plane t.now states.now) (listed_cell t.now.cells (wire.start + i))
         ≡ state_before first period bits.now rest) }
 {
-    for (i, cell) in cells.iter().enumerate() {
-        let after = (cells.len() - 1 - i) as u64;
-        if !is_same(
-            state_at(states, width, cell.0, cell.1),
-            state_before(first, period, bits, after),
-        ) {
+    let cell = t.cell(wire.start as usize + i as usize);
+    let after = u64::from(wire.size - 1 - i);
+    is_same(
+        state_at(states, t.width, cell.0, cell.1),
+        state_before(first, period, bits, after),
+    )
+}
+
+/// Returns whether a wire's cells have the states of the bits that come out at its end, the first of
+/// them at generation `first`.
+pub fn show_bits(
+    t: &Tables,
+    states: &[State],
+    wire: TableWire,
+    first: u64,
+    period: u64,
+    bits: &[bool],
+) -> bool
+    requires some { 0 < period }
+    ensures { IsTrue result → ((i : ℕ) → i < wire.size → (rest : ℕ) → i + suc rest ≡ wire.size →
+        cell_state (box_plane t.now states.now) (listed_cell t.now.cells (wire.start + i))
+        ≡ state_before first period bits.now rest) }
+{
+    for i in 0..wire.size {
+        if !shows_cell(t, states, wire, i, first, period, bits) {
             return false;
         }
     }
     true
+}
+
+/// Returns whether an input at the end of a wire is a head at generation 0 exactly if a bit comes
+/// out then, and else a conductor.
+pub fn shows_end(state: State, first: u64, period: u64, bits: &[bool]) -> bool
+    requires some { 0 < period }
+    ensures { IsTrue result → state ≡
+        (if comes_at first period bits.now 0 then State.Head else State.Conductor) }
+{
+    if comes_at(first, period, bits, 0) {
+        is_same(state, State::Head)
+    } else {
+        is_same(state, State::Conductor)
+    }
 }
 
 /// Returns whether no bit would be in a wire's first cell at generation 0, or before it.

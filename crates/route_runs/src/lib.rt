@@ -4,4 +4,13 @@
 mod answers;
 mod chains;
 mod electrons;
+mod error;
+mod gates;
+mod lines;
 mod periods;
+mod wires;
+
+pub use error::RunError;
+pub use gates::test_gate;
+pub use lines::{test_dark, test_inputs, test_nets, test_outputs};
+pub use wires::test_wire;
