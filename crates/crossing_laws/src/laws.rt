@@ -1,0 +1,24 @@
+//! Laws of crossings: each function does nothing, and its contract is the law.
+ghost use Rattle.crossing_laws.specs.Crossings.{SpreadCrossingsAreLawful, CrossingsAnswerEachRow, CrossingsAreGates, CrossingsCopy};
+
+/// A crossing that keeps its law is a gate that keeps the law of gates for each difference of its
+/// inputs' generations that is not below its time.
+pub fn spread_crossings_are_lawful()
+    ensures { SpreadCrossingsAreLawful }
+{}
+
+/// At each period a crossing answers each row of bits, for each difference of its inputs'
+/// generations, if these are far enough apart within each period.
+pub fn crossings_answer_each_row()
+    ensures { CrossingsAnswerEachRow }
+{}
+
+/// So it is a gate for this period.
+pub fn crossings_are_gates()
+    ensures { CrossingsAreGates }
+{}
+
+/// Each output that an input lights has the bit of this input.
+pub fn crossings_copy()
+    ensures { CrossingsCopy }
+{}
