@@ -128,10 +128,10 @@ const TAP_TWICE: Sketch = Sketch {
     ],
     ins: &[0, 0],
     outs: &[
-        (b't', 4, Answer::Copy(0)),
         (b'y', 4, Answer::Copy(1)),
         (b'z', 4, Answer::Copy(0)),
         (b'u', 4, Answer::Copy(1)),
+        (b't', 4, Answer::Copy(0)),
     ],
     time: 5,
     timing: Timing::Apart,
