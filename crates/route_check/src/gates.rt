@@ -5,13 +5,13 @@ ghost use Rattle.tile_timing.specs.Window.{shown};
 ghost use Rattle.wire_laws.specs.Signals.{cell_state};
 ghost use Rattle.routed_planes.specs.Routed.{gate_plane};
 ghost use Rattle.route_tables.specs.Serials.{listed_cell};
-ghost use Rattle.route_tables.specs.Tables.{sourced_by, table_gate, gate_drawing, input_point, box_plane, label, group};
-ghost use Rattle.route_tables.specs.Cells.{place_cell, IsFed, IsCellOfGate, HasCellsOfGate, IsGateThere, IsDrawnInGate};
+ghost use Rattle.route_tables.specs.Tables.{sourced_by, table_gate, gate_drawing, IsPort, input_port, input_point, box_plane, label, group};
+ghost use Rattle.route_tables.specs.Cells.{place_cell, IsFed, IsWireEnd, IsCellOfGate, HasCellsOfGate, IsGateThere, IsDrawnInGate};
 ghost use Rattle.route_tables.specs.declared.tables.Feed.TheVariants.{Wire};
 
+use crate::wires::input_port;
 use gate_library::GateDrawing;
 use route_tables::{CellFault, FaultWord, Feed, GateInput, TableGate, Tables, state_at};
-use routed_core::{DrawnPort, GatePort};
 use ww_rule::State;
 
 // The cell of a box at a place of a gate's drawing.
@@ -50,43 +50,44 @@ fn is_fed_by_wire(tables: &Tables, at: GateInput) -> bool
 }
 
 fn is_input_cell(tables: &Tables, at: GateInput, cell: (u32, u32)) -> bool
-    ensures { IsTrue result → (input_point tables.now at).0.0 ≡ (pos cell.0, pos cell.1) }
+    ensures there { IsTrue result → IsPort tables.now (input_port at) }
+    ensures here { IsTrue result → (input_point tables.now at).0.0 ≡ (pos cell.0, pos cell.1) }
 {
-    let port = DrawnPort {
-        gate: at.gate,
-        port: GatePort::In(at.input),
-    };
-    match tables.port(port) {
+    match tables.port(input_port(at)) {
         Some(there) => there.x == cell.0 && there.y == cell.1,
         None => false,
     }
 }
 
+fn is_end_at(tables: &Tables, at: GateInput, cell: (u32, u32)) -> bool
+    ensures { IsTrue result → IsWireEnd tables.now at.gate (pos cell.0, pos cell.1) }
+{
+    is_fed_by_wire(tables, at) && is_input_cell(tables, at, cell)
+}
+
 // Whether the cell is an input of the gate that a wire feeds.
 fn is_wire_end(tables: &Tables, k: u32, inputs: u32, cell: (u32, u32)) -> bool
-    ensures { IsTrue result → (i w : ℕ) × IsFed tables.now (record { gate = k; input = i }) (Wire w)
-        × ((input_point tables.now (record { gate = k; input = i })).0.0
-        ≡ (pos cell.0, pos cell.1)) }
+    ensures { IsTrue result → IsWireEnd tables.now k (pos cell.0, pos cell.1) }
 {
     for i in 0..inputs {
-        let at = GateInput { gate: k, input: i };
-        if is_fed_by_wire(tables, at) && is_input_cell(tables, at, cell) {
+        if is_end_at(tables, GateInput { gate: k, input: i }, cell) {
             return true;
         }
     }
     false
 }
 
+// A gate has at most so many inputs.
+const MOST_INPUTS: u32 = 3;
+
 fn is_calm_or_end(tables: &Tables, states: &[State], k: u32, cell: (u32, u32)) -> bool
     ensures { IsTrue result → ((cell_state (box_plane tables.now states.now) (pos cell.0, pos cell.1)
-        ≡ Conductor) ⊎ ((i w : ℕ) × IsFed tables.now (record { gate = k; input = i }) (Wire w)
-        × ((input_point tables.now (record { gate = k; input = i })).0.0
-        ≡ (pos cell.0, pos cell.1)))) }
+        ≡ Conductor) ⊎ IsWireEnd tables.now k (pos cell.0, pos cell.1)) }
 {
     if is_conductor(state_at(states, tables.width, cell.0, cell.1)) {
         return true;
     }
-    is_wire_end(tables, k, 3, cell)
+    is_wire_end(tables, k, MOST_INPUTS, cell)
 }
 
 fn is_cell_of_gate(tables: &Tables, states: &[State], k: u32, cell: (u32, u32)) -> bool

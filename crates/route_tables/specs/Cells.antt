@@ -24,14 +24,20 @@ IsFed t at feed = slice_get (table_gate t at.gate).feeds at.input ≡ Some feed
 abbrev pub place_cell : TableGate → GateDrawing → (place : ℕ) → ℤ × ℤ
 place_cell gate drawing m = (pos (gate.x + m % drawing.width), pos (gate.y + m / drawing.width))
 
+-- the cell is that of an input of the gate that a wire feeds
+pub record IsWireEnd (t : Tables) (k : ℕ) (cell : ℤ × ℤ) : Type 0 where
+  pub input : ℕ
+  pub wire : ℕ
+  pub there : IsPort t (input_port (record { gate = k; input = input }))
+  pub fed : IsFed t (record { gate = k; input = input }) (Wire wire)
+  pub here : (input_point t (record { gate = k; input = input })).0.0 ≡ cell
+
 -- The cell is listed, in the gate's group. It is a conductor, or an input that a wire feeds.
 pub record IsCellOfGate (t : Tables) (states : List State) (k : ℕ) (cell : ℤ × ℤ) : Type 0 where
   pub number : ℕ
   pub listed : label t cell ≡ suc number
   pub grouped : group t number ≡ k
-  pub state : (cell_state (box_plane t states) cell ≡ Conductor)
-      ⊎ ((i w : ℕ) × IsFed t (record { gate = k; input = i }) (Wire w)
-      × ((input_point t (record { gate = k; input = i })).0.0 ≡ cell))
+  pub state : (cell_state (box_plane t states) cell ≡ Conductor) ⊎ IsWireEnd t k cell
 
 -- each cell that is drawn is one of the gate's
 abbrev pub HasCellsOfGate : Tables → List State → (k : ℕ) → TableGate → GateDrawing → Type 0
