@@ -2,7 +2,7 @@
 use Rattle.std.proofs.Common.{ℤ, ℕ, suc, ◌+◌, ◌*◌, ◌<◌, ◌≤◌, ◌≡◌, sym, ap, ap₂, ◌∙◌, subst, inl, inr, Bool, List, [], ◌∷◌, ◌++◌, map, arith}
 use Rattle.std.specs.Prelude.{Contains, if◌then◌else◌}
 use Rattle.std.proofs.lemmas.Bool.{cases_lt}
-use Rattle.std.proofs.lemmas.List.{length-map}
+use Rattle.std.proofs.lemmas.List.{length-map, map-append}
 use Rattle.std.proofs.lemmas.Simd.{map-map}
 use Rattle.std.proofs.Math.Nat.{mul-le-mul_right}
 use Rattle.lists.proofs.Members.{In, in_from, contains_from, in_map, in_mapped}
@@ -18,7 +18,7 @@ use Rattle.cell_core.specs.declared.list.CellList.{CellList}
 use Rattle.routed_lists.specs.Runs.{list_bit}
 use Rattle.routed_lists.specs.Lists.{Point, SourcedGate, placed_of, in_points, out_points, all_points, point_signal, SourcedWire, wire_in_run, ComputesSources, DelaysSource, ComputesList, ListsAreCarried}
 use Rattle.routed_lists.proofs.Delayed.{delayed_later, delayed_start}
-use Rattle.routed_lists.proofs.Points.{map-joined, same_images, sourced_bits, signals_are, answers_are}
+use Rattle.routed_lists.proofs.Points.{same_images, sourced_bits, signals_are, answers_are}
 
 module _ (period : ℕ) (least : 3 ≤ period) (list : CellList) (rows : List (List Bool)) where
   some : 0 < period
@@ -114,7 +114,7 @@ module _ (period : ℕ) (least : 3 ≤ period) (list : CellList) (rows : List (L
     outs_are = signals_are list rows placed_outs (λ gate. gate.outs) gates (λ gate i. (computes_of gate i).outs ∙ sym (length-map gate.placed.gate.outs (placed_port gate.placed)))
 
     all_are : signals_of placed_ins (map placed_of gates) in_bits ++ signals_of placed_outs (map placed_of gates) out_bits ≡ map signal (all_points gates)
-    all_are = ap₂ (λ a b. a ++ b) ins_are outs_are ∙ sym (map-joined signal (in_points gates) (out_points gates))
+    all_are = ap₂ (λ a b. a ++ b) ins_are outs_are ∙ sym (map-append signal (in_points gates) (out_points gates))
 
     gates_are : AreGates period (map placed_of gates) in_bits out_bits
     gates_are = record {
@@ -126,7 +126,7 @@ module _ (period : ℕ) (least : 3 ≤ period) (list : CellList) (rows : List (L
     ends_are : map (λ (w : Wire). w.to) (map laid_wire wires) ++ map signal ins ≡ map signal (map (λ (wire : SourcedWire). wire.to) wires ++ ins)
     ends_are =
         ap (λ ends. ends ++ map signal ins) (map-map (λ (w : Wire). w.to) laid_wire wires ∙ sym (map-map signal (λ (wire : SourcedWire). wire.to) wires))
-        ∙ sym (map-joined signal (map (λ (wire : SourcedWire). wire.to) wires) ins)
+        ∙ sym (map-append signal (map (λ (wire : SourcedWire). wire.to) wires) ins)
 
     routed : IsRouted period (map placed_of gates) in_bits out_bits (map laid_wire wires) (map signal ins) plane
     routed = record {

@@ -1,6 +1,7 @@
 -- The signals at the points of gates.
 use Rattle.std.proofs.Common.{ℕ, zero, suc, ◌<◌, ◌≡◌, refl, sym, ap, ap₂, ◌∙◌, subst, inl, inr, Bool, false, List, [], ◌∷◌, ◌++◌, length, map, flat_map, arith}
 use Rattle.std.specs.Prelude.{Contains, ◌↔◌, Some, slice_get}
+use Rattle.std.proofs.lemmas.List.{map-append}
 use Rattle.std.proofs.lemmas.Option.{none-some, same_Some}
 use Rattle.lists.proofs.Members.{In, in_from, contains_from, in_map, in_mapped}
 use Rattle.wire_laws.specs.Rows.{Port, signals_at, signal_of}
@@ -10,10 +11,6 @@ use Rattle.cell_core.specs.declared.cells.Src.{Src}
 use Rattle.cell_core.specs.declared.list.CellList.{CellList}
 use Rattle.routed_lists.specs.Runs.{src_at, list_bit}
 use Rattle.routed_lists.specs.Lists.{SourcedGate, placed_of, points_of, point_signal, ComputesSources}
-
-pub map-joined : {X Y : Type 0} (f : X → Y) (xs ys : List X) → map f (xs ++ ys) ≡ map f xs ++ map f ys
-map-joined f [] ys = refl
-map-joined f (x ∷ xs) ys = ap (λ rest. f x ∷ rest) (map-joined f xs ys)
 
 -- lists with the same items have the same images
 pub same_images : {X Y : Type 0} (f : X → Y) (xs ys : List X) → ((x : X) → Contains xs x ↔ Contains ys x) → (y : Y) → Contains (map f xs) y ↔ Contains (map f ys) y
@@ -41,7 +38,7 @@ module _ (list : CellList) (rows : List (List Bool)) where
   signals_are ports pick [] each = refl
   signals_are ports pick (gate ∷ gates) each =
       ap₂ (λ a b. a ++ b) (points_are (ports gate.placed) (pick gate) (each gate (inl refl))) (signals_are ports pick gates (λ g i. each g (inr i)))
-      ∙ sym (map-joined (point_signal list rows) (points_of (ports gate.placed) (pick gate)) (flat_map (λ gate. points_of (ports gate.placed) (pick gate)) gates))
+      ∙ sym (map-append (point_signal list rows) (points_of (ports gate.placed) (pick gate)) (flat_map (λ gate. points_of (ports gate.placed) (pick gate)) gates))
 
   first_are : (f : Src → Bool) (sources : List Src) → front_bits (length sources) (λ i. f (src_at sources i)) ≡ map f sources
   first_are f [] = refl

@@ -76,6 +76,7 @@ pub record HasStates (period : ℕ) (wires : List Wire) (plane : Plane)
   pub on_wires : (wire : Wire) → Contains wires wire → (i rest : ℕ) → i + suc rest ≡ wire.size
       → cell_state plane (wire.path (suc i)) ≡ wire_state period wire.to rest
 
+-- A plane in which each cell has one owner, so that its gates and wires can be tested cell by cell.
 pub record IsLabelled (period : ℕ) (gates : List PlacedGate) (wires : List Wire)
     (ins : List Signal) (plane : Plane) (owner : ℤ × ℤ → Owner) : Type 0 where
   pub laws : (placed : PlacedGate) → Contains gates placed → IsGateForPeriod period placed.gate

@@ -69,8 +69,8 @@ GatesCarry =
     (signals_of placed_outs gates out_bits)
 
 -- The plane has the gates, and wires between them. Each input of a gate is at the end of one wire, or
--- is driven. Each wire begins at a port, an output or an input, where any number of wires may begin;
--- it ends at another cell, and brings its bits some cycles later.
+-- is driven. Each wire begins at a port, an output or an input, where several wires may begin; it ends
+-- at another cell, and brings its bits some cycles later.
 pub record IsRouted (period : ℕ) (gates : List PlacedGate)
     (in_bits out_bits : (gate t i : ℕ) → Bool) (wires : List Wire) (ins : List Signal)
     (plane : Plane) : Type 0 where

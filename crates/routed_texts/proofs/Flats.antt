@@ -77,12 +77,15 @@ module _ (flat : Flat) (list : CellList) (f : ComputesFlat flat list) (rows : Li
       ∙ ap (λ (net : FlatNet). run t net.class) (get_or_from_slice_get (listed_nets flat) k net net at)
 
 pub routed_texts_carry : RoutedTextsCarry
-routed_texts_carry text flat list grid ports spells one names runs computes shows =
+routed_texts_carry text flat list shown names runs computes =
+    let grid = shown.grid in
+    let ports = shown.ports in
+    let shows = shown.shows in
     record {
       grid = grid;
       ports = ports;
-      spells = spells;
-      contexts = one;
+      spells = shown.spells;
+      contexts = shown.contexts;
       names = names;
       shows = record {
         conductors = λ rows are. shows.conductors rows;
@@ -93,5 +96,5 @@ routed_texts_carry text flat list grid ports spells one names runs computes show
     }
 
 pub routed_designs_are_carried : RoutedDesignsAreCarried
-routed_designs_are_carried text design flat list grid ports faultless clean is spells one names runs computes shows =
-    designs_are_carried text design flat faultless clean is (routed_texts_carry text flat list grid ports spells one names runs computes shows)
+routed_designs_are_carried text design flat list faultless clean is shown names runs computes =
+    designs_are_carried text design flat faultless clean is (routed_texts_carry text flat list shown names runs computes)

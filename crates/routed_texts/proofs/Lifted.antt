@@ -42,12 +42,15 @@ module _ (design : Design) (list : CellList) (d : ComputesDesign list design) (r
       ∙ ap (λ bits. get_or bits o false) (d.outs (row t) (latches t) (run t) (solves t lt))
 
 pub routed_carry_designs : RoutedCarryDesigns
-routed_carry_designs text design list grid ports spells one names runs computes shows =
+routed_carry_designs text design list shown names runs computes =
+    let grid = shown.grid in
+    let ports = shown.ports in
+    let shows = shown.shows in
     record {
       grid = grid;
       ports = ports;
-      spells = spells;
-      contexts = one;
+      spells = shown.spells;
+      contexts = shown.contexts;
       names = names;
       shows = record {
         conductors = λ rows are. shows.conductors rows;
@@ -57,11 +60,10 @@ routed_carry_designs text design list grid ports spells one names runs computes 
     }
 
 pub routed_are_lifted : RoutedAreLifted
-routed_are_lifted text list grid ports spells one can shows =
-    let ins = names_of ports.ins in
-    let outs = names_of ports.outs in
-    routed_carry_designs text (lifted_design ins outs list) list grid ports spells one
+routed_are_lifted text list shown can =
+    let ins = names_of shown.ports.ins in
+    let outs = names_of shown.ports.outs in
+    routed_carry_designs text (lifted_design ins outs list) list shown
     (record { ins = ins_are list ins outs can.ins can.outs can.plain; outs = sym (names_at 3 outs) })
     (lifted_have_runs list ins outs can.ins can.outs can.plain can.names can.few_cells can.few_latches)
     (lists_compute list ins outs can.ins can.outs can.plain)
-    shows

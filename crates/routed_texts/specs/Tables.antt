@@ -2,11 +2,12 @@
 use Rattle.std.specs.Prelude.{pos, ℕ, ◌+◌, ◌*◌, ◌≤◌, ◌≡◌, ◌↔◌, ◌⊎◌, Bool, true, List, Some, slice_get, Contains}
 use Rattle.ww_rule.specs.declared.pattern.State.TheVariants.{Head, Conductor}
 use Rattle.ww_rule.specs.Wireworld.{Plane, driven}
+use Rattle.ww_rule.specs.Grid.{Grid, plane_of}
 use Rattle.ww_rule.specs.Injections.{MeetsConductors}
 use Rattle.pattern_reading.specs.declared.ports.Ports.{Ports}
 use Rattle.pattern_reading.specs.declared.ports.PortLine.{PortLine}
 use Rattle.pattern_reading.specs.declared.ports.NetLine.{NetLine}
-use Rattle.carries.specs.Cells.{drive}
+use Rattle.carries.specs.Cells.{Spells, drive}
 use Rattle.cell_core.specs.declared.cells.Src.TheVariants.{Input, Zero}
 use Rattle.cell_core.specs.declared.list.CellList.{CellList}
 use Rattle.routed_lists.specs.Runs.{src_at, list_bit}
@@ -52,6 +53,15 @@ pub record ShowsListRuns (plane : Plane) (ports : Ports) (list : CellList) : Typ
       → slice_get ports.nets k ≡ Some line → (g : ℕ)
       → ShowsBits line.offset ports.p (λ t. list_bit list rows t (src_at list.nets k)) g
       (driven (drive ports rows) plane g) line.x line.y
+
+-- The text of a routed circuit: it spells a pattern and a port table of one context, and the pattern
+-- shows the runs of the list.
+pub record SpellsListRuns (text : List ℕ) (list : CellList) : Type 0 where
+  pub grid : Grid
+  pub ports : Ports
+  pub spells : Spells text grid ports
+  pub contexts : ports.c ≡ 1
+  pub shows : ShowsListRuns (plane_of grid.rows) ports list
 
 -- a routed plane with such a table shows the runs of the list that it computes
 abbrev pub RoutedShowRuns : Type 0

@@ -1,0 +1,101 @@
+// The names of kinds: the word of a shape, a hyphen, and the letter of a turn.
+
+use routed_core::{GateKind, Shape, Turn};
+
+/// All shapes, in order.
+pub const SHAPES: &[Shape] = &[
+    Shape::Lone,
+    Shape::Fork,
+    Shape::Or,
+    Shape::Xor,
+    Shape::XorTwice,
+    Shape::AndNot,
+    Shape::AndNotLevel,
+    Shape::Cross,
+    Shape::Tap,
+    Shape::TapTwice,
+];
+
+/// All turns, in order.
+pub const TURNS: &[Turn] = &[
+    Turn::East,
+    Turn::EastMirrored,
+    Turn::South,
+    Turn::SouthMirrored,
+    Turn::West,
+    Turn::WestMirrored,
+    Turn::North,
+    Turn::NorthMirrored,
+];
+
+/// Returns the word of a shape.
+pub fn word_of(shape: Shape) -> &'static [u8] {
+    match shape {
+        Shape::Lone => b"LONE",
+        Shape::Fork => b"FORK",
+        Shape::Or => b"OR",
+        Shape::Xor => b"XOR",
+        Shape::XorTwice => b"XOR2",
+        Shape::AndNot => b"ANDNOT",
+        Shape::AndNotLevel => b"ANDNOT-LEVEL",
+        Shape::Cross => b"CROSS",
+        Shape::Tap => b"TAP",
+        Shape::TapTwice => b"TAP2",
+    }
+}
+
+/// Returns the letter of a turn: that of the direction in which the signals run, which is small if
+/// the drawing is mirrored.
+pub fn letter_of(turn: Turn) -> u8 {
+    match turn {
+        Turn::East => b'E',
+        Turn::EastMirrored => b'e',
+        Turn::South => b'S',
+        Turn::SouthMirrored => b's',
+        Turn::West => b'W',
+        Turn::WestMirrored => b'w',
+        Turn::North => b'N',
+        Turn::NorthMirrored => b'n',
+    }
+}
+
+fn turn_of(letter: u8) -> Option<Turn> {
+    match letter {
+        b'E' => Some(Turn::East),
+        b'e' => Some(Turn::EastMirrored),
+        b'S' => Some(Turn::South),
+        b's' => Some(Turn::SouthMirrored),
+        b'W' => Some(Turn::West),
+        b'w' => Some(Turn::WestMirrored),
+        b'N' => Some(Turn::North),
+        b'n' => Some(Turn::NorthMirrored),
+        _ => None,
+    }
+}
+
+fn shape_of(word: &[u8]) -> Option<Shape> {
+    match word {
+        b"LONE" => Some(Shape::Lone),
+        b"FORK" => Some(Shape::Fork),
+        b"OR" => Some(Shape::Or),
+        b"XOR" => Some(Shape::Xor),
+        b"XOR2" => Some(Shape::XorTwice),
+        b"ANDNOT" => Some(Shape::AndNot),
+        b"ANDNOT-LEVEL" => Some(Shape::AndNotLevel),
+        b"CROSS" => Some(Shape::Cross),
+        b"TAP" => Some(Shape::Tap),
+        b"TAP2" => Some(Shape::TapTwice),
+        _ => None,
+    }
+}
+
+/// Returns the kind with this name: the word of its shape, a hyphen, and the letter of its turn.
+pub fn kind_named(name: &[u8]) -> Option<GateKind> {
+    match name {
+        [word @ .., b'-', letter] => Some(GateKind {
+            shape: shape_of(word)?,
+            turn: turn_of(*letter)?,
+        }),
+        _ => None,
+    }
+}

@@ -1,0 +1,109 @@
+// Gates are found by the surroundings of their cells.
+
+use crate::cells::Found;
+use crate::error::{DrawingFault, FindError};
+use crate::templates::{Template, Templates};
+use route_board::{Board, Owner, give_gate};
+use routed_core::{DrawnGate, GateKind};
+use std::alloc::AllocError;
+
+fn fits(board: &Board, template: &Template, cell: (u32, u32)) -> bool {
+    template.nears.iter().all(|near| {
+        let owner = board.owner(near.from(cell));
+        if near.is_drawn {
+            owner == Owner::Open
+        } else {
+            owner == Owner::Nobody
+        }
+    })
+}
+
+// The first template that fits at a cell.
+fn fitting<'a>(board: &Board, templates: &'a Templates, cell: (u32, u32)) -> Option<&'a Template> {
+    for number in templates.with(board.surroundings(cell)) {
+        if let Some(template) = templates.get(*number) {
+            if fits(board, template, cell) {
+                return Some(template);
+            }
+        }
+    }
+    None
+}
+
+/// Adds a gate at a place of its north-west corner.
+pub fn add_gate(found: &mut Found, kind: GateKind, x: u32, y: u32) -> Result<(), AllocError> {
+    let gate = DrawnGate {
+        kind,
+        x,
+        y,
+        first: 0,
+        later: 0,
+    };
+    let number = u32::try_from(found.gates.len()).unwrap_or(u32::MAX);
+    give_gate(&mut found.board, found.library.drawing(kind), gate, number);
+    found.gates.push(gate)?;
+    Ok(())
+}
+
+fn find_gate(found: &mut Found, templates: &Templates, cell: (u32, u32)) -> Result<(), AllocError> {
+    if found.board.owner(cell) != Owner::Open {
+        return Ok(());
+    }
+    match fitting(&found.board, templates, cell) {
+        Some(template) => {
+            let (x, y) = (
+                cell.0.wrapping_sub(template.x),
+                cell.1.wrapping_sub(template.y),
+            );
+            add_gate(found, template.kind, x, y)
+        }
+        None => Ok(()),
+    }
+}
+
+/// Finds all gates but lone cells.
+pub fn find_gates(found: &mut Found, templates: &Templates) -> Result<(), AllocError> {
+    for y in 0..found.board.height() {
+        for x in 0..found.board.width() {
+            find_gate(found, templates, (x, y))?;
+        }
+    }
+    Ok(())
+}
+
+// The one cell at which a template does not fit.
+fn misfit(board: &Board, template: &Template, at: (u32, u32)) -> Option<(u32, u32)> {
+    let mut misfit = None;
+    for near in &template.nears {
+        let cell = near.from(at);
+        if board.is_drawn(cell) != near.is_drawn {
+            if misfit.is_some() {
+                return None;
+            }
+            misfit = Some(cell);
+        }
+    }
+    misfit
+}
+
+// The one cell at which a template does not fit that covers a cell.
+fn misfit_around(board: &Board, template: &Template, cell: (u32, u32)) -> Option<(u32, u32)> {
+    for near in &template.nears {
+        let at = (cell.0.wrapping_sub(near.x), cell.1.wrapping_sub(near.y));
+        if let Some(wrong) = misfit(board, template, at) {
+            return Some(wrong);
+        }
+    }
+    None
+}
+
+/// Returns the fault at a cell that is of no gate and of no wire: if all but one of the cells of a gate around it are
+/// as drawn, that one.
+pub fn fault_near(board: &Board, templates: &Templates, cell: (u32, u32)) -> FindError {
+    for template in templates.all() {
+        if let Some(wrong) = misfit_around(board, template, cell) {
+            return FindError::at(DrawingFault::Gate, wrong);
+        }
+    }
+    FindError::at(DrawingFault::Wire, cell)
+}

@@ -1,0 +1,104 @@
+// Lone cells: those of the port table, and those at which wires end or meet.
+
+use crate::cells::Found;
+use crate::error::{DrawingFault, FindError};
+use crate::gates::{add_gate, fault_near};
+use crate::templates::Templates;
+use crate::ways::state_at;
+use pattern_reading::Ports;
+use route_board::{Owner, STEPS};
+use routed_core::{GateKind, Shape, Turn};
+use std::alloc::AllocError;
+use ww_rule::{Pattern, State};
+
+const LONE: GateKind = GateKind {
+    shape: Shape::Lone,
+    turn: Turn::East,
+};
+
+/// Returns a cell of the port table. A column or a row past 2^32 is outside every box.
+pub fn table_cell(x: u64, y: u64) -> (u32, u32) {
+    (
+        u32::try_from(x).unwrap_or(u32::MAX),
+        u32::try_from(y).unwrap_or(u32::MAX),
+    )
+}
+
+// Makes a cell that is open a lone cell.
+fn add_lone_if_open(found: &mut Found, cell: (u32, u32)) -> Result<(), AllocError> {
+    match found.board.owner(cell) {
+        Owner::Open => add_gate(found, LONE, cell.0, cell.1),
+        _ => Ok(()),
+    }
+}
+
+fn is_beside_gate(found: &Found, cell: (u32, u32)) -> bool {
+    STEPS.iter().any(|step| found.is_of_gate(step.from(cell)))
+}
+
+/// Makes the cells of the port table lone cells, if they are not of gates. A net's cell that is beside a gate stays
+/// as it is.
+pub fn add_table_cells(found: &mut Found, ports: &Ports) -> Result<(), AllocError> {
+    for line in ports.ins.as_slice() {
+        add_lone_if_open(found, table_cell(line.x, line.y))?;
+    }
+    for line in ports.outs.as_slice() {
+        add_lone_if_open(found, table_cell(line.x, line.y))?;
+    }
+    for line in ports.nets.as_slice() {
+        let cell = table_cell(line.x, line.y);
+        if !is_beside_gate(found, cell) {
+            add_lone_if_open(found, cell)?;
+        }
+    }
+    Ok(())
+}
+
+/// Makes each cell a lone cell at which a wire ends, or wires meet.
+pub fn add_ends(found: &mut Found) -> Result<(), AllocError> {
+    for y in 0..found.board.height() {
+        for x in 0..found.board.width() {
+            let is_open = found.board.owner((x, y)) == Owner::Open;
+            if is_open && found.board.surroundings((x, y)).count_ones() != 2 {
+                add_lone_if_open(found, (x, y))?;
+            }
+        }
+    }
+    Ok(())
+}
+
+/// Makes a cell a lone cell if it is open and a conductor, and answers whether it was.
+pub fn add_ring(
+    found: &mut Found,
+    pattern: &Pattern,
+    cell: (u32, u32),
+) -> Result<bool, AllocError> {
+    let is_ring = found.board.owner(cell) == Owner::Open
+        && state_at(pattern, cell) == State::Conductor;
+    if is_ring {
+        add_gate(found, LONE, cell.0, cell.1)?;
+    }
+    Ok(is_ring)
+}
+
+/// Fails if a lone cell is beside a gate.
+pub fn check_lone_cells(found: &Found, templates: &Templates) -> Result<(), FindError> {
+    for gate in &found.gates {
+        let cell = (gate.x, gate.y);
+        if gate.kind.shape == Shape::Lone && is_beside_gate(found, cell) {
+            return Err(fault_near(&found.board, templates, cell));
+        }
+    }
+    Ok(())
+}
+
+/// Fails if an input or an output of the port table is at no port of a gate.
+pub fn check_table_cells(found: &Found, ports: &Ports) -> Result<(), FindError> {
+    for line in ports.ins.as_slice().iter().chain(ports.outs.as_slice()) {
+        let cell = table_cell(line.x, line.y);
+        if found.port_at(cell).is_none() {
+            return Err(FindError::at(DrawingFault::Port, cell));
+        }
+    }
+    Ok(())
+}

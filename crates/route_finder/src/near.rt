@@ -1,0 +1,111 @@
+// The cells in and around a gate's drawing.
+
+use gate_library::GateDrawing;
+use route_board::STEPS;
+use std::alloc::{AllocError, Global};
+use ww_rule::State;
+
+/// A cell near another one, from which it is so many columns east and rows south, modulo 2^32; and whether it is drawn.
+#[derive(Clone, Copy)]
+pub struct Near {
+    pub x: u32,
+    pub y: u32,
+    pub is_drawn: bool,
+}
+
+impl Near {
+    /// Returns the cell that is so near to this one.
+    pub fn from(self, cell: (u32, u32)) -> (u32, u32) {
+        (cell.0.wrapping_add(self.x), cell.1.wrapping_add(self.y))
+    }
+}
+
+fn is_drawn(drawing: &GateDrawing, cell: (u32, u32)) -> bool {
+    let (x, y) = cell;
+    let number = (y as usize)
+        .saturating_mul(drawing.width as usize)
+        .saturating_add(x as usize);
+    x < drawing.width
+        && drawing
+            .cells
+            .as_slice()
+            .get(number)
+            .is_some_and(|state| *state != State::Empty)
+}
+
+fn is_port(drawing: &GateDrawing, cell: (u32, u32)) -> bool {
+    drawing
+        .ins
+        .as_slice()
+        .iter()
+        .any(|input| input.x == cell.0 && input.y == cell.1)
+        || drawing
+            .outs
+            .as_slice()
+            .iter()
+            .any(|output| output.x == cell.0 && output.y == cell.1)
+}
+
+fn is_inner(drawing: &GateDrawing, cell: (u32, u32)) -> bool {
+    is_drawn(drawing, cell) && !is_port(drawing, cell)
+}
+
+fn is_beside_inner(drawing: &GateDrawing, cell: (u32, u32)) -> bool {
+    STEPS.iter().any(|step| is_inner(drawing, step.from(cell)))
+}
+
+fn height(drawing: &GateDrawing) -> u32 {
+    let cells = u32::try_from(drawing.cells.len()).unwrap_or(0);
+    if drawing.width == 0 {
+        0
+    } else {
+        cells / drawing.width
+    }
+}
+
+/// Returns which cells beside one of a drawing are drawn, as `Board::surroundings` does.
+pub fn surroundings_of(drawing: &GateDrawing, x: u32, y: u32) -> u8 {
+    let mut bits = 0u8;
+    for step in STEPS.iter().rev() {
+        bits = bits.wrapping_mul(2);
+        if is_drawn(drawing, step.from((x, y))) {
+            bits |= 1;
+        }
+    }
+    bits
+}
+
+/// Returns the cell of a drawing that is no port and has the most cells beside it.
+pub fn inner_cell(drawing: &GateDrawing) -> (u32, u32) {
+    let (mut best, mut most) = ((0, 0), 0);
+    for y in 0..height(drawing) {
+        for x in 0..drawing.width {
+            let count = surroundings_of(drawing, x, y).count_ones();
+            if is_inner(drawing, (x, y)) && count > most {
+                (best, most) = ((x, y), count);
+            }
+        }
+    }
+    best
+}
+
+/// Returns all cells of a drawing, and all empty ones beside those that are no ports, as they are near a cell.
+pub fn nears_of(
+    alloc: Global,
+    drawing: &GateDrawing,
+    x: u32,
+    y: u32,
+) -> Result<Vec<Near>, AllocError> {
+    let mut nears = Vec::new(alloc);
+    for v in 0..height(drawing).saturating_add(2) {
+        for u in 0..drawing.width.saturating_add(2) {
+            let cell = (u.wrapping_sub(1), v.wrapping_sub(1));
+            let is_drawn = is_drawn(drawing, cell);
+            if is_drawn || is_beside_inner(drawing, cell) {
+                let (x, y) = (cell.0.wrapping_sub(x), cell.1.wrapping_sub(y));
+                nears.push(Near { x, y, is_drawn })?;
+            }
+        }
+    }
+    Ok(nears)
+}

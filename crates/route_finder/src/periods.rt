@@ -1,0 +1,115 @@
+// How many whole periods after its time modulo the period each gate begins: as few as the outputs ask for.
+
+use crate::cells::Found;
+use crate::groups::Groups;
+use crate::lone::table_cell;
+use crate::times::{Times, port_time, shift_of};
+use pattern_reading::Ports;
+use routed_core::DrawnPort;
+use std::alloc::{AllocError, Global};
+use std::collections::BinaryHeap;
+
+/// The periods of all times.
+#[derive(Drop)]
+pub struct Periods {
+    pub counts: Vec<u32>,
+    todo: BinaryHeap<(u32, u32)>,
+}
+
+impl Periods {
+    // Notes that a time is at least so many periods late.
+    fn raise(&mut self, node: u32, periods: u32) -> Result<(), AllocError> {
+        if let Some(count) = self.counts.get_mut(node as usize) {
+            if *count < periods {
+                *count = periods;
+                self.todo.push((periods, node))?;
+            }
+        }
+        Ok(())
+    }
+
+    /// Returns the generation of a time, with its periods.
+    pub fn generation(&self, times: &Times, node: u32) -> i64 {
+        let periods = self.counts.get(node as usize).copied().unwrap_or(0);
+        i64::from(times.time(node)) + i64::from(periods) * i64::from(times.period)
+    }
+
+    // A port is lit at this generation.
+    fn begin(
+        &mut self,
+        found: &Found,
+        times: &Times,
+        port: DrawnPort,
+        generation: u64,
+    ) -> Result<(), AllocError> {
+        let at = port_time(found, port);
+        let base = u64::from(times.time(at.node)) + u64::from(at.after);
+        let periods = generation
+            .saturating_sub(base)
+            .checked_div(u64::from(times.period))
+            .unwrap_or(0);
+        self.raise(at.node, u32::try_from(periods).unwrap_or(0))
+    }
+
+    // The wires to a gate are no less than 0 periods long.
+    fn spread(
+        &mut self,
+        found: &Found,
+        times: &Times,
+        links: &[u32],
+        node: u32,
+    ) -> Result<(), AllocError> {
+        let end = self.generation(times, node);
+        for number in links {
+            if let Some(link) = found.links.get(*number as usize) {
+                let from = port_time(found, link.from()).node;
+                let least = end - shift_of(found, link) - i64::from(times.time(from));
+                let periods = least.checked_div(i64::from(times.period)).unwrap_or(0);
+                self.raise(from, u32::try_from(periods).unwrap_or(0))?;
+            }
+        }
+        Ok(())
+    }
+}
+
+fn links_by_ends(alloc: Global, found: &Found) -> Result<Groups, AllocError> {
+    let mut pairs = Vec::new(alloc);
+    for (i, link) in found.links.iter().enumerate() {
+        let number = u32::try_from(i).unwrap_or(u32::MAX);
+        pairs.push((port_time(found, link.to()).node, number))?;
+    }
+    Groups::of(alloc, found.gates.len().saturating_mul(2), pairs.as_slice())
+}
+
+/// Finds the periods of all times.
+pub fn periods_of(
+    alloc: Global,
+    found: &Found,
+    times: &Times,
+    ports: &Ports,
+) -> Result<Periods, AllocError> {
+    let mut periods = Periods {
+        counts: vec![in alloc; 0; times.known.len()]?,
+        todo: BinaryHeap::new(alloc),
+    };
+    for line in ports.outs.as_slice() {
+        if let Some(port) = found.port_at(table_cell(line.x, line.y)) {
+            periods.begin(found, times, port, ports.l)?;
+        }
+    }
+    for line in ports.nets.as_slice() {
+        if let Some(port) = found.port_at(table_cell(line.x, line.y)) {
+            periods.begin(found, times, port, line.offset)?;
+        }
+    }
+    let links = links_by_ends(alloc, found)?;
+    for _ in 0..times.known.len().saturating_add(found.links.len()) {
+        let Some((count, node)) = periods.todo.pop() else {
+            break;
+        };
+        if periods.counts.get(node as usize).copied() == Some(count) {
+            periods.spread(found, times, links.group(node), node)?;
+        }
+    }
+    Ok(periods)
+}

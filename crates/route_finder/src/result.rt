@@ -1,0 +1,225 @@
+// The drawing of what has been found.
+
+use crate::cells::{Found, Link, Way};
+use crate::crossings::{is_own_mirror, mirror, rename_ends};
+use crate::error::{DrawingFault, FindError};
+use crate::lone::table_cell;
+use crate::periods::Periods;
+use crate::times::{Times, head_distances, port_time};
+use crate::ways::path_of;
+use gate_library::Timing;
+use lists::List;
+use pattern_reading::{PortLine, Ports};
+use routed_core::{Drawing, DrawnGate, DrawnPort, DrawnWire, GatePort};
+use std::alloc::{AllocError, Global};
+use ww_rule::Pattern;
+
+fn generation(number: i64) -> u32 {
+    u32::try_from(number).unwrap_or(0)
+}
+
+// The generations at which both inputs of a gate are lit first.
+fn both_times(times: &Times, periods: &Periods, gate: u32) -> (i64, i64) {
+    let node = gate.saturating_mul(2);
+    (
+        periods.generation(times, node),
+        periods.generation(times, node.saturating_add(1)),
+    )
+}
+
+// Sets a gate's times. A crossing whose second input comes first is mirrored, if that is its own drawing, and the
+// answer is whether it is.
+fn set_times(gate: &mut DrawnGate, timing: Timing, first: i64, second: i64) -> bool {
+    match timing {
+        Timing::Together => {
+            gate.first = generation(first);
+            false
+        }
+        Timing::Apart => {
+            let is_early = second < first && is_own_mirror(gate.kind.shape);
+            if is_early {
+                mirror(gate);
+            }
+            let (first, second) = if is_early {
+                (second, first)
+            } else {
+                (first, second)
+            };
+            gate.first = generation(first);
+            gate.later = generation(second - first);
+            is_early
+        }
+    }
+}
+
+/// Sets the times of all gates, and answers which are mirrored.
+fn set_all_times(
+    alloc: Global,
+    found: &mut Found,
+    times: &Times,
+    periods: &Periods,
+) -> Result<Vec<bool>, AllocError> {
+    let mut are_mirrored = Vec::new(alloc);
+    for (number, gate) in found.gates.iter_mut().enumerate() {
+        let timing = found.library.drawing(gate.kind).timing;
+        let (first, second) = both_times(times, periods, u32::try_from(number).unwrap_or(u32::MAX));
+        are_mirrored.push(set_times(gate, timing, first, second))?;
+    }
+    Ok(are_mirrored)
+}
+
+// How many periods a wire is long, and when its end is lit first.
+fn length_of(found: &Found, times: &Times, periods: &Periods, link: &Link) -> (u32, u32) {
+    let (from, to) = (port_time(found, link.from()), port_time(found, link.to()));
+    let begin = periods.generation(times, from.node) + i64::from(from.after);
+    let end = periods.generation(times, to.node) + i64::from(to.after);
+    let length = begin + i64::from(link.size) + 1 - end;
+    let cycles = length.checked_div(i64::from(times.period)).unwrap_or(0);
+    (generation(cycles).min(link.size), generation(end))
+}
+
+// Adds the start bits of a wire, the last latch's last.
+fn add_starts(
+    starts: &mut Vec<bool>,
+    heads: &[u32],
+    period: u32,
+    cycles: u32,
+    end: u32,
+) -> Result<(), AllocError> {
+    for latch in (0..cycles).rev() {
+        let distance = u64::from(end) + u64::from(latch) * u64::from(period);
+        starts.push(heads.iter().any(|head| u64::from(*head) == distance))?;
+    }
+    Ok(())
+}
+
+fn add_path(path: &mut Vec<(u32, u32)>, cells: &[(u32, u32)], way: Way) -> Result<(), AllocError> {
+    if way == Way::Back {
+        for cell in cells.iter().rev() {
+            path.push(*cell)?;
+        }
+    } else {
+        for cell in cells {
+            path.push(*cell)?;
+        }
+    }
+    Ok(())
+}
+
+fn port_or_fault(found: &Found, line: &PortLine) -> Result<DrawnPort, FindError> {
+    let cell = table_cell(line.x, line.y);
+    found
+        .port_at(cell)
+        .ok_or(FindError::at(DrawingFault::Port, cell))
+}
+
+fn ports_at(
+    alloc: Global,
+    found: &Found,
+    lines: &[PortLine],
+) -> Result<List<DrawnPort>, FindError> {
+    let mut at = Vec::new(alloc);
+    for line in lines {
+        at.push(port_or_fault(found, line)?)?;
+    }
+    Ok(List::of(at))
+}
+
+fn nets_at(
+    alloc: Global,
+    found: &Found,
+    ports: &Ports,
+) -> Result<List<Option<DrawnPort>>, AllocError> {
+    let mut at = Vec::new(alloc);
+    for line in ports.nets.as_slice() {
+        at.push(found.port_at(table_cell(line.x, line.y)))?;
+    }
+    Ok(List::of(at))
+}
+
+/// The wires of a drawing, their cells, and their start bits.
+#[derive(Drop)]
+struct Wires {
+    wires: Vec<DrawnWire>,
+    path: Vec<(u32, u32)>,
+    starts: Vec<bool>,
+}
+
+impl Wires {
+    fn add(
+        &mut self,
+        found: &Found,
+        link: &Link,
+        heads: &[u32],
+        cycles: u32,
+        end: u32,
+        period: u32,
+    ) -> Result<(), FindError> {
+        let cells = path_of(found, link);
+        let to = link.to();
+        let GatePort::In(input) = to.port else {
+            return Err(FindError::at(DrawingFault::Wire, cells.first().copied().unwrap_or((0, 0))));
+        };
+        self.wires.push(DrawnWire {
+            from: link.from(),
+            gate: to.gate,
+            input,
+            start: u32::try_from(self.path.len()).unwrap_or(u32::MAX),
+            size: link.size,
+            latch: u32::try_from(self.starts.len()).unwrap_or(u32::MAX),
+            cycles,
+        })?;
+        add_path(&mut self.path, cells, link.way)?;
+        add_starts(&mut self.starts, heads, period, cycles, end)?;
+        Ok(())
+    }
+}
+
+/// Makes the drawing.
+pub fn drawing_of(
+    alloc: Global,
+    mut found: Found,
+    pattern: &Pattern,
+    ports: &Ports,
+    latency: u32,
+    times: &Times,
+    periods: &Periods,
+) -> Result<Drawing, FindError> {
+    let mut wires = Wires {
+        wires: Vec::new(alloc),
+        path: Vec::new(alloc),
+        starts: Vec::new(alloc),
+    };
+    let mut lengths = Vec::new(alloc);
+    for link in &found.links {
+        lengths.push(length_of(&found, times, periods, link))?;
+    }
+    let are_mirrored = set_all_times(alloc, &mut found, times, periods)?;
+    for link in found.links.iter_mut() {
+        rename_ends(are_mirrored.as_slice(), link);
+    }
+    for (link, length) in found.links.iter().zip(lengths.as_slice()) {
+        let heads = head_distances(alloc, &found, pattern, link)?;
+        wires.add(
+            &found,
+            link,
+            heads.as_slice(),
+            length.0,
+            length.1,
+            times.period,
+        )?;
+    }
+    Ok(Drawing {
+        width: found.board.width(),
+        height: found.board.height(),
+        period: times.period,
+        latency,
+        ins: ports_at(alloc, &found, ports.ins.as_slice())?,
+        outs: ports_at(alloc, &found, ports.outs.as_slice())?,
+        nets: nets_at(alloc, &found, ports)?,
+        gates: List::of(found.gates),
+        wires: List::of(wires.wires),
+        path: List::of(wires.path),
+        starts: List::of(wires.starts),
+    })
+}

@@ -1,0 +1,3 @@
+pub mod PortPoints
+pub mod Answers
+pub mod Computing

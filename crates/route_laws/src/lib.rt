@@ -1,0 +1,2 @@
+//! Laws of checked tables.
+#![tactic(auto)]

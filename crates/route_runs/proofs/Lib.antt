@@ -1,0 +1,3 @@
+mod Latches
+mod KeptTime
+mod Sources

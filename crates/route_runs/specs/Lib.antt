@@ -1,0 +1,5 @@
+pub mod Chains
+pub mod Electrons
+pub mod Wires
+pub mod Gates
+pub mod Lines

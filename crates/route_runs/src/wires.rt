@@ -1,0 +1,122 @@
+// Wires that keep time, and have the electrons of their start bits.
+ghost use Rattle.std.specs.Prelude.{◌≡◌, ◌<◌, ◌+◌, ◌*◌, ◌^◌, suc, length, None, IfOk, IfSome, IsTrue};
+ghost use Rattle.route_tables.specs.Reading.{IsPortAt};
+ghost use Rattle.route_tables.specs.Runs.{IsDelayedByWire, ShowsStarts};
+ghost use Rattle.route_tables.specs.Tables.{input_port};
+ghost use Rattle.route_runs.specs.Wires.{CarriesBits, KeepsTime};
+
+use crate::chains::start_bits;
+use crate::electrons::{are_clear, show_bits, shows_end};
+use crate::error::RunError;
+use lawful_gates::PortCell;
+use lists::OutOfMemory;
+use route_tables::{FaultWord, GateInput, TableWire, Tables, state_at};
+use routed_core::{DrawnPort, GatePort};
+use std::alloc::Global;
+use ww_rule::State;
+
+// Where a wire begins and ends.
+#[derive(Clone, Copy)]
+struct Ends {
+    from: PortCell,
+    to: PortCell,
+}
+
+/// Returns the port of an input.
+pub fn input_port(at: GateInput) -> DrawnPort
+    ensures { result ≡ input_port at }
+{
+    DrawnPort {
+        gate: at.gate,
+        port: GatePort::In(at.input),
+    }
+}
+
+fn ends_of(t: &Tables, wire: TableWire) -> Option<Ends>
+    ensures { IfSome result (λ ends. IsPortAt t.now wire.from ends.from
+        × IsPortAt t.now (input_port wire.to) ends.to) }
+{
+    match (t.port(wire.from), t.port(input_port(wire.to))) {
+        (Some(from), Some(to)) => Some(Ends { from, to }),
+        _ => None,
+    }
+}
+
+// Whether a wire of this size takes from one generation to another one so many periods later.
+fn takes(from: u64, size: u32, to: u64, cycles: u32, period: u64) -> bool
+    ensures { IsTrue result → from + suc size ≡ to + cycles * period }
+{
+    u128::from(from) + u128::from(size) + 1
+        == u128::from(to) + u128::from(cycles) * u128::from(period)
+}
+
+// Whether the electrons on a wire are the bits that come out at its end.
+fn carries(
+    t: &Tables,
+    states: &[State],
+    period: u64,
+    wire: TableWire,
+    to: PortCell,
+    bits: &[bool],
+) -> bool
+    requires some { 0 < period }
+    requires few { length bits.now < 2 ^ 32 }
+    ensures { IsTrue result → CarriesBits t.now states.now period wire to bits.now }
+{
+    if !are_clear(wire.size, to.time, period, bits) {
+        return false;
+    }
+    if !shows_end(state_at(states, t.width, to.x, to.y), to.time, period, bits) {
+        return false;
+    }
+    show_bits(t, states, wire, to.time, period, bits)
+}
+
+// Tests a wire from its beginning to its end.
+fn wire_between(
+    alloc: Global,
+    t: &Tables,
+    states: &[State],
+    period: u64,
+    wire: TableWire,
+    ends: Ends,
+) -> Result<Option<FaultWord>, OutOfMemory>
+    requires some { 0 < period }
+    ensures { IfOk result (λ o. o ≡ None → KeepsTime t.now states.now period wire ends.from
+        ends.to) }
+{
+    if !takes(ends.from.time, wire.size, ends.to.time, wire.cycles, period) {
+        return Ok(Some(FaultWord::Length));
+    }
+    let (from, to) = (t.source(wire.from), t.source(input_port(wire.to)));
+    let Some(bits) = start_bits(alloc, &t.list, from, to, wire.cycles)? else {
+        return Ok(Some(FaultWord::Order));
+    };
+    if carries(t, states, period, wire, ends.to, &bits) {
+        Ok(None)
+    } else {
+        Ok(Some(FaultWord::Electron))
+    }
+}
+
+/// Tests that a wire's length fits its latches, and that it has the electrons of their start bits.
+pub fn test_wire(
+    alloc: Global,
+    t: &Tables,
+    states: &[State],
+    period: u64,
+    w: usize,
+) -> Result<(), RunError>
+    requires some { 0 < period }
+    ensures { IfOk result (λ _. IsDelayedByWire t.now period w
+        × ShowsStarts t.now states.now period w) }
+{
+    let wire = t.wire(w);
+    let Some(ends) = ends_of(t, wire) else {
+        return Err(RunError::Fault(t.fault_at_wire(FaultWord::Wire, w)));
+    };
+    match wire_between(alloc, t, states, period, wire, ends)? {
+        None => Ok(()),
+        Some(word) => Err(RunError::Fault(t.fault_at_wire(word, w))),
+    }
+}
