@@ -1,5 +1,5 @@
 // The ports of lawful gates.
-ghost use Rattle.std.specs.Prelude.{◌≡◌, ◌+◌, ◌∷◌, [], cond, map, pos, slice_get};
+ghost use Rattle.std.specs.Prelude.{◌≡◌, ◌+◌, ◌∷◌, [], cond, length, map, pos, ℕ, slice_get};
 ghost use Rattle.std.specs.Option.{option_map};
 ghost use Rattle.lists.specs.Items.{flag_at, list_at};
 ghost use Rattle.gate_laws.specs.Drawings.{in_port_of, out_port_of, out_table, in_at};
@@ -105,6 +105,17 @@ fn output_apart(outs: &[OutCell], o: usize, later: u32) -> Option<PortCell>
 }
 
 impl LawfulGate {
+    /// Returns how many inputs there are.
+    pub fn inputs(&self) -> usize
+        ensures { (later : ℕ) → result ≡ length (gate_at self.now later).ins }
+    {
+        let drawing = self.drawing();
+        match drawing.timing {
+            Timing::Together => drawing.ins.len(),
+            Timing::Apart => 2,
+        }
+    }
+
     /// Returns an input, if it is there, with its generation of a use. If the inputs are lit apart,
     /// the second is lit `later` generations after the first.
     pub fn input(&self, i: u32, later: u32) -> Option<PortCell>

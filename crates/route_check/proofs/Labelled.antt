@@ -1,5 +1,5 @@
 -- A table whose places and numbers agree gives each cell one owner.
-use Rattle.std.proofs.Common.{ℤ, pos, negsuc, ◌+ℤ◌, ◌-ℤ◌, ◌≤ℤ◌, ℕ, zero, suc, ◌+◌, ◌-◌, ◌*◌, ◌/◌, ◌%◌, ◌<◌, ◌≤◌, ◌≡◌, refl, sym, ap, ap₂, ◌∙◌, subst, inl, inr, Bool, true, false, int_eq, cond, List, length, get_or, arith, true≢false}
+use Rattle.std.proofs.Common.{ℤ, pos, negsuc, ◌+ℤ◌, ◌-ℤ◌, ◌≤ℤ◌, ℕ, suc, ◌+◌, ◌-◌, ◌*◌, ◌<◌, ◌≤◌, ◌≡◌, refl, sym, ap, ap₂, ◌∙◌, subst, inl, inr, int_eq, cond, List, length, get_or, arith, true≢false}
 use Rattle.std.specs.Prelude.{◌≢◌, ◌⊎◌}
 use Rattle.std.proofs.lemmas.Bool.{cases_lt, cases_Bool, lt-ltb, le-ltb}
 use Rattle.std.proofs.lemmas.Bool.Decides.{Decides-int_eq}
@@ -11,7 +11,7 @@ use Rattle.ww_rule.specs.declared.pattern.State.TheVariants.{Empty}
 use Rattle.wire_laws.specs.Wires.{IsNear}
 use Rattle.tile_timing.specs.Window.{shown}
 use Rattle.tile_timing.proofs.Windows.{beside, at_place}
-use Rattle.route_check.specs.Serials.{label_at, listed_cell, HasSerial, IsListedAt, MayTouch, TouchesWell, AreLabelled}
+use Rattle.route_tables.specs.Serials.{label_at, listed_cell, HasSerial, IsListedAt, MayTouch, TouchesWell, AreLabelled}
 
 -- a number beside another
 pub near_index : (x : ℕ) (u : ℤ) → (pos x -ℤ pos 1) ≤ℤ u → u ≤ℤ (pos x +ℤ pos 1) → (i : ℕ) × (i < 3) × (u ≡ pos (x + i) -ℤ pos 1)

@@ -1,6 +1,5 @@
 -- The numbers of a table say whose each cell is.
-use Rattle.std.proofs.Common.{ℤ, ℕ, zero, suc, ◌<◌, ◌≤◌, ◌≡◌, refl, sym, ap, ◌∙◌, subst, inl, inr, Bool, true, false, List, length, get_or, arith, true≢false}
-use Rattle.std.specs.Prelude.{◌≢◌, ◌⊎◌}
+use Rattle.std.proofs.Common.{ℤ, ℕ, zero, suc, ◌<◌, ◌≡◌, refl, sym, ap, ◌∙◌, subst, inl, inr, Bool, true, false, List, length, get_or, arith, true≢false}
 use Rattle.ww_rule.specs.declared.pattern.State.{State}
 use Rattle.ww_rule.specs.declared.pattern.State.TheVariants.{Empty}
 use Rattle.tile_timing.specs.Window.{shown}
@@ -8,8 +7,8 @@ use Rattle.wire_laws.specs.Signals.{cell_state}
 use Rattle.wire_laws.specs.Wires.{Wire, IsNear}
 use Rattle.routed_planes.specs.Routed.{PlacedGate}
 use Rattle.routed_planes.specs.Labels.{Owner, Nobody, OfGate, OfWire, IsGateCell, IsWireCell, AreLabels}
-use Rattle.route_check.specs.Serials.{label_at, listed_cell, AreLabelled}
-use Rattle.route_check.specs.Owners.{IsListing, owner_by, owner_at, TablesAreLabels}
+use Rattle.route_tables.specs.Serials.{label_at, listed_cell, AreLabelled}
+use Rattle.route_tables.specs.Owners.{IsListing, owner_by, owner_at, TablesAreLabels}
 
 abbrev is_somebody : Owner → Bool
 is_somebody Nobody = false

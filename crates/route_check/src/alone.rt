@@ -1,148 +1,99 @@
-// Read-only tests of the surroundings of wires.
-ghost use Rattle.std.specs.Prelude.{◌≡◌, ◌⊎◌, ◌<◌, ◌≤◌, ◌+◌, ◌^◌, ◌-ℤ◌, pos, ℕ, length, get_or, IsTrue};
-ghost use Rattle.route_check.specs.Serials.{label_at};
-ghost use Rattle.route_check.specs.Alone.{MayFollow, FollowsWell, AreAlone};
+// Whether nothing stands beside wires but their paths.
+ghost use Rattle.std.specs.Prelude.{◌≡◌, ◌⊎◌, ◌<◌, ◌≤◌, ◌+◌, ◌-ℤ◌, suc, pos, ℕ, length, IsTrue, IfOk, IfSome};
+ghost use Rattle.route_tables.specs.Tables.{table_wire, wire_path, label};
+ghost use Rattle.route_tables.specs.Cells.{IsAlone};
+ghost use Rattle.route_check.specs.Around.{IsOneOf, ArePathLabels};
 
-use crate::serials::label_before;
+use route_tables::{CellFault, FaultWord, TableWire, Tables};
 
-// Whether a label is that of nobody, of the cell itself, or of the one before or after it.
-fn may_follow(before: &[u32], after: &[u32], n: usize, label: u32) -> bool
-    requires first { n < length before.now }
-    requires second { n < length after.now }
-    ensures { IsTrue result → MayFollow before.now after.now n label }
-{
-    if label == 0 {
-        return true;
-    }
-    if label as usize - 1 == n {
-        return true;
-    }
-    if label == before[n] {
-        return true;
-    }
-    label == after[n]
+/// The labels of three cells of a path, one after the other, and the cell between the others.
+#[derive(Clone, Copy)]
+struct PathLabels {
+    cell: (u32, u32),
+    before: u32,
+    here: u32,
+    after: u32,
 }
 
-fn row_follows_well(
-    serials: &[u32],
-    width: usize,
-    before: &[u32],
-    after: &[u32],
-    n: usize,
-    x: usize,
-    y: usize,
-) -> bool
-    requires narrow { width < 2 ^ 31 }
-    requires first { n < length before.now }
-    requires second { n < length after.now }
-    requires near { x < 2 ^ 32 }
-    requires low { y < 2 ^ 32 + 8 }
-    ensures { IsTrue result → ((i : ℕ) → i < 3 → MayFollow before.now after.now n
-        (label_at serials.now width (pos (x + i) -ℤ pos 1) (pos y -ℤ pos 1))) }
+// The labels of three cells of a wire's path, from a place on.
+fn path_labels(tables: &Tables, wire: TableWire, i: usize) -> Option<PathLabels>
+    requires short { i < wire.size }
+    ensures { IfSome result (ArePathLabels tables.now wire i) }
+{
+    let before = tables.path_cell(wire, i)?;
+    let here = tables.path_cell(wire, i + 1)?;
+    let after = tables.path_cell(wire, i + 2)?;
+    Some(PathLabels {
+        cell: here,
+        before: tables.label(before),
+        here: tables.label(here),
+        after: tables.label(after),
+    })
+}
+
+fn is_one_of(labels: PathLabels, label: u32) -> bool
+    ensures { IsTrue result → IsOneOf labels label }
+{
+    label == 0 || label == labels.before || label == labels.here || label == labels.after
+}
+
+fn is_row_alone(tables: &Tables, labels: PathLabels, j: usize) -> bool
+    requires near { j < 3 }
+    ensures { IsTrue result → ((i : ℕ) → i < 3 → IsOneOf labels
+        (label tables.now (pos (labels.cell.0 + i) -ℤ pos 1, pos (labels.cell.1 + j) -ℤ pos 1))) }
 {
     for i in 0..3 {
-        if !may_follow(before, after, n, label_before(serials, width, x + i, y)) {
+        let (x, y) = labels.cell;
+        let label = tables.label_before(x as usize + i, y as usize + j);
+        if !is_one_of(labels, label) {
             return false;
         }
     }
     true
 }
 
-fn follows_well(
-    serials: &[u32],
-    width: usize,
-    before: &[u32],
-    after: &[u32],
-    n: usize,
-    cell: (u32, u32),
-) -> bool
-    requires narrow { width < 2 ^ 31 }
-    requires first { n < length before.now }
-    requires second { n < length after.now }
-    ensures { IsTrue result → ((j : ℕ) → j < 3 → (i : ℕ) → i < 3 →
-        MayFollow before.now after.now n
-        (label_at serials.now width (pos (cell.0 + i) -ℤ pos 1) (pos (cell.1 + j) -ℤ pos 1))) }
+fn is_cell_alone(tables: &Tables, labels: PathLabels) -> bool
+    ensures { IsTrue result → ((j : ℕ) → j < 3 → (i : ℕ) → i < 3 → IsOneOf labels
+        (label tables.now (pos (labels.cell.0 + i) -ℤ pos 1, pos (labels.cell.1 + j) -ℤ pos 1))) }
 {
     for j in 0..3 {
-        if !row_follows_well(
-            serials,
-            width,
-            before,
-            after,
-            n,
-            cell.0 as usize,
-            cell.1 as usize + j,
-        ) {
+        if !is_row_alone(tables, labels, j) {
             return false;
         }
     }
     true
 }
 
-fn follows_well_if_wire(
-    serials: &[u32],
-    width: usize,
-    before: &[u32],
-    after: &[u32],
-    group: u32,
-    limit: u32,
-    n: usize,
-    cell: (u32, u32),
-) -> bool
-    requires narrow { width < 2 ^ 31 }
-    requires first { n < length before.now }
-    requires second { n < length after.now }
-    ensures { IsTrue result → limit ≤ group → (j : ℕ) → j < 3 → (i : ℕ) → i < 3 →
-        MayFollow before.now after.now n
-        (label_at serials.now width (pos (cell.0 + i) -ℤ pos 1) (pos (cell.1 + j) -ℤ pos 1)) }
+fn is_alone(tables: &Tables, wire: TableWire, i: usize) -> bool
+    requires short { i < wire.size }
+    ensures { IsTrue result → IsAlone tables.now wire i }
 {
-    if group < limit {
-        return true;
+    match path_labels(tables, wire, i) {
+        Some(labels) => is_cell_alone(tables, labels),
+        None => false,
     }
-    follows_well(serials, width, before, after, n, cell)
 }
 
-fn follow_well(
-    cells: &[(u32, u32)],
-    serials: &[u32],
-    width: usize,
-    groups: &[u32],
-    limit: u32,
-    before: &[u32],
-    after: &[u32],
-) -> bool
-    requires narrow { width < 2 ^ 31 }
-    requires grouped { length groups.now ≡ length cells.now }
-    requires first { length before.now ≡ length cells.now }
-    requires second { length after.now ≡ length cells.now }
-    ensures { IsTrue result → ((n : ℕ) → n < length cells.now → limit ≤ get_or groups.now n 0 →
-        FollowsWell cells.now serials.now width before.now after.now n) }
+fn is_wire_alone(tables: &Tables, wire: TableWire) -> Result<(), CellFault>
+    ensures { IfOk result (λ _. (i : ℕ) → i < wire.size → IsAlone tables.now wire i) }
 {
-    for (n, cell) in cells.iter().enumerate() {
-        if !follows_well_if_wire(serials, width, before, after, groups[n], limit, n, *cell) {
-            return false;
+    for i in 0..wire.size as usize {
+        if !is_alone(tables, wire, i) {
+            return Err(tables.fault_at_cell(FaultWord::Wire, wire.start as usize + i));
         }
     }
-    true
+    Ok(())
 }
 
-/// Returns whether beside each listed cell of a group that is not below the limit there is no other
-/// cell than the one before and the one after it on its wire, whose labels `before` and `after` have.
-pub fn are_alone(
-    cells: &[(u32, u32)],
-    serials: &[u32],
-    width: usize,
-    groups: &[u32],
-    limit: u32,
-    before: &[u32],
-    after: &[u32],
-) -> bool
-    requires narrow { width < 2 ^ 31 }
-    requires grouped { length groups.now ≡ length cells.now }
-    requires first { length before.now ≡ length cells.now }
-    requires second { length after.now ≡ length cells.now }
-    ensures { IsTrue result → AreAlone cells.now serials.now width groups.now limit before.now
-        after.now }
+/// Tests that beside each cell of a wire there are no others but the one before and the one after it
+/// on the wire's path.
+pub fn are_alone(tables: &Tables) -> Result<(), CellFault>
+    ensures { IfOk result (λ _. (w : ℕ) → w < length tables.now.wires → (i : ℕ) →
+        i < (table_wire tables.now w).size → IsAlone tables.now (table_wire tables.now w) i) }
 {
-    follow_well(cells, serials, width, groups, limit, before, after)
+    for w in 0..tables.wires.len() {
+        let wire = tables.wire(w);
+        is_wire_alone(tables, wire)?;
+    }
+    Ok(())
 }

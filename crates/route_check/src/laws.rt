@@ -1,7 +1,7 @@
-//! A law of tables: the function does nothing, and its contract is the law.
-ghost use Rattle.route_check.specs.Owners.{TablesAreLabels};
+//! A law of checked tables: the function does nothing, and its contract is the law.
+ghost use Rattle.route_check.specs.Labelled.{CheckedAreLabelled};
 
-/// The tests of a table of listed cells say whose each cell is.
-pub fn tables_are_labels()
-    ensures { TablesAreLabels }
+/// Where the checks find no fault, the plane of the box is labelled.
+pub fn checked_are_labelled()
+    ensures { CheckedAreLabelled }
 {}

@@ -1,45 +1,27 @@
-// Read-only tests of a table with the numbers of listed cells.
-ghost use Rattle.std.specs.Prelude.{◌≡◌, ◌≢◌, ◌⊎◌, ◌<◌, ◌≤◌, ◌+◌, ◌-◌, ◌*◌, ◌%◌, ◌/◌, ◌^◌, ◌-ℤ◌, pos, ℕ, length, get_or, IsTrue};
-ghost use Rattle.tile_timing.specs.Window.{shown};
-ghost use Rattle.route_check.specs.Serials.{label_at, HasSerial, IsListedAt, MayTouch, TouchesWell, HasListedCells, AreLabelled};
+// Whether each cell of the box is one listed cell, or empty, and gates stand apart.
+ghost use Rattle.std.specs.Prelude.{◌≡◌, ◌<◌, ◌≤◌, ◌+◌, ◌^◌, ◌-ℤ◌, pos, ℕ, length, get_or, IsTrue, IfOk, IfNone};
+ghost use Rattle.route_tables.specs.Serials.{label_at, HasSerial, IsListedAt, MayTouch, TouchesWell, AreLabelled};
 
+use route_tables::{CellFault, FaultWord, Tables};
 use ww_rule::State;
 
-/// Returns the number in the table before column x and row y, which are counted from 1.
-pub fn label_before(serials: &[u32], width: usize, x: usize, y: usize) -> u32
-    requires narrow { width < 2 ^ 31 }
-    requires low { y < 2 ^ 32 + 8 }
-    ensures { result ≡ label_at serials.now width (pos x -ℤ pos 1) (pos y -ℤ pos 1) }
+fn has_serial(tables: &Tables, n: usize) -> bool
+    ensures { IsTrue result → HasSerial tables.now.cells tables.now.serials tables.now.width n }
 {
-    if x == 0 || y == 0 || x > width {
-        return 0;
-    }
-    match serials.get((y - 1) * width + (x - 1)) {
-        Some(label) => *label,
-        None => 0,
-    }
-}
-
-// Whether the listed cell has its number in the table.
-fn has_serial(serials: &[u32], width: usize, cell: (u32, u32), n: usize) -> bool
-    requires narrow { width < 2 ^ 31 }
-    ensures { IsTrue result → label_at serials.now width (pos cell.0) (pos cell.1) ≡ n + 1 }
-{
-    let label = label_before(serials, width, cell.0 as usize + 1, cell.1 as usize + 1) as usize;
+    let label = tables.label(tables.cell(n)) as usize;
     label != 0 && label - 1 == n
 }
 
-fn have_serials(cells: &[(u32, u32)], serials: &[u32], width: usize) -> bool
-    requires narrow { width < 2 ^ 31 }
-    ensures { IsTrue result → ((n : ℕ) → n < length cells.now →
-        HasSerial cells.now serials.now width n) }
+fn have_serials(tables: &Tables) -> Result<(), CellFault>
+    ensures { IfOk result (λ _. (n : ℕ) → n < length tables.now.cells →
+        HasSerial tables.now.cells tables.now.serials tables.now.width n) }
 {
-    for (n, cell) in cells.iter().enumerate() {
-        if !has_serial(serials, width, *cell, n) {
-            return false;
+    for n in 0..tables.cells.len() {
+        if !has_serial(tables, n) {
+            return Err(tables.fault_at_cell(FaultWord::Touches, n));
         }
     }
-    true
+    Ok(())
 }
 
 fn is_empty(state: State) -> bool
@@ -80,150 +62,129 @@ fn is_listed_at(
     is_cell(cells[label - 1], k % width, k / width)
 }
 
-fn are_places(cells: &[(u32, u32)], states: &[State], serials: &[u32], width: usize) -> bool
-    requires wide { 0 < width }
-    requires same { length states.now ≡ length serials.now }
-    ensures { IsTrue result → ((k : ℕ) → k < length serials.now →
-        IsListedAt cells.now states.now serials.now width k) }
-{
-    for k in 0..serials.len() {
-        if !is_listed_at(cells, states, serials, width, k) {
-            return false;
-        }
-    }
-    true
-}
-
-fn may_touch(groups: &[u32], limit: u32, n: usize, label: u32) -> bool
-    requires inside { n < length groups.now }
-    ensures { IsTrue result → MayTouch groups.now limit n label }
-{
-    if label == 0 {
-        return true;
-    }
-    match groups.get(label as usize - 1) {
-        Some(group) => *group == groups[n] || limit <= *group,
-        None => false,
-    }
-}
-
-fn row_touches_well(
-    serials: &[u32],
-    width: usize,
-    groups: &[u32],
-    limit: u32,
-    n: usize,
-    x: usize,
-    y: usize,
-) -> bool
-    requires narrow { width < 2 ^ 31 }
-    requires inside { n < length groups.now }
-    requires near { x < 2 ^ 32 }
-    requires low { y < 2 ^ 32 + 8 }
-    ensures { IsTrue result → ((i : ℕ) → i < 3 → MayTouch groups.now limit n
-        (label_at serials.now width (pos (x + i) -ℤ pos 1) (pos y -ℤ pos 1))) }
-{
-    for i in 0..3 {
-        if !may_touch(groups, limit, n, label_before(serials, width, x + i, y)) {
-            return false;
-        }
-    }
-    true
-}
-
-fn touches_well(
-    serials: &[u32],
-    width: usize,
-    groups: &[u32],
-    limit: u32,
-    n: usize,
-    cell: (u32, u32),
-) -> bool
-    requires narrow { width < 2 ^ 31 }
-    requires inside { n < length groups.now }
-    ensures { IsTrue result → ((j : ℕ) → j < 3 → (i : ℕ) → i < 3 → MayTouch groups.now limit n
-        (label_at serials.now width (pos (cell.0 + i) -ℤ pos 1) (pos (cell.1 + j) -ℤ pos 1))) }
-{
-    for j in 0..3 {
-        if !row_touches_well(
-            serials,
-            width,
-            groups,
-            limit,
-            n,
-            cell.0 as usize,
-            cell.1 as usize + j,
-        ) {
-            return false;
-        }
-    }
-    true
-}
-
-fn touches_well_if_below(
-    serials: &[u32],
-    width: usize,
-    groups: &[u32],
-    limit: u32,
-    n: usize,
-    cell: (u32, u32),
-) -> bool
-    requires narrow { width < 2 ^ 31 }
-    requires inside { n < length groups.now }
-    ensures { IsTrue result → get_or groups.now n 0 < limit →
-        (j : ℕ) → j < 3 → (i : ℕ) → i < 3 → MayTouch groups.now limit n
-        (label_at serials.now width (pos (cell.0 + i) -ℤ pos 1) (pos (cell.1 + j) -ℤ pos 1)) }
-{
-    if limit <= groups[n] {
-        return true;
-    }
-    touches_well(serials, width, groups, limit, n, cell)
-}
-
-// Whether around each listed cell of a group below the limit there are cells of its group, and of
-// groups that are not below it.
-fn are_apart(
-    cells: &[(u32, u32)],
-    serials: &[u32],
-    width: usize,
-    groups: &[u32],
-    limit: u32,
-) -> bool
-    requires narrow { width < 2 ^ 31 }
-    requires same { length groups.now ≡ length cells.now }
-    ensures { IsTrue result → ((n : ℕ) → n < length cells.now → get_or groups.now n 0 < limit →
-        TouchesWell cells.now serials.now width groups.now limit n) }
-{
-    for (n, cell) in cells.iter().enumerate() {
-        if !touches_well_if_below(serials, width, groups, limit, n, *cell) {
-            return false;
-        }
-    }
-    true
-}
-
-/// Returns whether each cell of a window is one listed cell, as the table of numbers says, or is
-/// empty, and whether groups below the limit stand two cells apart.
-pub fn are_labelled(
+// The first place of a window that is not listed as it should be.
+fn first_unlisted(
     cells: &[(u32, u32)],
     states: &[State],
     serials: &[u32],
     width: usize,
-    groups: &[u32],
-    limit: u32,
-) -> bool
+) -> Option<usize>
     requires wide { 0 < width }
-    requires narrow { width < 2 ^ 31 }
-    requires whole { length serials.now % width ≡ 0 }
     requires same { length states.now ≡ length serials.now }
-    requires grouped { length groups.now ≡ length cells.now }
-    ensures { IsTrue result → AreLabelled cells.now states.now serials.now width groups.now limit }
+    ensures { IfNone result ((k : ℕ) → k < length serials.now →
+        IsListedAt cells.now states.now serials.now width k) }
 {
-    if !have_serials(cells, serials, width) {
-        return false;
+    for k in 0..serials.len() {
+        if !is_listed_at(cells, states, serials, width, k) {
+            return Some(k);
+        }
     }
-    if !are_places(cells, states, serials, width) {
-        return false;
+    None
+}
+
+// The place of a window as a cell.
+fn fault_at_place(word: FaultWord, k: usize, width: u32) -> CellFault {
+    let width = u64::from(width.max(1));
+    CellFault {
+        word,
+        x: (k as u64 % width) as u32,
+        y: u32::try_from(k as u64 / width).unwrap_or(u32::MAX),
     }
-    are_apart(cells, serials, width, groups, limit)
+}
+
+fn are_places(tables: &Tables, states: &[State]) -> Result<(), CellFault>
+    ensures same { IfOk result (λ _. length states.now ≡ length tables.now.serials) }
+    ensures places { IfOk result (λ _. (k : ℕ) → k < length tables.now.serials →
+        IsListedAt tables.now.cells states.now tables.now.serials tables.now.width k) }
+{
+    if tables.width == 0 || states.len() != tables.serials.len() {
+        return Err(fault_at_place(FaultWord::Touches, 0, tables.width));
+    }
+    let found = first_unlisted(
+        tables.cells.as_slice(),
+        states,
+        tables.serials.as_slice(),
+        tables.width as usize,
+    );
+    match found {
+        Some(k) => Err(fault_at_place(FaultWord::Touches, k, tables.width)),
+        None => Ok(()),
+    }
+}
+
+fn may_touch(tables: &Tables, n: usize, label: u32) -> bool
+    ensures { IsTrue result → MayTouch tables.now.groups (length tables.now.gates) n label }
+{
+    if label == 0 {
+        return true;
+    }
+    let group = tables.group(label as usize - 1);
+    group == tables.group(n) || tables.gates.len() <= group as usize
+}
+
+fn row_touches_well(tables: &Tables, n: usize, cell: (u32, u32), j: usize) -> bool
+    requires near { j < 3 }
+    ensures { IsTrue result → ((i : ℕ) → i < 3 →
+        MayTouch tables.now.groups (length tables.now.gates) n
+        (label_at tables.now.serials tables.now.width (pos (cell.0 + i) -ℤ pos 1)
+        (pos (cell.1 + j) -ℤ pos 1))) }
+{
+    for i in 0..3 {
+        let label = tables.label_before(cell.0 as usize + i, cell.1 as usize + j);
+        if !may_touch(tables, n, label) {
+            return false;
+        }
+    }
+    true
+}
+
+fn touches_well(tables: &Tables, n: usize) -> bool
+    ensures { IsTrue result → TouchesWell tables.now.cells tables.now.serials tables.now.width
+        tables.now.groups (length tables.now.gates) n }
+{
+    let cell = tables.cell(n);
+    for j in 0..3 {
+        if !row_touches_well(tables, n, cell, j) {
+            return false;
+        }
+    }
+    true
+}
+
+fn touches_well_if_gate(tables: &Tables, n: usize) -> bool
+    ensures { IsTrue result → get_or tables.now.groups n 0 < length tables.now.gates →
+        TouchesWell tables.now.cells tables.now.serials tables.now.width tables.now.groups
+        (length tables.now.gates) n }
+{
+    if tables.gates.len() <= tables.group(n) as usize {
+        return true;
+    }
+    touches_well(tables, n)
+}
+
+// Whether around each cell of a gate there are its own cells, and those of wires.
+fn are_gates_apart(tables: &Tables) -> Result<(), CellFault>
+    ensures { IfOk result (λ _. (n : ℕ) → n < length tables.now.cells →
+        get_or tables.now.groups n 0 < length tables.now.gates →
+        TouchesWell tables.now.cells tables.now.serials tables.now.width tables.now.groups
+        (length tables.now.gates) n) }
+{
+    for n in 0..tables.cells.len() {
+        if !touches_well_if_gate(tables, n) {
+            return Err(tables.fault_at_cell(FaultWord::Touches, n));
+        }
+    }
+    Ok(())
+}
+
+/// Tests that each cell of the box is one listed cell, as the tables say, or is empty, and that
+/// gates stand two cells apart.
+pub fn are_labelled(tables: &Tables, states: &[State]) -> Result<(), CellFault>
+    ensures { IfOk result (λ _. AreLabelled tables.now.cells states.now tables.now.serials
+        tables.now.width tables.now.groups (length tables.now.gates)) }
+{
+    have_serials(tables)?;
+    are_places(tables, states)?;
+    are_gates_apart(tables)?;
+    Ok(())
 }

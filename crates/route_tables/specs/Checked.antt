@@ -18,9 +18,10 @@ pub record HasItsCells (t : Tables) (states : List State) : Type 0 where
   pub labelled : AreLabelled t.cells states t.serials t.width t.groups (length t.gates)
   pub gates : (k : ℕ) → k < length t.gates → IsGateThere t states k
   pub in_gates : (n : ℕ) → n < length t.cells → IsDrawnInGate t n
-  pub wires : (w : ℕ) → w < length t.wires → IsWireThere t w
+  pub wires : (w : ℕ) → w < length t.wires → IsWireThere t w (table_wire t w)
   pub on_wires : (n : ℕ) → n < length t.cells → IsOnWire t n
-  pub alone : (w : ℕ) → w < length t.wires → (i : ℕ) → i < (table_wire t w).size → IsAlone t w i
+  pub alone : (w : ℕ) → w < length t.wires → (i : ℕ) → i < (table_wire t w).size
+      → IsAlone t (table_wire t w) i
   pub ends : (w : ℕ) → w < length t.wires → FeedsItsEnd t w
   pub driven : (d : ℕ) (at : GateInput) → slice_get t.driven d ≡ Some at → IsDrivenInput t d at
   pub fed : (k i : ℕ) → k < length t.gates

@@ -1,6 +1,8 @@
-use Rattle.route_check.proofs.Following.{alone}
+use Rattle.std.proofs.Common.{ℕ, ◌<◌, below_more, subst}
+use Rattle.route_tables.specs.declared.tables.TableWire.{TableWire}
+use Rattle.route_tables.specs.Cells.{IsAlone}
 use Rattle.route_check.proofs.alone.are_alone.Goals as goal
 
-pub returns : goal.returns
-returns c = λ t.
-    alone c.args.cells.now c.args.serials.now c.args.width c.args.groups.now c.args.limit c.args.before.now c.args.after.now (c.follow_well.ensures t)
+pub loop-w-preserved : goal.loop-w-preserved
+loop-w-preserved c =
+    below_more _ _ c.loop-w.invariant (subst (λ (wire : TableWire). (i : ℕ) → i < wire.size → IsAlone c.args.tables.now wire i) c.wire-wire.ensures c.in_ok-is_wire_alone.ensures)

@@ -1,6 +1,8 @@
+use Rattle.std.proofs.Common.{length}
 use Rattle.route_check.proofs.Labelled.{labelled}
 use Rattle.route_check.proofs.serials.are_labelled.Goals as goal
 
 pub returns : goal.returns
-returns c = λ t.
-    labelled c.args.cells.now c.args.states.now c.args.serials.now c.args.width c.requires.same (c.have_serials.ensures c.if-not-have_serials.false) (c.are_places.ensures c.if-not-are_places.false) c.args.groups.now c.args.limit (c.are_apart.ensures t)
+returns c =
+    let t = c.args.tables.now in
+    labelled t.cells c.args.states.now t.serials t.width c.in_ok-are_places.ensures.same c.in_ok-have_serials.ensures c.in_ok-are_places.ensures.places t.groups (length t.gates) c.in_ok-are_gates_apart.ensures

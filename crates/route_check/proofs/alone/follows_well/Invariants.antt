@@ -1,8 +1,0 @@
-use Rattle.std.proofs.Common.{ℕ, ◌<◌, ◌+◌, pos, ◌-ℤ◌}
-use Rattle.route_check.specs.Serials.{label_at}
-use Rattle.route_check.specs.Alone.{MayFollow}
-use Rattle.route_check.proofs.alone.follows_well.Given as goal
-
-abbrev pub invariant-loop-j : goal.invariant-loop-j
-invariant-loop-j l =
-    (j : ℕ) → j < l.j → (i : ℕ) → i < 3 → MayFollow l.before l.after l.n (label_at l.serials l.width (pos (l.cell.0 + i) -ℤ pos 1) (pos (l.cell.1 + j) -ℤ pos 1))

@@ -1,8 +1,0 @@
-use Rattle.std.proofs.Common.{ℕ, ◌<◌, ◌+◌, pos, ◌-ℤ◌}
-use Rattle.route_check.specs.Serials.{label_at}
-use Rattle.route_check.specs.Alone.{MayFollow}
-use Rattle.route_check.proofs.alone.row_follows_well.Given as goal
-
-abbrev pub invariant-loop-i : goal.invariant-loop-i
-invariant-loop-i l =
-    (i : ℕ) → i < l.i → MayFollow l.before l.after l.n (label_at l.serials l.width (pos (l.x + i) -ℤ pos 1) (pos l.y -ℤ pos 1))
