@@ -1,9 +1,11 @@
 -- Drawings of gates that keep their laws, and the gates that they draw.
-use Rattle.std.specs.Prelude.{pos, ℕ, ◌+◌, ◌<◌, ◌≤◌, ◌≡◌, ◌%◌, Bool, ◌&&◌, ◌||◌, not, List, length, get_or}
+use Rattle.std.specs.Prelude.{pos, ℕ, ◌+◌, ◌<◌, ◌≤◌, ◌≡◌, ◌%◌, ◌⊎◌, Bool, true, ◌&&◌, ◌||◌, not, List, [], length, get_or}
 use Rattle.lists.specs.Items.{flag_at}
 use Rattle.wire_laws.specs.Rows.{Port}
 use Rattle.gate_laws.specs.Gates.{Gate, KeepsGateLaw, IsGateForPeriod}
-use Rattle.gate_laws.specs.Drawings.{window_gate, in_at}
+use Rattle.gate_laws.specs.Drawings.{window_gate, in_at, number_of_bits}
+use Rattle.gate_laws.specs.declared.window.InCell.{InCell}
+use Rattle.gate_laws.specs.declared.window.OutCell.{OutCell}
 use Rattle.crossing_laws.specs.Crossings.{Crossing, KeepsCrossingLaw, spread}
 use Rattle.crossing_laws.specs.Drawn.{window_crossing}
 use Rattle.gate_library.specs.declared.gate.Answer.{Answer}
@@ -17,8 +19,11 @@ use Rattle.lawful_gates.specs.declared.ports.PortCell.{PortCell}
 abbrev pub gate_together : GateDrawing → Gate
 gate_together d = window_gate d.cells d.width d.ins d.outs d.time
 
+abbrev pub own_cell : InCell → ℕ × ℕ
+own_cell input = (input.x, input.y)
+
 abbrev pub input_cell : GateDrawing → ℕ → ℕ × ℕ
-input_cell d i = ((in_at d.ins i).x, (in_at d.ins i).y)
+input_cell d i = own_cell (in_at d.ins i)
 
 -- the crossing that is drawn, if they are lit apart
 abbrev pub crossing_apart : GateDrawing → Crossing
@@ -59,6 +64,19 @@ pub record IsLawful (d : GateDrawing) : Type 0 where
       → i ≡ j
   pub answers : (later : ℕ) (bits : List Bool) → length bits ≡ length d.ins → (o : ℕ)
       → o < length d.outs → (gate_at d later).answer bits o ≡ answer_bit bits (answer_at d o)
+
+-- What an output's table says of its answer: for bits of so many inputs that are lit together it
+-- has the same bit; of inputs that are lit apart it has the one that it copies.
+abbrev pub SaysAnswer : Timing → (count : ℕ) → OutCell → Answer → Type 0
+SaysAnswer Together count out answer =
+    (bits : List Bool) → length bits ≡ count
+    → flag_at out.table (number_of_bits bits) ≡ answer_bit bits answer
+SaysAnswer Apart count out answer =
+    ((answer ≡ Copy 0) × (flag_at out.table 1 ≡ true))
+    ⊎ ((answer ≡ Copy 1) × (flag_at out.table 2 ≡ true))
+
+abbrev pub no_out : OutCell
+no_out = record { x = 0; y = 0; delay = 0; table = [] }
 
 -- The gate can be used at this period: not before its time; or the generations of its two inputs
 -- are so far apart within each period, both ways.

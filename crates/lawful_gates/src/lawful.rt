@@ -1,7 +1,8 @@
 // Drawings that were tested.
-ghost use Rattle.std.specs.Prelude.{◌≡◌};
+ghost use Rattle.std.specs.Prelude.{◌≡◌, IfSome};
 ghost use Rattle.lawful_gates.specs.Lawful.{IsLawful};
 
+use crate::testing::is_lawful;
 use gate_library::GateDrawing;
 use std::marker::Model;
 
@@ -24,6 +25,18 @@ impl Model for LawfulGate {
 }
 
 impl LawfulGate {
+    /// Tests a drawing, and takes it if it keeps its law, if no two of its inputs are one cell, and
+    /// if its answers are those of its tables.
+    pub fn of(drawing: GateDrawing) -> Option<LawfulGate>
+        ensures { IfSome result (λ gate. gate ≡ drawing) }
+    {
+        if is_lawful(&drawing) {
+            Some(LawfulGate { drawing })
+        } else {
+            None
+        }
+    }
+
     /// Returns the drawing.
     pub fn drawing(&self) -> &GateDrawing
         ensures is { result.now ≡ self.now }

@@ -4,6 +4,7 @@
 mod lawful;
 mod laws;
 mod ports;
+mod testing;
 
 pub use lawful::LawfulGate;
 pub use laws::lawful_are_gates_at_period;

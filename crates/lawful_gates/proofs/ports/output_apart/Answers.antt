@@ -1,4 +1,4 @@
-use Rattle.std.proofs.Common.{pos, ◌≡◌, ◌∙◌, refl, sym, ap, Some, length}
+use Rattle.std.proofs.Common.{pos, ◌∙◌, refl, sym, ap, Some, length}
 use Rattle.std.specs.Option.{option_map}
 use Rattle.std.proofs.lemmas.Option.{slice_get_read, slice_get_past}
 use Rattle.lawful_gates.proofs.Spread.{spread_at, spread_port}
