@@ -1,0 +1,5 @@
+use Rattle.list_matching.proofs.Running.{matched_run_alike}
+use Rattle.list_matching.proofs.alike.run_alike.Goals as goal
+
+pub returns : goal.returns
+returns c = λ alike. matched_run_alike _ _ _ _ (c.is_matched.ensures alike)

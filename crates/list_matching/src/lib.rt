@@ -1,0 +1,11 @@
+//! Whether two lists of cells run alike: a list that was found in a drawing, and the one that was to be drawn.
+//!
+//! Theorem: `run_alike`; definition `RunAlike`.
+#![tactic(auto)]
+
+mod alike;
+mod matched;
+
+pub use alike::run_alike;
+// The answer of `run_alike` when memory runs out.
+pub use lists::OutOfMemory as MatchError;
