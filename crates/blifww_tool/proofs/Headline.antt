@@ -13,10 +13,13 @@ use Rattle.blifww_tool.specs.Dumping.{Dumps}
 use Rattle.blifww_tool.specs.Evaluation.{IsEvaluation}
 use Rattle.lifted_designs.specs.Lifted.{lifted_design}
 use Rattle.netlist_core.specs.declared.model.Design.{Design}
-use Rattle.blifww_tool.specs.Lifting.{IsNetlistOf, Lifts}
+use Rattle.blifww_tool.specs.Lifting.{Lifts}
+use Rattle.program_runs.specs.Netlists.{IsNetlistOf}
 use Rattle.blifww_tool.specs.Taping.{Tapes}
-use Rattle.blifww_tool.specs.Headline.{WritesDump, WritesInContexts, WritesItsAig, WritesItsNetlist, WritesTape, WritesWhatItRead}
-use Rattle.blifww_tool.specs.Run.{Asks, Reading, Writing, GaveAll, HasText, Does}
+use Rattle.blifww_tool.specs.Headline.{WritesDump, WritesInContexts, WritesItsAig, WritesTape, WritesWhatItRead}
+use Rattle.program_runs.specs.Netlists.{WritesItsNetlist}
+use Rattle.blifww_tool.specs.Run.{Asks, HasText, Does}
+use Rattle.program_runs.specs.Runs.{Reading, Writing, GaveAll}
 use Rattle.blifww_tool.proofs.Given.{gave_whole, gained_whole, one_command}
 use Rattle.blifww_tool.proofs.Compiled.{carries_alone}
 

@@ -33,7 +33,8 @@ use Rattle.tile_match.specs.Faults.{HasCircuitFault}
 use Rattle.command_words.specs.Shapes.{lift}
 use Rattle.refusals.specs.Refusals.{audit_error, pattern_error, table_error}
 use Rattle.blifww_tool.specs.Commands.{HasTextCause}
-use Rattle.blifww_tool.specs.Lifting.{IsCircuitText, IsNetlistOf, Lifts}
+use Rattle.blifww_tool.specs.Lifting.{IsCircuitText, Lifts}
+use Rattle.program_runs.specs.Netlists.{IsNetlistOf}
 
 -- ---- the netlist
 

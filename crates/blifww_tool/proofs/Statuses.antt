@@ -12,7 +12,8 @@ use Rattle.blifww_tool.specs.Aigs.{HasNoAig}
 use Rattle.blifww_tool.specs.Commands.{Refuses}
 use Rattle.blifww_tool.specs.Compilation.{HasNoRoom, latch_count, least_room}
 use Rattle.refusals.specs.Refusals.{status_of, status_of_cause}
-use Rattle.blifww_tool.specs.Run.{Call, Reading, Asks, IsAsked, GaveTooMany, GaveAll, HasText, ReadFailed, WriteFailed, HasReason, RefusesText, IsRefused, CutsLine, CutsOutput, Ends}
+use Rattle.blifww_tool.specs.Run.{Asks, IsAsked, GaveTooMany, HasText, HasReason, RefusesText, IsRefused, CutsLine, CutsOutput, Ends}
+use Rattle.program_runs.specs.Runs.{Call, Reading, GaveAll, ReadFailed, WriteFailed}
 use Rattle.blifww_tool.specs.Statuses.{StatusesHaveCauses, IsOverALimit, IsTooLarge, HasNoPattern, WordsDoNotFit, IsFirstMiss, IsNotCircuit}
 use Rattle.blifww_tool.proofs.Given.{one_command}
 use Rattle.refusals.specs.declared.causes.Cause.{Cause}

@@ -12,7 +12,8 @@ use Rattle.refusals.specs.declared.causes.TextError.TheVariants as text_error
 use Rattle.blifww_tool.specs.Answer.{HasStopped, HasStoppedOn, IsUnwritten, PrintsPart}
 use Rattle.blifww_tool.specs.Commands.{reads_text, HasTextCause}
 use Rattle.refusals.specs.Refusals.{words_refusal, read_refusal, text_refusal}
-use Rattle.blifww_tool.specs.Run.{Reading, Writing, IsAsked, Gave, GaveIfRead, HasText, NoReadFailed, ReadFailed, Does, text_limit}
+use Rattle.blifww_tool.specs.Run.{IsAsked, HasText, Does}
+use Rattle.program_runs.specs.Runs.{Reading, Writing, Gave, GaveIfRead, NoReadFailed, ReadFailed, text_limit}
 use Rattle.refusals.specs.declared.refusal.Refusal.{Refusal}
 use Rattle.refusals.specs.declared.refusal.Refusal.TheVariants.{Usage, TooLong, ReadFault, WriteFault, NoMemory, Text}
 

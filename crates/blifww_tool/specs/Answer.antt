@@ -7,7 +7,8 @@ use Rattle.vcd_write.specs.Writing.{vcd_text}
 use Rattle.vcd_write.specs.Vcd.{waves_in}
 use Rattle.command_words.specs.Shapes.{CommandValues}
 use Rattle.blifww_tool.specs.Commands.{Prints, Refuses}
-use Rattle.blifww_tool.specs.Run.{Reading, Writing, Gained, GainedNothing, NoWriteFailed, WriteFailed, Does, HasReason}
+use Rattle.blifww_tool.specs.Run.{Does, HasReason}
+use Rattle.program_runs.specs.Runs.{Reading, Writing, Gained, GainedNothing, NoWriteFailed, WriteFailed}
 use Rattle.blifww_tool.specs.declared.output.Output.{Output}
 use Rattle.blifww_tool.specs.declared.output.Output.TheVariants.{Lines, Drawing, Waves, Lifted}
 use Rattle.refusals.specs.declared.refusal.Refusal.{Refusal}

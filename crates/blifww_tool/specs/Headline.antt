@@ -17,8 +17,8 @@ use Rattle.vcd_write.specs.Writing.{vcd_text}
 use Rattle.blifww_tool.specs.Simulation.{Simulation, IsSimulation}
 use Rattle.blifww_tool.specs.Evaluation.{Evaluation, IsEvaluation}
 use Rattle.blifww_tool.specs.Dumping.{waves_of}
-use Rattle.blifww_tool.specs.Lifting.{IsNetlistOf}
-use Rattle.blifww_tool.specs.Run.{Reading, Writing}
+use Rattle.program_runs.specs.Netlists.{IsNetlistOf}
+use Rattle.program_runs.specs.Runs.{Reading, Writing}
 
 -- If the source tells the bytes that it had left, and the output the bytes that it held, then the
 -- bytes that the output gained carry the design of the bytes that the source had left, and its
@@ -65,11 +65,3 @@ WritesDump cycles words src out =
     → (dump : List ℕ) × (out.written_after ≡ Some (before ++ dump))
     × (s : Simulation) × IsSimulation cycles words text s × (dump ≡ vcd_text (waves_of s))
     × SaysWaves (waves_of s)
-
--- the bytes that the output gained are the text of a netlist without a fault or a loop, and the
--- bytes that the source had left carry this netlist
-abbrev pub WritesItsNetlist : Reading → Writing → Type 0
-WritesItsNetlist src out =
-    (text before : List ℕ) → src.left ≡ Some text → out.written ≡ Some before
-    → (netlist : List ℕ) × (out.written_after ≡ Some (before ++ netlist))
-    × (design : Design) × IsNetlistOf text netlist design

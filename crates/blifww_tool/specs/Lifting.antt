@@ -19,6 +19,7 @@ use Rattle.blif_write.specs.declared.lift.Lift.{Lift}
 use Rattle.blif_write.specs.Lift.{IsLiftOf, text_of_lift}
 use Rattle.refusals.specs.declared.causes.Cause.{Cause}
 use Rattle.refusals.specs.declared.causes.Cause.TheVariants.{Pattern, GridTooLarge, PortTable, NotCircuit}
+use Rattle.program_runs.specs.Netlists.{IsNetlistOf}
 
 -- The text reads as this pattern with these ports, which are the drawing of this plan, and no
 -- port's name is bad.
@@ -27,14 +28,6 @@ pub record IsCircuitText (text : List ℕ) (grid : Grid) (ports : Ports) (plan :
   pub table : ReadsAsPorts text grid.width grid.height ports
   pub drawing : IsPlanDrawing grid ports plan
   pub named : has_bad_name ports ≡ false
-
--- The netlist's text is this design, which breaks no rule and has no loop, and the text of the
--- pattern carries it.
-pub record IsNetlistOf (text netlist : List ℕ) (design : Design) : Type 0 where
-  pub design_of : IsDesignOf netlist design
-  pub clocks : HasNoClockFault design
-  pub no_loop : (nets : List Net) → IsCombinationalLoop design nets → ⊥
-  pub carries : Carries text design
 
 -- The text is that of a circuit. The output is the text of the cells that the columns of the
 -- circuit's plan make, with the names of its ports: a netlist that the text carries.

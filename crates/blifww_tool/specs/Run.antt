@@ -11,6 +11,7 @@ use Rattle.refusals.specs.Refusals.{status_of, refusal_line}
 use Rattle.refusals.specs.declared.causes.Cause.{Cause}
 use Rattle.refusals.specs.declared.refusal.Refusal.{Refusal}
 use Rattle.refusals.specs.declared.refusal.Refusal.TheVariants.{Usage, TooLong, ReadFault, WriteFault, NoMemory, Text}
+use Rattle.program_runs.specs.Runs.{text_limit, Reading, reading, Writing, writing, Call, call, Gave, ReadFailed, NoReadFailed, GaveAll, IsUntouched, GaveIfRead, Gained, GainedNothing, WriteFailed, NoWriteFailed, HoldsIfRead}
 
 -- the words ask for this command, with these values
 abbrev pub Asks : List (List ℕ) → CommandValues → Type 0
@@ -29,102 +30,9 @@ pub record IsAsked (words : List (List ℕ)) (command : CommandValues) : Type 0 
   pub asks : Asks words command
   pub taken : IsTaken words
 
--- the greatest number of bytes that are read
-abbrev pub text_limit : ℕ
-text_limit = 16777216
-
--- what a run did to a source: the bytes that were left, if the source tells them, and its count of
--- faults, before and after
-pub record Reading : Type 0 where
-  pub left : Option (List ℕ)
-  pub left_after : Option (List ℕ)
-  pub faults : ℕ
-  pub faults_after : ℕ
-
-abbrev pub reading : {A : Type 0} → (A → Option (List ℕ)) → (A → ℕ) → A → A → Reading
-reading left faults old new =
-    record {
-      left = left old;
-      left_after = left new;
-      faults = faults old;
-      faults_after = faults new;
-    }
-
--- what a run did to a sink: the bytes that it took, if the sink tells them, and its count of
--- faults, before and after
-pub record Writing : Type 0 where
-  pub written : Option (List ℕ)
-  pub written_after : Option (List ℕ)
-  pub faults : ℕ
-  pub faults_after : ℕ
-
-abbrev pub writing : {A : Type 0} → (A → Option (List ℕ)) → (A → ℕ) → A → A → Writing
-writing written faults old new =
-    record {
-      written = written old;
-      written_after = written new;
-      faults = faults old;
-      faults_after = faults new;
-    }
-
--- a run: its words, and what it did to its source, its output and its errors
-pub record Call : Type 0 where
-  pub words : List (List ℕ)
-  pub src : Reading
-  pub out : Writing
-  pub err : Writing
-
-abbrev pub call : List (List ℕ) → Reading → (out err : Writing) → Call
-call words src out err = record { words = words; src = src; out = out; err = err }
-
--- the source gave these bytes
-abbrev pub Gave : Reading → List ℕ → Type 0
-Gave src given = Consumes src.left src.left_after given
-
--- one read failed
-abbrev pub ReadFailed : Reading → Type 0
-ReadFailed src = RoseByOne src.faults src.faults_after
-
--- no read failed
-abbrev pub NoReadFailed : Reading → Type 0
-NoReadFailed src = src.faults_after ≡ src.faults
-
--- the source gave this text, which is not too long, and is at its end; no read failed
-pub record GaveAll (src : Reading) (text : List ℕ) : Type 0 where
-  pub consumed : Gave src text
-  pub end : IsAtEnd src.left_after
-  pub within : length text ≤ text_limit
-  pub calm : NoReadFailed src
-
--- the source is unchanged
-pub record IsUntouched (src : Reading) : Type 0 where
-  pub left : src.left_after ≡ src.left
-  pub faults : src.faults_after ≡ src.faults
-
--- if the source is read, it gave this text; else it is unchanged, and the text is the empty one
-abbrev pub GaveIfRead : Bool → Reading → List ℕ → Type 0
-GaveIfRead true src text = GaveAll src text
-GaveIfRead false src text = IsUntouched src × (text ≡ [])
-
 -- the command has this text from the source
 abbrev pub HasText : CommandValues → Reading → List ℕ → Type 0
 HasText command src text = GaveIfRead (reads_text command) src text
-
--- the sink gained these bytes
-abbrev pub Gained : Writing → List ℕ → Type 0
-Gained sink bytes = Appends sink.written sink.written_after bytes
-
--- the sink gained nothing
-abbrev pub GainedNothing : Writing → Type 0
-GainedNothing sink = Keeps sink.written sink.written_after
-
--- one write failed
-abbrev pub WriteFailed : Writing → Type 0
-WriteFailed sink = RoseByOne sink.faults sink.faults_after
-
--- no write failed
-abbrev pub NoWriteFailed : Writing → Type 0
-NoWriteFailed sink = sink.faults_after ≡ sink.faults
 
 -- the words ask for a command, the command has a text from the source, and out gained this part of
 -- what the command prints of the text
@@ -212,11 +120,6 @@ pub record CutsOutput (c : Call) : Type 0 where
   pub failed : WriteFailed c.out
   pub line : (NoWriteFailed c.err × Gained c.err (refusal_line WriteFault))
       ⊎ (WriteFailed c.err × ((k : ℕ) × Gained c.err (take k (refusal_line WriteFault))))
-
--- if the source is read, it has this text and no read failed; else the text is the empty one
-abbrev pub HoldsIfRead : Bool → Reading → List ℕ → Type 0
-HoldsIfRead true src text = (src.left ≡ Some text) × (ReadFailed src → ⊥)
-HoldsIfRead false src text = text ≡ []
 
 -- the words ask for the command, the source has the text for it, and nothing failed
 pub record IsCalm (c : Call) (command : CommandValues) (text : List ℕ) : Type 0 where

@@ -13,7 +13,8 @@ use Rattle.command_words.specs.Shapes.{CommandValues, compile, aiger, IsCommand}
 use Rattle.blifww_tool.specs.Compilation.{HasNoRoom}
 use Rattle.tile_match.specs.declared.error.CircuitFault.{CircuitFault}
 use Rattle.blifww_tool.specs.Aigs.{HasNoAig}
-use Rattle.blifww_tool.specs.Run.{Call, Asks, IsAsked, GaveTooMany, GaveAll, ReadFailed, WriteFailed, RefusesText, Ends}
+use Rattle.blifww_tool.specs.Run.{Asks, IsAsked, GaveTooMany, RefusesText, Ends}
+use Rattle.program_runs.specs.Runs.{Call, GaveAll, ReadFailed, WriteFailed}
 use Rattle.refusals.specs.declared.causes.Cause.TheVariants.{WeightTooLarge, AigLoop, Pattern, GridTooLarge, PortTable, Streams, StartWord, NoSuchNet, TooFar, TooManyContexts, NotQuiet, NotCircuit}
 
 -- the source gave too many bytes, or the command refuses the text that it has: for the netlist's

@@ -2,7 +2,8 @@
 ghost use Rattle.std.specs.Prelude.{◌≡◌, ◌<◌, true, false, List, ℕ, length, IfOk, OnErr, IsErrOf};
 ghost use Rattle.command_words.specs.Shapes.{values_of};
 ghost use Rattle.blifww_tool.specs.Commands.{reads_text};
-ghost use Rattle.blifww_tool.specs.Run.{reading, Gave, HasText, NoReadFailed, ReadFailed, text_limit};
+ghost use Rattle.blifww_tool.specs.Run.{HasText};
+ghost use Rattle.program_runs.specs.Runs.{reading, Gave, NoReadFailed, ReadFailed, text_limit};
 
 use command_words::Command;
 use lists::Bytes;

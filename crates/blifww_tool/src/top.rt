@@ -3,10 +3,12 @@ ghost use Rattle.std.specs.Prelude.{◌≡◌, ℕ, List, [], map, string_bytes,
 ghost use Rattle.std.specs.Io.KnownBytes.{Appends};
 ghost use Rattle.ww_base.specs.Faults.{HasCause};
 ghost use Rattle.command_words.specs.Shapes.{aiger, compile, lift, tape, values_of, vcd, HasNumbersInRange};
-ghost use Rattle.blifww_tool.specs.Headline.{WritesDump, WritesInContexts, WritesItsAig, WritesItsNetlist, WritesTape, WritesWhatItRead};
+ghost use Rattle.blifww_tool.specs.Headline.{WritesDump, WritesInContexts, WritesItsAig, WritesTape, WritesWhatItRead};
+ghost use Rattle.program_runs.specs.Netlists.{WritesItsNetlist};
 ghost use Rattle.blifww_tool.specs.Commands.{Prints, HasTextCause};
 ghost use Rattle.blifww_tool.specs.Answer.{output_text, IsWritableOutput, HasStopped, HasStoppedOn, PrintsPart};
-ghost use Rattle.blifww_tool.specs.Run.{Asks, AsksForNoText, reading, writing, call, Gave, Does, Ends, NoWriteFailed};
+ghost use Rattle.blifww_tool.specs.Run.{Asks, AsksForNoText, Does, Ends};
+ghost use Rattle.program_runs.specs.Runs.{reading, writing, call, Gave, NoWriteFailed};
 
 use crate::aiger::aiger;
 use crate::compile::compile;

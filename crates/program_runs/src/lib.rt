@@ -1,0 +1,2 @@
+//! The words for what a run of a program did: definitions alone.
+#![tactic(auto)]
