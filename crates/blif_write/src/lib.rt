@@ -1,6 +1,6 @@
 //! Writes the netlist of a plan's cells as BLIF text, which is made while it is written and takes no memory.
 //!
-//! Theorem: `of` (`lift`, `computes`, `no_one`); `write` (`ok`, `front`, `cause`); `laws::lifted_texts_read`; definition `lifted_text`.
+//! Theorem: `of_cells` (`lift`); `of` (`lift`, `computes`, `no_one`); `write` (`ok`, `front`, `cause`); `laws::lifted_texts_read`; definition `lifted_text`.
 #![tactic(auto)]
 
 pub mod laws;
@@ -15,5 +15,5 @@ mod words;
 // The answer of `of` when memory runs out.
 pub use circuit_plans::LiftError;
 pub use lift::Lift;
-pub use lifting::of;
+pub use lifting::{of, of_cells};
 pub use text::write;
