@@ -4,16 +4,21 @@ ghost use Rattle.aiger_meaning.specs.declared.error.LowerError.TheVariants.{NoMe
 
 use lists::List;
 use std::alloc::{AllocError, AllocFailed};
+use std::fmt;
+use thiserror::Error;
 
 /// The error of `lower`: why there is no flat netlist of a circuit.
-#[derive(Drop)]
+#[derive(Drop, Error)]
 pub enum LowerError {
     /// The circuit weighs more than the limit.
+    #[error("the circuit is too large: it weighs {weight}")]
     TooLarge { weight: u64 },
     /// Gates read each other in a circle. These are their left sides, each once: each is read by
     /// the gate of the next, and the last by the gate of the first.
+    #[error("gates read each other in a circle")]
     Loop(List<u64>),
     /// Memory ran out.
+    #[error("out of memory")]
     NoMemory,
 }
 
@@ -30,5 +35,17 @@ impl<T: Drop> From<AllocFailed<T>> for LowerError {
 
     fn from(_: AllocFailed<T>) -> Self {
         LowerError::NoMemory
+    }
+}
+
+impl fmt::Debug for LowerError {
+    fn fmt<W: fmt::Write>(&self, f: &mut fmt::Formatter<W>) -> fmt::Result {
+        match self {
+            LowerError::TooLarge { weight } => {
+                f.debug_struct("TooLarge").field("weight", weight).finish()
+            }
+            LowerError::Loop(_) => f.write_str("Loop"),
+            LowerError::NoMemory => f.write_str("NoMemory"),
+        }
     }
 }

@@ -2,4 +2,3 @@ pub mod Places
 pub mod ToCome
 pub mod Weights
 pub mod Words
-pub mod Positions

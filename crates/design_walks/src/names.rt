@@ -1,34 +1,29 @@
 // Each name where it first stands, with its position.
-ghost use Rattle.std.specs.Prelude.{◌≡◌, [], Contains, is_some, slice_get, Some, IfOk, OnOk, MatchOption};
+ghost use Rattle.std.specs.Prelude.{◌≡◌, Contains, slice_get, Some, IfOk, MatchOption};
 ghost use Rattle.netlist_core.specs.Names.{port_names};
-ghost use Rattle.netlist_meaning.specs.InOrder.{by_line, first_names, model_words, names_in_order};
-ghost use Rattle.flat_designs.specs.Laws.{append_unless};
-ghost use Rattle.design_walks.specs.Positions.{bytes_of, position_in, HasPositions};
-ghost use Rattle.design_walks.specs.Words.{as_ports};
+ghost use Rattle.netlist_meaning.specs.InOrder.{by_line, model_words, names_in_order};
+ghost use Rattle.netlist_meaning.specs.InOrder as naming;
+ghost use Rattle.design_walks.specs.Words.{as_ports, bytes_of};
 
 use crate::words::{Word, words_of};
-use lists::List;
+use indexmap::IndexSet;
 use netlist_core::Model;
 use std::alloc::{AllocError, Global};
-use std::collections::BTreeMap;
 
 /// The names of a model, each once, in the order in which they first stand in its text. Contracts
 /// see the list of the names.
 #[derive(Drop)]
 pub struct ModelNames<'a> {
-    names: List<&'a [u8]>,
-    positions: BTreeMap<&'a [u8], usize>,
+    names: IndexSet<&'a [u8]>,
 }
 
 impl<'a> std::marker::Model for ModelNames<'a> {
     ghost use Rattle.std.specs.Prelude.{List, ℕ};
-    ghost use Rattle.design_walks.specs.Positions.{bytes_of, HasPositions};
+    ghost use Rattle.design_walks.specs.Words.{bytes_of};
 
     ghost Value = { List (List ℕ) };
 
-    ghost view = { λ m. bytes_of m.names };
-
-    ghost invariant = { λ m. HasPositions m.positions (bytes_of m.names) };
+    ghost view = { λ m. bytes_of m.names.keys };
 }
 
 impl<'a> ModelNames<'a> {
@@ -37,13 +32,8 @@ impl<'a> ModelNames<'a> {
         ensures { IfOk result (λ names. names ≡ names_in_order model.now) }
     {
         let words = words_by_line(alloc, model)?;
-        let mut names = Vec::new(alloc);
-        let mut positions = BTreeMap::new(alloc);
-        push_first_names(&mut names, &mut positions, &words)?;
-        Ok(ModelNames {
-            names: List::of(names),
-            positions,
-        })
+        let names = first_names(alloc, &words)?;
+        Ok(ModelNames { names })
     }
 
     /// Returns the names, in order.
@@ -59,7 +49,7 @@ impl<'a> ModelNames<'a> {
             slice_get self.now position ≡ Some name.now
             ) }
     {
-        self.positions.get(name).copied()
+        self.names.get_index_of(name)
     }
 }
 
@@ -72,44 +62,15 @@ fn words_by_line(alloc: Global, model: &Model) -> Result<Vec<Word<'_>>, AllocErr
     Ok(words)
 }
 
-// Adds a name, if it is not there yet.
-fn push_new<'a>(
-    names: &mut Vec<&'a [u8]>,
-    positions: &mut BTreeMap<&'a [u8], usize>,
-    name: &'a [u8],
-) -> Result<(), AllocError>
-    ensures names { OnOk result (
-        bytes_of names.new.items
-        ≡ append_unless
-        (is_some (position_in positions.old name.now)) (bytes_of names.old.items)
-        name.now
+// The names of words, each where it first stands.
+fn first_names<'a>(alloc: Global, words: &[Word<'a>]) -> Result<IndexSet<&'a [u8]>, AllocError>
+    ensures { IfOk result (λ names.
+        bytes_of names.keys ≡ naming.first_names (port_names (as_ports words.now))
         ) }
-    ensures positions { OnOk result (HasPositions positions.old (bytes_of names.old.items)
-        → HasPositions positions.new (bytes_of names.new.items)) }
 {
-    if positions.contains_key(name) {
-        return Ok(());
-    }
-    positions.insert(name, names.len())?;
-    names.push(name)?;
-    Ok(())
-}
-
-// Adds the names of words, each where it first stands, to an empty list.
-fn push_first_names<'a>(
-    names: &mut Vec<&'a [u8]>,
-    positions: &mut BTreeMap<&'a [u8], usize>,
-    words: &[Word<'a>],
-) -> Result<(), AllocError>
-    requires names { names.old.items ≡ [] }
-    requires positions { HasPositions positions.old [] }
-    ensures names { OnOk result (
-        bytes_of names.new.items ≡ first_names (port_names (as_ports words.now))
-        ) }
-    ensures positions { OnOk result (HasPositions positions.new (bytes_of names.new.items)) }
-{
+    let mut names = IndexSet::new(alloc);
     for word in words {
-        push_new(names, positions, word.name)?;
+        names.insert(word.name)?;
     }
-    Ok(())
+    Ok(names)
 }

@@ -3,17 +3,21 @@ ghost use Rattle.std.specs.Prelude.{◌≡◌, ◌<◌, ◌^◌};
 
 use crate::DriveError;
 use std::alloc::{AllocError, AllocFailed};
+use thiserror::Error;
 use ww_rule::Injection;
 
 /// The error of `simulate` and `bits_of_cells`: why a pattern was not run.
-#[derive(Clone, Copy, Debug)]
+#[derive(Clone, Copy, Debug, Error)]
 pub enum SimulateError {
     /// Memory ran out.
+    #[error("out of memory")]
     NoMemory,
     /// The run needs this number of generations, which is over the limit of 4,294,967,296.
+    #[error("the run needs {generations} generations")]
     TooFar { generations: u128 },
     /// An injection is due at this generation at this cell, by its column and row, but the cell is
     /// no conductor before the injections of that generation.
+    #[error("generation {generation}: cell {x} {y} is no conductor")]
     NotQuiet { generation: u64, x: u64, y: u64 },
 }
 

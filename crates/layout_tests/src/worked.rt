@@ -271,7 +271,12 @@ const PLANS: &[Case] = &[
     Case {
         about: "loops take each column twice",
         plan: Origin::ThreeColumns,
-        facts: &[Fact::Columns(3), Fact::Latency(96), Fact::Period(448)],
+        facts: &[
+            Fact::Columns(3),
+            Fact::Latency(96),
+            Fact::Period(448),
+            Fact::Size(225, 96),
+        ],
     },
 ];
 

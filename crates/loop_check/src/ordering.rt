@@ -12,15 +12,28 @@ use depth_walk::WalkError;
 use lists::List;
 use netlist_core::{Flat, NetId, Order};
 use std::alloc::{AllocError, AllocFailed, Global};
+use std::fmt;
+use thiserror::Error;
 
 /// Why the nodes of a flat netlist have no order.
-#[derive(Drop)]
+#[derive(Drop, Error)]
 pub enum OrderError {
     /// Memory ran out.
+    #[error("out of memory")]
     NoMemory,
     /// The nets of a loop, each the first of its class: a node reads the class of each and drives
     /// that of the next, and a node reads the class of the last and drives that of the first.
+    #[error("nodes read each other in a circle")]
     Loop(List<NetId>),
+}
+
+impl fmt::Debug for OrderError {
+    fn fmt<W: fmt::Write>(&self, f: &mut fmt::Formatter<W>) -> fmt::Result {
+        match self {
+            OrderError::NoMemory => f.write_str("NoMemory"),
+            OrderError::Loop(_) => f.write_str("Loop"),
+        }
+    }
 }
 
 impl From<AllocError> for OrderError {

@@ -8,12 +8,23 @@ ghost use Rattle.plan_tapes.specs.declared.loading.LoadError.TheVariants.{NoMemo
 use lane_core::Plan;
 use lists::{List, OutOfMemory};
 use std::alloc::{AllocError, Global};
+use std::fmt;
+use thiserror::Error;
 
 /// The reason why `load` has put no bits on a plan's tape.
-#[derive(Drop)]
+#[derive(Drop, Error)]
 pub enum LoadError {
     /// Memory runs out while the bits are copied. The plan is handed back as it was.
+    #[error("out of memory")]
     NoMemory(Plan),
+}
+
+impl fmt::Debug for LoadError {
+    fn fmt<W: fmt::Write>(&self, f: &mut fmt::Formatter<W>) -> fmt::Result {
+        match self {
+            LoadError::NoMemory(_) => f.write_str("NoMemory"),
+        }
+    }
 }
 
 impl From<LoadError> for OutOfMemory {

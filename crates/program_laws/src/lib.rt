@@ -1,10 +1,12 @@
 //! What the commands print of one another's outputs: the laws between them. What `compile` writes is
-//! a part.
+//! a part. And what definitions of lower crates come to (`laws`).
 //!
 //! The functions here do nothing: their clauses are the laws.
 //!
 //! Theorem: `carriers_print_alike`, `carriers_print_runs`, `compiled_are_lifted`, `compiled_are_parts`, `carried_evaluate_alike`.
 #![tactic(auto)]
+
+pub mod laws;
 
 ghost use Rattle.program_laws.specs.AigPrints.{AigCarriersRunQuietly, AigsAreLifted, AigsPrintRuns, AigsRunQuietly, CarriersPrintAigRuns};
 ghost use Rattle.program_laws.specs.CompiledParts.{CompiledAreParts, CompiledHaveNoElectrons, CompiledHaveOpenLines};

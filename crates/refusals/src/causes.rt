@@ -14,6 +14,8 @@ use probe_view::WindowError;
 use rle_read::{RleFault, RleReadError};
 use start_words::{StartError, StartFault};
 use std::alloc::AllocError;
+use std::fmt;
+use thiserror::Error;
 use tile_match::{AuditError, CircuitFault};
 
 /// Why a command refuses a text.
@@ -75,10 +77,21 @@ impl Cause {
 }
 
 /// Why a text gives no output: a command refuses it, or memory ran out.
-#[derive(Drop)]
+#[derive(Drop, Error)]
 pub enum TextError {
+    #[error("the text is refused")]
     Refused(Cause),
+    #[error("out of memory")]
     NoMemory,
+}
+
+impl fmt::Debug for TextError {
+    fn fmt<W: fmt::Write>(&self, f: &mut fmt::Formatter<W>) -> fmt::Result {
+        match self {
+            TextError::Refused(cause) => f.debug_tuple("Refused").field(&cause.status()).finish(),
+            TextError::NoMemory => f.write_str("NoMemory"),
+        }
+    }
 }
 
 impl From<NetlistError> for TextError {

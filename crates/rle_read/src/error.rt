@@ -4,6 +4,7 @@ ghost use Rattle.rle_read.specs.declared.error.RleReadError.TheVariants.{Fault, 
 
 use pattern_reading::RleFaultKind;
 use std::alloc::{AllocError, AllocFailed};
+use thiserror::Error;
 
 /// A fault of a text of extended RLE, and the number of its line, from 1.
 #[derive(Clone, Copy, Debug, PartialEq, Eq)]
@@ -13,13 +14,16 @@ pub struct RleFault {
 }
 
 /// The reason why `read` has read no pattern.
-#[derive(Clone, Copy, Debug, PartialEq, Eq)]
+#[derive(Clone, Copy, Debug, PartialEq, Eq, Error)]
 pub enum RleReadError {
     /// The text is at fault, and this is its first fault.
+    #[error("the pattern is at fault")]
     Fault(RleFault),
     /// The header's box has more cells than a reader takes, 268435456.
+    #[error("the pattern is too large: its box is {width} by {height}")]
     TooLarge { width: u64, height: u64 },
     /// Memory runs out.
+    #[error("out of memory")]
     NoMemory,
 }
 

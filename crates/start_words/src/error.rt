@@ -4,6 +4,8 @@ ghost use Rattle.start_words.specs.declared.error.StartError.TheVariants.{NoMemo
 
 use lists::Bytes;
 use std::alloc::{AllocError, AllocFailed};
+use std::fmt;
+use thiserror::Error;
 
 /// The faults of start words, by the names that the program prints. The first word at fault is
 /// reported, with the first of these faults that it has.
@@ -30,11 +32,13 @@ pub struct StartFault {
 }
 
 /// The error of `Starts::read`: why no starts were read.
-#[derive(Drop)]
+#[derive(Drop, Error)]
 pub enum StartError {
     /// Memory ran out.
+    #[error("out of memory")]
     NoMemory,
     /// The words have this fault.
+    #[error("the words are at fault")]
     Fault(StartFault),
 }
 
@@ -51,5 +55,14 @@ impl<T: Drop> From<AllocFailed<T>> for StartError {
 
     fn from(_: AllocFailed<T>) -> Self {
         StartError::NoMemory
+    }
+}
+
+impl fmt::Debug for StartError {
+    fn fmt<W: fmt::Write>(&self, f: &mut fmt::Formatter<W>) -> fmt::Result {
+        match self {
+            StartError::NoMemory => f.write_str("NoMemory"),
+            StartError::Fault(fault) => f.debug_tuple("Fault").field(&fault.kind).finish(),
+        }
     }
 }

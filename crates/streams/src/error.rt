@@ -3,6 +3,8 @@ ghost use Rattle.std.specs.Prelude.{◌≡◌};
 
 use lists::Bytes;
 use std::alloc::{AllocError, AllocFailed};
+use std::fmt;
+use thiserror::Error;
 
 /// The faults of stream words, by the names that the program prints. The first word at fault is
 /// reported, with the first of these faults that it has. `MissingInput` comes if no word is at
@@ -36,11 +38,13 @@ pub struct StreamFault {
 }
 
 /// The error of `Streams::read`: why no streams were read.
-#[derive(Drop)]
+#[derive(Drop, Error)]
 pub enum StreamError {
     /// Memory ran out.
+    #[error("out of memory")]
     NoMemory,
     /// The words have this fault.
+    #[error("the words are at fault")]
     Fault(StreamFault),
 }
 
@@ -59,5 +63,14 @@ impl<T: Drop> From<AllocFailed<T>> for StreamError {
 
     fn from(_: AllocFailed<T>) -> Self {
         StreamError::NoMemory
+    }
+}
+
+impl fmt::Debug for StreamError {
+    fn fmt<W: fmt::Write>(&self, f: &mut fmt::Formatter<W>) -> fmt::Result {
+        match self {
+            StreamError::NoMemory => f.write_str("NoMemory"),
+            StreamError::Fault(fault) => f.debug_tuple("Fault").field(&fault.kind).finish(),
+        }
     }
 }

@@ -322,10 +322,22 @@ struct Group<'a> {
     cases: &'a str,
 }
 
-/// Returns whether the commands end as a case wants when they read this text.
-pub fn is_end(alloc: Global, case: &Case, commands: &str, text: &[u8]) -> Result<bool, Fail> {
+// Whether the commands end as a case wants when they read this text.
+fn is_end(alloc: Global, case: &Case, commands: &str, text: &[u8]) -> Result<bool, Fail> {
     let got = run_after(alloc, commands, text, case.limits)?;
     Ok(got.is(case.status, case.out, case.err))
+}
+
+/// Returns whether the commands, and those after ` & `, end as a case wants when they read this
+/// text.
+pub fn are_ends(alloc: Global, case: &Case, commands: &str, text: &[u8]) -> Result<bool, Fail> {
+    let (first, second) = halves(commands, " & ");
+    let is_so = is_end(alloc, case, first, text)?;
+    if second.is_empty() {
+        Ok(is_so)
+    } else {
+        Ok(is_end(alloc, case, second, text)? && is_so)
+    }
 }
 
 // Whether a case ends as it wants, with its commands and with those after ` & `. A case without a
@@ -336,13 +348,7 @@ fn is_met(alloc: Global, case: &Case, other: &str) -> Result<bool, Fail> {
     } else {
         case.text
     };
-    let (first, second) = halves(case.commands, " & ");
-    let is_so = is_end(alloc, case, first, text.as_bytes())?;
-    if second.is_empty() {
-        Ok(is_so)
-    } else {
-        Ok(is_end(alloc, case, second, text.as_bytes())? && is_so)
-    }
+    are_ends(alloc, case, case.commands, text.as_bytes())
 }
 
 // Adds a part to a text.

@@ -7,14 +7,18 @@ ghost use Rattle.ww_base.specs.declared.whole.ReadAllError.TheVariants.{NoMemory
 use crate::{Failed, Sink, Source};
 use lists::Bytes;
 use std::alloc::{AllocError, Global};
+use thiserror::Error;
 
 /// Why a source was not read to its end.
-#[derive(Clone, Copy, Debug, PartialEq, Eq)]
+#[derive(Clone, Copy, Debug, PartialEq, Eq, Error)]
 pub enum ReadAllError {
     /// A read failed.
+    #[error("a read failed")]
     ReadFault,
     /// The source has given more bytes than the limit.
+    #[error("the source has more bytes than the limit")]
     TooLong,
+    #[error("out of memory")]
     NoMemory,
 }
 

@@ -45,6 +45,13 @@ x = 0, y = 0, rule = WireWorld
 == 0
 #C BLIFWW 2 P 32 L 32 C 1
 ...
+> compile -- constant 0 has a lane that is never lit, and no loop
+.model c
+.outputs y
+.names y
+.end
+== 0
+#C BLIFWW 2 P 32 L ...
 > compile
 .model or
 .inputs a% é

@@ -1,5 +1,5 @@
 // What `compile` makes of several contexts, and what such patterns show.
-use crate::runs::compiling::TOGGLE;
+use crate::runs::compiling::{INVERTER, TOGGLE};
 use crate::runs::{expect_holds, run_amply, text_of, written};
 use itoa::Buffer;
 use std::alloc::{AllocError, Global};
@@ -123,11 +123,11 @@ fn number_at(text: &[u8]) -> u64 {
     number
 }
 
-// The number of contexts for which the period of a netlist's pattern has room.
-fn room_of(alloc: Global, netlist: &str) -> Result<u64, Fail> {
+// The period of a netlist's pattern.
+fn period_of(alloc: Global, netlist: &str) -> Result<u64, Fail> {
     let text = written(alloc, "compile", netlist.as_bytes())?;
     match text.strip_prefix(b"#C BLIFWW 2 P ") {
-        Some(rest) => Ok(number_at(rest) / 32),
+        Some(rest) => Ok(number_at(rest)),
         None => Err(Fail::new("the text begins otherwise")),
     }
 }
@@ -170,8 +170,15 @@ fn expect_no_room(alloc: Global, room: u64) -> Result<(), Fail> {
 #[test]
 fn as_many_contexts_as_have_room_are_compiled(rt: HostRuntime) -> Result<(), Fail> {
     let alloc = rt.alloc();
-    let room = room_of(alloc, TOGGLE)?;
+    let room = period_of(alloc, TOGGLE)? / 32;
     expect_contexts(alloc, room, 0, "#C BLIFWW 2 P ...\n", "")?;
     expect_no_room(alloc, room)?;
     expect_holds("the room of the toggle", room >= 6)
+}
+
+#[test]
+fn a_loop_of_constant_1_lengthens_the_period(rt: HostRuntime) -> Result<(), Fail> {
+    let period = period_of(rt.alloc(), INVERTER)?;
+    expect_holds("the period is one of whole tiles", period % 32 == 0)?;
+    expect_holds("the period is that of a loop", period > 32)
 }

@@ -1,37 +1,37 @@
-// Runs of `eval`.
+// Runs of `eval`, and of `compile` over texts that both refuse.
 
 /// Netlists that run, and texts and words that give no run.
 pub const CASES: &str = "
-> eval --cycles 1 -- texts that are no netlists
+> eval --cycles 1 & compile -- texts that are no netlists
 == 1
 B22 NoModel line 1: -
-> eval --cycles 1
+> eval --cycles 1 & compile
 .inputs a
 == 1
 B1 NoModelYet line 1: .inputs
-> eval --cycles 1
+> eval --cycles 1 & compile
 aag 0 0 0 0 0
 == 1
 B1 NoModelYet line 1: aag
-> eval --cycles 1
+> eval --cycles 1 & compile
 .model m
 .end
 .names y
 == 1
 B10 AfterEnd line 3: .names
-> eval --cycles 1
+> eval --cycles 1 & compile
 .model m
 .outputs y
 .names z y
 1 1
 == 1
 B14 Undriven line 3: z
-> eval --cycles 1
+> eval --cycles 1 & compile
 .model m
 .subckt m
 == 1
 B19 Recursive line 2: m
-> eval --cycles 1
+> eval --cycles 1 & compile
 .model m
 .inputs d c e
 .outputs q r
@@ -40,7 +40,7 @@ B19 Recursive line 2: m
 .end
 == 1
 B20 TwoClocks line 5: e
-> eval --cycles 1
+> eval --cycles 1 & compile
 .model m
 .inputs d clk
 .outputs q y
@@ -49,7 +49,7 @@ B20 TwoClocks line 5: e
 1 1
 == 1
 B21 ClockRead line 5: clk
-> eval --cycles 1
+> eval --cycles 1 & compile
 .model m
 .inputs a
 .outputs x
@@ -58,6 +58,62 @@ B21 ClockRead line 5: clk
 .end
 == 3
 loop: x
+> eval --cycles 1 & compile -- subckt lines whose model or pins are not there, or there twice
+.model m
+.outputs y
+.subckt z a=y
+== 1
+B15 NoSuchModel line 3: z
+> eval --cycles 1 & compile
+.model m
+.inputs a
+.subckt s q=a
+.end
+.model s
+.inputs p
+.end
+== 1
+B16 NoSuchPin line 3: q
+> eval --cycles 1 & compile
+.model m
+.inputs a
+.subckt s p=a p=a
+.end
+.model s
+.inputs p
+.end
+== 1
+B17 PinTwice line 3: p
+> eval --cycles 1 & compile
+.model m
+.inputs a
+.subckt s
+.end
+.model s
+.inputs p
+.end
+== 1
+B18 PinMissing line 3: p
+> eval --cycles 1 & compile -- an annotation ends a cover's rows, and is skipped
+.model or
+.inputs a b
+.outputs y
+.names a b y
+.area 2
+10 1
+.end
+== 1
+B5 RowOutside line 6: 10
+> eval --cycles 4 a=0011 b=0101 & compile | simulate --cycles 4 a=0011 b=0101
+.model or
+.inputs a b
+.outputs y
+.area 2
+.names a b y
+10 1
+.end
+== 0
+y=0010
 > eval --cycles 4 -- models inside models: a net goes in through two formals and comes out through a third
 .model m
 .outputs n
@@ -72,7 +128,7 @@ loop: x
 .end
 == 0
 n=0101
-> eval --cycles 1 -- circles through models
+> eval --cycles 1 & compile -- circles through models
 .model a
 .subckt b
 .end
@@ -80,7 +136,7 @@ n=0101
 .subckt a
 == 1
 B19 Recursive line 2: a b
-> eval --cycles 1
+> eval --cycles 1 & compile
 .model m
 .outputs y
 .subckt i a=y z=y

@@ -1,6 +1,6 @@
 // Texts that repeat a part: models inside models, weights near the limit and far beyond it, and
 // texts at the limit of length and beyond it.
-use crate::runs::{Case, case_of, expect_holds, halves, is_end, number_of, push};
+use crate::runs::{Case, are_ends, case_of, expect_holds, halves, number_of, push};
 use itoa::Buffer;
 use std::alloc::{AllocError, Global};
 use std::test::Fail;
@@ -49,7 +49,7 @@ y=1
 .end
 == 9
 stream: MissingInput i0
-> 8191 eval --cycles 1
+> 8191 eval --cycles 1 & compile
 .model m
 .inputs{ i%}
 .outputs y
@@ -62,7 +62,7 @@ aag 0 0 0 2048 0
 {0
 }== 4
 too large: weight 8194 limit 8192
-> 40 eval --cycles 1 -- models that each place the next one twice
+> 40 eval --cycles 1 & compile -- models that each place the next one twice
 .model h{
 .subckt h%
 .subckt h%
@@ -72,7 +72,7 @@ too large: weight 8194 limit 8192
 .end
 == 4
 too large: weight 3298534883326 limit 8192
-> 62 eval --cycles 1
+> 62 eval --cycles 1 & compile
 .model h{
 .subckt h%
 .subckt h%
@@ -82,7 +82,7 @@ too large: weight 3298534883326 limit 8192
 .end
 == 4
 too large: weight 13835058055282163710 limit 8192
-> 63 eval --cycles 1
+> 63 eval --cycles 1 & compile
 .model h{
 .subckt h%
 .subckt h%
@@ -97,6 +97,45 @@ too large: weight 18446744073709551615 limit 8192
 B22 NoModel line 1: -
 > 1048576 compile
 {################}#== 4
+too long: limit 16777216
+> 1048576 compile -- a text of 16,777,216 line ends, and one with one more
+{
+
+
+
+
+
+
+
+
+
+
+
+
+
+
+
+}== 1
+B22 NoModel line 1: -
+> 1048576 compile
+{
+
+
+
+
+
+
+
+
+
+
+
+
+
+
+
+}
+== 4
 too long: limit 16777216
 ";
 
@@ -135,7 +174,7 @@ fn push_text(text: &mut Vec<u8>, of: &str, times: usize) -> Result<(), AllocErro
 fn is_met(alloc: Global, case: &Case, command: &str, times: usize) -> Result<bool, Fail> {
     let mut text = Vec::new(alloc);
     push_text(&mut text, case.text, times)?;
-    is_end(alloc, case, command, &text)
+    are_ends(alloc, case, command, &text)
 }
 
 // Whether a case ends as it wants.
