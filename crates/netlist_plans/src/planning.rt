@@ -151,9 +151,14 @@ fn lists_of_both(
     joined(flat, lists, low_lists, spares_one)
 }
 
-// Lists of cells of a sound flat netlist; each list computes the netlist.
+/// Makes lists of cells of a sound flat netlist; each list computes the netlist. `order` is an order
+/// of its covers in which each cover comes after those that it reads.
 #[tactic(auto, using(crate::proofs::Sparing::has_room))]
-fn cell_lists(alloc: Global, flat: &Flat, order: &Order) -> Result<Vec<CellList>, NetlistPlanError>
+pub fn cell_lists(
+    alloc: Global,
+    flat: &Flat,
+    order: &Order,
+) -> Result<Vec<CellList>, NetlistPlanError>
     requires sound { IsSound flat.now }
     requires weighed { IsWeighed flat.now }
     requires ordered { IsOrder flat.now order.now.nodes }
