@@ -6,7 +6,8 @@ use Rattle.refusals.specs.Refusals.{status_of, status_of_cause, refusal_line}
 use Rattle.blifww_tool.specs.Answer.{HasStopped, IsUnwritten}
 use Rattle.blifww_tool.specs.Run.{Asks, AsksNothing, HasText, Does, RefusesText, GaveTooMany, HasReason, TellsRefusal, TellsCause, TellsLike, TellsOr7, IsDone, IsRefused, CutsLine, CutsOutput, IsCalm, Ends}
 use Rattle.program_runs.specs.Runs.{Reading, Writing, Call, Gave, GaveIfRead, HoldsIfRead, Gained, GainedNothing, NoWriteFailed, WriteFailed, text_limit}
-use Rattle.blifww_tool.proofs.Given.{gave_whole, no_more, one_command}
+use Rattle.program_runs.proofs.Given.{gave_whole, no_more}
+use Rattle.blifww_tool.proofs.Given.{one_command}
 use Rattle.blifww_tool.proofs.Decided.{printed_or_refused, accepted_or_refused, one_cause}
 use Rattle.refusals.specs.declared.causes.Cause.{Cause}
 use Rattle.refusals.specs.declared.causes.Cause.TheVariants.{NetlistFault, WeightTooLarge, Loop, AigAtFault, AigLoop, Pattern, GridTooLarge, PortTable, Streams, StartWord, NoSuchNet, TooFar, TooManyContexts, NotQuiet, NotCircuit}

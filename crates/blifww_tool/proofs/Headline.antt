@@ -20,7 +20,8 @@ use Rattle.blifww_tool.specs.Headline.{WritesDump, WritesInContexts, WritesItsAi
 use Rattle.program_runs.specs.Netlists.{WritesItsNetlist}
 use Rattle.blifww_tool.specs.Run.{Asks, HasText, Does}
 use Rattle.program_runs.specs.Runs.{Reading, Writing, GaveAll}
-use Rattle.blifww_tool.proofs.Given.{gave_whole, gained_whole, one_command}
+use Rattle.program_runs.proofs.Given.{gave_whole, gained_whole}
+use Rattle.blifww_tool.proofs.Given.{one_command}
 use Rattle.blifww_tool.proofs.Compiled.{carries_alone}
 
 module _ (words : List (List ℕ)) (src : Reading) (out : Writing) (d : Does words src out (λ output. output)) where

@@ -1,0 +1,4 @@
+pub mod Words
+pub mod Refusing
+pub mod Carried
+pub mod Runs
