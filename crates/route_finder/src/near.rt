@@ -65,12 +65,12 @@ fn height(drawing: &GateDrawing) -> u32 {
 
 /// Returns which cells beside one of a drawing are drawn, as `Board::surroundings` does.
 pub fn surroundings_of(drawing: &GateDrawing, x: u32, y: u32) -> u8 {
-    let mut bits = 0u8;
-    for step in STEPS.iter().rev() {
-        bits = bits.wrapping_mul(2);
+    let (mut bits, mut bit) = (0u8, 1u8);
+    for step in STEPS {
         if is_drawn(drawing, step.from((x, y))) {
-            bits |= 1;
+            bits |= bit;
         }
+        bit = bit.wrapping_mul(2);
     }
     bits
 }

@@ -46,7 +46,7 @@ fn set_times(gate: &mut DrawnGate, timing: Timing, first: i64, second: i64) -> b
                 (first, second)
             };
             gate.first = generation(first);
-            gate.later = generation(second - first);
+            gate.later = generation(second.saturating_sub(first));
             is_early
         }
     }
@@ -68,13 +68,23 @@ fn set_all_times(
     Ok(are_mirrored)
 }
 
+// The generation at which a port is lit first.
+fn lit_at(found: &Found, times: &Times, periods: &Periods, port: DrawnPort) -> i64 {
+    let at = port_time(found, port);
+    periods
+        .generation(times, at.node)
+        .saturating_add(i64::from(at.after))
+}
+
 // How many periods a wire is long, and when its end is lit first.
 fn length_of(found: &Found, times: &Times, periods: &Periods, link: &Link) -> (u32, u32) {
-    let (from, to) = (port_time(found, link.from()), port_time(found, link.to()));
-    let begin = periods.generation(times, from.node) + i64::from(from.after);
-    let end = periods.generation(times, to.node) + i64::from(to.after);
-    let length = begin + i64::from(link.size) + 1 - end;
-    let cycles = length.checked_div(i64::from(times.period)).unwrap_or(0);
+    let begin = lit_at(found, times, periods, link.from());
+    let end = lit_at(found, times, periods, link.to());
+    let arrival = begin.saturating_add(i64::from(link.size) + 1);
+    let cycles = arrival
+        .saturating_sub(end)
+        .checked_div(i64::from(times.period))
+        .unwrap_or(0);
     (generation(cycles).min(link.size), generation(end))
 }
 
@@ -86,8 +96,10 @@ fn add_starts(
     cycles: u32,
     end: u32,
 ) -> Result<(), AllocError> {
-    for latch in (0..cycles).rev() {
-        let distance = u64::from(end) + u64::from(latch) * u64::from(period);
+    for i in 0..cycles {
+        let latch = cycles - 1 - i;
+        let wait = u64::from(latch).saturating_mul(u64::from(period));
+        let distance = wait.saturating_add(u64::from(end));
         starts.push(heads.iter().any(|head| u64::from(*head) == distance))?;
     }
     Ok(())

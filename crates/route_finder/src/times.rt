@@ -1,6 +1,6 @@
 // When each gate is lit, modulo the period.
 
-use crate::cells::{Found, Link};
+use crate::cells::{Found, Link, Way};
 use crate::groups::Groups;
 use crate::lone::table_cell;
 use crate::ways::{path_of, state_at};
@@ -61,7 +61,8 @@ pub fn port_time(found: &Found, port: DrawnPort) -> PortTime {
 /// Returns by how much the time of a wire's end is greater than that of its beginning, if it is no period long.
 pub fn shift_of(found: &Found, link: &Link) -> i64 {
     let (from, to) = (port_time(found, link.from()), port_time(found, link.to()));
-    i64::from(from.after) + i64::from(link.size) + 1 - i64::from(to.after)
+    let length = i64::from(link.size) + 1;
+    i64::from(from.after) + length - i64::from(to.after)
 }
 
 // A number modulo the period.
@@ -133,9 +134,9 @@ impl Times {
                 );
                 let shift = shift_of(found, link);
                 if from == node {
-                    self.note(to, modulo(time + shift, self.period))?;
+                    self.note(to, modulo(time.saturating_add(shift), self.period))?;
                 } else {
-                    self.note(from, modulo(time - shift, self.period))?;
+                    self.note(from, modulo(time.saturating_sub(shift), self.period))?;
                 }
             }
         }
@@ -169,9 +170,10 @@ pub fn head_distances(
     let mut distances = Vec::new(alloc);
     let cells = path_of(found, link);
     for i in 1..=link.size {
-        let place = match link.way {
-            crate::cells::Way::Back => i - 1,
-            _ => link.size - i,
+        let place = if link.way == Way::Back {
+            i - 1
+        } else {
+            link.size - i
         };
         if let Some(cell) = cells.get(place as usize) {
             if state_at(pattern, *cell) == State::Head {

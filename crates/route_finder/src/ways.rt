@@ -193,6 +193,20 @@ fn is_open(links: &[Link], number: u32) -> bool {
         .is_some_and(|link| link.way == Way::Unknown)
 }
 
+// The directions that are known at once.
+fn ways_at_once(
+    alloc: Global,
+    found: &Found,
+    pattern: &Pattern,
+    inputs: &Inputs,
+) -> Result<Vec<Way>, AllocError> {
+    let mut ways = Vec::new(alloc);
+    for link in &found.links {
+        ways.push(way_at_once(found, pattern, inputs, link))?;
+    }
+    Ok(ways)
+}
+
 /// Directs all wires: from outputs, from driven inputs, as electrons run, and so that one wire leads to each input.
 pub fn direct_wires(
     alloc: Global,
@@ -202,9 +216,9 @@ pub fn direct_wires(
 ) -> Result<(), AllocError> {
     let mut inputs = Inputs::new(alloc, found)?;
     inputs.feed_driven(found, ports);
-    for i in 0..found.links.len() {
-        let way = way_at_once(found, pattern, &inputs, &found.links[i]);
-        inputs.direct(&mut found.links[i], way)?;
+    let ways = ways_at_once(alloc, found, pattern, &inputs)?;
+    for (link, way) in found.links.iter_mut().zip(ways.as_slice()) {
+        inputs.direct(link, *way)?;
     }
     let count = u32::try_from(inputs.are_fed.len()).unwrap_or(u32::MAX);
     for input in 0..count {
@@ -212,7 +226,9 @@ pub fn direct_wires(
     }
     inputs.settle_all(found.links.as_mut_slice())?;
     for i in 0..found.links.len() {
-        inputs.direct(&mut found.links[i], Way::Onward)?;
+        if let Some(link) = found.links.get_mut(i) {
+            inputs.direct(link, Way::Onward)?;
+        }
         inputs.settle_all(found.links.as_mut_slice())?;
     }
     Ok(())
