@@ -86,7 +86,7 @@ pub fn check_lone_cells(found: &Found, templates: &Templates) -> Result<(), Find
     for gate in &found.gates {
         let cell = (gate.x, gate.y);
         if gate.kind.shape == Shape::Lone && is_beside_gate(found, cell) {
-            return Err(fault_near(&found.board, templates, cell));
+            return Err(fault_near(found, templates, cell));
         }
     }
     Ok(())

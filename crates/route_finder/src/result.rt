@@ -52,7 +52,7 @@ fn set_times(gate: &mut DrawnGate, timing: Timing, first: i64, second: i64) -> b
     }
 }
 
-/// Sets the times of all gates, and answers which are mirrored.
+// Sets the times of all gates, and answers which are mirrored.
 fn set_all_times(
     alloc: Global,
     found: &mut Found,
@@ -88,6 +88,18 @@ fn length_of(found: &Found, times: &Times, periods: &Periods, link: &Link) -> (u
     (generation(cycles).min(link.size), generation(end))
 }
 
+// The place of the start bit that a head is, among those of a wire of so many periods, whose end is lit at generation
+// `end`.
+fn start_of(head: u32, period: u32, cycles: u32, end: u32) -> Option<u32> {
+    let wait = head.checked_sub(end)?;
+    if wait.checked_rem(period)? == 0 {
+        let latch = wait.checked_div(period)?;
+        cycles.checked_sub(latch)?.checked_sub(1)
+    } else {
+        None
+    }
+}
+
 // Adds the start bits of a wire, the last latch's last.
 fn add_starts(
     starts: &mut Vec<bool>,
@@ -96,11 +108,16 @@ fn add_starts(
     cycles: u32,
     end: u32,
 ) -> Result<(), AllocError> {
-    for i in 0..cycles {
-        let latch = cycles - 1 - i;
-        let wait = u64::from(latch).saturating_mul(u64::from(period));
-        let distance = wait.saturating_add(u64::from(end));
-        starts.push(heads.iter().any(|head| u64::from(*head) == distance))?;
+    let begin = starts.len();
+    for _ in 0..cycles {
+        starts.push(false)?;
+    }
+    for head in heads {
+        if let Some(place) = start_of(*head, period, cycles, end) {
+            if let Some(bit) = starts.get_mut(begin.saturating_add(place as usize)) {
+                *bit = true;
+            }
+        }
     }
     Ok(())
 }
@@ -149,7 +166,7 @@ fn nets_at(
     Ok(List::of(at))
 }
 
-/// The wires of a drawing, their cells, and their start bits.
+// The wires of a drawing, their cells, and their start bits.
 #[derive(Drop)]
 struct Wires {
     wires: Vec<DrawnWire>,

@@ -31,21 +31,34 @@ fn copied_input(drawing: &GateDrawing, output: u32) -> u32 {
     }
 }
 
+// The time of an input. Each input of a gate whose inputs come apart has its own.
+fn input_time(drawing: &GateDrawing, first: u32, input: u32) -> PortTime {
+    match drawing.timing {
+        Timing::Together => {
+            let cell = drawing.ins.as_slice().get(input as usize);
+            time_after(first, cell.map_or(0, |cell| cell.time))
+        }
+        Timing::Apart => time_after(first.saturating_add(input), 0),
+    }
+}
+
+// The time of an output, which hangs on the copied input if the inputs come apart.
+fn output_time(drawing: &GateDrawing, first: u32, output: u32) -> PortTime {
+    let cell = drawing.outs.as_slice().get(output as usize);
+    let delay = cell.map_or(0, |cell| cell.delay);
+    match drawing.timing {
+        Timing::Together => time_after(first, delay),
+        Timing::Apart => {
+            let input = copied_input(drawing, output);
+            time_after(first.saturating_add(input), delay)
+        }
+    }
+}
+
 fn port_time_of(drawing: &GateDrawing, first: u32, port: GatePort) -> PortTime {
-    match (drawing.timing, port) {
-        (Timing::Together, GatePort::In(i)) => {
-            let input = drawing.ins.as_slice().get(i as usize);
-            time_after(first, input.map_or(0, |input| input.time))
-        }
-        (Timing::Apart, GatePort::In(i)) => time_after(first.saturating_add(i), 0),
-        (timing, GatePort::Out(o)) => {
-            let output = drawing.outs.as_slice().get(o as usize);
-            let delay = output.map_or(0, |output| output.delay);
-            match timing {
-                Timing::Together => time_after(first, delay),
-                Timing::Apart => time_after(first.saturating_add(copied_input(drawing, o)), delay),
-            }
-        }
+    match port {
+        GatePort::In(input) => input_time(drawing, first, input),
+        GatePort::Out(output) => output_time(drawing, first, output),
     }
 }
 

@@ -4,7 +4,7 @@ use crate::cells::{Found, Link, Way};
 use crate::groups::Groups;
 use crate::lone::table_cell;
 use pattern_reading::Ports;
-use routed_core::{DrawnPort, GatePort, Shape};
+use routed_core::{DrawnPort, GatePort};
 use std::alloc::{AllocError, Global};
 use ww_rule::{Pattern, State};
 
@@ -17,7 +17,7 @@ struct Inputs {
     todo: Vec<u32>,
 }
 
-// The number of an input among those of all gates; no outputs but those of lone cells have one.
+// The number of an input among those of all gates. An output has none.
 fn input_number(port: DrawnPort) -> Option<u32> {
     match port.port {
         GatePort::In(i) => Some(port.gate.saturating_mul(2).saturating_add(i)),
