@@ -14,13 +14,18 @@ fn is_on_cell(board: &Board, line: &PortLine, crop: (u64, u64)) -> bool {
     }
 }
 
-fn fits(board: &Board, ports: &Ports, crop: (u64, u64)) -> bool {
-    for line in ports.ins.as_slice().iter().chain(ports.outs.as_slice()) {
+fn are_on_cells(board: &Board, lines: &[PortLine], crop: (u64, u64)) -> bool {
+    for line in lines {
         if !is_on_cell(board, line, crop) {
             return false;
         }
     }
     true
+}
+
+fn fits(board: &Board, ports: &Ports, crop: (u64, u64)) -> bool {
+    are_on_cells(board, ports.ins.as_slice(), crop)
+        && are_on_cells(board, ports.outs.as_slice(), crop)
 }
 
 // How much was cut off if a line of the table stands at this cell, which must be the end of a wire.

@@ -8,14 +8,17 @@ use routed_core::{DrawnGate, GateKind, Shape};
 use std::alloc::AllocError;
 
 fn fits(board: &Board, template: &Template, cell: (u32, u32)) -> bool {
-    template.nears.iter().all(|near| {
-        let owner = board.owner(near.from(cell));
-        if near.is_drawn {
-            owner == Owner::Open
+    for near in &template.nears {
+        let wanted = if near.is_drawn {
+            Owner::Open
         } else {
-            owner == Owner::Nobody
+            Owner::Nobody
+        };
+        if board.owner(near.from(cell)) != wanted {
+            return false;
         }
-    })
+    }
+    true
 }
 
 // The first template that fits at a cell.

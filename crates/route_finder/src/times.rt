@@ -34,18 +34,20 @@ fn copied_input(drawing: &GateDrawing, output: u32) -> u32 {
 // The time of an input. Each input of a gate whose inputs come apart has its own.
 fn input_time(drawing: &GateDrawing, first: u32, input: u32) -> PortTime {
     match drawing.timing {
-        Timing::Together => {
-            let cell = drawing.ins.as_slice().get(input as usize);
-            time_after(first, cell.map_or(0, |cell| cell.time))
-        }
+        Timing::Together => match drawing.ins.as_slice().get(input as usize) {
+            Some(cell) => time_after(first, cell.time),
+            None => time_after(first, 0),
+        },
         Timing::Apart => time_after(first.saturating_add(input), 0),
     }
 }
 
 // The time of an output, which hangs on the copied input if the inputs come apart.
 fn output_time(drawing: &GateDrawing, first: u32, output: u32) -> PortTime {
-    let cell = drawing.outs.as_slice().get(output as usize);
-    let delay = cell.map_or(0, |cell| cell.delay);
+    let delay = match drawing.outs.as_slice().get(output as usize) {
+        Some(cell) => cell.delay,
+        None => 0,
+    };
     match drawing.timing {
         Timing::Together => time_after(first, delay),
         Timing::Apart => {

@@ -147,8 +147,13 @@ impl Inputs {
     }
 
     fn open_count(&self, links: &[Link], input: u32) -> usize {
-        let those = self.links.group(input).iter();
-        those.filter(|number| is_open(links, **number)).count()
+        let mut count = 0usize;
+        for number in self.links.group(input) {
+            if is_open(links, *number) {
+                count = count.saturating_add(1);
+            }
+        }
+        count
     }
 
     fn direct_all(
@@ -188,9 +193,10 @@ impl Inputs {
 }
 
 fn is_open(links: &[Link], number: u32) -> bool {
-    links
-        .get(number as usize)
-        .is_some_and(|link| link.way == Way::Unknown)
+    match links.get(number as usize) {
+        Some(link) => link.way == Way::Unknown,
+        None => false,
+    }
 }
 
 // The directions that are known at once.
@@ -217,8 +223,10 @@ pub fn direct_wires(
     let mut inputs = Inputs::new(alloc, found)?;
     inputs.feed_driven(found, ports);
     let ways = ways_at_once(alloc, found, pattern, &inputs)?;
-    for (link, way) in found.links.iter_mut().zip(ways.as_slice()) {
-        inputs.direct(link, *way)?;
+    for (i, way) in ways.as_slice().iter().enumerate() {
+        if let Some(link) = found.links.get_mut(i) {
+            inputs.direct(link, *way)?;
+        }
     }
     let count = u32::try_from(inputs.are_fed.len()).unwrap_or(u32::MAX);
     for input in 0..count {
