@@ -59,10 +59,13 @@ impl Board {
         else {
             return Ok(None);
         };
-        if u64::from(width) * u64::from(height) > MOST_CELLS {
+        if u64::from(width).saturating_mul(u64::from(height)) > MOST_CELLS {
             return Ok(None);
         }
-        let mut owners = Vec::with_capacity(alloc, width as usize * height as usize)?;
+        let mut owners = Vec::with_capacity(
+            alloc,
+            (width as usize).saturating_mul(height as usize),
+        )?;
         for y in 0..pattern.rows.len() {
             add_row(&mut owners, pattern.rows.row(y))?;
         }
@@ -117,12 +120,12 @@ impl Board {
 
     /// Returns which cells beside one are drawn: a bit for each step in the order of `STEPS`, the first lowest.
     pub fn surroundings(&self, cell: (u32, u32)) -> u8 {
-        let mut bits = 0u8;
-        for step in STEPS.iter().rev() {
-            bits = bits.wrapping_mul(2);
+        let (mut bits, mut bit) = (0u8, 1u8);
+        for step in STEPS {
             if self.is_drawn(step.from(cell)) {
-                bits |= 1;
+                bits |= bit;
             }
+            bit = bit.wrapping_mul(2);
         }
         bits
     }

@@ -12,6 +12,10 @@ pub struct Link {
     pub start: u32,
     pub size: u32,
     pub way: Way,
+    /// How many periods it is long, as soon as this is known.
+    pub cycles: u32,
+    /// The generation at which its end is lit first.
+    pub end: u32,
 }
 
 /// The direction of a wire.

@@ -4,7 +4,7 @@ use crate::cells::{Found, Link};
 use crate::error::{DrawingFault, FindError};
 use crate::lone::table_cell;
 use crate::ways::{path_of, state_at};
-use pattern_reading::Ports;
+use pattern_reading::{NetLine, PortLine, Ports};
 use routed_core::{DrawnPort, Shape};
 use std::alloc::{AllocError, Global};
 use ww_rule::{Pattern, State};
@@ -30,23 +30,36 @@ fn name(uses: &mut [Use], found: &Found, x: u64, y: u64) {
     }
 }
 
+fn name_lines(uses: &mut [Use], found: &Found, lines: &[PortLine]) {
+    for line in lines {
+        name(uses, found, line.x, line.y);
+    }
+}
+
+fn name_nets(uses: &mut [Use], found: &Found, lines: &[NetLine]) {
+    for line in lines {
+        name(uses, found, line.x, line.y);
+    }
+}
+
+fn add_wires(uses: &mut [Use], links: &[Link]) {
+    for link in links {
+        let [first, second] = link.ends;
+        add_wire(uses, first.gate);
+        add_wire(uses, second.gate);
+    }
+}
+
 fn uses_of(alloc: Global, found: &Found, ports: &Ports) -> Result<Vec<Use>, AllocError> {
     let none = Use {
         wires: 0,
         is_named: false,
     };
     let mut uses = vec![in alloc; none; found.gates.len()]?;
-    for link in &found.links {
-        let [first, second] = link.ends;
-        add_wire(uses.as_mut_slice(), first.gate);
-        add_wire(uses.as_mut_slice(), second.gate);
-    }
-    for line in ports.ins.as_slice().iter().chain(ports.outs.as_slice()) {
-        name(uses.as_mut_slice(), found, line.x, line.y);
-    }
-    for line in ports.nets.as_slice() {
-        name(uses.as_mut_slice(), found, line.x, line.y);
-    }
+    add_wires(uses.as_mut_slice(), found.links.as_slice());
+    name_lines(uses.as_mut_slice(), found, ports.ins.as_slice());
+    name_lines(uses.as_mut_slice(), found, ports.outs.as_slice());
+    name_nets(uses.as_mut_slice(), found, ports.nets.as_slice());
     Ok(uses)
 }
 
@@ -62,9 +75,12 @@ fn loose_end(found: &Found, uses: &[Use], port: DrawnPort) -> Option<(u32, u32)>
 }
 
 fn has_head(found: &Found, pattern: &Pattern, link: &Link) -> bool {
-    path_of(found, link)
-        .iter()
-        .any(|cell| state_at(pattern, *cell) == State::Head)
+    for cell in path_of(found, link) {
+        if state_at(pattern, *cell) == State::Head {
+            return true;
+        }
+    }
+    false
 }
 
 /// Fails if a wire leads to a cell, or a wire with no electrons from one, at which it is alone and which is no cell of the

@@ -7,7 +7,7 @@ use crate::gates::find_gates;
 use crate::links::{follow_rings, follow_wires};
 use crate::lone::{add_ends, add_table_cells, check_lone_cells, check_table_cells};
 use crate::periods::periods_of;
-use crate::result::drawing_of;
+use crate::result::{drawing_of, set_times};
 use crate::templates::Templates;
 use crate::times::times_of;
 use crate::ways::direct_wires;
@@ -26,28 +26,52 @@ fn moderate(number: u64) -> Result<u32, FindError> {
     Ok(u32::try_from(number).unwrap_or(0))
 }
 
-// Finds gates, lone cells, and the wires between them.
-fn find_cells(alloc: Global, pattern: &Pattern, ports: &Ports) -> Result<Found, FindError> {
-    let library = GateLibrary::new(alloc)?;
-    let templates = Templates::new(alloc, &library)?;
+// The board of a pattern, on which nothing is found yet.
+fn nothing_found(alloc: Global, pattern: &Pattern) -> Result<Found, FindError> {
     let Some(board) = Board::new(alloc, pattern)? else {
         return Err(FindError::TooLarge);
     };
-    let mut found = Found {
+    Ok(Found {
         board,
-        library,
+        library: GateLibrary::new(alloc)?,
         gates: Vec::new(alloc),
         links: Vec::new(alloc),
         path: Vec::new(alloc),
-    };
-    find_gates(&mut found, &templates)?;
-    add_table_cells(&mut found, ports)?;
-    add_ends(&mut found)?;
-    check_lone_cells(&found, &templates)?;
-    check_table_cells(&found, ports)?;
+    })
+}
+
+// Finds all gates, lone cells among them.
+fn find_all_gates(alloc: Global, found: &mut Found, ports: &Ports) -> Result<(), FindError> {
+    let templates = Templates::new(alloc, &found.library)?;
+    find_gates(found, &templates)?;
+    add_table_cells(found, ports)?;
+    add_ends(found)?;
+    check_lone_cells(found, &templates)?;
+    check_table_cells(found, ports)
+}
+
+// Finds gates, lone cells, and the wires between them.
+fn find_cells(alloc: Global, pattern: &Pattern, ports: &Ports) -> Result<Found, FindError> {
+    let mut found = nothing_found(alloc, pattern)?;
+    find_all_gates(alloc, &mut found, ports)?;
     follow_wires(&mut found)?;
     follow_rings(&mut found, pattern)?;
     Ok(found)
+}
+
+// Finds when each gate is lit.
+fn time_gates(
+    alloc: Global,
+    found: &mut Found,
+    pattern: &Pattern,
+    ports: &Ports,
+    period: u32,
+    latency: u32,
+) -> Result<(), FindError> {
+    let times = times_of(alloc, found, pattern, ports, period, latency)?;
+    let periods = periods_of(alloc, found, &times, ports)?;
+    set_times(alloc, found, &times, &periods)?;
+    Ok(())
 }
 
 /// Finds the gates and the wires of a routed circuit in its cells, and when each gate is lit first, from the cells of
@@ -58,7 +82,6 @@ pub fn find(alloc: Global, pattern: &Pattern, ports: &Ports) -> Result<Drawing, 
     let mut found = find_cells(alloc, pattern, ports)?;
     direct_wires(alloc, &mut found, pattern, ports)?;
     check_ends(alloc, &found, pattern, ports)?;
-    let times = times_of(alloc, &found, pattern, ports, period, latency)?;
-    let periods = periods_of(alloc, &found, &times, ports)?;
-    drawing_of(alloc, found, pattern, ports, latency, &times, &periods)
+    time_gates(alloc, &mut found, pattern, ports, period, latency)?;
+    drawing_of(alloc, found, pattern, ports, period, latency)
 }

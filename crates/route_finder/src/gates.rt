@@ -4,18 +4,21 @@ use crate::cells::Found;
 use crate::error::{DrawingFault, FindError};
 use crate::templates::{Template, Templates};
 use route_board::{Board, Owner, give_gate};
-use routed_core::{DrawnGate, GateKind};
+use routed_core::{DrawnGate, GateKind, Shape};
 use std::alloc::AllocError;
 
 fn fits(board: &Board, template: &Template, cell: (u32, u32)) -> bool {
-    template.nears.iter().all(|near| {
-        let owner = board.owner(near.from(cell));
-        if near.is_drawn {
-            owner == Owner::Open
+    for near in &template.nears {
+        let wanted = if near.is_drawn {
+            Owner::Open
         } else {
-            owner == Owner::Nobody
+            Owner::Nobody
+        };
+        if board.owner(near.from(cell)) != wanted {
+            return false;
         }
-    })
+    }
+    true
 }
 
 // The first template that fits at a cell.
@@ -71,12 +74,26 @@ pub fn find_gates(found: &mut Found, templates: &Templates) -> Result<(), AllocE
     Ok(())
 }
 
-// The one cell at which a template does not fit.
-fn misfit(board: &Board, template: &Template, at: (u32, u32)) -> Option<(u32, u32)> {
+// Whether a cell is of a gate that is no lone cell.
+fn is_of_whole_gate(found: &Found, cell: (u32, u32)) -> bool {
+    match found.board.owner(cell) {
+        Owner::Gate(number) => match found.gates.get(number as usize) {
+            Some(gate) => gate.kind.shape != Shape::Lone,
+            None => false,
+        },
+        _ => false,
+    }
+}
+
+// The one cell at which a template does not fit, if none of its cells is of another gate.
+fn misfit(found: &Found, template: &Template, at: (u32, u32)) -> Option<(u32, u32)> {
     let mut misfit = None;
     for near in &template.nears {
         let cell = near.from(at);
-        if board.is_drawn(cell) != near.is_drawn {
+        if near.is_drawn && is_of_whole_gate(found, cell) {
+            return None;
+        }
+        if found.board.is_drawn(cell) != near.is_drawn {
             if misfit.is_some() {
                 return None;
             }
@@ -87,10 +104,10 @@ fn misfit(board: &Board, template: &Template, at: (u32, u32)) -> Option<(u32, u3
 }
 
 // The one cell at which a template does not fit that covers a cell.
-fn misfit_around(board: &Board, template: &Template, cell: (u32, u32)) -> Option<(u32, u32)> {
+fn misfit_around(found: &Found, template: &Template, cell: (u32, u32)) -> Option<(u32, u32)> {
     for near in &template.nears {
         let at = (cell.0.wrapping_sub(near.x), cell.1.wrapping_sub(near.y));
-        if let Some(wrong) = misfit(board, template, at) {
+        if let Some(wrong) = misfit(found, template, at) {
             return Some(wrong);
         }
     }
@@ -99,9 +116,9 @@ fn misfit_around(board: &Board, template: &Template, cell: (u32, u32)) -> Option
 
 /// Returns the fault at a cell that is of no gate and of no wire: if all but one of the cells of a gate around it are
 /// as drawn, that one.
-pub fn fault_near(board: &Board, templates: &Templates, cell: (u32, u32)) -> FindError {
+pub fn fault_near(found: &Found, templates: &Templates, cell: (u32, u32)) -> FindError {
     for template in templates.all() {
-        if let Some(wrong) = misfit_around(board, template, cell) {
+        if let Some(wrong) = misfit_around(found, template, cell) {
             return FindError::at(DrawingFault::Gate, wrong);
         }
     }

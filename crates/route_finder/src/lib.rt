@@ -3,6 +3,7 @@
 #![tactic(auto)]
 
 mod cells;
+mod crop;
 mod crossings;
 mod ends;
 mod error;
@@ -18,5 +19,6 @@ mod templates;
 mod times;
 mod ways;
 
+pub use crop::crop_of;
 pub use error::{DrawingFault, FindError};
 pub use finder::find;

@@ -27,6 +27,8 @@ fn follow(
         start: u32::try_from(start).unwrap_or(u32::MAX),
         size: u32::try_from(size).unwrap_or(u32::MAX),
         way: Way::Unknown,
+        cycles: 0,
+        end: 0,
     })?;
     Ok(())
 }

@@ -5,7 +5,7 @@ use crate::error::{DrawingFault, FindError};
 use crate::gates::{add_gate, fault_near};
 use crate::templates::Templates;
 use crate::ways::state_at;
-use pattern_reading::Ports;
+use pattern_reading::{PortLine, Ports};
 use route_board::{Owner, STEPS};
 use routed_core::{GateKind, Shape, Turn};
 use std::alloc::AllocError;
@@ -33,18 +33,26 @@ fn add_lone_if_open(found: &mut Found, cell: (u32, u32)) -> Result<(), AllocErro
 }
 
 fn is_beside_gate(found: &Found, cell: (u32, u32)) -> bool {
-    STEPS.iter().any(|step| found.is_of_gate(step.from(cell)))
+    for step in STEPS {
+        if found.is_of_gate(step.from(cell)) {
+            return true;
+        }
+    }
+    false
+}
+
+fn add_lines(found: &mut Found, lines: &[PortLine]) -> Result<(), AllocError> {
+    for line in lines {
+        add_lone_if_open(found, table_cell(line.x, line.y))?;
+    }
+    Ok(())
 }
 
 /// Makes the cells of the port table lone cells, if they are not of gates. A net's cell that is beside a gate stays
 /// as it is.
 pub fn add_table_cells(found: &mut Found, ports: &Ports) -> Result<(), AllocError> {
-    for line in ports.ins.as_slice() {
-        add_lone_if_open(found, table_cell(line.x, line.y))?;
-    }
-    for line in ports.outs.as_slice() {
-        add_lone_if_open(found, table_cell(line.x, line.y))?;
-    }
+    add_lines(found, ports.ins.as_slice())?;
+    add_lines(found, ports.outs.as_slice())?;
     for line in ports.nets.as_slice() {
         let cell = table_cell(line.x, line.y);
         if !is_beside_gate(found, cell) {
@@ -86,7 +94,18 @@ pub fn check_lone_cells(found: &Found, templates: &Templates) -> Result<(), Find
     for gate in &found.gates {
         let cell = (gate.x, gate.y);
         if gate.kind.shape == Shape::Lone && is_beside_gate(found, cell) {
-            return Err(fault_near(&found.board, templates, cell));
+            return Err(fault_near(found, templates, cell));
+        }
+    }
+    Ok(())
+}
+
+// Fails if one of these lines is at no port of a gate.
+fn check_lines(found: &Found, lines: &[PortLine]) -> Result<(), FindError> {
+    for line in lines {
+        let cell = table_cell(line.x, line.y);
+        if found.port_at(cell).is_none() {
+            return Err(FindError::at(DrawingFault::Port, cell));
         }
     }
     Ok(())
@@ -94,11 +113,6 @@ pub fn check_lone_cells(found: &Found, templates: &Templates) -> Result<(), Find
 
 /// Fails if an input or an output of the port table is at no port of a gate.
 pub fn check_table_cells(found: &Found, ports: &Ports) -> Result<(), FindError> {
-    for line in ports.ins.as_slice().iter().chain(ports.outs.as_slice()) {
-        let cell = table_cell(line.x, line.y);
-        if found.port_at(cell).is_none() {
-            return Err(FindError::at(DrawingFault::Port, cell));
-        }
-    }
-    Ok(())
+    check_lines(found, ports.ins.as_slice())?;
+    check_lines(found, ports.outs.as_slice())
 }

@@ -22,36 +22,48 @@ impl Near {
 
 fn is_drawn(drawing: &GateDrawing, cell: (u32, u32)) -> bool {
     let (x, y) = cell;
+    if x >= drawing.width {
+        return false;
+    }
     let number = (y as usize)
         .saturating_mul(drawing.width as usize)
         .saturating_add(x as usize);
-    x < drawing.width
-        && drawing
-            .cells
-            .as_slice()
-            .get(number)
-            .is_some_and(|state| *state != State::Empty)
+    match drawing.cells.as_slice().get(number) {
+        Some(state) => *state != State::Empty,
+        None => false,
+    }
 }
 
-fn is_port(drawing: &GateDrawing, cell: (u32, u32)) -> bool {
-    drawing
-        .ins
-        .as_slice()
-        .iter()
-        .any(|input| input.x == cell.0 && input.y == cell.1)
-        || drawing
-            .outs
-            .as_slice()
-            .iter()
-            .any(|output| output.x == cell.0 && output.y == cell.1)
+fn is_input(drawing: &GateDrawing, cell: (u32, u32)) -> bool {
+    for input in drawing.ins.as_slice() {
+        if (input.x, input.y) == cell {
+            return true;
+        }
+    }
+    false
 }
 
+fn is_output(drawing: &GateDrawing, cell: (u32, u32)) -> bool {
+    for output in drawing.outs.as_slice() {
+        if (output.x, output.y) == cell {
+            return true;
+        }
+    }
+    false
+}
+
+// Whether a cell is drawn, and is no port.
 fn is_inner(drawing: &GateDrawing, cell: (u32, u32)) -> bool {
-    is_drawn(drawing, cell) && !is_port(drawing, cell)
+    is_drawn(drawing, cell) && !is_input(drawing, cell) && !is_output(drawing, cell)
 }
 
 fn is_beside_inner(drawing: &GateDrawing, cell: (u32, u32)) -> bool {
-    STEPS.iter().any(|step| is_inner(drawing, step.from(cell)))
+    for step in STEPS {
+        if is_inner(drawing, step.from(cell)) {
+            return true;
+        }
+    }
+    false
 }
 
 fn height(drawing: &GateDrawing) -> u32 {
@@ -65,12 +77,12 @@ fn height(drawing: &GateDrawing) -> u32 {
 
 /// Returns which cells beside one of a drawing are drawn, as `Board::surroundings` does.
 pub fn surroundings_of(drawing: &GateDrawing, x: u32, y: u32) -> u8 {
-    let mut bits = 0u8;
-    for step in STEPS.iter().rev() {
-        bits = bits.wrapping_mul(2);
+    let (mut bits, mut bit) = (0u8, 1u8);
+    for step in STEPS {
         if is_drawn(drawing, step.from((x, y))) {
-            bits |= 1;
+            bits |= bit;
         }
+        bit = bit.wrapping_mul(2);
     }
     bits
 }

@@ -31,7 +31,8 @@ impl Periods {
     /// Returns the generation of a time, with its periods.
     pub fn generation(&self, times: &Times, node: u32) -> i64 {
         let periods = self.counts.get(node as usize).copied().unwrap_or(0);
-        i64::from(times.time(node)) + i64::from(periods) * i64::from(times.period)
+        let whole = i64::from(periods).saturating_mul(i64::from(times.period));
+        whole.saturating_add(i64::from(times.time(node)))
     }
 
     // A port is lit at this generation.
@@ -63,7 +64,9 @@ impl Periods {
         for number in links {
             if let Some(link) = found.links.get(*number as usize) {
                 let from = port_time(found, link.from()).node;
-                let least = end - shift_of(found, link) - i64::from(times.time(from));
+                let least = end
+                    .saturating_sub(shift_of(found, link))
+                    .saturating_sub(i64::from(times.time(from)));
                 let periods = least.checked_div(i64::from(times.period)).unwrap_or(0);
                 self.raise(from, u32::try_from(periods).unwrap_or(0))?;
             }

@@ -29,7 +29,7 @@ fn both_times(times: &Times, periods: &Periods, gate: u32) -> (i64, i64) {
 
 // Sets a gate's times. A crossing whose second input comes first is mirrored, if that is its own drawing, and the
 // answer is whether it is.
-fn set_times(gate: &mut DrawnGate, timing: Timing, first: i64, second: i64) -> bool {
+fn set_gate_time(gate: &mut DrawnGate, timing: Timing, first: i64, second: i64) -> bool {
     match timing {
         Timing::Together => {
             gate.first = generation(first);
@@ -46,14 +46,14 @@ fn set_times(gate: &mut DrawnGate, timing: Timing, first: i64, second: i64) -> b
                 (first, second)
             };
             gate.first = generation(first);
-            gate.later = generation(second - first);
+            gate.later = generation(second.saturating_sub(first));
             is_early
         }
     }
 }
 
-/// Sets the times of all gates, and answers which are mirrored.
-fn set_all_times(
+// Sets the times of all gates, and answers which are mirrored.
+fn set_gate_times(
     alloc: Global,
     found: &mut Found,
     times: &Times,
@@ -63,19 +63,55 @@ fn set_all_times(
     for (number, gate) in found.gates.iter_mut().enumerate() {
         let timing = found.library.drawing(gate.kind).timing;
         let (first, second) = both_times(times, periods, u32::try_from(number).unwrap_or(u32::MAX));
-        are_mirrored.push(set_times(gate, timing, first, second))?;
+        are_mirrored.push(set_gate_time(gate, timing, first, second))?;
     }
     Ok(are_mirrored)
 }
 
-// How many periods a wire is long, and when its end is lit first.
-fn length_of(found: &Found, times: &Times, periods: &Periods, link: &Link) -> (u32, u32) {
-    let (from, to) = (port_time(found, link.from()), port_time(found, link.to()));
-    let begin = periods.generation(times, from.node) + i64::from(from.after);
-    let end = periods.generation(times, to.node) + i64::from(to.after);
-    let length = begin + i64::from(link.size) + 1 - end;
+// The generation at which a port is lit first.
+fn lit_at(found: &Found, times: &Times, periods: &Periods, port: DrawnPort) -> i64 {
+    let at = port_time(found, port);
+    periods
+        .generation(times, at.node)
+        .saturating_add(i64::from(at.after))
+}
+
+// A wire with its length in periods, and when its end is lit first.
+fn measured(found: &Found, times: &Times, periods: &Periods, link: Link) -> Link {
+    let begin = lit_at(found, times, periods, link.from());
+    let end = lit_at(found, times, periods, link.to());
+    let arrival = begin.saturating_add(i64::from(link.size) + 1);
+    let length = arrival.saturating_sub(end);
     let cycles = length.checked_div(i64::from(times.period)).unwrap_or(0);
-    (generation(cycles).min(link.size), generation(end))
+    Link {
+        cycles: generation(cycles).min(link.size),
+        end: generation(end),
+        ..link
+    }
+}
+
+// Measures all wires.
+fn measure(found: &mut Found, times: &Times, periods: &Periods) {
+    for i in 0..found.links.len() {
+        if let Some(link) = found.links.get(i).copied() {
+            let link = measured(found, times, periods, link);
+            if let Some(place) = found.links.get_mut(i) {
+                *place = link;
+            }
+        }
+    }
+}
+
+// The place of the start bit that a head is, among those of a wire of so many periods, whose end is lit at generation
+// `end`.
+fn start_of(head: u32, period: u32, cycles: u32, end: u32) -> Option<u32> {
+    let wait = head.checked_sub(end)?;
+    if wait.checked_rem(period)? == 0 {
+        let latch = wait.checked_div(period)?;
+        cycles.checked_sub(latch)?.checked_sub(1)
+    } else {
+        None
+    }
 }
 
 // Adds the start bits of a wire, the last latch's last.
@@ -86,9 +122,16 @@ fn add_starts(
     cycles: u32,
     end: u32,
 ) -> Result<(), AllocError> {
-    for latch in (0..cycles).rev() {
-        let distance = u64::from(end) + u64::from(latch) * u64::from(period);
-        starts.push(heads.iter().any(|head| u64::from(*head) == distance))?;
+    let begin = starts.len();
+    for _ in 0..cycles {
+        starts.push(false)?;
+    }
+    for head in heads {
+        if let Some(place) = start_of(*head, period, cycles, end) {
+            if let Some(bit) = starts.get_mut(begin.saturating_add(place as usize)) {
+                *bit = true;
+            }
+        }
     }
     Ok(())
 }
@@ -137,7 +180,7 @@ fn nets_at(
     Ok(List::of(at))
 }
 
-/// The wires of a drawing, their cells, and their start bits.
+// The wires of a drawing, their cells, and their start bits.
 #[derive(Drop)]
 struct Wires {
     wires: Vec<DrawnWire>,
@@ -151,14 +194,13 @@ impl Wires {
         found: &Found,
         link: &Link,
         heads: &[u32],
-        cycles: u32,
-        end: u32,
         period: u32,
     ) -> Result<(), FindError> {
         let cells = path_of(found, link);
         let to = link.to();
         let GatePort::In(input) = to.port else {
-            return Err(FindError::at(DrawingFault::Wire, cells.first().copied().unwrap_or((0, 0))));
+            let cell = cells.first().copied().unwrap_or((0, 0));
+            return Err(FindError::at(DrawingFault::Wire, cell));
         };
         self.wires.push(DrawnWire {
             from: link.from(),
@@ -167,59 +209,76 @@ impl Wires {
             start: u32::try_from(self.path.len()).unwrap_or(u32::MAX),
             size: link.size,
             latch: u32::try_from(self.starts.len()).unwrap_or(u32::MAX),
-            cycles,
+            cycles: link.cycles,
         })?;
         add_path(&mut self.path, cells, link.way)?;
-        add_starts(&mut self.starts, heads, period, cycles, end)?;
+        add_starts(&mut self.starts, heads, period, link.cycles, link.end)?;
         Ok(())
     }
 }
 
-/// Makes the drawing.
-pub fn drawing_of(
+fn wires_of(
     alloc: Global,
-    mut found: Found,
+    found: &Found,
     pattern: &Pattern,
-    ports: &Ports,
-    latency: u32,
-    times: &Times,
-    periods: &Periods,
-) -> Result<Drawing, FindError> {
+    period: u32,
+) -> Result<Wires, FindError> {
     let mut wires = Wires {
         wires: Vec::new(alloc),
         path: Vec::new(alloc),
         starts: Vec::new(alloc),
     };
-    let mut lengths = Vec::new(alloc);
     for link in &found.links {
-        lengths.push(length_of(&found, times, periods, link))?;
+        let heads = head_distances(alloc, found, pattern, link)?;
+        wires.add(found, link, heads.as_slice(), period)?;
     }
-    let are_mirrored = set_all_times(alloc, &mut found, times, periods)?;
+    Ok(wires)
+}
+
+/// Sets the times of gates and the lengths of wires. Crossings whose second input comes first are mirrored, where that is
+/// their own drawing.
+pub fn set_times(
+    alloc: Global,
+    found: &mut Found,
+    times: &Times,
+    periods: &Periods,
+) -> Result<(), AllocError> {
+    measure(found, times, periods);
+    let are_mirrored = set_gate_times(alloc, found, times, periods)?;
     for link in found.links.iter_mut() {
         rename_ends(are_mirrored.as_slice(), link);
     }
-    for (link, length) in found.links.iter().zip(lengths.as_slice()) {
-        let heads = head_distances(alloc, &found, pattern, link)?;
-        wires.add(
-            &found,
-            link,
-            heads.as_slice(),
-            length.0,
-            length.1,
-            times.period,
-        )?;
-    }
+    Ok(())
+}
+
+/// Makes the drawing.
+pub fn drawing_of(
+    alloc: Global,
+    found: Found,
+    pattern: &Pattern,
+    ports: &Ports,
+    period: u32,
+    latency: u32,
+) -> Result<Drawing, FindError> {
+    let ins = ports_at(alloc, &found, ports.ins.as_slice())?;
+    let outs = ports_at(alloc, &found, ports.outs.as_slice())?;
+    let nets = nets_at(alloc, &found, ports)?;
+    let Wires {
+        wires,
+        path,
+        starts,
+    } = wires_of(alloc, &found, pattern, period)?;
     Ok(Drawing {
         width: found.board.width(),
         height: found.board.height(),
-        period: times.period,
+        period,
         latency,
-        ins: ports_at(alloc, &found, ports.ins.as_slice())?,
-        outs: ports_at(alloc, &found, ports.outs.as_slice())?,
-        nets: nets_at(alloc, &found, ports)?,
         gates: List::of(found.gates),
-        wires: List::of(wires.wires),
-        path: List::of(wires.path),
-        starts: List::of(wires.starts),
+        wires: List::of(wires),
+        path: List::of(path),
+        starts: List::of(starts),
+        ins,
+        outs,
+        nets,
     })
 }

@@ -1,6 +1,6 @@
 // When each gate is lit, modulo the period.
 
-use crate::cells::{Found, Link};
+use crate::cells::{Found, Link, Way};
 use crate::groups::Groups;
 use crate::lone::table_cell;
 use crate::ways::{path_of, state_at};
@@ -31,21 +31,36 @@ fn copied_input(drawing: &GateDrawing, output: u32) -> u32 {
     }
 }
 
+// The time of an input. Each input of a gate whose inputs come apart has its own.
+fn input_time(drawing: &GateDrawing, first: u32, input: u32) -> PortTime {
+    match drawing.timing {
+        Timing::Together => match drawing.ins.as_slice().get(input as usize) {
+            Some(cell) => time_after(first, cell.time),
+            None => time_after(first, 0),
+        },
+        Timing::Apart => time_after(first.saturating_add(input), 0),
+    }
+}
+
+// The time of an output, which hangs on the copied input if the inputs come apart.
+fn output_time(drawing: &GateDrawing, first: u32, output: u32) -> PortTime {
+    let delay = match drawing.outs.as_slice().get(output as usize) {
+        Some(cell) => cell.delay,
+        None => 0,
+    };
+    match drawing.timing {
+        Timing::Together => time_after(first, delay),
+        Timing::Apart => {
+            let input = copied_input(drawing, output);
+            time_after(first.saturating_add(input), delay)
+        }
+    }
+}
+
 fn port_time_of(drawing: &GateDrawing, first: u32, port: GatePort) -> PortTime {
-    match (drawing.timing, port) {
-        (Timing::Together, GatePort::In(i)) => {
-            let input = drawing.ins.as_slice().get(i as usize);
-            time_after(first, input.map_or(0, |input| input.time))
-        }
-        (Timing::Apart, GatePort::In(i)) => time_after(first.saturating_add(i), 0),
-        (timing, GatePort::Out(o)) => {
-            let output = drawing.outs.as_slice().get(o as usize);
-            let delay = output.map_or(0, |output| output.delay);
-            match timing {
-                Timing::Together => time_after(first, delay),
-                Timing::Apart => time_after(first.saturating_add(copied_input(drawing, o)), delay),
-            }
-        }
+    match port {
+        GatePort::In(input) => input_time(drawing, first, input),
+        GatePort::Out(output) => output_time(drawing, first, output),
     }
 }
 
@@ -61,7 +76,8 @@ pub fn port_time(found: &Found, port: DrawnPort) -> PortTime {
 /// Returns by how much the time of a wire's end is greater than that of its beginning, if it is no period long.
 pub fn shift_of(found: &Found, link: &Link) -> i64 {
     let (from, to) = (port_time(found, link.from()), port_time(found, link.to()));
-    i64::from(from.after) + i64::from(link.size) + 1 - i64::from(to.after)
+    let length = i64::from(link.size) + 1;
+    i64::from(from.after) + length - i64::from(to.after)
 }
 
 // A number modulo the period.
@@ -133,9 +149,9 @@ impl Times {
                 );
                 let shift = shift_of(found, link);
                 if from == node {
-                    self.note(to, modulo(time + shift, self.period))?;
+                    self.note(to, modulo(time.saturating_add(shift), self.period))?;
                 } else {
-                    self.note(from, modulo(time - shift, self.period))?;
+                    self.note(from, modulo(time.saturating_sub(shift), self.period))?;
                 }
             }
         }
@@ -169,9 +185,10 @@ pub fn head_distances(
     let mut distances = Vec::new(alloc);
     let cells = path_of(found, link);
     for i in 1..=link.size {
-        let place = match link.way {
-            crate::cells::Way::Back => i - 1,
-            _ => link.size - i,
+        let place = if link.way == Way::Back {
+            i - 1
+        } else {
+            link.size - i
         };
         if let Some(cell) = cells.get(place as usize) {
             if state_at(pattern, *cell) == State::Head {

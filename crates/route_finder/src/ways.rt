@@ -4,7 +4,7 @@ use crate::cells::{Found, Link, Way};
 use crate::groups::Groups;
 use crate::lone::table_cell;
 use pattern_reading::Ports;
-use routed_core::{DrawnPort, GatePort, Shape};
+use routed_core::{DrawnPort, GatePort};
 use std::alloc::{AllocError, Global};
 use ww_rule::{Pattern, State};
 
@@ -17,7 +17,7 @@ struct Inputs {
     todo: Vec<u32>,
 }
 
-// The number of an input among those of all gates; no outputs but those of lone cells have one.
+// The number of an input among those of all gates. An output has none.
 fn input_number(port: DrawnPort) -> Option<u32> {
     match port.port {
         GatePort::In(i) => Some(port.gate.saturating_mul(2).saturating_add(i)),
@@ -147,8 +147,13 @@ impl Inputs {
     }
 
     fn open_count(&self, links: &[Link], input: u32) -> usize {
-        let those = self.links.group(input).iter();
-        those.filter(|number| is_open(links, **number)).count()
+        let mut count = 0usize;
+        for number in self.links.group(input) {
+            if is_open(links, *number) {
+                count = count.saturating_add(1);
+            }
+        }
+        count
     }
 
     fn direct_all(
@@ -188,9 +193,24 @@ impl Inputs {
 }
 
 fn is_open(links: &[Link], number: u32) -> bool {
-    links
-        .get(number as usize)
-        .is_some_and(|link| link.way == Way::Unknown)
+    match links.get(number as usize) {
+        Some(link) => link.way == Way::Unknown,
+        None => false,
+    }
+}
+
+// The directions that are known at once.
+fn ways_at_once(
+    alloc: Global,
+    found: &Found,
+    pattern: &Pattern,
+    inputs: &Inputs,
+) -> Result<Vec<Way>, AllocError> {
+    let mut ways = Vec::new(alloc);
+    for link in &found.links {
+        ways.push(way_at_once(found, pattern, inputs, link))?;
+    }
+    Ok(ways)
 }
 
 /// Directs all wires: from outputs, from driven inputs, as electrons run, and so that one wire leads to each input.
@@ -202,9 +222,11 @@ pub fn direct_wires(
 ) -> Result<(), AllocError> {
     let mut inputs = Inputs::new(alloc, found)?;
     inputs.feed_driven(found, ports);
-    for i in 0..found.links.len() {
-        let way = way_at_once(found, pattern, &inputs, &found.links[i]);
-        inputs.direct(&mut found.links[i], way)?;
+    let ways = ways_at_once(alloc, found, pattern, &inputs)?;
+    for (i, way) in ways.as_slice().iter().enumerate() {
+        if let Some(link) = found.links.get_mut(i) {
+            inputs.direct(link, *way)?;
+        }
     }
     let count = u32::try_from(inputs.are_fed.len()).unwrap_or(u32::MAX);
     for input in 0..count {
@@ -212,7 +234,9 @@ pub fn direct_wires(
     }
     inputs.settle_all(found.links.as_mut_slice())?;
     for i in 0..found.links.len() {
-        inputs.direct(&mut found.links[i], Way::Onward)?;
+        if let Some(link) = found.links.get_mut(i) {
+            inputs.direct(link, Way::Onward)?;
+        }
         inputs.settle_all(found.links.as_mut_slice())?;
     }
     Ok(())

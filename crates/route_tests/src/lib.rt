@@ -3,6 +3,10 @@
 #![tactic(auto)]
 
 #[cfg(test)]
+mod cases;
+#[cfg(test)]
 mod fails;
+#[cfg(test)]
+mod found;
 #[cfg(test)]
 mod gates;
