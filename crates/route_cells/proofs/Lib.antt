@@ -1,0 +1,3 @@
+mod PortTable
+mod Shown
+mod FlatRows

@@ -1,0 +1,111 @@
+// The list of cells of a routed circuit.
+ghost use Rattle.std.specs.Prelude.{◌≡◌, ◌≤◌, IfOk, IsTrue};
+ghost use Rattle.ww_rule.specs.Grid.{plane_of};
+ghost use Rattle.tile_timing.specs.Window.{shown};
+ghost use Rattle.routed_texts.specs.Tables.{ShowsListRuns};
+ghost use Rattle.route_tables.specs.Checked.{IsChecked};
+ghost use Rattle.route_cells.specs.Fits.{FitsPorts};
+
+use crate::RouteError;
+use crate::flat::flat_cells;
+use crate::lines::test_lines;
+use crate::runs::test_runs;
+use cell_core::CellList;
+use pattern_reading::Ports;
+use route_check::test_cells;
+use route_filling::tables_of;
+use route_tables::{CellFault, FaultWord, Tables};
+use routed_core::Drawing;
+use std::alloc::Global;
+use ww_rule::{Pattern, State};
+
+// The greatest number of cells of a box that is looked at.
+const MOST_CELLS: u64 = 1 << 26;
+
+// The columns and the cells of the box, if these are not too many.
+fn size_of(pattern: &Pattern) -> Option<(u32, usize)> {
+    let cells = pattern.width.checked_mul(pattern.height)?;
+    match u32::try_from(pattern.width) {
+        Ok(width) if cells <= MOST_CELLS => Some((width, cells as usize)),
+        _ => None,
+    }
+}
+
+// A fault of the table's first line.
+fn at_header(word: FaultWord) -> RouteError {
+    RouteError::Fault(CellFault { word, x: 0, y: 0 })
+}
+
+// Tests the tables, all of them.
+fn test_all(alloc: Global, t: &Tables, states: &[State], ports: &Ports) -> Result<(), RouteError>
+    requires long { 3 ≤ ports.now.p }
+    ensures { IfOk result (λ _. IsChecked t.now states.now ports.now) }
+{
+    test_cells(t, states)?;
+    test_runs(alloc, t, states, ports.p)?;
+    test_lines(t, states, ports)?;
+    Ok(())
+}
+
+// Whether the list has an input, an output and a net for each line of the table, and does not name
+// constant 1.
+fn fits(list: &CellList, ports: &Ports) -> bool
+    ensures { IsTrue result → FitsPorts ports.now list.now }
+{
+    let _cells = list.cells.len();
+    list.inputs as usize == ports.ins.len()
+        && list.outs.len() == ports.outs.len()
+        && list.nets.len() == ports.nets.len()
+        && !list.names_one()
+}
+
+// The list of tables that were tested.
+fn list_of(
+    pattern: &Pattern,
+    ports: &Ports,
+    states: &[State],
+    tables: Tables,
+) -> Result<CellList, RouteError>
+    requires checked { IsChecked tables states.now ports.now }
+    requires flat { shown states.now pattern.now.width ≡ plane_of pattern.now.rows }
+    ensures shows { IfOk result (λ list. ShowsListRuns (plane_of pattern.now.rows) ports.now list) }
+    ensures fits { IfOk result (FitsPorts ports.now) }
+{
+    if u64::from(tables.width) != pattern.width {
+        return Err(at_header(FaultWord::Touches));
+    }
+    if !fits(&tables.list, ports) {
+        return Err(at_header(FaultWord::Port));
+    }
+    let Tables { list, .. } = tables;
+    Ok(list)
+}
+
+/// Returns the list of cells that a pattern with its port table computes, if it is the routed
+/// circuit of this drawing: gates of the library that stand apart, joined by wires. The drawing is a
+/// hint; what it says is tested against the pattern. The list has an input for each IN line, an
+/// output for each OUT line and a net for each NET line, in order, and a latch for each period of
+/// each wire. A box of more than 67,108,864 cells is too large.
+pub fn cells_of(
+    alloc: Global,
+    pattern: &Pattern,
+    ports: &Ports,
+    drawing: &Drawing,
+) -> Result<CellList, RouteError>
+    ensures shows { IfOk result (λ list. ShowsListRuns (plane_of pattern.now.rows) ports.now list) }
+    ensures fits { IfOk result (FitsPorts ports.now) }
+{
+    let Some((width, size)) = size_of(pattern) else {
+        return Err(RouteError::TooLarge {
+            width: pattern.width,
+            height: pattern.height,
+        });
+    };
+    if ports.p < 3 || ports.c != 1 {
+        return Err(at_header(FaultWord::Kind));
+    }
+    let tables = tables_of(alloc, drawing, width, size)?;
+    let states = flat_cells(alloc, pattern)?;
+    test_all(alloc, &tables, &states, ports)?;
+    list_of(pattern, ports, &states, tables)
+}

@@ -1,0 +1,58 @@
+// Why a pattern is no routed circuit.
+
+use lists::OutOfMemory;
+use route_filling::FillError;
+use route_runs::RunError;
+use route_tables::CellFault;
+use std::alloc::{AllocError, AllocFailed};
+
+/// Why there is no list: the box is larger than is looked at, the drawing is no routed circuit, or
+/// memory ran out.
+#[derive(Clone, Copy)]
+pub enum RouteError {
+    TooLarge { width: u64, height: u64 },
+    Fault(CellFault),
+    NoMemory,
+}
+
+impl From<OutOfMemory> for RouteError {
+    fn from(_: OutOfMemory) -> Self {
+        RouteError::NoMemory
+    }
+}
+
+impl From<AllocError> for RouteError {
+    fn from(_: AllocError) -> Self {
+        RouteError::NoMemory
+    }
+}
+
+impl<T: Drop> From<AllocFailed<T>> for RouteError {
+    fn from(_: AllocFailed<T>) -> Self {
+        RouteError::NoMemory
+    }
+}
+
+impl From<CellFault> for RouteError {
+    fn from(fault: CellFault) -> Self {
+        RouteError::Fault(fault)
+    }
+}
+
+impl From<FillError> for RouteError {
+    fn from(error: FillError) -> Self {
+        match error {
+            FillError::Fault(fault) => RouteError::Fault(fault),
+            FillError::NoMemory => RouteError::NoMemory,
+        }
+    }
+}
+
+impl From<RunError> for RouteError {
+    fn from(error: RunError) -> Self {
+        match error {
+            RunError::Fault(fault) => RouteError::Fault(fault),
+            RunError::NoMemory => RouteError::NoMemory,
+        }
+    }
+}

@@ -1,0 +1,12 @@
+//! Fills the tables of a routed circuit from its drawing. What stands in them is tested elsewhere.
+#![tactic(auto)]
+
+mod error;
+mod gates;
+mod listing;
+mod lists_of;
+mod solving;
+mod tables;
+
+pub use error::FillError;
+pub use tables::tables_of;
