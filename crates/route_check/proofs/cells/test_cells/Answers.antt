@@ -12,5 +12,5 @@ returns c =
       alone = c.in_ok-are_alone.ensures;
       ends = c.in_ok-are_ends_fed.ensures;
       driven = λ d at there. c.in_ok-are_drives_fed.ensures d (slice_get_within c.args.tables.now.driven d at there) at there;
-      fed = c.in_ok-are_gates_fed.ensures;
+      fed = λ k i low. c.in_ok-are_gates_fed.ensures k low i;
     }
