@@ -1,3 +1,3 @@
-mod PortTable
-mod Shown
-mod FlatRows
+pub mod PortTable
+pub mod Shown
+pub mod FlatRows

@@ -105,7 +105,8 @@ pub fn cells_of(
         return Err(at_header(FaultWord::Kind));
     }
     let tables = tables_of(alloc, drawing, width, size)?;
-    let states = flat_cells(alloc, pattern)?;
-    test_all(alloc, &tables, &states, ports)?;
-    list_of(pattern, ports, &states, tables)
+    let cells = flat_cells(alloc, pattern)?;
+    let states = cells.as_slice();
+    test_all(alloc, &tables, states, ports)?;
+    list_of(pattern, ports, states, tables)
 }

@@ -12,9 +12,12 @@ use ww_rule::State;
 pub fn test_lines(t: &Tables, states: &[State], ports: &Ports) -> Result<(), CellFault>
     ensures { IfOk result (λ _. HasItsPorts t.now states.now ports.now) }
 {
-    test_inputs(t, states, ports.ins.as_slice())?;
+    let ins = ports.ins.as_slice();
+    let outs = ports.outs.as_slice();
+    let nets = ports.nets.as_slice();
+    test_inputs(t, states, ins)?;
     test_dark(t, ports.ins.len())?;
-    test_outputs(t, ports.l, ports.outs.as_slice())?;
-    test_nets(t, ports.nets.as_slice())?;
+    test_outputs(t, ports.l, outs)?;
+    test_nets(t, nets)?;
     Ok(())
 }

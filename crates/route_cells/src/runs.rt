@@ -3,6 +3,7 @@ ghost use Rattle.std.specs.Prelude.{◌<◌, ℕ, length, IfOk};
 ghost use Rattle.route_tables.specs.Checked.{ComputesItsList};
 ghost use Rattle.route_tables.specs.Runs.{FitsItsPeriod, HasPortSources, IsDelayedByWire, ShowsStarts};
 
+use crate::RouteError;
 use route_runs::{RunError, test_gate, test_wire};
 use route_tables::{CellFault, Tables};
 use std::alloc::Global;
@@ -40,8 +41,7 @@ pub fn test_runs(alloc: Global, t: &Tables, states: &[State], period: u64) -> Re
     requires some { 0 < period }
     ensures { IfOk result (λ _. ComputesItsList t.now states.now period) }
 {
-    if let Err(fault) = test_gates(t, period) {
-        return Err(RunError::Fault(fault));
-    }
-    test_wires(alloc, t, states, period)
+    test_gates(t, period)?;
+    test_wires(alloc, t, states, period)?;
+    Ok(())
 }

@@ -19,7 +19,7 @@ use Rattle.route_tables.specs.declared.tables.Tables.{Tables}
 use Rattle.route_tables.specs.Serials.{listed_cell}
 use Rattle.route_tables.specs.Owners.{IsListing}
 use Rattle.route_tables.specs.Tables.{table_gate, table_wire, no_gate, no_wire, gate_drawing, sourced_gate, sourced_wire, sourced_wires, placed_gates, dark_wire, wire_path, input_point, group, wire_number, own}
-use Rattle.route_tables.specs.Cells.{IsCellOfGate}
+use Rattle.route_tables.specs.Cells.{place_cell, IsCellOfGate}
 use Rattle.route_tables.specs.Checked.{HasItsCells}
 use Rattle.route_check.proofs.Numbered.{mapped, within, found}
 use Rattle.route_check.proofs.Planes.{placed_state}
@@ -111,6 +111,9 @@ module _ (t : Tables) (states : List State) (h : HasItsCells t states) where
         | inr high ↦ record { high = high; wire = ap owning_wire (sym (own_wire n high) ∙ e); at = ap owned_place (sym (own_wire n high) ∙ e) }
       ]
 
+  place_there : (k m : ℕ) (c : ℤ × ℤ) → k < length t.gates → m < length (drawing k).cells → get_or (drawing k).cells m Empty ≢ Empty → place_cell (table_gate t k) (drawing k) m ≡ c → IsCellOfGate t states k c
+  place_there k m c low inside full here = subst (IsCellOfGate t states k) here ((h.gates k low).cells m inside full)
+
   -- a cell that is drawn in a gate is one of it
   pub cell_of_gate : (k : ℕ) → k < length t.gates → (c : ℤ × ℤ) → cell_state (gate_plane (placed k)) c ≢ Empty → IsCellOfGate t states k c
   cell_of_gate k low c full =
@@ -123,7 +126,7 @@ module _ (t : Tables) (states : List State) (h : HasItsCells t states) where
       let v : m / d.width ≡ f.j = div-mul-add f.j d.width f.i f.low in
       let x : pos (gate.x + m % d.width) ≡ c.0 = let column = f.column in omega (arith, ints, u, column) in
       let y : pos (gate.y + m / d.width) ≡ c.1 = let row = f.row in omega (arith, ints, v, row) in
-      subst (IsCellOfGate t states k) (ap₂ (λ (a b : ℤ). (a, b)) x y) ((h.gates k low).cells m inside f.full)
+      place_there k m c low inside f.full (ap₂ (λ (a b : ℤ). (a, b)) x y)
 
   record IsListedCell (owner : Owner) (c : ℤ × ℤ) : Type 0 where
     pub number : ℕ

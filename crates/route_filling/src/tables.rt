@@ -7,7 +7,7 @@ use crate::lists_of::{Ends, with_ends};
 use crate::solving::{GateSources, Solver};
 use cell_core::{CellList, Src};
 use lists::List;
-use route_tables::{CellFault, FaultWord, Feed, TableGate, Tables};
+use route_tables::{CellFault, FaultWord, Feed, GateInput, TableGate, Tables};
 use routed_core::{Drawing, DrawnPort};
 use std::alloc::Global;
 
@@ -99,12 +99,10 @@ fn at_gate(gates: &Gates, gate: usize, word: FaultWord) -> FillError {
 }
 
 // The sources of all ports.
-fn solved(
-    alloc: Global,
-    gates: &Gates,
-    drawing: &Drawing,
-    inputs: u32,
-) -> Result<Solver, FillError> {
+fn solved(alloc: Global, gates: &Gates, drawing: &Drawing) -> Result<Solver, FillError> {
+    let Ok(inputs) = u32::try_from(drawing.ins.len()) else {
+        return Err(FillError::NoMemory);
+    };
     let Some(mut solver) = Solver::new(alloc, gates, drawing, inputs)? else {
         return Err(at_gate(gates, 0, FaultWord::Order));
     };
@@ -112,6 +110,112 @@ fn solved(
     match solver.unsolved() {
         Some(gate) => Err(at_gate(gates, gate, FaultWord::Order)),
         None => Ok(solver),
+    }
+}
+
+/// Gates whose inputs are fed, and the inputs that are driven.
+#[derive(Drop)]
+struct FedGates {
+    gates: Gates,
+    driven: Vec<GateInput>,
+}
+
+fn fed_gates(alloc: Global, drawing: &Drawing) -> Result<FedGates, FillError> {
+    let mut gates = gates_of(alloc, drawing)?;
+    feed_by_wires(&mut gates.rows, drawing)?;
+    let driven = drive_all(alloc, &mut gates.rows, drawing)?;
+    Ok(FedGates { gates, driven })
+}
+
+/// What a drawing computes: the gates with their sources, the list, and the ports of its outputs
+/// and nets.
+#[derive(Drop)]
+struct Computed {
+    gates: List<TableGate>,
+    list: CellList,
+    ports: NamedPorts,
+}
+
+/// The ports of outputs and of nets.
+#[derive(Drop)]
+struct NamedPorts {
+    outs: Vec<DrawnPort>,
+    nets: Vec<DrawnPort>,
+}
+
+fn named_ports(alloc: Global, drawing: &Drawing) -> Result<NamedPorts, FillError> {
+    let outs = drawing.outs.as_slice().to_vec(alloc)?;
+    let nets = drawn_nets(alloc, drawing)?;
+    Ok(NamedPorts { outs, nets })
+}
+
+// The list of what was solved.
+fn list_with(
+    alloc: Global,
+    gates: &Gates,
+    solver: Solver,
+    drawing: &Drawing,
+    ports: &NamedPorts,
+) -> Result<CellList, FillError> {
+    match list_of(alloc, solver, drawing, &ports.nets)? {
+        Some(list) => Ok(list),
+        None => Err(at_gate(gates, 0, FaultWord::Order)),
+    }
+}
+
+fn computed(alloc: Global, gates: &Gates, drawing: &Drawing) -> Result<Computed, FillError> {
+    let ports = named_ports(alloc, drawing)?;
+    let solver = solved(alloc, gates, drawing)?;
+    let table = table_gates(alloc, &gates.rows, &solver.gates)?;
+    let list = list_with(alloc, gates, solver, drawing, &ports)?;
+    Ok(Computed {
+        gates: table,
+        list,
+        ports,
+    })
+}
+
+/// The listed cells, and the table of their numbers.
+#[derive(Drop)]
+struct Numbered {
+    listing: Listing,
+    serials: Vec<u32>,
+}
+
+fn numbered(
+    alloc: Global,
+    gates: &Gates,
+    drawing: &Drawing,
+    width: u32,
+    size: usize,
+) -> Result<Numbered, FillError> {
+    let listing = listing_of(alloc, gates, drawing)?;
+    let serials = serials_of(alloc, width, size, &listing.cells)?;
+    Ok(Numbered { listing, serials })
+}
+
+fn tables_with(width: u32, fed: FedGates, numbered: Numbered, computed: Computed) -> Tables {
+    let FedGates { gates, driven } = fed;
+    let Gates { kinds, .. } = gates;
+    let Numbered { listing, serials } = numbered;
+    let Listing {
+        cells,
+        groups,
+        wires,
+    } = listing;
+    let Computed { gates, list, ports } = computed;
+    Tables {
+        width,
+        kinds: List::of(kinds),
+        gates,
+        wires: List::of(wires),
+        driven: List::of(driven),
+        cells: List::of(cells),
+        groups: List::of(groups),
+        serials: List::of(serials),
+        list,
+        outs: List::of(ports.outs),
+        nets: List::of(ports.nets),
     }
 }
 
@@ -123,37 +227,8 @@ pub fn tables_of(
     width: u32,
     size: usize,
 ) -> Result<Tables, FillError> {
-    let mut gates = gates_of(alloc, drawing)?;
-    feed_by_wires(&mut gates.rows, drawing)?;
-    let driven = drive_all(alloc, &mut gates.rows, drawing)?;
-    let Ok(inputs) = u32::try_from(drawing.ins.len()) else {
-        return Err(FillError::NoMemory);
-    };
-    let solver = solved(alloc, &gates, drawing, inputs)?;
-    let table = table_gates(alloc, &gates.rows, &solver.gates)?;
-    let Listing {
-        cells,
-        groups,
-        wires,
-    } = listing_of(alloc, &gates, drawing)?;
-    let serials = serials_of(alloc, width, size, &cells)?;
-    let nets = drawn_nets(alloc, drawing)?;
-    let Some(list) = list_of(alloc, solver, drawing, &nets)? else {
-        return Err(at_gate(&gates, 0, FaultWord::Order));
-    };
-    let outs = drawing.outs.as_slice().to_vec(alloc)?;
-    let Gates { kinds, .. } = gates;
-    Ok(Tables {
-        width,
-        kinds: List::of(kinds),
-        gates: table,
-        wires: List::of(wires),
-        driven: List::of(driven),
-        cells: List::of(cells),
-        groups: List::of(groups),
-        serials: List::of(serials),
-        list,
-        outs: List::of(outs),
-        nets: List::of(nets),
-    })
+    let fed = fed_gates(alloc, drawing)?;
+    let numbered = numbered(alloc, &fed.gates, drawing, width, size)?;
+    let computed = computed(alloc, &fed.gates, drawing)?;
+    Ok(tables_with(width, fed, numbered, computed))
 }
