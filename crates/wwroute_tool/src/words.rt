@@ -8,7 +8,7 @@ pub fn is_extract(words: &[String]) -> bool
     ensures whole { IsExtract (map string_bytes words.now) → IsTrue result }
 {
     match words {
-        [_, command] => command.as_bytes() == b"extract",
+        [_, command] => command.as_bytes() == b"extract".as_slice(),
         _ => false,
     }
 }
