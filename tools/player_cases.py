@@ -1,4 +1,5 @@
 """What tools/player-test tries: bad texts and words, patterns that are made for it, and what hands do."""
+import gzip
 import json
 
 HEAD = "x = 9, y = 9, rule = WireWorld\n"
@@ -38,7 +39,46 @@ BAD_TEXTS = [
     TABLE + "#C BLIFWW NET 0 0 0 a 01\n" + HEAD + "!",
     TABLE + "#C BLIFWW IN 0 0 \n" + HEAD + "!",
 ]
+# Files of other kinds, and a word of the message that says so.
+KINDS = {
+    gzip.compress((HEAD + "C!").encode(), mtime=0).decode("latin-1"): "gzip",
+    ("#C a\n" + HEAD + "C!").encode("utf-16").decode("latin-1"): "UTF-16",
+    ("#C a\n" + HEAD + "C!").encode("utf-16-le").decode("latin-1"): "UTF-16",
+    (HEAD + "C!").encode("utf-16-le").decode("latin-1"): "UTF-16",
+    (HEAD + "C!").encode("utf-16-be").decode("latin-1"): "UTF-16",
+    "\x89PNG\r\n\x1a\n\0\0\0\rIHDR": "PNG",
+    "PK\x03\x04\x14\0": "zip",
+    "\xef\xbb\xbf" + HEAD + "C!": "byte order mark",
+    "\x7fELF\x02\x01\x01\0": "not a text",
+    "[M2] (golly 3.3)\n": "macrocell",
+}
+# Names of inputs, and words with numbers: the page must take of them what tools/streams takes, and refuse the others.
+BUSES = [
+    ("a[1] a[2]", "a=3,1,2"),
+    ("a[0] a[1] a[2]", "a=5,-1,0x2"),
+    ("q[7] q[5] q[4] y", "q=15,1,4 y=1"),
+    ("b3 b4 c", "b=2,1,3"),
+    ("a[0] a[1] a0 a1", "a=1,2"),
+    ("a a[0] a[1]", "a=1"),
+    ("a[0] b", "a=1"),
+    ("a[01] a[02]", "a=1"),
+    ("a[1] a[2]", "a=4"),
+    ("a[1] a[2]", "b=1"),
+]
+# Words of a link that are at fault.
+LINK_FAULTS = {
+    "speed": "abc", "view": "1,2", "context": "7", "cycles": "99999999", "gen": "9e99", "play": "yes", "repeat": "2", "theme": "blue", "sped": "1",
+}
 BAD_WORDS = ["a0=01", "en", "en=2x", "en=01 en=11", "en=01 x=", "q=01"]
+LIT = 240000  # a generation at which lamps of the example gcd are lit
+LAMPS = "#C lamp 0 2700 1800 east\n#C lamp 1 2796 1812 down\nx = 3000, y = 2000, rule = WireWorld\n1800$2700.96C$!\n"
+# The contrast of two colours #rrggbb, as the Web Content Accessibility Guidelines count it.
+CONTRAST = """(...colours) => {
+  const linear = (it) => (it <= 0.04045 ? it / 12.92 : ((it + 0.055) / 1.055) ** 2.4);
+  const light = (it) => [0.2126, 0.7152, 0.0722].reduce((sum, part, k) => sum + part * linear(parseInt(it.slice(1 + 2 * k, 3 + 2 * k), 16) / 255), 0.05);
+  const [low, high] = colours.map(light).sort((a, b) => a - b);
+  return high / low;
+}"""
 # The heads of successive cycles meet on a wire that has no room for them.
 LOUD = "#C BLIFWW 2 P 1 L 3 C 1\n#C BLIFWW IN 0 0 a\n#C BLIFWW OUT 3 0 y\nx = 4, y = 1, rule = WireWorld\n4C!\n"
 
@@ -85,13 +125,19 @@ def paste(text):
     return f"do document.body.dispatchEvent(new ClipboardEvent('paste', {{ bubbles: true, clipboardData: {transfer(text=text)} }}))"
 
 
+def bus_pattern(names):
+    """Returns a pattern with inputs of these names."""
+    ports = "".join(f"#C BLIFWW IN 0 {row} {name}\n" for row, name in enumerate(names.split()))
+    return f"{TABLE}{ports}#C BLIFWW OUT 8 0 out\n{HEAD}{'9C$' * 8}9C!\n"
+
+
 def linked():
     """Gives acts that open a pattern with odd names, and then the link to what the page shows."""
     names = [f"#C BLIFWW {it}\n" for it in ("1 P 32 L 32", "IN 0 0 \xc3\xa9", "OUT 32 0 y", "NET 1 0 1 a,b -", "NET 2 0 2 a%2Cb -")]
     text = json.dumps("".join(names) + "x = 33, y = 1, rule = WireWorld\n33C!\n")
     yield f"do openText({text}, 'a text'); feed('\\u00c3\\u00a9=0110'); addNet('a%2Cb'); addNet('a,b')", "page.chosen.length === 2"
     yield "do page.link = linkOf().split('#')[1], openExample('or')", "page.name === 'or'"
-    yield "do attempt(() => openLink(new URLSearchParams(page.link)))", f"page.machine.pattern.text === {text} && page.chosen.map((it) => it.label).join() === 'a%2Cb,a,b'"
+    yield "do attempt(() => openLink(new Link(page.link)))", f"page.machine.pattern.text === {text} && page.chosen.map((it) => it.label).join() === 'a%2Cb,a,b'"
 
 
 def hands(program):
@@ -118,6 +164,45 @@ def hands(program):
         ("key ]", "Number($('speed').value) === stepOf(112) + 1"),
         ("key ?", "$('helping').open"),
     ]
+    playing = {"example": "toggle", "words": "en=10011000", "nets": "n", "repeat": 1, "play": 1}  # README's link
+    for act in ("key n", "click cycle", "axis 1"):
+        yield f"while it plays, {act}", playing, [
+            ("do 0", "page.isRunning && page.machine.generation > 60"),
+            (act, "page.machine.generation === 448 && !page.isRunning"),
+        ]
+    yield "while it plays, a cycle back", {**playing, "gen": 1000}, [
+        ("do 0", "page.isRunning && page.machine.generation > 1020"),
+        ("axis 1", "page.machine.generation === 448 && !page.isRunning"),
+    ]
+    yield "while it plays, key r", playing, [
+        ("do 0", "page.isRunning && page.machine.generation > 60"),
+        ("key r", "page.machine.generation === 160 && !page.isRunning"),
+        ("key r", "page.machine.generation === 608 && !page.isRunning"),
+    ]
+    yield "while it plays, n twice", playing, [
+        ("do 0", "page.isRunning && page.machine.generation > 60"),
+        ("do command('cycle'), command('cycle')", "page.machine.generation === 896 && !page.isRunning"),
+    ]
+    yield "while it plays, the result of the last cycle", {**playing, "gen": 3200}, [
+        ("do 0", "page.isRunning && page.machine.generation > 3210"),
+        ("key r", "page.machine.generation === 3296 && !page.isRunning"),
+    ]
+    yield "a click while a large one plays", {"example": "gcd", "play": 1}, [
+        ("do 0", "page.isRunning && page.machine.generation > 100"),
+        ("do page.was = performance.now(), command('cycle'), page.took = performance.now() - page.was", "page.took < 150 && page.machine.generation === 7808"),
+    ]
+    yield "a far generation", {"example": "toggle", "gen": "4e8"}, [
+        ("do 0", "$('message').textContent.startsWith('On the way to generation 400,000,000.') && page.isRunning"),
+        ("click run", "!page.isRunning && $('message').hidden"),
+    ]
+    yield "a far generation, and on", {"example": "cpu", "gen": "1e6", "play": 1}, [
+        ("do 0", "page.machine.generation > 1e6 && page.isRunning && !page.isAsked && $('message').hidden"),
+    ]
+    for key, word in LINK_FAULTS.items():
+        yield f"a link with {key}={word}", {"example": "toggle", "words": "en=1", "nets": "n", key: word}, [
+            ("do 0", f"$('message').textContent.includes({json.dumps('theme=blue' if key == 'theme' else key)}) && page.name === 'toggle' && page.chosen.length === 1"),
+        ]
+    yield "a fault and the rest", {"example": "toggle", "speed": "abc", "gen": 5}, [("do 0", "!$('message').hidden && page.machine.generation === 5")]
     yield "buttons", toggle, [
         ("click cycle", "page.machine.generation === 448"),
         ("click step", "page.machine.generation === 449"),
@@ -131,7 +216,10 @@ def hands(program):
     ]
     yield "files that are dropped", {}, [
         (drop(files=[("x.rle", program.pattern("gray")), ("x.words", "--cycles 3 reset=000 step=111\n")]), "page.name === 'x.rle' && page.machine.cycles === 3"),
-        (drop(text="reset=01 step=11"), "page.machine.cycles === 2"),
+        ("do 0", "page.isRunning && page.isRepeating && page.machine.generation > 20"),
+        (drop(text="reset=01 step=11"), "page.machine.cycles === 2 && page.isRunning && page.machine.generation < 4000"),
+        (drop(files=[("own.rle", LAMPS)]), "page.name === 'own.rle' && page.isRunning && !plane.isFitted"),
+        ("do 0", "(230 * plane.size) / plane.ratio > 60"),
         (drop(files=[("bad.rle", HEAD + "C Q!")]), "$('message').textContent.startsWith('G4 BadItem line 2: ')"),
     ]
     yield "texts that are pasted", {}, [

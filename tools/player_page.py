@@ -3,8 +3,6 @@ import json
 from dataclasses import dataclass
 from pathlib import Path
 
-import patterns
-
 ROOT = Path(__file__).resolve().parent.parent
 SOURCE = ROOT / "tools/player"
 SCRIPTS = ["reading", "streams", "wires", "machine", "plane", "chart", "page", "signals", "texts", "events"]  # in this order
@@ -21,8 +19,7 @@ class Example:
     words: str = ""  # the streams, if they are not those of examples/NAME.words
     nets: str = ""  # nets that the chart shows, with commas between them
     unfold: str = ""  # a bus whose bits the chart shows, as "OUT light"
-    view: str = ""  # the part of the plane that is shown at first, as x,y,width,height, or `lamps`; otherwise all of it
-    speed: int = 0  # generations a second, if the page is not to choose by period and latency
+    view: str = ""  # the part of the plane that is shown at first, as x,y,width,height, if the page is not to choose it
 
 
 EXAMPLES = [
@@ -39,7 +36,7 @@ EXAMPLES = [
     Example("uart", "compile examples/uart.blif", "Serial transmitter", "Where start is 1 it takes a byte d, and sends it on tx bit by bit."),
     Example("cpu", "compile examples/cpu.blif", "Processor with an input", "Its program loads, adds and jumps; a is the accumulator, p the place in the program."),
     Example("fibonacci", "examples/fibonacci.rle", "Processor: Fibonacci", "A program of eight instructions: the accumulator a shows 1, 1, 2, 3, 5, 8, 13.", nets="p"),
-    Example("gcd", "examples/computer/gcd.rle", "Computer: gcd of 48 and 36", "Its lamps show 36, 24, 12.", words="--cycles 31", nets="step,word", view="lamps", speed=6400),
+    Example("gcd", "examples/computer/gcd.rle", "Computer: gcd of 48 and 36", "Its lamps show 36, 24, 12.", words="--cycles 31", nets="step,word"),
     Example("toggle.tape", "examples/toggle.tape.rle", "Toggle with a tape", "The bits of en lie on the wire in the west, and run in by themselves.", words="--cycles 8", view="2600,0,729,64"),
     Example("toggle.contexts", "compile --contexts 2 1:q=1 examples/toggle.blif", "Two toggles on the same wires", "The second machine runs 32 generations behind the first, with its own bits.", words="0:en=11110111 1:en=00111101"),
 ]
@@ -50,24 +47,14 @@ def words_of(example):
     return example.words or (" ".join(words.read_text().split()) if words.exists() else "")
 
 
-def view_of(view, text):
-    """Returns the part of the plane that is shown at first: `lamps` is the south-east of a computer, with its lamps."""
-    if view != "lamps":
-        return [int(it) for it in view.split(",")]
-    pattern, (left, top, _, _) = patterns.read_pattern(text), patterns.lamps_of(text)
-    x, y = max(0, left - 750), max(0, top - 190)
-    return [x, y, pattern.width - x, pattern.height - y]
-
-
 def facts_of(example, printed):
     """Returns what the page knows of an example; `printed(words, file)` is what the program prints of a netlist."""
     *words, file = example.made.split()
     pattern = printed(words, ROOT / file) if words else (ROOT / file).read_bytes()
     nets, unfold = ([it for it in [*names.split(",")] if it] for names in (example.nets, example.unfold))
     facts = {"name": example.name, "title": example.title, "about": example.about, "words": words_of(example)}
-    view = {"view": view_of(example.view, pattern.decode("latin-1"))} if example.view else {}
-    speed = {"speed": example.speed} if example.speed else {}
-    return {**facts, "nets": nets, "unfold": unfold, **view, **speed, "rle": pattern.decode("latin-1")}
+    view = {"view": [int(it) for it in example.view.split(",")]} if example.view else {}
+    return {**facts, "nets": nets, "unfold": unfold, **view, "rle": pattern.decode("latin-1")}
 
 
 def page_of(printed, examples=None):

@@ -4,9 +4,9 @@ const COMMANDS = {
   run: () => (page.isRunning ? pause() : run()),
   step: () => jump(page.machine.generation + 1),
   back: () => jump(page.machine.generation - 1),
-  cycle: () => runTo((it) => it.entryOf(page.context, it.entered(page.context))),
+  cycle: () => runTo(page.machine.nextEntry(page.context, asked())),
   previous: () => jump(page.machine.entryOf(page.context, page.machine.open(page.context) - 1)),
-  result: () => runTo((it) => it.nextResult(page.context)),
+  result: () => runTo(page.machine.nextResult(page.context, asked())),
   restart: () => jump(0),
   repeat: () => setRepeating(!page.isRepeating),
   slower: () => setSpeed(Math.max(0, Number($("speed").value) - 1)),
@@ -47,14 +47,20 @@ function toggle(name) {
 }
 
 function setTheme(name) {
-  const theme = THEMES[name] ?? THEMES.dark, entry = (kind) => element("span", {}, element("i", { style: `background: ${theme[kind]}` }), kind);
+  const theme = THEMES[name];
   document.documentElement.dataset.theme = name;
   for (const kind in theme) document.documentElement.style.setProperty(`--${kind}`, theme[kind]);
   $("theme").firstElementChild.textContent = name === "light" ? "Dark" : "Light";
   $("theme").setAttribute("aria-label", name === "light" ? "Dark" : "Light");
-  $("legend").replaceChildren(...["head", "tail", "wire", "trail"].map(entry));
   chart.theme = theme;
   plane.paintWith(theme);
+}
+
+/** Shows what the colours are. */
+function showLegend() {
+  const kinds = { head: "head", tail: "tail", wire: "wire", trail: "trail", ...(page.machine.pattern.lamps.length ? { lit: "lit lamp" } : {}) };
+  const entry = ([kind, label]) => element("span", {}, element("i", { style: `background: var(--${kind})` }), label);
+  $("legend").replaceChildren(...Object.entries(kinds).map(entry));
 }
 
 /** Follows pointers on an element: `drag(dx, dy)`, `pinch(steps, event)`, and `click(event)` if nothing moved. */
@@ -100,7 +106,7 @@ function watchPlane() {
 function clickChart(event) {
   const { machine, context: c } = page, place = chart.placeAt(event.offsetX, event.offsetY), goal = machine.entryOf(c, place.t);
   if (place.isAxis && goal <= machine.generation) jump(goal);
-  else if (place.isAxis) runTo(() => goal);
+  else if (place.isAxis) runTo(goal);
   else if (chart.canFlip(place)) change(place.row.ports, (stream) => stream.flip(place.t));
 }
 

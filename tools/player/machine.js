@@ -68,6 +68,9 @@ class Machine {
   /** When the outputs have shown so many cycles. */
   endOf(cycles) { return this.table.latency + this.entryOf(this.table.contexts - 1, cycles - 1); }
 
+  /** The last generation: a run ends there. */
+  get last() { return Math.min(LAST_GENERATION, this.endOf(MOST_CYCLES)); }
+
   /** How many cycles have gone by in a context; a part of one counts. */
   passed(c) { return (this.generation - 32 * c) / this.table.period; }
 
@@ -169,7 +172,7 @@ class Machine {
 
   /** Runs to a generation, or until the clock shows a time, or into trouble. */
   run(target, time = Infinity) {
-    const { wires } = this, last = Math.min(target, LAST_GENERATION, this.endOf(MOST_CYCLES));
+    const { wires } = this, last = Math.min(target, this.last);
     for (let look = wires.generation; wires.generation < last && !this.trouble; ) {
       if (wires.generation >= look) {
         if (performance.now() > time) return;
@@ -180,14 +183,14 @@ class Machine {
     }
   }
 
-  /** Goes to a generation. Back in time it runs the period before again, so that the trail is there. */
-  seek(target) {
+  /** Goes to a generation, as `run` does. Back in time it runs the period before again, so that the trail is there. */
+  seek(target, time = Infinity) {
     const from = target - this.table.period;
     if (target <= this.generation) {
       while (this.kept.length > 1 && this.kept.at(-1).generation > from) this.kept.pop();
       this.resume(this.kept.at(-1));
     }
-    this.run(target);
+    this.run(target, time);
   }
 
   /** Changes streams of a context from its open cycle on. */
@@ -197,11 +200,14 @@ class Machine {
     if (this.entryOf(c, this.open(c)) === generation) this.seek(generation);
   }
 
-  /** The next generation at which the outputs of a context are read. */
-  nextResult(c) {
-    const first = this.table.latency + 32 * c;
-    return first + Math.max(0, Math.floor((this.generation - first) / this.table.period) + 1) * this.table.period;
+  /** The first generation after another one of those that are `first`, and every period after it. */
+  nextOf(first, from) {
+    return first + Math.max(0, Math.floor((from - first) / this.table.period) + 1) * this.table.period;
   }
+
+  /** The next generation after another one at which inputs enter a context, and at which its outputs are read. */
+  nextEntry(c, from) { return this.nextOf(32 * c, from); }
+  nextResult(c, from) { return this.nextOf(this.table.latency + 32 * c, from); }
 
   /** The number of cycles that all outputs have shown. */
   shownCycles() {

@@ -3,6 +3,8 @@
 const $ = (id) => document.getElementById(id);
 const EXAMPLES = JSON.parse($("patterns").textContent);
 const FULL_SPEED = 61, FRAME_WORK = 11; // the slider's last step, and the milliseconds of a frame that are for the simulation
+const FULL_STEPS = 1e6; // generations of a frame at full speed, at most
+const AT_ONCE = 200, WAY_WORK = 40; // milliseconds that a click may take, and those of a frame on a way that takes longer
 const REST = 600; // milliseconds between the end of the streams and their next beginning
 const isCalm = matchMedia("(prefers-reduced-motion: reduce)").matches;
 const plane = new Plane($("plane"), $("marks")), chart = new Chart($("chart"), $("names"));
@@ -10,6 +12,7 @@ const page = {
   machine: null, name: "", context: 0, trouble: "", isDirty: true, // what is open, and whether it must be painted
   nets: [], chosen: [], unfolded: new Set(), // rows of nets, those that are in the chart, and the buses whose bits are shown
   isRunning: false, isRepeating: false, goal: Infinity, again: 0, // the generation at which it stops; when it begins again
+  isAsked: false, arrive: null, // whether that generation was asked for, and what is to be done there if it is far
   rate: 0, debt: 0, then: 0, // generations a second, parts of one that are due, and the time of the last frame
 };
 const counted = (number) => number.toLocaleString("en");
@@ -25,20 +28,22 @@ function tell(text) {
   $("message").firstElementChild.textContent = text;
 }
 
-/** Does what a fault may end, and tells the fault. */
+/** Does what a fault may end, and tells the fault. Returns whether there was none. */
 function attempt(work) {
   try {
     tell("");
     work();
+    return true;
   } catch (fault) {
     tell(fault instanceof Fault ? fault.message : `The page has a fault: ${fault.stack ?? fault}`);
+    return false;
   }
 }
 
 /* What is open */
 
-function openPattern(text, { name, title = name, about = "", words = "", unfold = [], nets = [], view, speed }) {
-  const machine = new Machine(readPattern(text)), { table } = machine;
+function openPattern(text, { name, title = name, about = "", words = "", unfold = [], nets = [], view }) {
+  const machine = new Machine(readPattern(text)), { table } = machine, { lamps } = machine.pattern;
   Object.assign(page, { machine, name, context: 0, nets: rowsOf(table.nets), chosen: [], unfolded: new Set(unfold) });
   describe(machine.pattern, title, about);
   $("examples").value = exampleOf(name) ? name : "";
@@ -47,14 +52,23 @@ function openPattern(text, { name, title = name, about = "", words = "", unfold 
   $("context").replaceChildren(...contexts);
   $("adding").hidden = !table.nets.length;
   $("netlist").replaceChildren(...page.nets.map((it) => element("option", { value: it.label })));
-  $("speed").value = stepOf(speed ?? Math.max(32, table.period / 4, table.latency / 6)); // seconds for a cycle, and for the first result
+  const rate = table.period * (lamps.length ? 0.8 : 0.25); // lamps show something after many cycles
+  $("speed").value = stepOf(Math.max(32, rate, table.latency / 6)); // seconds for a cycle, and for the first result
   pause();
+  showLegend();
   leaveRoom();
   plane.open(machine.pattern, machine.wires);
-  if (view) plane.show(view);
+  if (view || lamps.length) plane.show(view ?? lampView(machine.pattern));
   feed(words);
   setRepeating(false);
   for (const net of nets) addNet(net);
+}
+
+/** The part of the plane that has the lamps of a computer and what leads to them; where there is little room, the lamps alone. */
+function lampView({ lamps, width, height }) {
+  const [west, north] = plane.room() < 150 ? [20, 20] : [750, 190], east = plane.room() < 150 ? 20 : width;
+  const x = Math.max(0, Math.min(...lamps.map((it) => it.left)) - west), y = Math.max(0, Math.min(...lamps.map((it) => it.top)) - north);
+  return [x, y, Math.min(width, Math.max(...lamps.map((it) => it.right)) + east) - x, height - y];
 }
 
 /** Says what is open. */
@@ -82,11 +96,15 @@ function openExample(name) {
   openPattern(example.rle, example);
 }
 
-/** Opens an example, and lets it run: with inputs its streams come again and again. */
-function showExample(name) {
-  openExample(name);
+/** Lets run what was opened: with inputs its streams come again and again. */
+function play() {
   setRepeating(page.machine.table.inputs.length > 0);
   if (!isCalm) run();
+}
+
+function showExample(name) {
+  openExample(name);
+  play();
 }
 
 function isWords(text) {
@@ -94,18 +112,25 @@ function isWords(text) {
   return !isPattern && /\S/.test(text) && text.trim().split(/\s+/).every((it) => it.includes("=") || /^(--cycles|\d+)$/.test(it));
 }
 
-/** Opens bytes: a pattern, or streams for the pattern that is open. */
-const openText = (text, name) => attempt(() => (isWords(text) ? feed(text) : openPattern(text, { name })));
+/** Opens bytes: a pattern, or streams for the pattern that is open; and lets it run. Returns whether they are good. */
+function openText(text, name) {
+  return attempt(() => {
+    if (isWords(text)) feed(text);
+    else openPattern(text, { name });
+    play();
+  });
+}
 
 /** Opens files: patterns, and then streams. */
 async function openFiles(files) {
   const texts = await Promise.all([...files].map(async (it) => ({ name: it.name, text: bytesOf(await it.arrayBuffer()) })));
-  for (const { text, name } of texts.sort((a, b) => isWords(a.text) - isWords(b.text))) openText(text, name);
+  texts.sort((a, b) => isWords(a.text) - isWords(b.text)).every(({ text, name }) => openText(text, name));
 }
 
 /** Gives the machine streams, and begins again. */
 function feed(words, cycles = 0) {
   const read = readWords(words, page.machine.table);
+  pause();
   page.machine.feed({ ...read, cycles: cycles || read.cycles });
   chart.first = 0;
   makeRows();
@@ -132,8 +157,8 @@ const stepOf = (rate) => Math.min(FULL_SPEED - 1, Math.round(10 * Math.log10(Mat
 
 function setSpeed(step) {
   $("speed").value = step;
-  page.rate = chosenRate();
-  showPace(page.rate);
+  if (!page.isAsked) page.rate = chosenRate();
+  showPace(chosenRate());
 }
 
 function showPace(rate) {
@@ -152,14 +177,15 @@ function showRunning(isRunning) {
 }
 
 function pause() {
-  Object.assign(page, { goal: Infinity, again: 0 });
+  if (page.arrive) tell("");
+  Object.assign(page, { goal: Infinity, again: 0, isAsked: false, arrive: null });
   setSpeed($("speed").value);
   showRunning(false);
 }
 
-function start(goal, rate) {
+function start(goal, rate, isAsked = false) {
   const now = performance.now();
-  Object.assign(page, { goal, rate, again: 0, debt: 0, then: now, since: now, from: page.machine.generation });
+  Object.assign(page, { goal, rate, isAsked, arrive: null, again: 0, debt: 0, then: now, since: now, from: page.machine.generation });
   chart.isFollowing = true;
   showRunning(true);
 }
@@ -179,23 +205,27 @@ function run() {
   start(page.machine.generation < end ? end : Infinity, chosenRate());
 }
 
-/** Runs to a generation within a second; asked again before that, it is there at once. */
-function runTo(goalOf) {
-  const { machine } = page;
-  if (page.isRunning && page.goal < Infinity) machine.run(Math.min(page.goal, machine.generation + 1e6));
-  const goal = goalOf(machine);
-  if (isCalm) jump(goal);
-  else start(goal, Math.max(chosenRate(), (goal - machine.generation) / 0.8));
+/** The generation that was asked for and is not reached yet; otherwise that of the machine. */
+const asked = () => (page.isAsked ? page.goal : page.machine.generation);
+
+/** Runs to a generation within a second, if the machine is that quick. */
+function runTo(goal) {
+  if (isCalm || page.arrive) jump(goal);
+  else start(goal, Math.max(chosenRate(), (goal - page.machine.generation) / 0.8), true);
 }
 
-/** Goes to a generation at once. */
-function jump(generation) {
-  const { machine } = page, target = Math.max(0, generation);
+/** Goes to a generation, and does there what is to be done: at once, or frame by frame with a line, where it is far. */
+function jump(generation, arrive = () => {}) {
+  const { machine } = page, goal = Math.max(0, Math.min(generation, machine.last)), time = performance.now() + AT_ONCE;
   pause();
   chart.isFollowing = true;
-  if (target < machine.generation) machine.seek(target);
-  else machine.run(target);
+  if (goal < machine.generation) machine.seek(goal, time);
+  else machine.run(goal, time);
   moved();
+  if (machine.generation === goal || machine.trouble) return arrive();
+  start(goal, Infinity, true);
+  page.arrive = arrive;
+  tell(`On the way to generation ${counted(goal)}. Pause ends it.`);
 }
 
 function moved() {
@@ -206,24 +236,36 @@ function moved() {
   page.trouble = trouble;
 }
 
+/** The generations, and parts of one, that become due in a frame. */
+function stepsOf(now) {
+  if (page.rate < Infinity) return (page.rate * Math.min(100, now - page.then)) / 1000;
+  return page.isAsked ? page.goal - page.machine.generation : FULL_STEPS;
+}
+
 function advance(now) {
   const { machine } = page;
   if (page.again) {
     if (now > page.again) run();
     return;
   }
-  page.debt += page.rate === Infinity ? 1e6 : (page.rate * Math.min(100, now - page.then)) / 1000;
+  page.debt += stepsOf(now);
   const steps = Math.floor(page.debt), target = Math.min(machine.generation + steps, page.goal);
-  machine.run(target, performance.now() + FRAME_WORK);
+  machine.run(target, performance.now() + (page.arrive ? WAY_WORK : FRAME_WORK));
   page.debt = machine.generation < target ? 0 : page.debt - steps;
   if (steps) moved();
   if (now - page.since > 400) {
     showPace(((machine.generation - page.from) * 1000) / (now - page.since));
     Object.assign(page, { since: now, from: machine.generation });
   }
-  if (machine.generation < Math.min(page.goal, LAST_GENERATION, machine.endOf(MOST_CYCLES))) return;
-  if (page.isRepeating && page.goal === endOfStreams()) page.again = now + REST;
+  if (page.isRunning && machine.generation >= Math.min(page.goal, machine.last)) arrived(now);
+}
+
+/** What comes after a run that was not broken off. */
+function arrived(now) {
+  const { arrive } = page;
+  if (page.isRepeating && !page.isAsked && page.goal === endOfStreams()) page.again = now + REST;
   else pause();
+  arrive?.();
 }
 
 function frame(now) {

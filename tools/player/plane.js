@@ -1,15 +1,18 @@
 /* ---- The view: the plane as points of the screen, and the names over it. ---- */
 
-// In the dark the colours are Golly's. On light ground wires and heads are darker, and tails dark: white would not be seen.
+// In the dark the colours are Golly's. On light ground wires and heads are darker, and tails dark: white would not be seen. A lit lamp is
+// another hue: it has a contrast of more than 3 to 1 to one that is not.
 const THEMES = {
   dark: {
     outside: "#282828", empty: "#303030", grid: "#4c4c4c", wire: "#ff8000", head: "#0080ff", tail: "#ffffff", trail: "#ffd050",
+    unlit: "#8a4600", lit: "#8dff6a",
     in: "#7ddc87", out: "#ff8fb4", net: "#c9cdd3",
     ground: "#1b1d21", panel: "#23262b", raised: "#2e3238", line: "#3a3f47", text: "#eceef1", soft: "#a7afb9",
     accent: "#4da3ff", onAccent: "#06121f", warn: "#ffb454",
   },
   light: {
     outside: "#eeeeea", empty: "#fafaf7", grid: "#d2d2cc", wire: "#d87200", head: "#005cd6", tail: "#1c222c", trail: "#8a2800",
+    unlit: "#e2b27a", lit: "#0b6b2e",
     in: "#17752b", out: "#b3205c", net: "#4a535d",
     ground: "#eef0f2", panel: "#ffffff", raised: "#f1f3f5", line: "#d3d8de", text: "#1c2127", soft: "#59636e",
     accent: "#0b63c5", onAccent: "#ffffff", warn: "#9a5b00",
@@ -45,10 +48,19 @@ function spread(names, high, top, bottom) {
   }));
 }
 
+/** Marks the cells of the lamps. */
+function lampCells(lamps, wires) {
+  const marks = new Uint8Array(wires.count);
+  for (const { left, top, right, bottom } of lamps) {
+    for (let y = top; y < bottom; y++) marks.fill(1, wires.place(left, y), wires.place(right, y));
+  }
+  return marks;
+}
+
 /** The plane on a canvas; `left` and `top` are its first points on show. */
 class Plane {
   constructor(canvas, marks) {
-    Object.assign(this, { canvas, marks, left: 0, top: 0, ratio: 1, above: 62, below: 46, isFitted: true, spots: [] });
+    Object.assign(this, { canvas, marks, left: 0, top: 0, ratio: 1, above: 62, below: 46, isFitted: true, part: null, spots: [] });
     this.shows = { grid: false, nets: false, trail: true };
     this.context = canvas.getContext("2d", { alpha: false });
     this.setLevel(48);
@@ -73,7 +85,7 @@ class Plane {
   paintWith(theme) {
     this.theme = theme;
     this.trails = Uint32Array.from({ length: SHADES }, (_, i) => mixed(theme.trail, theme.wire, ((0.5 + i) / SHADES) ** 2));
-    [this.wire, this.head, this.tail] = [theme.wire, theme.head, theme.tail].map((it) => mixed(it));
+    for (const kind of ["wire", "head", "tail", "lit", "unlit"]) this[kind] = mixed(theme[kind]);
     this.densities = Uint32Array.from({ length: SHADES + 1 }, (_, i) => mixed(theme.empty, theme.wire, 0.3 + (0.6 * i) / SHADES));
     this.isStale = true;
   }
@@ -88,10 +100,11 @@ class Plane {
     this.base = new Uint32Array(this.points.length);
     this.setLevel(this.level);
     if (this.isFitted && this.pattern) this.fit();
+    if (this.part) this.show(this.part);
   }
 
   open(pattern, wires) {
-    Object.assign(this, { pattern, wires, pointOf: new Int32Array(wires.count) });
+    Object.assign(this, { pattern, wires, pointOf: new Int32Array(wires.count), isLamp: lampCells(pattern.lamps, wires) });
     this.fit();
   }
 
@@ -115,22 +128,26 @@ class Plane {
       const isInside = boxWide + sides[0] + sides[1] <= this.wide && boxHigh + above + below <= this.high;
       if (this.size <= 24 * ratio && isInside) break;
     }
-    this.isFitted = true;
+    Object.assign(this, { isFitted: true, part: null });
   }
+
+  /** How many points of the page are free between what lies above and below. */
+  room() { return this.high / this.ratio - this.above - this.below; }
 
   /** Shows a part of the plane. */
   show([x, y, width, height]) {
-    const high = this.high - (this.above + this.below) * this.ratio;
+    const high = this.room() * this.ratio;
     const level = SIZES.findLastIndex((size) => size * width <= this.wide && size * height <= high);
     this.setLevel(level);
     this.left = (x + width / 2) * this.size - this.wide / 2;
     this.top = (y + height / 2) * this.size - high / 2 - this.above * this.ratio;
     this.move(0, 0);
+    this.part = [x, y, width, height];
   }
 
   /** The part of the plane on show, as `show` takes it. */
   shown() {
-    const high = this.high - (this.above + this.below) * this.ratio, top = this.top + this.above * this.ratio;
+    const high = this.room() * this.ratio, top = this.top + this.above * this.ratio;
     return [this.left, top, this.wide, high].map((it) => Math.round(it / this.size));
   }
 
@@ -140,6 +157,7 @@ class Plane {
     this.left = inside(this.left + dx, this.pattern.width, this.wide);
     this.top = inside(this.top + dy, this.pattern.height, this.high);
     this.isFitted = false;
+    this.part = null;
     this.isStale = true;
   }
 
@@ -180,7 +198,7 @@ class Plane {
     this.fill(base, -left, -top, right, bottom, mixed(theme.empty));
     if (this.shows.grid && 16 * size >= 6) this.drawGrid(right, bottom);
     if (size < 1) this.drawDensity(first, end);
-    else for (let i = first; i < end; i++) this.square(base, this.column(xs[i]), this.row(ys[i]), this.side, this.wire);
+    else for (let i = first; i < end; i++) this.square(base, this.column(xs[i]), this.row(ys[i]), this.side, this.isLamp[i] ? this.unlit : this.wire);
     this.isStale = false;
   }
 
@@ -200,15 +218,17 @@ class Plane {
       if (pointOf[i] >= 0) counts[pointOf[i]]++;
     }
     counts.forEach((count, at) => { if (count) base[at] = this.densities[Math.min(SHADES, Math.round(count * scale))]; });
+    for (let i = first; i < end; i++) if (this.isLamp[i] && pointOf[i] >= 0) base[pointOf[i]] = this.unlit;
   }
 
+  /** Draws where electrons were within a period: wires fade, and lamps stay lit. */
   drawTrail() {
-    const { xs, ys, lit, generation } = this.wires, { trails, points, pointOf, side } = this, [first, end] = this.visible();
+    const { xs, ys, lit, generation } = this.wires, { trails, points, pointOf, side, isLamp } = this, [first, end] = this.visible();
     const { period } = this.pattern.table, isFar = this.size < 1;
     for (let i = first; i < end; i++) {
       const age = generation - lit[i];
       if (age >= period || age < 0 || lit[i] === 0) continue;
-      const colour = trails[Math.floor((age * SHADES) / period)];
+      const colour = isLamp[i] ? this.lit : trails[Math.floor((age * SHADES) / period)];
       if (!isFar) this.square(points, this.column(xs[i]), this.row(ys[i]), side, colour);
       else if (pointOf[i] >= 0) points[pointOf[i]] = colour;
     }

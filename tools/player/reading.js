@@ -8,10 +8,15 @@ const LAST_GENERATION = 4294967296; // and this
 const MOST_CELLS = 5000000, MOST_CONTEXTS = 1024; // this page's
 const TAGS = { ".": 0, b: 0, A: HEAD, o: HEAD, B: TAIL, C: WIRE, $: -1, "!": -2 };
 const GUESSES = [
+  [/^\x1f\x8b/, "this file is compressed by gzip. Unpack it first: gunzip FILE.rle.gz"],
+  [/^PK\x03\x04/, "this is a zip archive. Unpack it first"],
+  [/^\x89PNG/, "this is a picture (PNG), not the text of a pattern"],
+  [/^(\xff\xfe|\xfe\xff|\0?([\x01-\x7f]\0){2})/, "this text is UTF-16. Make it UTF-8 first: iconv -f UTF-16 -t UTF-8 FILE"],
+  [/^\xef\xbb\xbf/, "the text begins with a byte order mark. Save it without"],
   [/^\.model\b/, "this is a netlist. Compile it first: blifww compile < FILE > pattern.rle"],
   [/^(aag|aig) /, "this is an AIGER circuit. Compile it first: blifww aiger < FILE > pattern.rle"],
   [/^\[M2\]/, "this is a macrocell file. In Golly, save the pattern as RLE"],
-  [/^/, "here a header such as “x = 33, y = 32, rule = WireWorld” should stand"],
+  [/[\0-\x08\x0e-\x1f]/, "this file is not a text"],
 ];
 
 /** What is wrong: the line with which the program `blifww` refuses, if it has one, and what that means. */
@@ -63,13 +68,17 @@ function linesOf(text) {
 
 const HEADER = /^[ \t]*x[ \t]*=[ \t]*(\d+)[ \t]*,[ \t]*y[ \t]*=[ \t]*(\d+)[ \t]*(?:,[ \t]*rule[ \t]*=[ \t]*([^ \t].*?)[ \t]*)?$/s;
 
+/** What a line is that is no header, as far as it can be told, or else what is said. */
+const guessed = (line, otherwise) => (GUESSES.find(([form]) => form.test(line)) ?? [, otherwise])[1];
+
 /** Finds the header: the index of its line, and the box. */
 function headerOf(lines) {
   const at = lines.findIndex((line) => !line.startsWith("#") && !/^[ \t]*$/.test(line));
   const number = at < 0 ? Math.max(1, lines.length) : at + 1, line = lines[number - 1] ?? "";
-  if (at < 0 || !/^[ \t]*x/.test(line)) refuse("G1 NoHeader", number, GUESSES.find(([form]) => form.test(line))[1]);
+  const isHeader = at >= 0 && /^[ \t]*x/.test(line), form = "x = 33, y = 32, rule = WireWorld";
+  if (!isHeader) refuse("G1 NoHeader", number, guessed(line, `here a header such as “${form}” should stand`));
   const [, across, down, rule] = HEADER.exec(line) ?? [, "", ""], width = numberOf(across), height = numberOf(down);
-  if (width === null || height === null) refuse("G2 BadHeader", number, "it is not of the form x = .., y = .., rule = WireWorld");
+  if (width === null || height === null) refuse("G2 BadHeader", number, guessed(line, `it is not of the form ${form}`));
   if (rule?.toLowerCase() !== "wireworld") refuse("G3 OtherRule", number, rule ? `the rule is ${shown(rule)}` : "no rule is named");
   if (width * height > MOST_BOX) {
     throw new Fault(`the box has more than ${MOST_BOX} cells`, `too large: grid ${bareOf(across)} by ${bareOf(down)}`);
@@ -160,10 +169,22 @@ function tableOf(lines, { at, width, height }) {
   return table;
 }
 
+const LAMP = 96, LAMP_WIDE = 12; // the cells along a lamp of a computer, and across
+
+/** The boxes of the lamps that comments such as `#C lamp 0 3737 876 east` name: what they begin with, and go down or east. */
+function lampsOf(lines, { at, width, height }) {
+  const found = lines.slice(0, at).map((it) => /^#C lamp \d+ (\d{1,9}) (\d{1,9}) (down|east)$/.exec(it)).filter((it) => it);
+  const boxes = found.map(([, x, y, way]) => {
+    const [left, top] = [Number(x), Number(y)], [wide, high] = way === "east" ? [LAMP, LAMP_WIDE] : [LAMP_WIDE, LAMP];
+    return { left, top, right: left + wide, bottom: top + high };
+  });
+  return boxes.filter((it) => it.left < width && it.top < height);
+}
+
 function readPattern(text) {
   if (text.length > MOST_BYTES) throw new Fault("the text has more bytes", `too long: limit ${MOST_BYTES}`);
   const lines = linesOf(text), header = headerOf(lines), cells = cellsOf(lines, header, text.endsWith("\n"));
   const table = tableOf(lines, header);
   if (table.contexts > MOST_CONTEXTS) throw new Fault(`This page takes at most ${MOST_CONTEXTS} contexts`);
-  return { ...header, ...cells, table, text };
+  return { ...header, ...cells, table, text, lamps: lampsOf(lines, header) };
 }

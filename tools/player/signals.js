@@ -65,7 +65,7 @@ function change(ports, work) {
 /** Gives the inputs of a row a value from the next cycle on; who does so by hand wants no end of the streams. */
 function hold(ports, bitOf) {
   setRepeating(false);
-  if (page.isRunning && page.goal === endOfStreams()) Object.assign(page, { goal: Infinity, again: 0 });
+  if (page.isRunning && !page.isAsked && page.goal === endOfStreams()) Object.assign(page, { goal: Infinity, again: 0 });
   change(ports, (stream, k, t) => stream.hold(t, bitOf(k, stream.at(t))));
 }
 
@@ -130,7 +130,7 @@ function fieldOf(row) {
   row.update = () => { if (document.activeElement !== made) made.value = chart.text(row, chart.value(row, chart.open)); };
   made.onkeydown = (event) => { if (event.key === "Enter") made.blur(); };
   made.onchange = () => attempt(() => {
-    const text = made.value.trim(), bits = text.includes(",") ? null : bitsOfNumbers(text, width);
+    const text = made.value.trim(), bits = text.includes(",") ? null : bitsOfNumbers(text, row);
     page.isDirty = true;
     if (!bits) throw new Fault(`“${text}” is no number of ${width} bits`);
     hold(row.ports, (k) => bits[k][0]);

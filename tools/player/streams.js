@@ -1,37 +1,52 @@
 /* ---- Streams: ports as rows, and the words that drive them. ---- */
 
-const rowOf = (port) => ({ name: port.full, label: port.label, isBus: false, ports: [port] });
-const BIT_NAMES = [/^(.+)\[(0|[1-9]\d{0,3})\]$/s, /^(.*\D)(0|[1-9]\d{0,3})$/s]; // a[0] and a0
+const rowOf = (port) => ({ name: port.full, label: port.label, isBus: false, ports: [port], places: [0], width: 1 });
+const BIT_NAMES = [/^(.+)\[(0|[1-9]\d{0,8})\]$/s, /^(.*\D)(0|[1-9]\d{0,8})$/s]; // a[0] and a0
 
-/** Groups ports named a[0], a[1], .. or a0, a1, .. into rows { name, label, ports }, the lowest bit first; any other is a row. */
-function rowsOf(ports) {
-  const buses = new Map(), owners = new Map();
+/**
+ * Lists the buses among ports, those of a[4], a[5], .. before those of a4, a5, ..: their ports, and the place of each in a number. The lowest
+ * bit has place 0, whatever its name says, as in tools/streams.
+ */
+function busesOf(ports) {
+  const buses = BIT_NAMES.map(() => new Map());
   for (const port of ports) {
-    const [, name, bit] = BIT_NAMES.map((form) => form.exec(port.full)).find((it) => it) ?? [];
-    const key = name + (port.full.endsWith("]") ? "[]" : "");
-    if (!bit) continue;
-    if (!buses.has(key)) buses.set(key, { name, label: shown(name), isBus: true, ports: [] });
-    buses.get(key).ports[bit] = port;
+    const form = BIT_NAMES.findIndex((it) => it.test(port.full));
+    if (form < 0) continue;
+    const [, name, bit] = BIT_NAMES[form].exec(port.full);
+    if (!buses[form].has(name)) buses[form].set(name, []);
+    buses[form].get(name).push({ port, bit: Number(bit) });
   }
-  for (const bus of buses.values()) {
-    const isWhole = bus.ports.length > 1 && !Array.from(bus.ports).includes(undefined);
-    if (isWhole && !ports.some((it) => it.full === bus.name)) for (const port of bus.ports) owners.set(port, bus);
+  return buses.flatMap((it) => [...it].map(busOf));
+}
+
+function busOf([name, bits]) {
+  bits.sort((a, b) => a.bit - b.bit);
+  const places = bits.map((it) => it.bit - bits[0].bit);
+  return { name, label: shown(name), isBus: true, ports: bits.map((it) => it.port), places, width: places.at(-1) + 1 };
+}
+
+/** Groups ports into rows { name, label, ports }: a bus of several bits without gaps whose name no port has; any other port is a row. */
+function rowsOf(ports) {
+  const names = new Set(ports.map((it) => it.full)), owners = new Map();
+  for (const bus of busesOf(ports)) {
+    if (bus.width < 2 || bus.places.some((place, k) => place !== k) || names.has(bus.name)) continue;
+    for (const port of bus.ports) owners.set(port, bus);
   }
   return [...new Set(ports.map((port) => owners.get(port) ?? rowOf(port)))];
 }
 
-/** A number such as 3, -5, 0x1f or 0b101 that a bus of a width can carry, or null. */
+/** A number such as 3, -5, 0x1f, 0o17 or 0b101 that a bus of a width can carry, or null. */
 function busNumber(text, width) {
-  if (!/^-?(\d+|0x[\da-f]+|0b[01]+)$/i.test(text)) return null;
+  if (!/^-?(\d+|0x[\da-f]+|0o[0-7]+|0b[01]+)$/i.test(text)) return null;
   const number = text[0] === "-" ? -BigInt(text.slice(1)) : BigInt(text);
   return number < -(1n << BigInt(width - 1)) || number >= 1n << BigInt(width) ? null : number;
 }
 
-/** The bits of numbers with commas between them, for a bus: a list for each of its inputs; or null. */
-function bitsOfNumbers(list, width) {
+/** The bits of numbers with commas between them, for a row: a list for each of its inputs; or null. */
+function bitsOfNumbers(list, { places, width }) {
   const numbers = list.split(",").map((it) => busNumber(it, width));
   if (numbers.includes(null)) return null;
-  return Array.from({ length: width }, (_, k) => numbers.map((it) => Number((it >> BigInt(k)) & 1n)));
+  return places.map((place) => numbers.map((it) => Number((it >> BigInt(place)) & 1n)));
 }
 
 function cyclesOf(text) {
@@ -48,12 +63,12 @@ function readWord(word, { inputs, contexts }, streams) {
   const [, context, name] = contexts > 1 ? /^(0|[1-9]\d*):(.*)$/s.exec(word.slice(0, cut)) ?? [] : [, 0, word.slice(0, cut)];
   if (!(context < contexts)) fail("BadContext", `a word begins with the number of a machine, 0: to ${contexts - 1}:`);
   const input = inputs.find((it) => it.name === name);
-  const row = input ? rowOf(input) : rowsOf(inputs).find((it) => it.isBus && it.name === name), own = streams[context];
+  const row = input ? rowOf(input) : busesOf(inputs).find((it) => it.name === name), own = streams[context];
   if (!row) fail("UnknownInput", "no input has this name");
   if (row.ports.some((it) => own[it.index])) fail("TwiceInput", "this input has a word already");
   const plain = /^[01]+$/.test(value) ? [Array.from(value, Number)] : null;
-  const bits = row.isBus ? bitsOfNumbers(value, row.ports.length) : plain;
-  if (!bits) fail("BadBit", row.isBus ? `the bus takes numbers of ${row.ports.length} bits` : "a bit is 0 or 1");
+  const bits = row.isBus ? bitsOfNumbers(value, row) : plain;
+  if (!bits) fail("BadBit", row.isBus ? `the bus takes numbers of ${row.width} bits` : "a bit is 0 or 1");
   row.ports.forEach((it, k) => { own[it.index] = bits[k]; });
 }
 

@@ -52,37 +52,96 @@ async function copy(text, button) {
   }
 }
 
+const LINK_KEYS = ["example", "pattern", "words", "cycles", "nets", "context", "gen", "speed", "repeat", "play", "auto", "view", "theme"];
+const NUMBER = /^(\d+(\.\d+)?|\d+e\d+)$/i;
+
+/** The words of a link, with what is wrong with them: a word that is at fault is told, and the others hold. */
+class Link {
+  constructor(text) {
+    this.words = new URLSearchParams(text);
+    this.keys = [...new Set(this.words.keys())];
+    this.faults = this.keys.filter((it) => !LINK_KEYS.includes(it)).map((it) => `no word of a link is ${it.slice(0, 40)}`);
+  }
+
+  has(key) { return this.words.has(key); }
+  text(key, otherwise = "") { return this.words.get(key) ?? otherwise; }
+
+  /** Notes that a word is not what it should be. */
+  refuse(key, wanted) { this.faults.push(`${key}=${this.text(key).slice(0, 40)} is not ${wanted}`); }
+
+  /** A whole number up to `most`; without the word, or at fault, 0. */
+  number(key, most) {
+    const text = this.text(key, "0"), number = NUMBER.test(text) ? Number(text) : NaN;
+    if (Number.isInteger(number) && number <= most) return number;
+    this.refuse(key, `a number from 0 to ${counted(most)}`);
+    return 0;
+  }
+
+  /** The slider's step, or null. */
+  speed() {
+    const text = this.text("speed"), rate = NUMBER.test(text) ? Number(text) : 0;
+    if (text === "full") return FULL_SPEED;
+    if (rate >= 1 && rate <= 1e6) return stepOf(rate);
+    this.refuse("speed", "full or a number from 1 to 1,000,000");
+    return null;
+  }
+
+  /** The part of the plane, or null. */
+  view() {
+    const view = this.text("view").split(",").map(Number), [, , width, height] = view;
+    if (view.length === 4 && view.every(Number.isFinite) && width > 0 && height > 0) return view;
+    this.refuse("view", "x,y,width,height");
+    return null;
+  }
+
+  theme() {
+    const name = this.text("theme", "dark");
+    if (Object.hasOwn(THEMES, name)) return name;
+    this.refuse("theme", Object.keys(THEMES).join(" or "));
+    return "dark";
+  }
+
+  end() {
+    if (this.faults.length) throw new Fault(`The address has faults: ${this.faults.join("; ")}`);
+  }
+}
+
 /** Opens what a link names, and does what it says. */
 function openLink(link) {
-  const number = (key) => Math.floor(Number(link.get(key))) || 0, hasStreams = link.has("words") || link.has("cycles");
-  if (link.has("pattern")) openPattern(encoded(link.get("pattern")), { name: "Pattern of the link" });
-  else openExample(link.get("example") ?? EXAMPLES[0].name);
-  const { machine } = page, words = link.has("words") ? encoded(link.get("words")) : exampleOf(page.name)?.words ?? "";
-  if (hasStreams) feed(words, Math.min(number("cycles"), MOST_CYCLES));
+  if (link.has("pattern")) openPattern(encoded(link.text("pattern")), { name: "Pattern of the link" });
+  else openExample(link.text("example", EXAMPLES[0].name));
+  const { machine } = page, words = link.has("words") ? encoded(link.text("words")) : exampleOf(page.name)?.words ?? "";
+  if (link.has("words") || link.has("cycles")) feed(words, link.number("cycles", MOST_CYCLES));
   if (link.has("nets")) page.chosen = [];
-  for (const net of netsOf(link.get("nets") ?? "")) addNet(net);
-  if (link.has("speed")) setSpeed(link.get("speed") === "full" ? FULL_SPEED : stepOf(Number(link.get("speed")) || 1));
-  const view = (link.get("view") ?? "").split(",").map(Number);
-  if (view.length === 4 && view.every(Number.isFinite)) plane.show(view);
-  setContext(Math.min(number("context"), machine.table.contexts - 1));
-  setRepeating(number("repeat") > 0);
-  jump(number("gen"));
-  if (number("auto")) runThrough(machine);
-  else if (number("play")) run();
+  for (const net of netsOf(link.text("nets"))) addNet(net);
+  if (link.has("speed")) setSpeed(link.speed() ?? $("speed").value);
+  const view = link.has("view") && link.view(), [auto, plays] = [link.number("auto", 1), link.number("play", 1)];
+  if (view) plane.show(view);
+  setContext(link.number("context", machine.table.contexts - 1));
+  setRepeating(link.number("repeat", 1) > 0);
+  jump(link.number("gen", machine.last), () => {
+    if (auto) runThrough(machine);
+    else if (plays) run();
+  });
 }
 
 /** Does what the address says; without a word of it the first example runs. */
 function followLink() {
-  const link = new URLSearchParams(location.hash.slice(1));
+  const link = new Link(location.hash.slice(1));
   delete document.body.dataset.state;
-  setTheme(link.get("theme") ?? "dark");
-  attempt(() => ([...link.keys()].some((it) => it !== "theme") ? openLink(link) : showExample(EXAMPLES[0].name)));
-  if (!$("message").hidden) document.body.dataset.state = "refused";
+  setTheme(link.theme());
+  const isGood = attempt(() => {
+    if (link.keys.some((it) => it !== "theme")) openLink(link);
+    else showExample(EXAMPLES[0].name);
+    link.end();
+  });
+  if (!isGood) document.body.dataset.state = "refused";
 }
 
 /** Runs to the end of the streams without a look, and shows the bits. */
 async function runThrough(machine) {
   const end = machine.endOf(machine.cycles || 1), began = performance.now();
+  pause();
   while (machine.generation < end && !machine.trouble && page.machine === machine) {
     machine.run(Math.min(end, machine.generation + 1e6), performance.now() + 40);
     await new Promise((done) => setTimeout(done));
