@@ -4,7 +4,7 @@ const $ = (id) => document.getElementById(id);
 const EXAMPLES = JSON.parse($("patterns").textContent);
 const FULL_SPEED = 61, FRAME_WORK = 11; // the slider's last step, and the milliseconds of a frame that are for the simulation
 const FULL_STEPS = 1e6; // generations of a frame at full speed, at most
-const AT_ONCE = 200, WAY_WORK = 40; // milliseconds that a click may take, and those of a frame on a way that takes longer
+const AT_ONCE = 200, WAY_WORK = 80; // milliseconds that a click may take, and those of a frame on a way that takes longer
 const REST = 600; // milliseconds between the end of the streams and their next beginning
 const isCalm = matchMedia("(prefers-reduced-motion: reduce)").matches;
 const plane = new Plane($("plane"), $("marks")), chart = new Chart($("chart"), $("names"));
@@ -66,9 +66,10 @@ function openPattern(text, { name, title = name, about = "", words = "", unfold 
 
 /** The part of the plane that has the lamps of a computer and what leads to them; where there is little room, the lamps alone. */
 function lampView({ lamps, width, height }) {
-  const [west, north] = plane.room() < 150 ? [20, 20] : [750, 190], east = plane.room() < 150 ? 20 : width;
-  const x = Math.max(0, Math.min(...lamps.map((it) => it.left)) - west), y = Math.max(0, Math.min(...lamps.map((it) => it.top)) - north);
-  return [x, y, Math.min(width, Math.max(...lamps.map((it) => it.right)) + east) - x, height - y];
+  const [west, north, east] = plane.room() < 150 ? [20, 20, 20] : [750, 190, width];
+  const [left, top, right] = ["left", "top", "right"].map((side) => lamps.map((it) => it[side]));
+  const x = Math.max(0, Math.min(...left) - west), y = Math.max(0, Math.min(...top) - north);
+  return [x, y, Math.min(width, Math.max(...right) + east) - x, height - y];
 }
 
 /** Says what is open. */

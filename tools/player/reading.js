@@ -169,7 +169,7 @@ function tableOf(lines, { at, width, height }) {
   return table;
 }
 
-const LAMP = 96, LAMP_WIDE = 12; // the cells along a lamp of a computer, and across
+const LAMP = 96, LAMP_WIDE = 12, MOST_LAMPS = 1000; // the cells along a lamp of a computer, and across
 
 /** The boxes of the lamps that comments such as `#C lamp 0 3737 876 east` name: what they begin with, and go down or east. */
 function lampsOf(lines, { at, width, height }) {
@@ -178,7 +178,7 @@ function lampsOf(lines, { at, width, height }) {
     const [left, top] = [Number(x), Number(y)], [wide, high] = way === "east" ? [LAMP, LAMP_WIDE] : [LAMP_WIDE, LAMP];
     return { left, top, right: left + wide, bottom: top + high };
   });
-  return boxes.filter((it) => it.left < width && it.top < height);
+  return boxes.filter((it) => it.left < width && it.top < height).slice(0, MOST_LAMPS);
 }
 
 function readPattern(text) {

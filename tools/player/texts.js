@@ -60,7 +60,7 @@ class Link {
   constructor(text) {
     this.words = new URLSearchParams(text);
     this.keys = [...new Set(this.words.keys())];
-    this.faults = this.keys.filter((it) => !LINK_KEYS.includes(it)).map((it) => `no word of a link is ${it.slice(0, 40)}`);
+    this.faults = this.keys.filter((it) => !LINK_KEYS.includes(it)).map((it) => `${it.slice(0, 40)} is no word of a link`);
   }
 
   has(key) { return this.words.has(key); }
@@ -82,7 +82,7 @@ class Link {
     const text = this.text("speed"), rate = NUMBER.test(text) ? Number(text) : 0;
     if (text === "full") return FULL_SPEED;
     if (rate >= 1 && rate <= 1e6) return stepOf(rate);
-    this.refuse("speed", "full or a number from 1 to 1,000,000");
+    this.refuse("speed", "a number from 1 to 1,000,000 or full");
     return null;
   }
 
