@@ -107,6 +107,11 @@ class Browser:
         self.send("Emulation.setDeviceMetricsOverride", width=width, height=height, deviceScaleFactor=ratio, mobile=touch)
         self.send("Emulation.setTouchEmulationEnabled", enabled=touch)
 
+    def calm(self, is_calm):
+        """Says whether pages that are opened from now on are asked for less motion."""
+        features = [{"name": "prefers-reduced-motion", "value": "reduce" if is_calm else ""}]
+        self.send("Emulation.setEmulatedMedia", features=features)
+
     def picture(self, file):
         file.write_bytes(base64.b64decode(self.send("Page.captureScreenshot", format="png")["data"]))
 
