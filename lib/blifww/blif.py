@@ -80,6 +80,11 @@ class Model:
         yield from ([".subckt", name, *(f"{formal}={actual}" for formal, actual in pins.items())] for name, pins in self.places)
         yield [".end"]
 
+    def weight(self):
+        """Returns the weight of a model without places, as docs/FORMATS.md has it."""
+        ports = {*self.inputs, *self.clocks}, {*self.outputs}
+        return sum(map(len, ports)) + 2 * len(self.latches) + sum(1 + it.weight() for it in self.covers)
+
     def text(self):
         return "".join(" ".join(words) + "\n" for words in self.lines())
 

@@ -6,6 +6,7 @@ import argparse
 import os
 import subprocess
 import sys
+import threading
 import time
 from pathlib import Path
 
@@ -75,15 +76,29 @@ def tell(line):
 
 
 class Progress:
-    """Says lines on standard error once a script has been silent for a while."""
+    """Says on standard error what a script is doing, within a `with`: once it has taken some seconds, and then each new line."""
 
     def __init__(self):
-        self.last = time.monotonic()
+        self.line, self.is_late = "", False
+        self.began = time.monotonic()
+        self.timer = threading.Timer(PATIENCE, self.wake)
+        self.timer.daemon = True
+
+    def __enter__(self):
+        self.timer.start()
+        return self
+
+    def __exit__(self, *_):
+        self.timer.cancel()
+
+    def wake(self):
+        self.is_late = True
+        self.tell(self.line)
 
     def tell(self, line):
-        if time.monotonic() - self.last > PATIENCE:
-            self.last = time.monotonic()
-            tell(line)
+        self.line = line
+        if self.is_late and line:
+            tell(f"{line} ({time.monotonic() - self.began:.0f} s)")
 
 
 def line_of(fault):

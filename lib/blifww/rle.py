@@ -269,11 +269,10 @@ def read_pattern(text):
     return pattern
 
 
-def pattern_of(file):
-    """Returns the pattern that a file has. Raises ValueError, with the file's name, where it has none."""
-    text = command.read(file)
+def pattern_of(file, text=None):
+    """Returns the pattern that a file has, whose text may be read already. Raises ValueError, with the file's name, where it has none."""
     try:
-        return read_pattern(text)
+        return read_pattern(command.read(file) if text is None else text)
     except ValueError as fault:
         raise ValueError(f"{file}: {fault}") from None
 
@@ -334,6 +333,12 @@ def taken_near(pattern):
         yield name, [(first, row) for row in (y - 1, y, y + 1) for first, _ in rows.get(row, []) if first < x]
     for name, (x, y) in pattern.outputs.items():
         yield name, [(last, row) for row in (y - 1, y, y + 1) for _, last in rows.get(row, []) if last > x]
+
+
+def box_of_cells(pattern):
+    """Returns the box of the cells that are not empty: its left, top, and what is right of it and below."""
+    ends = [x + length for x, _, length, _ in pattern.runs], [y + 1 for _, y, _, _ in pattern.runs]
+    return min((it[0] for it in pattern.runs), default=0), min((it[1] for it in pattern.runs), default=0), *(max(it, default=0) for it in ends)
 
 
 def lamps_of(text):

@@ -117,14 +117,14 @@ def bus_among(name, inputs):
     return found
 
 
-def read_lines(text):
+def read_lines(text, letters="01"):
     """Returns the bits of each line `name=bits`, all of one length, {name: bits}."""
     shown, cycles = {}, None
     for line in text.split("\n"):
         name, sign, bits = line.rpartition("=")
         if not line:
             continue
-        if not sign or set(bits) - set("01"):
+        if not sign or set(bits) - set(letters):
             raise ValueError(f"{line[:60]} is not name=bits")
         if cycles not in (None, len(bits)):
             raise ValueError(f"{line[:60]} has not as many cycles as the lines before")

@@ -20,8 +20,9 @@ def reads_of(top, files):
 
 
 def by_yosys(script):
-    """Runs a script of Yosys. Raises ValueError, with the beginning of what it says, where it fails."""
+    """Runs a script of Yosys. Raises ValueError, with its error line, where it fails."""
     status, out, err = program.asked([program.needed("yosys"), "-q", "-p", script])
     if status:
-        said = " ".join((err + out).split())
-        raise ValueError(f"Yosys: {said[:300] or f'status {status}'}")
+        lines = (out + err).splitlines()
+        said = next((it for it in lines if "ERROR" in it), lines[-1] if lines else f"status {status}")
+        raise ValueError(f"Yosys: {said[:300]}")
