@@ -32,12 +32,12 @@ def bit_of(name):
     return (found[1], False, int(found[2])) if found else None
 
 
-def is_whole(bus, names):
-    """Returns whether bits are a bus among names: no other name is that of the bus. In brackets up to half of the bits may be missing, and eight
-    more; without brackets there are two bits or more, and none is missing."""
+def is_whole(bus, names, may_miss):
+    """Returns whether bits are a bus among names: no other name is that of the bus, and there are two bits or more, with none missing between them.
+    With `may_miss` one bit in brackets is a bus, too, and up to half of the bits may be missing, and eight more."""
     if bus.name in names or bus.width() > MOST_BITS:
         return False
-    return bus.width() <= 2 * len(bus.bits) + 8 if bus.has_brackets else len(bus.bits) == bus.width() > 1
+    return len(bus.bits) == bus.width() > 1 or may_miss and bus.has_brackets and bus.width() <= 2 * len(bus.bits) + 8
 
 
 def groups_of(names, plain):
@@ -50,12 +50,12 @@ def groups_of(names, plain):
     return groups
 
 
-def buses_of(names, plain=True):
+def buses_of(names, plain=True, may_miss=False):
     """Returns the buses of names, in the order of their first bits. Only with `plain` names such as `a0 a1` are a bus."""
     names = dict.fromkeys(names)
     bus_of = {}
     for (base, has_brackets), bus in sorted(groups_of(names, plain).items(), key=lambda it: not it[0][1]):
-        if is_whole(bus, names) and (has_brackets or not any(it.name == base for it in bus_of.values() if it.has_brackets)):
+        if is_whole(bus, names, may_miss) and (has_brackets or not any(it.name == base for it in bus_of.values() if it.has_brackets)):
             bus.bits = dict(sorted(bus.bits.items()))
             bus_of.update((name, bus) for name in bus.bits.values())
     found = (bus_of.get(name) or Bus(name, bits={0: name}) for name in names)

@@ -135,7 +135,7 @@ def run(main):
     except BrokenPipeError:
         leave(1)
     except (OSError, ValueError, subprocess.SubprocessError, EOFError) as fault:
-        tell(" ".join(line_of(fault).split()))
+        tell(" ".join(line_of(fault).split("\n")))
         leave(1)
     except KeyboardInterrupt:
         leave(130)

@@ -46,7 +46,7 @@ def output_of(words, text="", **how):
     """Returns what a command prints of a text. Raises Refused, with what it says, where it fails."""
     status, out, err = asked(words, text, **how)
     if status:
-        said = (err or out).strip() or f"{os.path.basename(os.fsdecode(words[0]))} ended with status {status}"
+        said = (err or out).strip("\n") or f"{os.path.basename(os.fsdecode(words[0]))} ended with status {status}"
         raise Refused(said, status)
     return out
 

@@ -8,7 +8,7 @@ MOST_CYCLES = 1 << 20
 
 def words_in(text):
     """Returns the words of a file: `--cycles N` and streams, with blanks between them."""
-    return text.split()
+    return [it for it in re.split("[ \t\n\v\f\r]", text) if it]
 
 
 def beside(file, ending):
@@ -41,37 +41,51 @@ def cycles_of(word):
     return int(word)
 
 
-def place_of(word, inputs, contexts):
-    """Returns the context and the name of the input that a word is for. Raises ValueError, with the program's line, where it is for none."""
+def place_of(word, contexts):
+    """Returns the context and the name that a word says. Raises ValueError, with the program's line, where it says none."""
     name, sign, _ = word.rpartition("=")
     found = re.fullmatch(r"(0|[1-9][0-9]*):(.*)", name, re.S) if contexts > 1 else None
     if not sign:
         raise ValueError(f"stream: NoEquals {word}")
     if contexts > 1 and not (found and int(found[1]) < contexts):
         raise ValueError(f"stream: BadContext {word}")
-    context, name = found.groups() if found else ("0", name)
-    if name not in inputs:
+    return (int(found[1]), found[2]) if found else (0, name)
+
+
+def bits_in(word, name, inputs, given):
+    """Returns the bits that a word says for an input, or by numbers for those of a bus, {name: bits}; `given` are inputs that have bits already."""
+    bits = word.rpartition("=")[2]
+    bus = None if name in inputs else next((it for it in buses.buses_of(inputs) if it.is_bus and it.name == name), None)
+    if name not in inputs and not bus:
         raise ValueError(f"stream: UnknownInput {word}")
-    return int(context), name
+    if any(it in given for it in (bus.bits.values() if bus else [name])):
+        raise ValueError(f"stream: TwiceInput {word}")
+    if bus:
+        try:
+            return bits_of_numbers(numbers_of(bits, bus), bus)
+        except ValueError:
+            raise ValueError(f"stream: BadBit {word}") from None
+    if set(bits) - set("01"):
+        raise ValueError(f"stream: BadBit {word}")
+    return {name: bits}
 
 
 def read(words, inputs, contexts=1, is_whole=False):
     """Returns the number of cycles and the streams {(context, name): bits} that words say; without --cycles that of the longest stream. With
     `is_whole` each input has a bit in each cycle, and there is a cycle. Raises ValueError, with the program's line, at the first fault."""
-    cycles, rest = split(words)
-    cycles = cycles or max((len(it.rpartition("=")[2]) for it in rest), default=0)
+    said, rest = split(words)
+    streams, word_of = {}, {}
+    for word in rest:
+        context, name = place_of(word, contexts)
+        own = bits_in(word, name, inputs, {it for at, it in streams if at == context})
+        streams.update({(context, it): bits for it, bits in own.items()})
+        word_of.update({(context, it): word for it in own})
+    cycles = said or max(map(len, streams.values()), default=0)
     if is_whole and not cycles:
         raise ValueError("there is no cycle: give --cycles N, or streams")
-    streams = {}
-    for word in rest:
-        place, bits = place_of(word, inputs, contexts), word.rpartition("=")[2]
-        if place in streams:
-            raise ValueError(f"stream: TwiceInput {word}")
-        if set(bits) - set("01"):
-            raise ValueError(f"stream: BadBit {word}")
-        if is_whole and len(bits) != cycles:
-            raise ValueError(f"stream: BadLength {word}")
-        streams[place] = bits
+    odd = next((it for it, bits in streams.items() if len(bits) != cycles), None)
+    if is_whole and odd:
+        raise ValueError(f"stream: BadLength {word_of[odd]}")
     missing = next(((context, name) for context in range(contexts) for name in inputs if (context, name) not in streams), None)
     if is_whole and missing:
         raise ValueError(f"stream: MissingInput {f'{missing[0]}:' * (contexts > 1)}{missing[1]}")
@@ -109,10 +123,10 @@ def bits_of_numbers(numbers, bus):
 
 def bus_among(name, inputs):
     """Returns the bus of that name among inputs. Raises ValueError where there is none."""
-    found = next((it for it in buses.buses_of(inputs) if it.name == name), None)
+    if name in inputs:
+        return buses.Bus(name, bits={0: name})
+    found = next((it for it in buses.buses_of(inputs) if it.is_bus and it.name == name), None)
     if found is None:
-        if name in inputs:
-            return buses.Bus(name, bits={0: name})
         raise ValueError(f"no input is named {name}; the inputs are {' '.join(inputs)[:200] or 'none'}")
     return found
 

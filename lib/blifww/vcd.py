@@ -146,7 +146,7 @@ def groups_of(nets, plain):
     for number, (context, path, name) in enumerate(nets):
         numbers.setdefault((context, path), {})[name] = number
     for (context, path), number_of in numbers.items():
-        for bus in buses.buses_of(number_of, plain):
+        for bus in buses.buses_of(number_of, plain, may_miss=True):
             yield *place_of(context, path, bus.name, several), bus.is_bus, {bit: number_of[name] for bit, name in bus.bits.items()}
 
 
