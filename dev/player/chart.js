@@ -29,7 +29,7 @@ class Chart {
   }
 
   x(t) { return (t - this.first) * this.wide; }
-  text(row, value) { return numberText(value, row.width, this.format); }
+  text(row, value) { return numberText(value, row.bits.length, this.format); }
   knownOf(row) { return row.kind === "IN" ? this.entered : Math.min(...row.bits.map((it) => it.length)); }
   canFlip({ row, t }) { return row?.kind === "IN" && !row.isBus && t >= this.open; }
 
@@ -40,9 +40,9 @@ class Chart {
   }
 
   value(row, t) {
-    const { places, width } = row, bits = row.bits.map((it) => it.at(t));
-    if (width < 31) return bits.reduce((sum, bit, k) => sum | (bit << places[k]), 0);
-    return bits.reduce((sum, bit, k) => sum | (BigInt(bit) << BigInt(places[k])), 0n);
+    const bits = row.bits.map((it) => it.at(t));
+    if (bits.length < 31) return bits.reduce((sum, bit, k) => sum | (bit << k), 0);
+    return bits.reduce((sum, bit, k) => sum | (BigInt(bit) << BigInt(k)), 0n);
   }
 
   move(cycles) {

@@ -125,12 +125,12 @@ function switchOf(row) {
 }
 
 function fieldOf(row) {
-  const { width } = row, ariaLabel = `${row.label}, a number of ${width} bits`;
+  const width = row.bits.length, ariaLabel = `${row.label}, a number of ${width} bits`;
   const made = element("input", { className: "field", ariaLabel, autocomplete: "off" });
   row.update = () => { if (document.activeElement !== made) made.value = chart.text(row, chart.value(row, chart.open)); };
   made.onkeydown = (event) => { if (event.key === "Enter") made.blur(); };
   made.onchange = () => attempt(() => {
-    const text = made.value.trim(), bits = text.includes(",") ? null : bitsOfNumbers(text, row);
+    const text = made.value.trim(), bits = text.includes(",") ? null : bitsOfNumbers(text, width);
     page.isDirty = true;
     if (!bits) throw new Fault(`“${text}” is no number of ${width} bits`);
     hold(row.ports, (k) => bits[k][0]);

@@ -3,10 +3,10 @@
 const MOST_BITS = 4096; // of a bus
 const BIT_NAMES = [/^(.+)\[(0|[1-9]\d{0,8})\]$/s, /^(.*\D)(0|[1-9]\d{0,8})$/s]; // a[0] and a0
 
-const rowOf = (port) => ({ name: port.full, label: port.label, isBus: false, ports: [port], places: [0], width: 1 });
+const rowOf = (port) => ({ name: port.full, label: port.label, isBus: false, ports: [port] });
 
-/** What may be buses among ports: those of a[4], a[5], .. before those of a4, a5, .. */
-function busesOf(ports) {
+/** Ports that are named as bits of one bus, with the numbers of these, by the bus' names: those as a[4], a[5], .. before those as a4, a5, .. */
+function bitsOfBuses(ports) {
   const buses = BIT_NAMES.map(() => new Map());
   for (const port of ports) {
     const form = BIT_NAMES.findIndex((it) => it.test(port.full));
@@ -15,23 +15,21 @@ function busesOf(ports) {
     if (!buses[form].has(name)) buses[form].set(name, []);
     buses[form].get(name).push({ port, bit: Number(bit) });
   }
-  return buses.flatMap((it, form) => [...it].map(([name, bits]) => busOf(name, bits, form === 0)));
+  return buses.flatMap((it) => [...it]);
 }
 
-/** A bus: its ports, and the place of each in a number. The lowest bit has place 0, whatever its name says. */
-function busOf(name, bits, hasBrackets) {
-  bits.sort((a, b) => a.bit - b.bit);
-  const ports = bits.map((it) => it.port), places = bits.map((it) => it.bit - bits[0].bit), width = places.at(-1) + 1;
-  const isWhole = width <= MOST_BITS && (hasBrackets ? width <= 2 * ports.length + 8 : width === ports.length && width > 1);
-  return { name, label: width > 1 ? shown(name) : ports[0].label, isBus: width > 1, isWhole, ports, places, width };
-}
-
-/** Groups ports into rows: buses, by the rule of docs/FORMATS.md, 'Buses', and any other port by itself. */
+/**
+ * Groups ports into rows, by the rule of the scripts: a bus has two bits or more and none is missing between them, no port has its name, and
+ * its lowest bit stands first and counts 1, whatever its number. Any other port is a row.
+ */
 function rowsOf(ports) {
   const names = new Set(ports.map((it) => it.full)), owners = new Map();
-  for (const bus of busesOf(ports)) {
-    if (!bus.isWhole || names.has(bus.name)) continue;
-    names.add(bus.name);
+  for (const [name, bits] of bitsOfBuses(ports)) {
+    bits.sort((a, b) => a.bit - b.bit);
+    const isWhole = bits.length > 1 && bits.length <= MOST_BITS && bits.every(({ bit }, k) => bit === bits[0].bit + k);
+    if (!isWhole || names.has(name)) continue;
+    const bus = { name, label: shown(name), isBus: true, ports: bits.map((it) => it.port) };
+    names.add(name);
     for (const port of bus.ports) owners.set(port, bus);
   }
   return [...new Set(ports.map((port) => owners.get(port) ?? rowOf(port)))];
@@ -44,11 +42,11 @@ function busNumber(text, width) {
   return number < -(1n << BigInt(width - 1)) || number >= 1n << BigInt(width) ? null : number;
 }
 
-/** The bits of numbers with commas between them, for a row: a list for each of its inputs; or null. */
-function bitsOfNumbers(list, { places, width }) {
+/** The bits of numbers with commas between them, for a bus: a list for each of its inputs; or null. */
+function bitsOfNumbers(list, width) {
   const numbers = list.split(",").map((it) => busNumber(it, width));
   if (numbers.includes(null)) return null;
-  return places.map((place) => numbers.map((it) => Number((it >> BigInt(place)) & 1n)));
+  return Array.from({ length: width }, (_, k) => numbers.map((it) => Number((it >> BigInt(k)) & 1n)));
 }
 
 function cyclesOf(text) {
@@ -65,12 +63,12 @@ function readWord(word, { inputs, contexts }, streams) {
   const [, context, name] = contexts > 1 ? /^(0|[1-9]\d*):(.*)$/s.exec(word.slice(0, cut)) ?? [] : [, 0, word.slice(0, cut)];
   if (!(context < contexts)) fail("BadContext", `a word begins with the number of a machine, 0: to ${contexts - 1}:`);
   const input = inputs.find((it) => it.name === name);
-  const row = input ? rowOf(input) : rowsOf(inputs).find((it) => it.name === name), own = streams[context];
+  const row = input ? rowOf(input) : rowsOf(inputs).find((it) => it.isBus && it.name === name), own = streams[context];
   if (!row) fail("UnknownInput", "no input has this name");
   if (row.ports.some((it) => own[it.index])) fail("TwiceInput", "this input has a word already");
   const plain = /^[01]+$/.test(value) ? [Array.from(value, Number)] : null;
-  const bits = row.isBus || value.includes(",") ? bitsOfNumbers(value, row) : plain;
-  if (!bits) fail("BadBit", row.isBus ? `the bus takes numbers of ${row.width} bits` : "a bit is 0 or 1");
+  const bits = row.isBus ? bitsOfNumbers(value, row.ports.length) : plain;
+  if (!bits) fail("BadBit", row.isBus ? `the bus takes numbers of ${row.ports.length} bits` : "a bit is 0 or 1");
   row.ports.forEach((it, k) => { own[it.index] = bits[k]; });
 }
 
