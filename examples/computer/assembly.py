@@ -1,8 +1,12 @@
 """Reads programs of the computer, and orders their steps and words for the memory."""
 import itertools
 import re
+import sys
 from dataclasses import dataclass, field
 from pathlib import Path
+
+sys.path.insert(0, str(Path(__file__).resolve().parents[2] / "lib"))
+from blifww import blif, command
 
 STEPS = {"": 0, "take": 1, "sub": 2, "add": 3, "end": 4, "show": 5, "if": 6, "unless": 7}  # the three bits of each step
 WITH_WORD = {"take", "sub", "add", "show"}
@@ -10,7 +14,7 @@ MOST_WORDS, MOST_STEPS = 8, 256  # what a program may have
 LIT = 2  # how many cycles after a `show` its lamps are lit
 
 
-class Mistake(Exception):
+class Mistake(ValueError):
     """What is wrong with a program, or with what is asked for."""
 
 
@@ -85,18 +89,12 @@ class Reader:
         return self.program
 
 
-def text_of(file):
-    try:
-        return Path(file).read_text(encoding="utf-8-sig")
-    except OSError as fault:
-        raise Mistake(f"{file or 'a file without a name'}: {fault.strerror}") from None
-    except UnicodeDecodeError:
-        raise Mistake(f"{file} is no text") from None
-
-
 def read_program(file, width):
     """Returns the program that a file says, for words of so many bits."""
-    return Reader(file, width).read(text_of(file))
+    text = command.read(file).removeprefix("\xef\xbb\xbf")
+    if "\0" in text:
+        raise Mistake(f"{file} is no text")
+    return Reader(file, width).read(text)
 
 
 def placed(steps, order, least):
@@ -157,12 +155,9 @@ def latches_of(memory, width):
 
 
 def netlist(memory, width, core):
-    """Gives the lines of a netlist of the processor, whose text is `core`, with the memory as latches."""
-    yield ".model program"
-    yield ".inputs clk"
-    yield ".outputs " + " ".join(f"word_out[{i}]" for i in range(width)) + " show"
-    for data, output, bit in latches_of(memory, width):
-        yield f".latch {data} {output} re clk {bit}"
+    """Returns the text of a netlist of the processor, whose text is `core`, with the memory as latches."""
+    model = blif.Model("program", ["clk"], outputs=[*(f"word_out[{i}]" for i in range(width)), "show"])
+    model.latches = [blif.Latch(data, output, ["re", "clk"], str(bit)) for data, output, bit in latches_of(memory, width)]
     pins = [f"{name}{end}[{i}]" for name, bits in (("step", 3), ("word", width)) for end in ("", "_out") for i in range(bits)]
-    yield ".subckt computer clk=clk show=show " + " ".join(f"{it}={it}" for it in pins)
-    yield f".end\n{core}"
+    model.places = [("computer", {it: it for it in ["clk", "show", *pins]})]
+    return f"{model.text()}{core}"

@@ -1,13 +1,10 @@
 """Draws what stands around a compiled computer: its memory, which is wire, and its display with the lamps."""
-import sys
 from dataclasses import dataclass, field
-from pathlib import Path
 
 from lamps import BAR, lamps
 from wires import FORK, LANE, TILE, Cells, Plane, by_row, fan, lanes, sort, steps_of
 
-sys.path.append(str(Path(__file__).resolve().parents[2] / "tools"))
-from patterns import Part, Wire, read_pattern  # noqa: E402
+from blifww.rle import Part, Wire, read_pattern
 
 
 def read(text):

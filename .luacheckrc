@@ -1,0 +1,3 @@
+std = "lua53"
+globals = {"golly"}
+max_line_length = 140

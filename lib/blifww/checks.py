@@ -1,0 +1,48 @@
+"""Scripts of checks: they print a line for each that fails, and then how many hold and how many do not, which `.ci/run` adds up.
+
+`#!/usr/bin/env python3` takes the first python3 on the PATH, and that may be a launcher that needs more time than a script: pyenv's is one. So
+scripts that are started by others here run in the Python of the one that starts them.
+"""
+import contextlib
+import os
+import shlex
+import sys
+import tempfile
+from pathlib import Path
+
+
+class Checks:
+    """Counts checks."""
+
+    def __init__(self):
+        self.right = self.wrong = 0
+
+    def that(self, holds, name):
+        """Counts a check; where it does not hold, prints a line with its name."""
+        self.right += bool(holds)
+        self.wrong += not holds
+        if not holds:
+            print(f"FAILED: {name}", flush=True)
+        return bool(holds)
+
+    def end(self):
+        """Prints the counts, and ends the script: with status 1 where a check does not hold."""
+        print(f"{self.right} {self.wrong}", flush=True)
+        sys.exit(self.wrong > 0)
+
+
+@contextlib.contextmanager
+def own_python():
+    """Makes this Python the first python3 on the PATH, within a `with`. It has its own library alone (-S): the scripts here need no other."""
+    before = {it: os.environ.get(it) for it in ("PATH", "PYTHONPYCACHEPREFIX")}
+    with tempfile.TemporaryDirectory() as folder:
+        launcher = Path(folder, "python3")
+        launcher.write_text(f'#!/bin/sh\nexec {shlex.quote(sys.executable)} -S "$@"\n')
+        launcher.chmod(0o755)
+        os.environ["PATH"] = f"{folder}:{before['PATH'] or os.defpath}"
+        os.environ["PYTHONPYCACHEPREFIX"] = f"{folder}/compiled"
+        try:
+            yield
+        finally:
+            for name, value in before.items():
+                os.environ.pop(name) if value is None else os.environ.update({name: value})

@@ -1,0 +1,1 @@
+"""Patterns whose latches are wires, for tools/registers."""
