@@ -18,14 +18,14 @@ use Rattle.refusals.specs.declared.causes.Cause.{Cause}
 use Rattle.refusals.specs.declared.causes.Cause.TheVariants.{NetlistFault, WeightTooLarge, Loop, AigAtFault, AigLoop, Pattern, GridTooLarge, PortTable, Streams, StartWord, NoSuchNet, TooFar, TooManyContexts, NotQuiet, NotCircuit as NoDrawing}
 use Rattle.refusals.specs.declared.refusal.Refusal.{Refusal}
 use Rattle.refusals.specs.declared.refusal.Refusal.TheVariants as refusal
-use Rattle.program_runs.specs.Runs.{Reading, Writing, Gave, GaveAll, Gained, GainedNothing, NoReadFailed, ReadFailed, NoWriteFailed, WriteFailed, text_limit}
+use Rattle.program_runs.specs.Runs.{Call, Reading, Writing, Gave, GaveAll, Gained, GainedNothing, NoReadFailed, ReadFailed, NoWriteFailed, WriteFailed, text_limit}
 use Rattle.program_runs.specs.Netlists.{IsNetlistOf, WritesItsNetlist}
 use Rattle.program_runs.proofs.Given.{gave_whole, gained_whole}
 use Rattle.wwroute_tool.specs.declared.refusal.RouteRefusal.{RouteRefusal}
 use Rattle.wwroute_tool.specs.declared.refusal.RouteRefusal.TheVariants.{Usage, Common, NotCircuit}
 use Rattle.wwroute_tool.specs.Words.{IsExtract}
 use Rattle.wwroute_tool.specs.Refusing.{HasNoTable, HasReason, HasTextReason, IsFree, IsPatternText, route_status}
-use Rattle.wwroute_tool.specs.Runs.{RouteCall, CutsLine, CutsNetlist, Ends, Extracts, HasStopped, IsDone, IsRefused}
+use Rattle.wwroute_tool.specs.Runs.{CutsLine, CutsNetlist, Ends, Extracts, HasStopped, IsDone, IsRefused}
 
 -- what is not written to stays
 pub kept : (held : Option (List ℕ)) → Keeps held held
@@ -110,7 +110,7 @@ never_cut words src (Common refusal.NoMemory) h = λ e. cc
 never_cut words src (Common (refusal.Text cause)) h = (cause_status cause).1
 
 -- ---- ends
-pub done : (c : RouteCall) → IsDone c → ((given : List ℕ) × Gave c.src given) → Ends c 0
+pub done : (c : Call) → IsDone c → ((given : List ℕ) × Gave c.src given) → Ends c 0
 done c d front =
     record {
       done = λ e. d;
@@ -119,7 +119,7 @@ done c d front =
       front = front;
     }
 
-told_as : (c : RouteCall) (status : ℕ) (r : RouteRefusal) → status ≡ route_status r → HasStopped c.words c.src c.out r → Gained c.err (route_line r) → NoWriteFailed c.err
+told_as : (c : Call) (status : ℕ) (r : RouteRefusal) → status ≡ route_status r → HasStopped c.words c.src c.out r → Gained c.err (route_line r) → NoWriteFailed c.err
     → ((given : List ℕ) × Gave c.src given) → Ends c status
 told_as c status r is (inl (write, failed, (k, front))) line calm given =
     let six : status ≡ 6 = is ∙ ap route_status write in
@@ -137,17 +137,17 @@ told_as c status r is (inr (nothing, calm, reason)) line err_calm given =
       front = given;
     }
 
-pub told : (c : RouteCall) (status : ℕ) (r : RouteRefusal) → status ≡ route_status r → HasStopped c.words c.src c.out r → Gained c.err (route_line r) → NoWriteFailed c.err
+pub told : (c : Call) (status : ℕ) (r : RouteRefusal) → status ≡ route_status r → HasStopped c.words c.src c.out r → Gained c.err (route_line r) → NoWriteFailed c.err
     → ((given : List ℕ) × Gave c.src given) → Ends c status
 told c status r is stopped line calm given = told_as c status r is stopped line calm given
 
-cut_by : (c : RouteCall) (r : RouteRefusal) → HasStopped c.words c.src c.out r → ((k : ℕ) × Gained c.err (take k (route_line r))) → WriteFailed c.err → CutsLine c ⊎ CutsNetlist c
+cut_by : (c : Call) (r : RouteRefusal) → HasStopped c.words c.src c.out r → ((k : ℕ) × Gained c.err (take k (route_line r))) → WriteFailed c.err → CutsLine c ⊎ CutsNetlist c
 cut_by c r (inl (write, failed, (k, front))) line err_failed =
     inr (record { size = k; front = front; failed = failed; line = inr (err_failed, (line.0, subst (λ x. Gained c.err (take line.0 (route_line x))) write line.1)) })
 cut_by c r (inr (nothing, calm, reason)) line err_failed =
     inl (record { refusal = r; reason = reason; nothing = nothing; out_calm = calm; size = line.0; front = line.1; failed = err_failed })
 
-pub untold : (c : RouteCall) (r : RouteRefusal) → HasStopped c.words c.src c.out r → ((k : ℕ) × Gained c.err (take k (route_line r))) → WriteFailed c.err
+pub untold : (c : Call) (r : RouteRefusal) → HasStopped c.words c.src c.out r → ((k : ℕ) × Gained c.err (take k (route_line r))) → WriteFailed c.err
     → ((given : List ℕ) × Gave c.src given) → Ends c 6
 untold c r stopped line failed given =
     record {

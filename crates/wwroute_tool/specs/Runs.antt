@@ -2,7 +2,7 @@
 -- after.
 use Rattle.std.specs.Prelude.{ℕ, ◌≡◌, ◌≢◌, ◌⊎◌, List, take}
 use Rattle.netlist_core.specs.declared.model.Design.{Design}
-use Rattle.program_runs.specs.Runs.{Reading, Writing, Gave, GaveAll, Gained, GainedNothing, NoWriteFailed, WriteFailed}
+use Rattle.program_runs.specs.Runs.{Call, Reading, Writing, Gave, GaveAll, Gained, GainedNothing, NoWriteFailed, WriteFailed}
 use Rattle.program_runs.specs.Netlists.{IsNetlistOf}
 use Rattle.refusals.specs.Refusals.{refusal_line}
 use Rattle.refusals.specs.declared.refusal.Refusal.TheVariants.{WriteFault}
@@ -10,16 +10,6 @@ use Rattle.wwroute_tool.specs.declared.refusal.RouteRefusal.{RouteRefusal}
 use Rattle.wwroute_tool.specs.declared.refusal.RouteRefusal.TheVariants.{Common}
 use Rattle.wwroute_tool.specs.Words.{IsExtract}
 use Rattle.wwroute_tool.specs.Refusing.{HasReason, route_line, route_status}
-
--- a run: its words, and what it did to its source, its output and its errors
-pub record RouteCall : Type 0 where
-  pub words : List (List ℕ)
-  pub src : Reading
-  pub out : Writing
-  pub err : Writing
-
-abbrev pub route_call : List (List ℕ) → Reading → (out err : Writing) → RouteCall
-route_call words src out err = record { words = words; src = src; out = out; err = err }
 
 -- The words are `extract`, the source gave a text, and the output gained this part of the text of a
 -- netlist that the source's text carries.
@@ -34,7 +24,7 @@ pub record Extracts (words : List (List ℕ)) (src : Reading) (out : Writing)
   pub wrote : Gained out (part netlist)
 
 -- the output has a whole netlist, err gained nothing, and no write failed
-pub record IsDone (c : RouteCall) : Type 0 where
+pub record IsDone (c : Call) : Type 0 where
   pub done : Extracts c.words c.src c.out (λ netlist. netlist)
   pub silent : GainedNothing c.err
   pub out_calm : NoWriteFailed c.out
@@ -42,7 +32,7 @@ pub record IsDone (c : RouteCall) : Type 0 where
 
 -- a refusal that has its reason is told by the status and by err, the output gained nothing, and no
 -- write failed
-pub record IsRefused (c : RouteCall) (status : ℕ) : Type 0 where
+pub record IsRefused (c : Call) (status : ℕ) : Type 0 where
   pub refusal : RouteRefusal
   pub reason : HasReason c.words c.src refusal
   pub nothing : GainedNothing c.out
@@ -52,7 +42,7 @@ pub record IsRefused (c : RouteCall) (status : ℕ) : Type 0 where
   pub err_calm : NoWriteFailed c.err
 
 -- a refusal's line was cut off by the one write that failed, and the output gained nothing
-pub record CutsLine (c : RouteCall) : Type 0 where
+pub record CutsLine (c : Call) : Type 0 where
   pub refusal : RouteRefusal
   pub reason : HasReason c.words c.src refusal
   pub nothing : GainedNothing c.out
@@ -63,7 +53,7 @@ pub record CutsLine (c : RouteCall) : Type 0 where
 
 -- the netlist was cut off by the one write of the output that failed, and err has the line that
 -- tells it, or, if a write of err failed too, a prefix of that line
-pub record CutsNetlist (c : RouteCall) : Type 0 where
+pub record CutsNetlist (c : Call) : Type 0 where
   pub size : ℕ
   pub front : Extracts c.words c.src c.out (take size)
   pub failed : WriteFailed c.out
@@ -71,7 +61,7 @@ pub record CutsNetlist (c : RouteCall) : Type 0 where
       ⊎ (WriteFailed c.err × ((k : ℕ) × Gained c.err (take k (refusal_line WriteFault))))
 
 -- how a run ends: by its status it is done, refused or cut off
-pub record Ends (c : RouteCall) (status : ℕ) : Type 0 where
+pub record Ends (c : Call) (status : ℕ) : Type 0 where
   pub done : status ≡ 0 → IsDone c
   pub refused : status ≢ 0 → status ≢ 6 → IsRefused c status
   pub cut : status ≡ 6 → CutsLine c ⊎ CutsNetlist c

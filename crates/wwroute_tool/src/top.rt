@@ -1,9 +1,9 @@
 // The top call.
 ghost use Rattle.std.specs.Prelude.{◌≡◌, ℕ, List, map, string_bytes, take, OnOk, IfErr};
 ghost use Rattle.program_runs.specs.Netlists.{WritesItsNetlist};
-ghost use Rattle.program_runs.specs.Runs.{reading, writing, Gave, NoWriteFailed};
+ghost use Rattle.program_runs.specs.Runs.{call, reading, writing, Gave, NoWriteFailed};
 ghost use Rattle.wwroute_tool.specs.Words.{IsExtract};
-ghost use Rattle.wwroute_tool.specs.Runs.{Ends, Extracts, HasStopped, route_call};
+ghost use Rattle.wwroute_tool.specs.Runs.{Ends, Extracts, HasStopped};
 
 use crate::RouteRefusal;
 use crate::extract::extract;
@@ -73,7 +73,7 @@ pub fn run<S: Source, O: Sink, E: Sink>(
         (writing O.written O.faults out.old out.new) }
 
     // How the run ends: done, refused or cut off, each status only with its reason.
-    ensures ends { Ends (route_call (map string_bytes words.now)
+    ensures ends { Ends (call (map string_bytes words.now)
         (reading S.left S.faults src.old src.new)
         (writing O.written O.faults out.old out.new)
         (writing E.written E.faults err.old err.new)) result }
