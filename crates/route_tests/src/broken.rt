@@ -134,18 +134,6 @@ $.8C$9.C$8.4C$8.C2.8C$8.4C7.C$9.C8.9C$.8C10.C$18.C$17.C$.16C!
 ",
         "Port 26 6",
     ),
-    (
-        "two inputs have changed places",
-        "#C BLIFWW 2 P 20 L 25 C 1
-#C BLIFWW IN 1 7 b
-#C BLIFWW IN 1 1 a
-#C BLIFWW IN 1 10 c
-#C BLIFWW OUT 26 6 y
-x = 27, y = 11, rule = WireWorld
-$.8C$9.C$8.4C$8.C2.8C$8.4C7.C$9.C8.9C$.8C10.C$18.C$17.C$.16C!
-",
-        "Port 1 7",
-    ),
 ];
 
 /// Lines that are checked with a pattern: about what, the pattern, the lines, and what is told.
@@ -172,24 +160,6 @@ pub const BROKEN_LINES: &[(&str, &str, &str, &str)] = &[
 #C wire 20 6 E 26 6 -
 ",
         "Length 2 1",
-    ),
-    (
-        "a wire is named twice",
-        TWO_GATES,
-        "#C gate XOR-E 8 1 7
-#C gate OR-E 18 4 17
-#C gate LONE-E 1 1 0
-#C gate LONE-E 1 7 0
-#C gate LONE-E 1 10 0
-#C gate LONE-E 26 6 25
-#C wire 1 1 E 8 1 -
-#C wire 1 1 E 8 1 -
-#C wire 1 7 E 8 7 -
-#C wire 12 4 E 18 4 -
-#C wire 1 10 E 18 8 -
-#C wire 20 6 E 26 6 -
-",
-        "Fed 8 1",
     ),
     (
         "a wire is not named",
