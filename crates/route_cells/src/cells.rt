@@ -52,11 +52,20 @@ fn test_all(alloc: Global, t: &Tables, states: &[State], ports: &Ports) -> Resul
 fn fits(list: &CellList, ports: &Ports) -> bool
     ensures { IsTrue result → FitsPorts ports.now list.now }
 {
-    let _cells = list.cells.len();
-    list.inputs as usize == ports.ins.len()
-        && list.outs.len() == ports.outs.len()
-        && list.nets.len() == ports.nets.len()
-        && !list.names_one()
+    let (_cells, _latches) = (list.cells.len(), list.latches.len());
+    if list.inputs as usize != ports.ins.len() {
+        return false;
+    }
+    if list.outs.len() != ports.outs.len() {
+        return false;
+    }
+    if list.nets.len() != ports.nets.len() {
+        return false;
+    }
+    if list.names_one() {
+        return false;
+    }
+    true
 }
 
 // The list of tables that were tested.

@@ -37,7 +37,7 @@ fn test_wires(alloc: Global, t: &Tables, states: &[State], period: u64) -> Resul
 
 /// Tests that gates and wires keep time, that electrons are start bits, and that the sources are
 /// those of the list.
-pub fn test_runs(alloc: Global, t: &Tables, states: &[State], period: u64) -> Result<(), RunError>
+pub fn test_runs(alloc: Global, t: &Tables, states: &[State], period: u64) -> Result<(), RouteError>
     requires some { 0 < period }
     ensures { IfOk result (λ _. ComputesItsList t.now states.now period) }
 {

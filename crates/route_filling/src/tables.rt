@@ -163,7 +163,7 @@ fn list_with(
     }
 }
 
-fn computed(alloc: Global, gates: &Gates, drawing: &Drawing) -> Result<Computed, FillError> {
+fn compute(alloc: Global, gates: &Gates, drawing: &Drawing) -> Result<Computed, FillError> {
     let ports = named_ports(alloc, drawing)?;
     let solver = solved(alloc, gates, drawing)?;
     let table = table_gates(alloc, &gates.rows, &solver.gates)?;
@@ -182,7 +182,7 @@ struct Numbered {
     serials: Vec<u32>,
 }
 
-fn numbered(
+fn number_cells(
     alloc: Global,
     gates: &Gates,
     drawing: &Drawing,
@@ -228,7 +228,7 @@ pub fn tables_of(
     size: usize,
 ) -> Result<Tables, FillError> {
     let fed = fed_gates(alloc, drawing)?;
-    let numbered = numbered(alloc, &fed.gates, drawing, width, size)?;
-    let computed = computed(alloc, &fed.gates, drawing)?;
+    let numbered = number_cells(alloc, &fed.gates, drawing, width, size)?;
+    let computed = compute(alloc, &fed.gates, drawing)?;
     Ok(tables_with(width, fed, numbered, computed))
 }

@@ -1,24 +1,16 @@
 -- What is checked computes the list, at the points of the port table.
-use Rattle.std.proofs.Common.{◌≡◌, refl, sym, ◌∙◌, ap, subst, ℕ, ◌<◌, ◌≤◌, ◌⊎◌, inl, inr, ⊎_elim, ◌↔◌, Bool, List, [], ◌++◌, map, length, get_or, slice_get, Some, arith}
-use Rattle.std.proofs.lemmas.Bool.{cases_lt}
-use Rattle.std.proofs.lemmas.Option.{slice_get-get_or, slice_get_within, get_or_from_slice_get}
+use Rattle.std.proofs.Common.{◌≡◌, sym, ◌∙◌, ap, subst, ℕ, ◌<◌, ⊎_elim, ◌↔◌, List, [], ◌++◌, map, length, slice_get, Some, arith}
 use Rattle.std.specs.Prelude.{Contains}
 use Rattle.lists.proofs.Members.{In, in_from, contains_from, in_map, in_mapped, in_left, in_right, in_parts, in_got, got_from}
 use Rattle.ww_rule.specs.declared.pattern.State.{State}
-use Rattle.ww_rule.specs.declared.pattern.State.TheVariants.{Conductor}
-use Rattle.ww_rule.specs.Wireworld.{Plane}
 use Rattle.wire_laws.specs.Wires.{AreWiresDrawn}
 use Rattle.pattern_reading.specs.declared.ports.Ports.{Ports}
-use Rattle.pattern_reading.specs.declared.ports.PortLine.{PortLine}
-use Rattle.cell_core.specs.declared.cells.Src.TheVariants.{Zero}
 use Rattle.routed_planes.specs.Routed.{gates_plane, StandAllApart}
-use Rattle.routed_lists.specs.Lists.{Point, SourcedGate, SourcedWire, in_points, all_points, placed_of, point_signal, wire_in_run, ComputesSources, DelaysSource, ComputesList}
+use Rattle.routed_lists.specs.Lists.{Point, SourcedWire, in_points, all_points, placed_of, point_signal, wire_in_run, ComputesSources, DelaysSource, ComputesList}
 use Rattle.lawful_gates.proofs.Periods.{lawful_are_gates_at_period}
-use Rattle.lawful_gates.specs.Lawful.{gate_at}
 use Rattle.route_tables.specs.declared.tables.Feed.{Feed}
 use Rattle.route_tables.specs.declared.tables.Feed.TheVariants.{Wire as ByWire, Driven}
 use Rattle.route_tables.specs.declared.tables.GateInput.{GateInput}
-use Rattle.route_tables.specs.declared.tables.TableWire.{TableWire}
 use Rattle.route_tables.specs.declared.tables.Tables.{Tables}
 use Rattle.route_tables.specs.Tables.{no_wire, table_gate, table_wire, gate_drawing, sourced_gate, sourced_gates, sourced_wire, sourced_wires, input_point, driven_points, box_plane}
 use Rattle.route_tables.specs.Cells.{FeedsInput}
@@ -64,7 +56,7 @@ fed_by t at (ByWire w) (within, is) =
 fed_by t at (Driven d) is =
     in_right (map (λ wire. wire.to) (sourced_wires t)) (driven_points t) (input_point t at) (in_map (input_point t) t.driven at (in_got t.driven d at is))
 
-driven_of : (t : Tables) (point : Point) → In point (driven_points t) → (d : ℕ) × (at : GateInput) × (slice_get t.driven d ≡ Some at) × (point ≡ input_point t at)
+pub driven_of : (t : Tables) (point : Point) → In point (driven_points t) → (d : ℕ) × (at : GateInput) × (slice_get t.driven d ≡ Some at) × (point ≡ input_point t at)
 driven_of t point i =
     let m = in_mapped (input_point t) t.driven point i in
     let g = got_from t.driven m.0 m.1 in
@@ -73,24 +65,29 @@ driven_of t point i =
 fed : (t : Tables) (states : List State) (ports : Ports) → IsChecked t states ports → (point : Point)
     → Contains (in_points (sourced_gates t)) point ↔ Contains (map (λ (wire : SourcedWire). wire.to) (sourced_wires t) ++ driven_points t) point
 fed t states ports checked point = (there, back)
-  where at_input : (k i : ℕ) → k < length t.gates → i < length (sourced_gate t (table_gate t k)).placed.gate.ins
-            → In (input_point t (record { gate = k; input = i })) (map (λ (wire : SourcedWire). wire.to) (sourced_wires t) ++ driven_points t)
-        at_input k i within inside = let f = checked.cells.fed k i within inside in fed_by t (record { gate = k; input = i }) f.0 f.2
-        there : Contains (in_points (sourced_gates t)) point → Contains (map (λ (wire : SourcedWire). wire.to) (sourced_wires t) ++ driven_points t) point
-        there c =
-            let p = input_of t point (in_from _ point c) in
-            contains_from _ point (subst (λ it. In it (map (λ (wire : SourcedWire). wire.to) (sourced_wires t) ++ driven_points t)) (sym p.4) (at_input p.0 p.1 p.2 p.3))
-        of_wire : In point (map (λ (wire : SourcedWire). wire.to) (sourced_wires t)) → In point (in_points (sourced_gates t))
-        of_wire i =
-            let m = in_mapped (λ (wire : SourcedWire). wire.to) (sourced_wires t) point i in
-            let w = wire_of t m.0 m.1 in
-            subst (λ it. In it (in_points (sourced_gates t))) (sym (m.2 ∙ ap wire_to w.2)) (input_in t (table_wire t w.0).to (checked.cells.wires w.0 w.1).ends)
-        of_driven : In point (driven_points t) → In point (in_points (sourced_gates t))
-        of_driven i =
-            let d = driven_of t point i in
-            subst (λ it. In it (in_points (sourced_gates t))) (sym d.3) (input_in t d.1 (checked.cells.driven d.0 d.1 d.2).0)
-        back : Contains (map (λ (wire : SourcedWire). wire.to) (sourced_wires t) ++ driven_points t) point → Contains (in_points (sourced_gates t)) point
-        back c = contains_from _ point (⊎_elim of_wire of_driven (in_parts (map (λ (wire : SourcedWire). wire.to) (sourced_wires t)) (driven_points t) point (in_from _ point c)))
+  where
+    at_input : (k i : ℕ) → k < length t.gates → i < length (sourced_gate t (table_gate t k)).placed.gate.ins
+        → In (input_point t (record { gate = k; input = i })) (map (λ (wire : SourcedWire). wire.to) (sourced_wires t) ++ driven_points t)
+    at_input k i within inside = let f = checked.cells.fed k i within inside in fed_by t (record { gate = k; input = i }) f.0 f.2
+
+    there : Contains (in_points (sourced_gates t)) point → Contains (map (λ (wire : SourcedWire). wire.to) (sourced_wires t) ++ driven_points t) point
+    there c =
+        let p = input_of t point (in_from _ point c) in
+        contains_from _ point (subst (λ it. In it (map (λ (wire : SourcedWire). wire.to) (sourced_wires t) ++ driven_points t)) (sym p.4) (at_input p.0 p.1 p.2 p.3))
+
+    of_wire : In point (map (λ (wire : SourcedWire). wire.to) (sourced_wires t)) → In point (in_points (sourced_gates t))
+    of_wire i =
+        let m = in_mapped (λ (wire : SourcedWire). wire.to) (sourced_wires t) point i in
+        let w = wire_of t m.0 m.1 in
+        subst (λ it. In it (in_points (sourced_gates t))) (sym (m.2 ∙ ap wire_to w.2)) (input_in t (table_wire t w.0).to (checked.cells.wires w.0 w.1).ends)
+
+    of_driven : In point (driven_points t) → In point (in_points (sourced_gates t))
+    of_driven i =
+        let d = driven_of t point i in
+        subst (λ it. In it (in_points (sourced_gates t))) (sym d.3) (input_in t d.1 (checked.cells.driven d.0 d.1 d.2).0)
+
+    back : Contains (map (λ (wire : SourcedWire). wire.to) (sourced_wires t) ++ driven_points t) point → Contains (in_points (sourced_gates t)) point
+    back c = contains_from _ point (⊎_elim of_wire of_driven (in_parts (map (λ (wire : SourcedWire). wire.to) (sourced_wires t)) (driven_points t) point (in_from _ point c)))
 
 -- what is checked computes its list, if gates and wires stand so
 pub computes_list : (t : Tables) (states : List State) (ports : Ports) → IsChecked t states ports

@@ -1,5 +1,5 @@
 -- Ports of gates, and the points that they are.
-use Rattle.std.proofs.Common.{◌≡◌, refl, sym, ◌∙◌, ap, ap₂, subst, ℕ, zero, suc, ◌+◌, ◌<◌, ◌⊎◌, inl, inr, ⊎_elim, List, [], ◌∷◌, ◌++◌, map, length, get_or, slice_get, Some, arith}
+use Rattle.std.proofs.Common.{◌≡◌, refl, sym, ◌∙◌, ap, subst, ℕ, zero, suc, ◌<◌, inl, inr, List, [], ◌∷◌, map, length, get_or, arith}
 use Rattle.std.proofs.lemmas.List.{length-map, get_or-map}
 use Rattle.std.proofs.lemmas.Option.{slice_get-get_or, get_or_from_slice_get, slice_get_within}
 use Rattle.lists.proofs.Members.{In, in_map, in_mapped, in_flat, in_flattened, in_left, in_right, in_got, got_from}
@@ -12,7 +12,6 @@ use Rattle.routed_core.specs.declared.drawing.DrawnPort.{DrawnPort}
 use Rattle.routed_core.specs.declared.drawing.GatePort.{GatePort}
 use Rattle.routed_core.specs.declared.drawing.GatePort.TheVariants.{In as InPort, Out as OutPort}
 use Rattle.route_tables.specs.declared.tables.GateInput.{GateInput}
-use Rattle.route_tables.specs.declared.tables.TableGate.{TableGate}
 use Rattle.route_tables.specs.declared.tables.Tables.{Tables}
 use Rattle.route_tables.specs.Tables.{no_gate, no_port, table_gate, sourced_gate, sourced_gates, HasPort, IsPort, gate_point, point_at, input_port, input_point}
 
@@ -79,17 +78,19 @@ gate_of t gate i =
 -- a port that is there is a point
 pub port_in : (t : Tables) (at : DrawnPort) → IsPort t at → In (point_at t at) (all_points (sourced_gates t))
 port_in t at is = by at.port is.1
-  where gate : SourcedGate
-        gate = sourced_gate t (table_gate t at.gate)
-        by : (port : GatePort) → HasPort (sourced_gate t (table_gate t at.gate)) port → In (gate_point (sourced_gate t (table_gate t at.gate)) port) (all_points (sourced_gates t))
-        by (InPort i) has =
-            in_left (in_points (sourced_gates t)) (out_points (sourced_gates t)) _
-            (in_flat (λ g. points_of (placed_ins g.placed) g.ins) (sourced_gates t) (sourced_gate t (table_gate t at.gate)) _ (gate_in t at.gate is.0)
-            (in_point_there (sourced_gate t (table_gate t at.gate)) i has))
-        by (OutPort o) has =
-            in_right (in_points (sourced_gates t)) (out_points (sourced_gates t)) _
-            (in_flat (λ g. points_of (placed_outs g.placed) g.outs) (sourced_gates t) (sourced_gate t (table_gate t at.gate)) _ (gate_in t at.gate is.0)
-            (out_point_there (sourced_gate t (table_gate t at.gate)) o has))
+  where
+    gate : SourcedGate
+    gate = sourced_gate t (table_gate t at.gate)
+
+    by : (port : GatePort) → HasPort (sourced_gate t (table_gate t at.gate)) port → In (gate_point (sourced_gate t (table_gate t at.gate)) port) (all_points (sourced_gates t))
+    by (InPort i) has =
+        in_left (in_points (sourced_gates t)) (out_points (sourced_gates t)) _
+        (in_flat (λ g. points_of (placed_ins g.placed) g.ins) (sourced_gates t) (sourced_gate t (table_gate t at.gate)) _ (gate_in t at.gate is.0)
+        (in_point_there (sourced_gate t (table_gate t at.gate)) i has))
+    by (OutPort o) has =
+        in_right (in_points (sourced_gates t)) (out_points (sourced_gates t)) _
+        (in_flat (λ g. points_of (placed_outs g.placed) g.outs) (sourced_gates t) (sourced_gate t (table_gate t at.gate)) _ (gate_in t at.gate is.0)
+        (out_point_there (sourced_gate t (table_gate t at.gate)) o has))
 
 -- an input that is there is a point of an input
 pub input_in : (t : Tables) (at : GateInput) → IsPort t (input_port at) → In (input_point t at) (in_points (sourced_gates t))

@@ -1,4 +1,4 @@
-use Rattle.std.proofs.Common.{ℕ, ◌≤◌, ◌≡◌, Some, List, length, slice_get, subst}
+use Rattle.std.proofs.Common.{ℕ, ◌≤◌, ◌≡◌, Some, List, slice_get, subst}
 use Rattle.pattern_reading.specs.declared.ports.PortLine.{PortLine}
 use Rattle.pattern_reading.specs.declared.ports.NetLine.{NetLine}
 use Rattle.routed_lists.specs.Runs.{src_at}
