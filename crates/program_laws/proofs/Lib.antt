@@ -17,7 +17,6 @@ pub mod Isolated
 pub mod AigDrawings
 pub mod AigQuiet
 pub mod ShownAigs
-pub mod OpenLines
-pub mod CompiledParts
 pub mod LooplessFlats
+pub mod Held
 pub mod NetlistRuns

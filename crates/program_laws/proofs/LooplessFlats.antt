@@ -1,7 +1,8 @@
 -- A flat netlist without loops has at most one valuation for given input bits and a given state.
-use Rattle.std.proofs.Common.{◌≡◌, ◌≢◌, refl, sym, ◌∙◌, ap, subst, ℕ, zero, suc, ◌<◌, ◌≤◌, ◌⊎◌, inl, inr, Bool, true, false, true≢false, List, [], ◌∷◌, length, get_or, arith}
+use Rattle.std.proofs.Common.{◌≡◌, ◌≢◌, refl, sym, ◌∙◌, ap, subst, ℕ, zero, suc, ◌<◌, ◌≤◌, ◌⊎◌, inl, inr, Bool, true, false, true≢false, List, [], ◌∷◌, length, map, get_or, arith}
 use Rattle.std.specs.List.{range_with_len}
 use Rattle.std.proofs.lemmas.Option.{slice_get_within, get_or_from_slice_get}
+use Rattle.std.proofs.lemmas.List.{length-map, get_or-map}
 use Rattle.std.proofs.lemmas.List.FromFn.{length-range_with_len, get_or-range_with_len}
 use Rattle.lists.proofs.Members.{In, in_from, contains_from, in_map, in_mapped, map_in}
 use Rattle.netlist_core.specs.declared.flat.NetId.{NetId}
@@ -12,7 +13,13 @@ use Rattle.netlist_meaning.specs.CoverValue.{cover_value}
 use Rattle.netlist_meaning.specs.Flat.{no_net, no_node, IsNetId, IsClockClass, IsSound, FlatDriver, FlatDrives, class_of, node_at, in_classes, out_class}
 use Rattle.netlist_meaning.specs.FlatOrder.{FlatFeeds, FlatFeedsThrough, IsFlatLoop}
 use Rattle.netlist_meaning.specs.FlatValuation.{IsFlatValuation, AgreeWhereDriven}
-use Rattle.program_laws.proofs.OpenLines.{made_alike}
+
+-- lists that are made alike have like items
+made_alike : {X Y Z : Type 0} (f : X → Z) (g : Y → Z) (xs : List X) (ys : List Y) → map f xs ≡ map g ys → (i : ℕ) (x : X) (d : Y) → i < length xs → get_or xs i x ≡ x → (i < length ys) × (f x ≡ g (get_or ys i d))
+made_alike f g xs ys same i x d within is =
+    let many : length xs ≡ length ys = sym (length-map xs f) ∙ ap length same ∙ length-map ys g in
+    let low : i < length ys = omega (arith, within, many) in
+    (low, ap f (sym is) ∙ sym (get_or-map f xs i x (f x) within) ∙ ap (λ zs. get_or zs i (f x)) same ∙ get_or-map g ys i d (f x) low)
 
 -- each class of the list feeds the next
 abbrev IsPath : Flat → List ℕ → Type 0

@@ -32,8 +32,8 @@ use Rattle.flat_designs.proofs.Sound.{has_driver, flat_is_sound, main_net, data_
 use Rattle.flat_designs.proofs.Valuations.{is_flat, same_bit}
 use Rattle.flat_designs.proofs.Whole.{flat_is_there}
 use Rattle.carries.specs.Nets.{WithoutClocks}
-use Rattle.carried_parts.proofs.Held.{held, held_by}
 use Rattle.program_laws.specs.NetlistRuns.{NetlistRunsAgree}
+use Rattle.program_laws.proofs.Held.{held, held_by}
 use Rattle.program_laws.proofs.LooplessFlats.{loopless_agree}
 
 no_word : Port

@@ -8,5 +8,4 @@ pub mod Isolated
 pub mod Onward
 pub mod OneAnswer
 pub mod ShownAigs
-pub mod CompiledParts
 pub mod NetlistRuns

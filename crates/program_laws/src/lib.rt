@@ -1,15 +1,13 @@
-//! What the commands print of one another's outputs: the laws between them. What `compile` writes is
-//! a part. And what definitions of lower crates come to (`laws`).
+//! What the commands print of one another's outputs: the laws between them.
 //!
 //! The functions here do nothing: their clauses are the laws.
 //!
-//! Theorem: `carriers_print_alike`, `carriers_print_runs`, `compiled_are_lifted`, `compiled_are_parts`, `carried_evaluate_alike`.
+//! Theorem: `carriers_print_alike`, `carriers_print_runs`, `compiled_are_lifted`, `carried_evaluate_alike`.
 #![tactic(auto)]
 
 pub mod laws;
 
 ghost use Rattle.program_laws.specs.AigPrints.{AigCarriersRunQuietly, AigsAreLifted, AigsPrintRuns, AigsRunQuietly, CarriersPrintAigRuns};
-ghost use Rattle.program_laws.specs.CompiledParts.{CompiledAreParts, CompiledHaveNoElectrons, CompiledHaveOpenLines};
 ghost use Rattle.program_laws.specs.DumpsNets.{CarriersDumpNets, CompiledDumpNets};
 ghost use Rattle.program_laws.specs.EvaluatesAlike.{CarriedEvaluateAlike, CompiledEvaluateInOneWay, LiftedEvaluateAlike};
 ghost use Rattle.program_laws.specs.Isolated.{CompiledPrintApart, ContextsPrintApart, NetsPrintApart};
@@ -23,12 +21,10 @@ ghost use Rattle.program_laws.specs.TapePrints.{TapesPrintAlike, TapesPrintRuns}
 
 use aiger_meaning::laws::flats_of_aigs_are_lowered;
 use aiger_text::laws::read_aigs_are_sound;
-use carried_parts::carriers_are_parts;
 use lift_carries::compiled_are_drawings;
 use netlist_plans::names_are_words;
 use netlist_text::laws::texts_are_decided;
 use plan_carries::plans_have_ports;
-use plan_signals::{ports_are_open, tiles_are_open};
 use shown_runs::{
     carriers_are_quiet, carriers_show_contexts, carriers_show_nets, carriers_show_runs,
     runners_show_runs, streams_match,
@@ -117,20 +113,6 @@ pub fn compiled_are_lifted()
     ensures lifted { CompiledAreLifted }
 {
     names_are_words();
-}
-
-/// The text that `compile` writes for one context has open lines, and its period is 32 at least; if
-/// it is 32, the pattern has no electrons. So without start words the pattern is a part: what it
-/// makes of its inputs' bits are the bits of the netlist's runs. The cells of its IN lines are
-/// conductors.
-pub fn compiled_are_parts()
-    ensures lines { CompiledHaveOpenLines }
-    ensures still { CompiledHaveNoElectrons }
-    ensures parts { CompiledAreParts }
-{
-    ports_are_open();
-    tiles_are_open();
-    carriers_are_parts();
 }
 
 /// The runs of a netlist on the same rows of input bits have the same bits at its outputs, and at its
