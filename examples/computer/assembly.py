@@ -98,7 +98,8 @@ def read_program(file, width):
 
 
 def placed(steps, order, least):
-    """Returns the steps of a turn if the words come by in this order: each step in the cycle in which its word comes by."""
+    """Returns the steps of a turn if the words come by in this order: each step in the cycle in which its word comes
+    by."""
     places = {it: i for i, it in enumerate(order)}
     made = []
     for name, word in steps:
@@ -116,7 +117,8 @@ def cost(steps):
 
 
 def memory_of(program, least, count):
-    """Returns the memory of a program, with at least so many steps and words: of all orders of the words the shortest turn."""
+    """Returns the memory of a program, with at least so many steps and words: of all orders of the words the
+    shortest turn."""
     names = [*program.words, *(f"({i})" for i in range(max(count, 2) - len(program.words)))]
     turns = ((placed(program.steps, order, least), order) for order in itertools.permutations(names))
     best, order = min(turns, key=lambda it: cost(it[0]))

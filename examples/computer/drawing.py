@@ -18,8 +18,8 @@ def read(text):
 
 
 def east_of(plane, core, outs, taps):
-    """Draws what stands east of the computer: wires on rows 4 apart, in the order of `outs` and, below them, `taps`, which are copies. Returns the
-    column where they begin."""
+    """Draws what stands east of the computer: wires on rows 4 apart, in the order of `outs` and, below them, `taps`,
+    which are copies. Returns the column where they begin."""
     labels = by_row(core.outputs)
     rows = [core.outputs[it][1] for it in labels]
     for row in rows:
@@ -38,7 +38,8 @@ def east_of(plane, core, outs, taps):
 
 
 def west_of(plane, core, ins):
-    """Draws what stands west of the computer: wires on rows 4 apart, in the order of `ins`, go to its inputs. Returns the column where they begin."""
+    """Draws what stands west of the computer: wires on rows 4 apart, in the order of `ins`, go to its inputs.
+    Returns the column where they begin."""
     labels = by_row(core.inputs)
     rows = [core.inputs[it][1] for it in labels]
     part = Plane()
@@ -52,13 +53,15 @@ def west_of(plane, core, ins):
 
 
 def spanned(core, east, west, rounds):
-    """Returns how many generations the wire of a memory takes from the computer's outputs to its inputs, without what the computer takes."""
+    """Returns how many generations the wire of a memory takes from the computer's outputs to its inputs, without
+    what the computer takes."""
     out_x, in_x = (next(iter(ports.values()))[0] for ports in (core.outputs, core.inputs))
     return rounds * core.period - core.latency - (east - out_x) - (in_x - west)
 
 
 class Serpentine:
-    """Wires that go to and fro above the computer: from the rows east of it, from the one with that number on, to those west of it."""
+    """Wires that go to and fro above the computer: from the rows east of it, from the one with that number on, to
+    those west of it."""
 
     def __init__(self, core, ends, number, base, wires, rounds):
         self.east, self.west = ends
@@ -88,7 +91,8 @@ class Serpentine:
         yield from [(fall, self.row(2 * self.rounds - 2, j)), (fall, at), (self.west, at)]
 
     def draw(self, plane):
-        """Draws the wires; returns the cells of each, from its west end on. The inner wires go further on the first way, so that all are as long."""
+        """Draws the wires; returns the cells of each, from its west end on. The inner wires go further on the first
+        way, so that all are as long."""
         over = [steps_of(list(self.corners(j, 0, 0, 0))) - self.wanted for j in range(self.wires)]
         short = max(over) // 2
         left = self.west - 2 * self.number + 2 * self.wires + (max(over) - min(over)) // 2
@@ -117,8 +121,9 @@ class Bundle:
 
 @dataclass
 class Drawn:
-    """A computer on a plane: for each bundle the cells of each wire, from its west end on; how many generations that end is from the inputs; how many
-    generations after generation 0 the first cycle begins; how many cycles after the bits at the outputs the lamps are lit, and where these are.
+    """A computer on a plane: for each bundle the cells of each wire, from its west end on; how many generations that
+    end is from the inputs; how many generations after generation 0 the first cycle begins; how many cycles after the
+    bits at the outputs the lamps are lit, and where these are.
     """
 
     plane: Plane
@@ -132,7 +137,8 @@ class Drawn:
 
 
 class Display:
-    """The display below the computer: copies of the word and of `show` go back to the west, and then east through it to its lamps."""
+    """The display below the computer: copies of the word and of `show` go back to the west, and then east through it
+    to its lamps."""
 
     def __init__(self, core, display, ends, taps, number):
         self.core, self.display, self.taps, self.number = core, display, taps, number
@@ -147,7 +153,8 @@ class Display:
         return [(self.east, at), (a, at), (a, row), (b, row), (b, self.y + 4 * i), (begin, self.y + 4 * i)]
 
     def draw(self, plane, begin):
-        """Draws it from that column on; returns how many generations after the computer's inputs the lamps are lit, and where they are."""
+        """Draws it from that column on; returns how many generations after the computer's inputs the lamps are lit,
+        and where they are."""
         n, out_x = len(self.taps), next(iter(self.core.outputs.values()))[0]
         for i in range(n):
             plane.wire(self.corners(i, begin))
@@ -164,7 +171,8 @@ class Display:
         return self.core.latency + (self.east - out_x) + steps_of(self.corners(0, begin)) + self.inner + after, shown
 
     def wiring(self, plane, first):
-        """Returns the part that it is, whose first cycle begins at that generation after the computer's last column, and the wires to it."""
+        """Returns the part that it is, whose first cycle begins at that generation after the computer's last column,
+        and the wires to it."""
         _, _, right, bottom = plane.box()
         late = first + steps_of(self.corners(0, self.begin)) + 1
         part = Part(self.begin, self.y - 1, right - self.begin + 1, bottom - self.y + 2, TILE, late, self.inner)

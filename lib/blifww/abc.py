@@ -28,7 +28,8 @@ def value_of(cover, values):
 
 
 def stuck_latches(model):
-    """Returns the latches that never change, as {output: bit}: those that stay where all of them are taken for constants at first."""
+    """Returns the latches that never change, as {output: bit}: those that stay where all of them are taken for
+    constants at first."""
     stuck = {it.output: it.starts_as_one() for it in model.latches}
     while True:
         values, covers = dict(stuck), model.covers
@@ -46,8 +47,9 @@ def stuck_latches(model):
 
 
 def prepared(model, one=None, more=()):
-    """Returns the text for ABC of a flat model. Latches get the start that they have here, and no control; one that never changes becomes a constant,
-    and so does a cover without rows. The input `one` is constant 1, and there are more inputs."""
+    """Returns the text for ABC of a flat model. Latches get the start that they have here, and no control; one that
+    never changes becomes a constant, and so does a cover without rows. The input `one` is constant 1, and there are
+    more inputs."""
     stuck = stuck_latches(model)
     lines = [
         [".model", "m"],
@@ -91,8 +93,8 @@ def asked(command, texts, seconds):
 
 
 def compared(texts, seconds):
-    """Returns ABC's verdict on two texts, its reason, and the command: `cec` where neither has a latch; else `dsec`, and where ABC does not say by
-    that, `dsec` without retiming."""
+    """Returns ABC's verdict on two texts, its reason, and the command: `cec` where neither has a latch; else `dsec`,
+    and where ABC does not say by that, `dsec` without retiming."""
     commands = ["dsec", "dsec -r"] if any(re.search(r"^\.latch ", it, re.M) for it in texts) else ["cec"]
     first = None
     for command in commands:

@@ -1,6 +1,7 @@
 """Netlists in BLIF: their lines, their models, one level of them, and what they show.
 
-Only netlists that `blifww` takes are meant: of the faults that it reports, those are found here that would keep a netlist from being evaluated.
+Only netlists that `blifww` takes are meant: of the faults that it reports, those are found here that would keep a
+netlist from being evaluated.
 """
 import re
 from dataclasses import dataclass, field
@@ -102,7 +103,8 @@ class Model:
 
 @dataclass
 class Flat:
-    """A netlist of one level. Nets are numbers; `names` has (path, name, net) of each net of each place, but for clocks."""
+    """A netlist of one level. Nets are numbers; `names` has (path, name, net) of each net of each place, but for
+    clocks."""
 
     model: str
     inputs: dict = field(default_factory=dict)  # name: net, without the clock
@@ -209,7 +211,8 @@ class Reader:
 
 
 def models_of(text):
-    """Returns the models of a netlist's text by their names, the main one first. Raises ValueError, with a line's number, where there is none."""
+    """Returns the models of a netlist's text by their names, the main one first. Raises ValueError, with a line's
+    number, where there is none."""
     reader = Reader()
     for number, words in logical_lines(text):
         try:
@@ -222,7 +225,8 @@ def models_of(text):
 
 
 def add_model(flat, model, path, local, clocks):
-    """Adds a model at a place to a flat netlist. `local` has its nets by their names; those that control latches are added to `clocks`."""
+    """Adds a model at a place to a flat netlist. `local` has its nets by their names; those that control latches are
+    added to `clocks`."""
     flat.names += [(path, name, local[name]) for name in model.nets]
     flat.covers += [Cover([local[net] for net in it.inputs], local[it.output], it.rows, it.on) for it in model.covers]
     for it in model.latches:
@@ -332,10 +336,11 @@ def cover_code(cover):
 
 
 def machine_of(flat):
-    """Returns a function of rows of the inputs' bits that gives for each row the bits of the nets in `names`, as a tuple.
+    """Returns a function of rows of the inputs' bits that gives for each row the bits of the nets in `names`, as a
+    tuple.
 
-    A bit may be a number whose bits are those of several runs side by side; `one` is then the number of which all these bits are 1. `starts` are
-    the bits of the latches at first, if they are not to be those of the netlist."""
+    A bit may be a number whose bits are those of several runs side by side; `one` is then the number of which all
+    these bits are 1. `starts` are the bits of the latches at first, if they are not to be those of the netlist."""
     check_drivers(flat)
     heads, states = ([f"n{net}" for net in flat.inputs.values()], [f"n{it.output}" for it in flat.latches])
     lines = ["def run(rows, one=1, starts=None):"]
@@ -358,6 +363,7 @@ def machine_of(flat):
 
 
 def evaluate(flat, streams, cycles):
-    """Gives for each cycle the bits of the nets in `names`, as a tuple, under streams: texts of bits by the inputs' names."""
+    """Gives for each cycle the bits of the nets in `names`, as a tuple, under streams: texts of bits by the inputs'
+    names."""
     rows = zip(*([int(bit) for bit in streams[name]] for name in flat.inputs)) if flat.inputs else range(cycles)
     return machine_of(flat)(rows)

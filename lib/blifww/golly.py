@@ -9,8 +9,8 @@ WORDS = ["-q", "-q", "-s", "/usr/share/golly/Rules/", "-a", "RuleLoader", "-r", 
 
 
 def states_at(file, events):
-    """Runs a pattern's file; `events` has the commands of generations, `set X Y` and `get X Y`. Returns the state of each cell that is got, as
-    {generation: [state]}."""
+    """Runs a pattern's file; `events` has the commands of generations, `set X Y` and `get X Y`. Returns the state of
+    each cell that is got, as {generation: [state]}."""
     script, now = [f"load {file}"], 0
     for generation, commands in sorted(events.items()):
         script += ([f"step {generation - now}"] if generation > now else []) + commands

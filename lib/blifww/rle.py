@@ -1,4 +1,5 @@
-"""Patterns in extended RLE, with their port tables; read as the program reads them (docs/FORMATS.md), and refused with its words."""
+"""Patterns in extended RLE, with their port tables; read as the program reads them (docs/FORMATS.md), and refused
+with its words."""
 import re
 from dataclasses import dataclass, field
 
@@ -27,7 +28,8 @@ ITEM = re.compile(r"[ \t]+|([0-9]*)(.?)", re.S)
 
 @dataclass
 class Part:
-    """A pattern that stands in another one: its box; its own period; the generation at which its first cycle begins; its latency."""
+    """A pattern that stands in another one: its box; its own period; the generation at which its first cycle begins;
+    its latency."""
 
     x: int
     y: int
@@ -47,8 +49,8 @@ class Part:
 
 @dataclass
 class Wire:
-    """A wire between the cell of an output and that of an input: the step from the one to the wire, and in each context the bits, one for each cycle
-    that the wire is long, with which the input starts."""
+    """A wire between the cell of an output and that of an input: the step from the one to the wire, and in each
+    context the bits, one for each cycle that the wire is long, with which the input starts."""
 
     start: tuple  # (x, y)
     step: str
@@ -66,7 +68,8 @@ class Wire:
 
 @dataclass
 class Pattern:
-    """A pattern and its port table. A run is (x, y, length, letter), where the letter is A (heads), B (tails) or C (conductors)."""
+    """A pattern and its port table. A run is (x, y, length, letter), where the letter is A (heads), B (tails) or C
+    (conductors)."""
 
     width: int = 0
     height: int = 0
@@ -209,7 +212,8 @@ def lines_of(text):
 
 
 def is_pattern(text):
-    """Returns whether a text is meant as a pattern: whether its first line that is no comment and not blank is a header."""
+    """Returns whether a text is meant as a pattern: whether its first line that is no comment and not blank is a
+    header."""
     first = next((it for it in lines_of(text) if not it.startswith("#") and it.strip(" \t")), "")
     return first.lstrip(" \t").startswith("x") and "=" in first
 
@@ -283,7 +287,8 @@ def read_pattern(text):
 
 
 def pattern_of(file, text=None):
-    """Returns the pattern that a file has, whose text may be read already. Raises ValueError, with the file's name, where it has none."""
+    """Returns the pattern that a file has, whose text may be read already. Raises ValueError, with the file's name,
+    where it has none."""
     try:
         return read_pattern(command.read(file) if text is None else text)
     except ValueError as fault:
@@ -324,7 +329,8 @@ def items_of(runs):
 
 
 def text_of(comments, width, height, runs):
-    """Returns the text of a pattern: its comments, its header, and its cells in lines as long as `compile` writes them."""
+    """Returns the text of a pattern: its comments, its header, and its cells in lines as long as `compile` writes
+    them."""
     lines, line = [*comments, f"x = {width}, y = {height}, rule = WireWorld"], ""
     for it in items_of(runs):
         if len(line) + len(it) > WIDEST:
@@ -338,7 +344,8 @@ def text_of(comments, width, height, runs):
 
 
 def taken_near(pattern):
-    """Gives for each port its name and the conductors (x, y) in its row and the rows beside it, west of an input or east of an output."""
+    """Gives for each port its name and the conductors (x, y) in its row and the rows beside it, west of an input or
+    east of an output."""
     rows = {}
     for x, y, length, _ in pattern.runs:
         rows.setdefault(y, []).append((x, x + length - 1))
@@ -359,7 +366,8 @@ def box_of_cells(pattern):
 
 
 def lamps_of(text):
-    """Returns the lamps of a computer's pattern as (x, y, way), by their numbers: its comments tell where each begins."""
+    """Returns the lamps of a computer's pattern as (x, y, way), by their numbers: its comments tell where each
+    begins."""
     return [(int(x), int(y), way) for x, y, way in re.findall(r"^#C lamp [0-9]+ ([0-9]+) ([0-9]+) (\w+)", text, re.M)]
 
 

@@ -7,7 +7,8 @@ WORDS_IN_ENDS = '"\n\\'  # what ends a file's name in a script of Yosys, or stan
 
 
 def reads_of(top, files):
-    """Returns the commands of Yosys that read files and take a top module. Raises ValueError where a name can't stand in such a script."""
+    """Returns the commands of Yosys that read files and take a top module. Raises ValueError where a name can't
+    stand in such a script."""
     if not re.fullmatch(r"[A-Za-z_][A-Za-z0-9_$]*", top):
         raise ValueError(f"{top} is no name of a module: letters, digits, _ and $, not a digit first")
     commands = []
