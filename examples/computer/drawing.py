@@ -11,7 +11,9 @@ def read(text):
     """Returns a pattern without electrons: those of the memory may then come at any generation."""
     pattern = read_pattern(text)
     if any(tag != "C" for *_, tag in pattern.runs):
-        raise ValueError("a pattern has electrons already: its netlist needs a constant 1, or has a latch that starts as 1")
+        raise ValueError(
+            "a pattern has electrons already: its netlist needs a constant 1, or has a latch that starts as 1"
+        )
     return pattern
 
 
@@ -61,7 +63,9 @@ class Serpentine:
     def __init__(self, core, ends, number, base, wires, rounds):
         self.east, self.west = ends
         self.number, self.base, self.wires, self.rounds = number, base, wires, rounds
-        self.span = (core.period - 8 * wires + 8) // 2  # there and back between two columns, with the turns, is a period
+        self.span = (
+            core.period - 8 * wires + 8
+        ) // 2  # there and back between two columns, with the turns, is a period
         self.wanted = spanned(core, *ends, rounds)
 
     def row(self, turns, j):
@@ -75,7 +79,12 @@ class Serpentine:
         for i in range(self.rounds - 1):
             a = left - 2 * (self.wires - 1 - j) - (more if i == 0 else 0)
             b = left + self.span + 2 * j - (short if i == 0 else 0)
-            yield from [(a, self.row(2 * i, j)), (a, self.row(2 * i + 1, j)), (b, self.row(2 * i + 1, j)), (b, self.row(2 * i + 2, j))]
+            yield from [
+                (a, self.row(2 * i, j)),
+                (a, self.row(2 * i + 1, j)),
+                (b, self.row(2 * i + 1, j)),
+                (b, self.row(2 * i + 2, j)),
+            ]
         yield from [(fall, self.row(2 * self.rounds - 2, j)), (fall, at), (self.west, at)]
 
     def draw(self, plane):
@@ -109,7 +118,8 @@ class Bundle:
 @dataclass
 class Drawn:
     """A computer on a plane: for each bundle the cells of each wire, from its west end on; how many generations that end is from the inputs; how many
-    generations after generation 0 the first cycle begins; how many cycles after the bits at the outputs the lamps are lit, and where these are."""
+    generations after generation 0 the first cycle begins; how many cycles after the bits at the outputs the lamps are lit, and where these are.
+    """
 
     plane: Plane
     wires: list
@@ -142,7 +152,12 @@ class Display:
         for i in range(n):
             plane.wire(self.corners(i, begin))
         self.begin = begin
-        x = fan(plane, begin, lanes(n, 4, self.y), [self.y + self.display.inputs[it][1] for it in by_row(self.display.inputs)])
+        x = fan(
+            plane,
+            begin,
+            lanes(n, 4, self.y),
+            [self.y + self.display.inputs[it][1] for it in by_row(self.display.inputs)],
+        )
         plane.pattern(self.display, x, self.y)
         after, shown = lamps(plane, self.display, x, self.y)
         self.inner = x - begin + self.display.latency
@@ -171,7 +186,15 @@ def main_part(core, ends, drawn):
     """Returns the part that the computer is, with the tiles east and west of it."""
     east, west = ends
     out_x = next(iter(core.outputs.values()))[0]
-    return Part(west, 0, east - west, core.height + 2, core.period, drawn.before - drawn.near, drawn.near + core.latency + east - 1 - out_x)
+    return Part(
+        west,
+        0,
+        east - west,
+        core.height + 2,
+        core.period,
+        drawn.before - drawn.near,
+        drawn.near + core.latency + east - 1 - out_x,
+    )
 
 
 def whole(core, display, bundles):

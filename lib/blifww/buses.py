@@ -55,7 +55,9 @@ def buses_of(names, plain=True, may_miss=False):
     names = dict.fromkeys(names)
     bus_of = {}
     for (base, has_brackets), bus in sorted(groups_of(names, plain).items(), key=lambda it: not it[0][1]):
-        if is_whole(bus, names, may_miss) and (has_brackets or not any(it.name == base for it in bus_of.values() if it.has_brackets)):
+        if is_whole(bus, names, may_miss) and (
+            has_brackets or not any(it.name == base for it in bus_of.values() if it.has_brackets)
+        ):
             bus.bits = dict(sorted(bus.bits.items()))
             bus_of.update((name, bus) for name in bus.bits.values())
     found = (bus_of.get(name) or Bus(name, bits={0: name}) for name in names)

@@ -30,9 +30,13 @@ def name():
 def parser(doc, output=False):
     """Returns a parser whose usage is the second paragraph of a script's docstring. With `output` it has the option `-o FILE`."""
     usage, help_text = doc.split("\n\n")[1].replace("%", "%%"), doc.replace("%", "%%")
-    made = argparse.ArgumentParser(usage=usage, description=help_text, formatter_class=argparse.RawDescriptionHelpFormatter, allow_abbrev=False)
+    made = argparse.ArgumentParser(
+        usage=usage, description=help_text, formatter_class=argparse.RawDescriptionHelpFormatter, allow_abbrev=False
+    )
     if output:
-        made.add_argument("-o", metavar="FILE", dest="output", help="where the output goes, in the place of standard output")
+        made.add_argument(
+            "-o", metavar="FILE", dest="output", help="where the output goes, in the place of standard output"
+        )
     return made
 
 
@@ -41,7 +45,9 @@ def number(least, most=1 << 64):
 
     def read(word):
         if not word.isascii() or not word.isdigit() or not least <= int(word[:20]) <= most:
-            raise argparse.ArgumentTypeError(f"{word[:40]} is no number from {least} on" + (f" to {most}" if most < 1 << 64 else ""))
+            raise argparse.ArgumentTypeError(
+                f"{word[:40]} is no number from {least} on" + (f" to {most}" if most < 1 << 64 else "")
+            )
         return int(word)
 
     return read

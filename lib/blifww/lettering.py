@@ -14,7 +14,9 @@ COLUMNS = """
 """.split()
 UNKNOWN = "7f4141417f"
 WIDE, HIGH = 6, 8  # a letter's points, with the empty column behind it
-ROWS = [bytes(255 * (column >> y & 1) for column in range(256)) for y in range(HIGH)]  # of each row the mask of a column there
+ROWS = [
+    bytes(255 * (column >> y & 1) for column in range(256)) for y in range(HIGH)
+]  # of each row the mask of a column there
 
 
 def columns_of(letter):

@@ -87,7 +87,11 @@ class World:
             for it in self.around:
                 if self.wires[head + it]:
                     near.setdefault(head + it, []).append(mark)
-        heads = {it: marks[0] for it, marks in near.items() if len(marks) < 3 and it not in self.heads and it not in self.tails}
+        heads = {
+            it: marks[0]
+            for it, marks in near.items()
+            if len(marks) < 3 and it not in self.heads and it not in self.tails
+        }
         self.heads, self.tails = heads, self.heads
 
     def enter(self, x, y, mark=None):
@@ -122,7 +126,9 @@ def seen_at(pattern, streams, cycles):
         for name, cell in cells.items():
             if cell in world.heads:
                 seen[name].add(generation)
-    return {name: "".join("01"[it in lit] for it in asked) + "!" * bool(lit.difference(asked)) for name, lit in seen.items()}
+    return {
+        name: "".join("01"[it in lit] for it in asked) + "!" * bool(lit.difference(asked)) for name, lit in seen.items()
+    }
 
 
 def coloured(pattern, streams, generation):
@@ -131,7 +137,9 @@ def coloured(pattern, streams, generation):
     An electron of an input belongs to the context whose stream put it there. One that stands in the plane at generation 0 belongs to
     context c if it comes to the column of the inputs at generation 32 c: so the plane is run on until all of these have come.
     """
-    entry = min([x for x, _, offset, _, _ in pattern.nets if offset == 0] + [x for x, _ in pattern.inputs.values()], default=0)
+    entry = min(
+        [x for x, _, offset, _, _ in pattern.nets if offset == 0] + [x for x, _ in pattern.inputs.values()], default=0
+    )
     world, due = World(pattern), injections(pattern, streams)
     world.heads = {cell: ("first", cell) for cell in world.heads}
     world.tails = {cell: ("first", mark) for cell, mark in world.tails.items()}
@@ -146,5 +154,11 @@ def coloured(pattern, streams, generation):
                 if world.place(cell)[0] == entry:
                     contexts.setdefault(mark, now // 32)
         if now == generation:
-            seen = {**{cell: ("B", it) for cell, it in world.tails.items()}, **{cell: ("A", it) for cell, it in world.heads.items()}}
-    return {world.place(cell): (letter, it[1] if it[0] == "input" else contexts.get(it, 0)) for cell, (letter, it) in seen.items()}
+            seen = {
+                **{cell: ("B", it) for cell, it in world.tails.items()},
+                **{cell: ("A", it) for cell, it in world.heads.items()},
+            }
+    return {
+        world.place(cell): (letter, it[1] if it[0] == "input" else contexts.get(it, 0))
+        for cell, (letter, it) in seen.items()
+    }

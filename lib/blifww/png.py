@@ -3,7 +3,9 @@ import struct
 import zlib
 
 START = b"\x89PNG\r\n\x1a\n"
-OTHER = b"\0" + b"\xff" * 255  # of the bits in which two points differ: none if these are the same, and all if they are not
+OTHER = (
+    b"\0" + b"\xff" * 255
+)  # of the bits in which two points differ: none if these are the same, and all if they are not
 
 
 def chunk(name, body):

@@ -7,7 +7,15 @@ import time
 from pathlib import Path
 
 ROOT = Path(__file__).resolve().parents[2]
-PACKAGES = {"yosys": "yosys", "iverilog": "iverilog", "vvp": "iverilog", "bgolly": "golly", "gtkwave": "gtkwave", "Xvfb": "xvfb", "node": "nodejs"}
+PACKAGES = {
+    "yosys": "yosys",
+    "iverilog": "iverilog",
+    "vvp": "iverilog",
+    "bgolly": "golly",
+    "gtkwave": "gtkwave",
+    "Xvfb": "xvfb",
+    "node": "nodejs",
+}
 PACKAGES["berkeley-abc"] = "berkeley-abc"
 
 

@@ -9,7 +9,16 @@ LANE = 16  # a lane's rows
 LAMP = 96  # the cells along a lamp of the computer
 WIDEST = 70  # letters of a line of cells
 MOST_BYTES, MOST_BOX = 1 << 24, 1 << 28
-STEPS = {"N": (0, -1), "NE": (1, -1), "E": (1, 0), "SE": (1, 1), "S": (0, 1), "SW": (-1, 1), "W": (-1, 0), "NW": (-1, -1)}
+STEPS = {
+    "N": (0, -1),
+    "NE": (1, -1),
+    "E": (1, 0),
+    "SE": (1, 1),
+    "S": (0, 1),
+    "SW": (-1, 1),
+    "W": (-1, 0),
+    "NW": (-1, -1),
+}
 TAGS = {".": ".", "b": ".", "A": "A", "o": "A", "B": "B", "C": "C", "$": "$", "!": "!"}
 NUMBER = r"[ \t]*=[ \t]*([0-9]+)[ \t]*"
 HEADER = re.compile(rf"[ \t]*x{NUMBER},[ \t]*y{NUMBER}(?:,[ \t]*rule[ \t]*=[ \t]*([^ \t].*?)[ \t]*)?", re.S)
@@ -128,7 +137,9 @@ def port_of(words, version):
     word, path = (words[4], words[5]) if words[0] == "NET" else (words[3], "-")
     name = unescaped(word) if version == 2 else word
     numbers = [number_of(it) for it in words[1 : 4 if words[0] == "NET" else 3]]
-    is_path = path == "-" or all(re.fullmatch("0|[1-9][0-9]*", it) and number_of(it) is not None for it in path.split("."))
+    is_path = path == "-" or all(
+        re.fullmatch("0|[1-9][0-9]*", it) and number_of(it) is not None for it in path.split(".")
+    )
     return (words[0], name, path, numbers) if name and is_path and None not in numbers else None
 
 
@@ -176,7 +187,9 @@ def read_wiring(pattern, lines):
             continue
         words = line.split()[1:]
         part = re.fullmatch(r"part( [0-9]+){7}", " ".join(words))
-        wire = re.fullmatch(rf"wire [0-9]+ [0-9]+ ({'|'.join(STEPS)}) [0-9]+ [0-9]+ (-|[01]+(,[01]+)*)", " ".join(words))
+        wire = re.fullmatch(
+            rf"wire [0-9]+ [0-9]+ ({'|'.join(STEPS)}) [0-9]+ [0-9]+ (-|[01]+(,[01]+)*)", " ".join(words)
+        )
         if part:
             pattern.parts.append(Part(*map(int, words[1:])))
         elif wire:
@@ -338,7 +351,11 @@ def taken_near(pattern):
 def box_of_cells(pattern):
     """Returns the box of the cells that are not empty: its left, top, and what is right of it and below."""
     ends = [x + length for x, _, length, _ in pattern.runs], [y + 1 for _, y, _, _ in pattern.runs]
-    return min((it[0] for it in pattern.runs), default=0), min((it[1] for it in pattern.runs), default=0), *(max(it, default=0) for it in ends)
+    return (
+        min((it[0] for it in pattern.runs), default=0),
+        min((it[1] for it in pattern.runs), default=0),
+        *(max(it, default=0) for it in ends),
+    )
 
 
 def lamps_of(text):

@@ -72,7 +72,8 @@ def bits_in(word, name, inputs, given):
 
 def read(words, inputs, contexts=1, is_whole=False):
     """Returns the number of cycles and the streams {(context, name): bits} that words say; without --cycles that of the longest stream. With
-    `is_whole` each input has a bit in each cycle, and there is a cycle. Raises ValueError, with the program's line, at the first fault."""
+    `is_whole` each input has a bit in each cycle, and there is a cycle. Raises ValueError, with the program's line, at the first fault.
+    """
     said, rest = split(words)
     streams, word_of = {}, {}
     for word in rest:
@@ -86,7 +87,9 @@ def read(words, inputs, contexts=1, is_whole=False):
     odd = next((it for it, bits in streams.items() if len(bits) != cycles), None)
     if is_whole and odd:
         raise ValueError(f"stream: BadLength {word_of[odd]}")
-    missing = next(((context, name) for context in range(contexts) for name in inputs if (context, name) not in streams), None)
+    missing = next(
+        ((context, name) for context in range(contexts) for name in inputs if (context, name) not in streams), None
+    )
     if is_whole and missing:
         raise ValueError(f"stream: MissingInput {f'{missing[0]}:' * (contexts > 1)}{missing[1]}")
     return cycles, streams

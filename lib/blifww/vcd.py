@@ -105,11 +105,17 @@ def nets_of_references(references):
     contexts = int(fields[-1][0]) + 1 if fields and re.fullmatch(r"\d{1,9}", fields[-1][0]) else 1
     each = len(references) // contexts
     rests = [it[2] for it in fields]
-    has_contexts = 1 < contexts <= len(references) and [it[0] for it in fields] == [str(it) for it in range(contexts) for _ in range(each)] and rests == rests[:each] * contexts
+    has_contexts = (
+        1 < contexts <= len(references)
+        and [it[0] for it in fields] == [str(it) for it in range(contexts) for _ in range(each)]
+        and rests == rests[:each] * contexts
+    )
     nets = []
     for reference, (context, _, rest) in zip(references, fields):
         path, _, name = re.fullmatch(r"(?:(\d+(\.\d+)*)/)?(.*)", rest if has_contexts else reference).groups()
-        nets.append((int(context) if has_contexts else 0, tuple(path.split(".")) if path else (), unquote(name, "latin-1")))
+        nets.append(
+            (int(context) if has_contexts else 0, tuple(path.split(".")) if path else (), unquote(name, "latin-1"))
+        )
     return nets
 
 
@@ -147,7 +153,9 @@ def groups_of(nets, plain):
         numbers.setdefault((context, path), {})[name] = number
     for (context, path), number_of in numbers.items():
         for bus in buses.buses_of(number_of, plain, may_miss=True):
-            yield *place_of(context, path, bus.name, several), bus.is_bus, {bit: number_of[name] for bit, name in bus.bits.items()}
+            yield *place_of(context, path, bus.name, several), bus.is_bus, {
+                bit: number_of[name] for bit, name in bus.bits.items()
+            }
 
 
 def waves_of(nets, top, clock, falls=False, plain=False):
@@ -185,7 +193,11 @@ def short_name(number):
 
 def declarations(run):
     """Gives the lines before the first value."""
-    yield from ("$timescale 1 ps $end", f"$scope module {run.top} $end", f"$var wire 1 {short_name(0)} {run.clock} $end")
+    yield from (
+        "$timescale 1 ps $end",
+        f"$scope module {run.top} $end",
+        f"$var wire 1 {short_name(0)} {run.clock} $end",
+    )
     tree = {}
     for wave in run.waves:
         node = tree

@@ -3,7 +3,7 @@ import re
 
 from . import command, program
 
-WORDS_IN_ENDS = "\"\n\\"  # what ends a file's name in a script of Yosys, or stands for another letter in it
+WORDS_IN_ENDS = '"\n\\'  # what ends a file's name in a script of Yosys, or stands for another letter in it
 
 
 def reads_of(top, files):

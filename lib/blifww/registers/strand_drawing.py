@@ -58,7 +58,11 @@ class Drawing:
         for west, east, slots in self.columns():
             for slot in slots:
                 ends = [(strand, west, rows[slot.west] + south) for strand, south in slot.strands_west()]
-                ends += [(strand, east, rows[slot.east] + south) for strand, south in slot.strands_east()] if east > west else []
+                ends += (
+                    [(strand, east, rows[slot.east] + south) for strand, south in slot.strands_east()]
+                    if east > west
+                    else []
+                )
                 for strand, *cell in ends:
                     self.points.setdefault(strand, []).append(tuple(cell))
                 if not isinstance(slot.element, Strand):
@@ -100,7 +104,11 @@ class Drawing:
         bundle = Bundle(lambda along, out: (-along, -out), APART + 1, ways)
         if not bundle.fit(wanted):
             return None
-        return (self.east + further + 2 * APART * len(ends) + 1) * (self.rows.height() + bundle.thickness()), period, ways
+        return (
+            (self.east + further + 2 * APART * len(ends) + 1) * (self.rows.height() + bundle.thickness()),
+            period,
+            ways,
+        )
 
     def cells_of(self, strand):
         """Returns the cells of a strand: a column further east in each generation, and at most a row further."""
