@@ -98,7 +98,8 @@ def read_program(file, width):
 
 
 def placed(steps, order, least):
-    """Returns the steps of a turn if the words come by in this order: each step in the cycle in which its word comes by."""
+    """Returns the steps of a turn if the words come by in this order: each step in the cycle in which its word comes
+    by."""
     places = {it: i for i, it in enumerate(order)}
     made = []
     for name, word in steps:
@@ -116,12 +117,15 @@ def cost(steps):
 
 
 def memory_of(program, least, count):
-    """Returns the memory of a program, with at least so many steps and words: of all orders of the words the shortest turn."""
+    """Returns the memory of a program, with at least so many steps and words: of all orders of the words the
+    shortest turn."""
     names = [*program.words, *(f"({i})" for i in range(max(count, 2) - len(program.words)))]
     turns = ((placed(program.steps, order, least), order) for order in itertools.permutations(names))
     best, order = min(turns, key=lambda it: cost(it[0]))
     if len(best) > MOST_STEPS:
-        raise Mistake(f"{program.file}: a turn takes {len(best)} steps, with those that wait for a word, and {MOST_STEPS} are the most")
+        raise Mistake(
+            f"{program.file}: a turn takes {len(best)} steps, with those that wait for a word, and {MOST_STEPS} are the most"
+        )
     return Memory(best, [(it, program.words.get(it, 0)) for it in order])
 
 
@@ -146,7 +150,10 @@ def listing(memory, width):
 
 def latches_of(memory, width):
     """Gives the latches that a memory is, as (data, output, first bit)."""
-    columns = [("step", 3, [STEPS[name] for name, _ in memory.steps]), ("word", width, [number for _, number in memory.words])]
+    columns = [
+        ("step", 3, [STEPS[name] for name, _ in memory.steps]),
+        ("word", width, [number for _, number in memory.words]),
+    ]
     for name, bits, numbers in columns:
         for i in range(bits):
             nets = [f"{name}[{i}]", *(f"{name}[{i}].{k}" for k in range(1, len(numbers))), f"{name}_out[{i}]"]
@@ -157,7 +164,14 @@ def latches_of(memory, width):
 def netlist(memory, width, core):
     """Returns the text of a netlist of the processor, whose text is `core`, with the memory as latches."""
     model = blif.Model("program", ["clk"], outputs=[*(f"word_out[{i}]" for i in range(width)), "show"])
-    model.latches = [blif.Latch(data, output, ["re", "clk"], str(bit)) for data, output, bit in latches_of(memory, width)]
-    pins = [f"{name}{end}[{i}]" for name, bits in (("step", 3), ("word", width)) for end in ("", "_out") for i in range(bits)]
+    model.latches = [
+        blif.Latch(data, output, ["re", "clk"], str(bit)) for data, output, bit in latches_of(memory, width)
+    ]
+    pins = [
+        f"{name}{end}[{i}]"
+        for name, bits in (("step", 3), ("word", width))
+        for end in ("", "_out")
+        for i in range(bits)
+    ]
     model.places = [("computer", {it: it for it in ["clk", "show", *pins]})]
     return f"{model.text()}{core}"

@@ -11,13 +11,15 @@ def read(text):
     """Returns a pattern without electrons: those of the memory may then come at any generation."""
     pattern = read_pattern(text)
     if any(tag != "C" for *_, tag in pattern.runs):
-        raise ValueError("a pattern has electrons already: its netlist needs a constant 1, or has a latch that starts as 1")
+        raise ValueError(
+            "a pattern has electrons already: its netlist needs a constant 1, or has a latch that starts as 1"
+        )
     return pattern
 
 
 def east_of(plane, core, outs, taps):
-    """Draws what stands east of the computer: wires on rows 4 apart, in the order of `outs` and, below them, `taps`, which are copies. Returns the
-    column where they begin."""
+    """Draws what stands east of the computer: wires on rows 4 apart, in the order of `outs` and, below them, `taps`,
+    which are copies. Returns the column where they begin."""
     labels = by_row(core.outputs)
     rows = [core.outputs[it][1] for it in labels]
     for row in rows:
@@ -36,7 +38,8 @@ def east_of(plane, core, outs, taps):
 
 
 def west_of(plane, core, ins):
-    """Draws what stands west of the computer: wires on rows 4 apart, in the order of `ins`, go to its inputs. Returns the column where they begin."""
+    """Draws what stands west of the computer: wires on rows 4 apart, in the order of `ins`, go to its inputs.
+    Returns the column where they begin."""
     labels = by_row(core.inputs)
     rows = [core.inputs[it][1] for it in labels]
     part = Plane()
@@ -50,18 +53,22 @@ def west_of(plane, core, ins):
 
 
 def spanned(core, east, west, rounds):
-    """Returns how many generations the wire of a memory takes from the computer's outputs to its inputs, without what the computer takes."""
+    """Returns how many generations the wire of a memory takes from the computer's outputs to its inputs, without
+    what the computer takes."""
     out_x, in_x = (next(iter(ports.values()))[0] for ports in (core.outputs, core.inputs))
     return rounds * core.period - core.latency - (east - out_x) - (in_x - west)
 
 
 class Serpentine:
-    """Wires that go to and fro above the computer: from the rows east of it, from the one with that number on, to those west of it."""
+    """Wires that go to and fro above the computer: from the rows east of it, from the one with that number on, to
+    those west of it."""
 
     def __init__(self, core, ends, number, base, wires, rounds):
         self.east, self.west = ends
         self.number, self.base, self.wires, self.rounds = number, base, wires, rounds
-        self.span = (core.period - 8 * wires + 8) // 2  # there and back between two columns, with the turns, is a period
+        self.span = (
+            core.period - 8 * wires + 8
+        ) // 2  # there and back between two columns, with the turns, is a period
         self.wanted = spanned(core, *ends, rounds)
 
     def row(self, turns, j):
@@ -75,11 +82,17 @@ class Serpentine:
         for i in range(self.rounds - 1):
             a = left - 2 * (self.wires - 1 - j) - (more if i == 0 else 0)
             b = left + self.span + 2 * j - (short if i == 0 else 0)
-            yield from [(a, self.row(2 * i, j)), (a, self.row(2 * i + 1, j)), (b, self.row(2 * i + 1, j)), (b, self.row(2 * i + 2, j))]
+            yield from [
+                (a, self.row(2 * i, j)),
+                (a, self.row(2 * i + 1, j)),
+                (b, self.row(2 * i + 1, j)),
+                (b, self.row(2 * i + 2, j)),
+            ]
         yield from [(fall, self.row(2 * self.rounds - 2, j)), (fall, at), (self.west, at)]
 
     def draw(self, plane):
-        """Draws the wires; returns the cells of each, from its west end on. The inner wires go further on the first way, so that all are as long."""
+        """Draws the wires; returns the cells of each, from its west end on. The inner wires go further on the first
+        way, so that all are as long."""
         over = [steps_of(list(self.corners(j, 0, 0, 0))) - self.wanted for j in range(self.wires)]
         short = max(over) // 2
         left = self.west - 2 * self.number + 2 * self.wires + (max(over) - min(over)) // 2
@@ -108,8 +121,10 @@ class Bundle:
 
 @dataclass
 class Drawn:
-    """A computer on a plane: for each bundle the cells of each wire, from its west end on; how many generations that end is from the inputs; how many
-    generations after generation 0 the first cycle begins; how many cycles after the bits at the outputs the lamps are lit, and where these are."""
+    """A computer on a plane: for each bundle the cells of each wire, from its west end on; how many generations that
+    end is from the inputs; how many generations after generation 0 the first cycle begins; how many cycles after the
+    bits at the outputs the lamps are lit, and where these are.
+    """
 
     plane: Plane
     wires: list
@@ -122,7 +137,8 @@ class Drawn:
 
 
 class Display:
-    """The display below the computer: copies of the word and of `show` go back to the west, and then east through it to its lamps."""
+    """The display below the computer: copies of the word and of `show` go back to the west, and then east through it
+    to its lamps."""
 
     def __init__(self, core, display, ends, taps, number):
         self.core, self.display, self.taps, self.number = core, display, taps, number
@@ -137,19 +153,26 @@ class Display:
         return [(self.east, at), (a, at), (a, row), (b, row), (b, self.y + 4 * i), (begin, self.y + 4 * i)]
 
     def draw(self, plane, begin):
-        """Draws it from that column on; returns how many generations after the computer's inputs the lamps are lit, and where they are."""
+        """Draws it from that column on; returns how many generations after the computer's inputs the lamps are lit,
+        and where they are."""
         n, out_x = len(self.taps), next(iter(self.core.outputs.values()))[0]
         for i in range(n):
             plane.wire(self.corners(i, begin))
         self.begin = begin
-        x = fan(plane, begin, lanes(n, 4, self.y), [self.y + self.display.inputs[it][1] for it in by_row(self.display.inputs)])
+        x = fan(
+            plane,
+            begin,
+            lanes(n, 4, self.y),
+            [self.y + self.display.inputs[it][1] for it in by_row(self.display.inputs)],
+        )
         plane.pattern(self.display, x, self.y)
         after, shown = lamps(plane, self.display, x, self.y)
         self.inner = x - begin + self.display.latency
         return self.core.latency + (self.east - out_x) + steps_of(self.corners(0, begin)) + self.inner + after, shown
 
     def wiring(self, plane, first):
-        """Returns the part that it is, whose first cycle begins at that generation after the computer's last column, and the wires to it."""
+        """Returns the part that it is, whose first cycle begins at that generation after the computer's last column,
+        and the wires to it."""
         _, _, right, bottom = plane.box()
         late = first + steps_of(self.corners(0, self.begin)) + 1
         part = Part(self.begin, self.y - 1, right - self.begin + 1, bottom - self.y + 2, TILE, late, self.inner)
@@ -171,7 +194,15 @@ def main_part(core, ends, drawn):
     """Returns the part that the computer is, with the tiles east and west of it."""
     east, west = ends
     out_x = next(iter(core.outputs.values()))[0]
-    return Part(west, 0, east - west, core.height + 2, core.period, drawn.before - drawn.near, drawn.near + core.latency + east - 1 - out_x)
+    return Part(
+        west,
+        0,
+        east - west,
+        core.height + 2,
+        core.period,
+        drawn.before - drawn.near,
+        drawn.near + core.latency + east - 1 - out_x,
+    )
 
 
 def whole(core, display, bundles):

@@ -17,12 +17,48 @@ def found():
     return path
 
 
+def value_of(cover, values):
+    """Returns what a cover gives where some nets have constant values: False, True, or None where that is not known."""
+    products = []
+    for row in cover.rows:
+        literals = [None if it not in values else values[it] == (bit == "1") for it, bit in zip(cover.inputs, row) if bit != "-"]
+        products.append(False if False in literals else None if None in literals else True)
+    holds = True if True in products else None if None in products else False
+    return holds if holds is None or not cover.rows else holds == cover.on
+
+
+def stuck_latches(model):
+    """Returns the latches that never change, as {output: bit}: those that stay where all of them are taken for
+    constants at first."""
+    stuck = {it.output: it.starts_as_one() for it in model.latches}
+    while True:
+        values, covers = dict(stuck), model.covers
+        while True:
+            found = {it.output: value_of(it, values) for it in covers}
+            values.update((net, bit) for net, bit in found.items() if bit is not None)
+            left = [it for it in covers if found[it.output] is None]
+            if len(left) == len(covers):
+                break
+            covers = left
+        stays = {it.output: stuck[it.output] for it in model.latches if it.output in stuck and values.get(it.data) is stuck[it.output]}
+        if len(stays) == len(stuck):
+            return stuck
+        stuck = stays
+
+
 def prepared(model, one=None, more=()):
-    """Returns the text for ABC of a flat model. Latches get the start that they have here, and no control; one that feeds itself becomes a constant,
-    and so does a cover without rows. The input `one` is constant 1, and there are more inputs."""
-    stuck = {it.output: it.starts_as_one() for it in model.latches if it.data == it.output}
-    lines = [[".model", "m"], [".inputs", *(it for it in dict.fromkeys([*model.inputs, *more]) if it != one)], [".outputs", *model.outputs]]
-    lines += [[".latch", it.data, it.output, str(int(it.starts_as_one()))] for it in model.latches if it.output not in stuck]
+    """Returns the text for ABC of a flat model. Latches get the start that they have here, and no control; one that
+    never changes becomes a constant, and so does a cover without rows. The input `one` is constant 1, and there are
+    more inputs."""
+    stuck = stuck_latches(model)
+    lines = [
+        [".model", "m"],
+        [".inputs", *(it for it in dict.fromkeys([*model.inputs, *more]) if it != one)],
+        [".outputs", *model.outputs],
+    ]
+    lines += [
+        [".latch", it.data, it.output, str(int(it.starts_as_one()))] for it in model.latches if it.output not in stuck
+    ]
     stuck.update({one: True} if one in model.inputs else {})
     for net, bit in stuck.items():
         lines += [[".names", net], *([["1"]] if bit else [])]
@@ -57,9 +93,9 @@ def asked(command, texts, seconds):
 
 
 def compared(texts, seconds):
-    """Returns ABC's verdict on two texts, its reason, and the command: `cec` where neither has a latch; else `dsec`, and where ABC does not say by
-    that, `dsec` without its cleaning up of latches."""
-    commands = ["dsec", "dsec -l"] if any(re.search(r"^\.latch ", it, re.M) for it in texts) else ["cec"]
+    """Returns ABC's verdict on two texts, its reason, and the command: `cec` where neither has a latch; else `dsec`,
+    and where ABC does not say by that, `dsec` without retiming."""
+    commands = ["dsec", "dsec -r"] if any(re.search(r"^\.latch ", it, re.M) for it in texts) else ["cec"]
     first = None
     for command in commands:
         verdict, reason = asked(command, texts, seconds)

@@ -1,11 +1,21 @@
 """Netlists in BLIF: their lines, their models, one level of them, and what they show.
 
-Only netlists that `blifww` takes are meant: of the faults that it reports, those are found here that would keep a netlist from being evaluated.
+Only netlists that `blifww` takes are meant: of the faults that it reports, those are found here that would keep a
+netlist from being evaluated.
 """
 import re
 from dataclasses import dataclass, field
 
-SKIPPED = {".area", ".delay", ".wire_load_slope", ".wire", ".input_arrival", ".output_required", ".input_drive", ".output_load"}
+SKIPPED = {
+    ".area",
+    ".delay",
+    ".wire_load_slope",
+    ".wire",
+    ".input_arrival",
+    ".output_required",
+    ".input_drive",
+    ".output_load",
+}
 SKIPPED |= {".max_input_load", ".cname", ".attr", ".param"}
 MOST_NETS = 1 << 20
 MOST_SHOWN = 8  # names in a line
@@ -77,7 +87,9 @@ class Model:
         yield from (it.line() for it in self.latches)
         for it in self.covers:
             yield from it.lines()
-        yield from ([".subckt", name, *(f"{formal}={actual}" for formal, actual in pins.items())] for name, pins in self.places)
+        yield from (
+            [".subckt", name, *(f"{formal}={actual}" for formal, actual in pins.items())] for name, pins in self.places
+        )
         yield [".end"]
 
     def weight(self):
@@ -91,7 +103,8 @@ class Model:
 
 @dataclass
 class Flat:
-    """A netlist of one level. Nets are numbers; `names` has (path, name, net) of each net of each place, but for clocks."""
+    """A netlist of one level. Nets are numbers; `names` has (path, name, net) of each net of each place, but for
+    clocks."""
 
     model: str
     inputs: dict = field(default_factory=dict)  # name: net, without the clock
@@ -162,7 +175,13 @@ def add_line(model, words):
 def add_row(cover, words):
     """Adds a row to a cover, or to None."""
     row, end = ("", *words) if len(words) == 1 else (words[0], words[-1])
-    if cover is None or len(words) > 2 or len(row) != len(cover.inputs) or set(row) - set("01-") or end not in ("0", "1"):
+    if (
+        cover is None
+        or len(words) > 2
+        or len(row) != len(cover.inputs)
+        or set(row) - set("01-")
+        or end not in ("0", "1")
+    ):
         raise ValueError(f"this is no row of a cover: {' '.join(words)[:60]}")
     if cover.rows and cover.on != (end == "1"):
         raise ValueError("the rows of a cover end in 0 and in 1")
@@ -192,7 +211,8 @@ class Reader:
 
 
 def models_of(text):
-    """Returns the models of a netlist's text by their names, the main one first. Raises ValueError, with a line's number, where there is none."""
+    """Returns the models of a netlist's text by their names, the main one first. Raises ValueError, with a line's
+    number, where there is none."""
     reader = Reader()
     for number, words in logical_lines(text):
         try:
@@ -205,7 +225,8 @@ def models_of(text):
 
 
 def add_model(flat, model, path, local, clocks):
-    """Adds a model at a place to a flat netlist. `local` has its nets by their names; those that control latches are added to `clocks`."""
+    """Adds a model at a place to a flat netlist. `local` has its nets by their names; those that control latches are
+    added to `clocks`."""
     flat.names += [(path, name, local[name]) for name in model.nets]
     flat.covers += [Cover([local[net] for net in it.inputs], local[it.output], it.rows, it.on) for it in model.covers]
     for it in model.latches:
@@ -229,8 +250,18 @@ def clocks_of(flat, models, main):
         add_model(flat, model, path, local, clocks)
         for number, (name, pins) in reversed(list(enumerate(model.places))):
             if name not in models or name in above:
-                raise ValueError(f"the model {model.name} places {name}, which " + ("the text has not" if name not in models else "places it"))
-            waiting.append((models[name], (*path, number), {formal: local[actual] for formal, actual in pins.items()}, {*above, name}))
+                raise ValueError(
+                    f"the model {model.name} places {name}, which "
+                    + ("the text has not" if name not in models else "places it")
+                )
+            waiting.append(
+                (
+                    models[name],
+                    (*path, number),
+                    {formal: local[actual] for formal, actual in pins.items()},
+                    {*above, name},
+                )
+            )
     return clocks
 
 
@@ -297,21 +328,30 @@ def joined(operands, sign):
 def cover_code(cover):
     """Returns the expression of a cover; `one` is a bit that is 1 for each run."""
     nets = [(f"n{net}", f"(n{net}^one)") for net in cover.inputs]
-    products = [joined([its[bit == "0"] for its, bit in zip(nets, row) if bit != "-"], "&") or "one" for row in cover.rows]
+    products = [
+        joined([its[bit == "0"] for its, bit in zip(nets, row) if bit != "-"], "&") or "one" for row in cover.rows
+    ]
     value = joined([f"({it})" for it in products], "|") or "0"
     return f"one^({value})" if cover.rows and not cover.on else value
 
 
 def machine_of(flat):
-    """Returns a function of rows of the inputs' bits that gives for each row the bits of the nets in `names`, as a tuple.
+    """Returns a function of rows of the inputs' bits that gives for each row the bits of the nets in `names`, as a
+    tuple.
 
-    A bit may be a number whose bits are those of several runs side by side; `one` is then the number of which all these bits are 1. `starts` are
-    the bits of the latches at first, if they are not to be those of the netlist."""
+    A bit may be a number whose bits are those of several runs side by side; `one` is then the number of which all
+    these bits are 1. `starts` are the bits of the latches at first, if they are not to be those of the netlist."""
     check_drivers(flat)
     heads, states = ([f"n{net}" for net in flat.inputs.values()], [f"n{it.output}" for it in flat.latches])
     lines = ["def run(rows, one=1, starts=None):"]
     if states:
-        lines.append(" " + "".join(f"{it}," for it in states) + " = starts or (" + "".join(f"one*{int(it.starts_as_one())}," for it in flat.latches) + ")")
+        lines.append(
+            " "
+            + "".join(f"{it}," for it in states)
+            + " = starts or ("
+            + "".join(f"one*{int(it.starts_as_one())}," for it in flat.latches)
+            + ")"
+        )
     lines.append(f" for {', '.join(heads) + ',' if heads else '_'} in rows:")
     lines += [f"  n{it.output} = {cover_code(it)}" for it in ordered_covers(flat)]
     lines.append("  yield (" + "".join(f"n{net}," for _, _, net in flat.names) + ")")
@@ -323,6 +363,7 @@ def machine_of(flat):
 
 
 def evaluate(flat, streams, cycles):
-    """Gives for each cycle the bits of the nets in `names`, as a tuple, under streams: texts of bits by the inputs' names."""
+    """Gives for each cycle the bits of the nets in `names`, as a tuple, under streams: texts of bits by the inputs'
+    names."""
     rows = zip(*([int(bit) for bit in streams[name]] for name in flat.inputs)) if flat.inputs else range(cycles)
     return machine_of(flat)(rows)

@@ -9,7 +9,8 @@ PLAIN = re.compile(r"(.*[^0-9])(0|[1-9][0-9]{0,8})", re.S)
 
 @dataclass
 class Bus:
-    """A bus: its name, whether its bits are named as `a[0]`, and its bits by their numbers. A name that is no bit is a bus of its own, `is_bus` not."""
+    """A bus: its name, whether its bits are named as `a[0]`, and its bits by their numbers. A name that is no bit is
+    a bus of its own, `is_bus` not."""
 
     name: str
     is_bus: bool = False
@@ -24,7 +25,8 @@ class Bus:
 
 
 def bit_of(name):
-    """Returns the bus of a name, whether it has brackets, and the number of its bit; None where it is no bit of a bus."""
+    """Returns the bus of a name, whether it has brackets, and the number of its bit; None where it is no bit of a
+    bus."""
     found = BRACKETS.fullmatch(name)
     if found:
         return found[1], True, int(found[2])
@@ -33,8 +35,9 @@ def bit_of(name):
 
 
 def is_whole(bus, names, may_miss):
-    """Returns whether bits are a bus among names: no other name is that of the bus, and there are two bits or more, with none missing between them.
-    With `may_miss` one bit in brackets is a bus, too, and up to half of the bits may be missing, and eight more."""
+    """Returns whether bits are a bus among names: no other name is that of the bus, and there are two bits or more,
+    with none missing between them. With `may_miss` one bit in brackets is a bus, too, and up to half of the bits may
+    be missing, and eight more."""
     if bus.name in names or bus.width() > MOST_BITS:
         return False
     return len(bus.bits) == bus.width() > 1 or may_miss and bus.has_brackets and bus.width() <= 2 * len(bus.bits) + 8
@@ -51,11 +54,14 @@ def groups_of(names, plain):
 
 
 def buses_of(names, plain=True, may_miss=False):
-    """Returns the buses of names, in the order of their first bits. Only with `plain` names such as `a0 a1` are a bus."""
+    """Returns the buses of names, in the order of their first bits. Only with `plain` names such as `a0 a1` are a
+    bus."""
     names = dict.fromkeys(names)
     bus_of = {}
     for (base, has_brackets), bus in sorted(groups_of(names, plain).items(), key=lambda it: not it[0][1]):
-        if is_whole(bus, names, may_miss) and (has_brackets or not any(it.name == base for it in bus_of.values() if it.has_brackets)):
+        if is_whole(bus, names, may_miss) and (
+            has_brackets or not any(it.name == base for it in bus_of.values() if it.has_brackets)
+        ):
             bus.bits = dict(sorted(bus.bits.items()))
             bus_of.update((name, bus) for name in bus.bits.values())
     found = (bus_of.get(name) or Bus(name, bits={0: name}) for name in names)

@@ -1,7 +1,8 @@
-"""Scripts of checks: they print a line for each that fails, and then how many hold and how many do not, which `.ci/run` adds up.
+"""Scripts of checks: they print a line for each that fails, and then how many hold and how many do not, which
+`.ci/run` adds up.
 
-`#!/usr/bin/env python3` takes the first python3 on the PATH, and that may be a launcher that needs more time than a script: pyenv's is one. So
-scripts that are started by others here run in the Python of the one that starts them.
+`#!/usr/bin/env python3` takes the first python3 on the PATH, and that may be a launcher that needs more time than a
+script: pyenv's is one. So scripts that are started by others here run in the Python of the one that starts them.
 """
 import contextlib
 import os
@@ -33,7 +34,8 @@ class Checks:
 
 @contextlib.contextmanager
 def own_python():
-    """Makes this Python the first python3 on the PATH, within a `with`. It has its own library alone (-S): the scripts here need no other."""
+    """Makes this Python the first python3 on the PATH, within a `with`. It has its own library alone (-S): the
+    scripts here need no other."""
     before = {it: os.environ.get(it) for it in ("PATH", "PYTHONPYCACHEPREFIX")}
     with tempfile.TemporaryDirectory() as folder:
         launcher = Path(folder, "python3")

@@ -1,6 +1,7 @@
 """The command line of a script: its words, the files that it names, and its end by one line where something fails it.
 
-The words are texts as everywhere in this package: a character a byte. Files are read and written by these words, and `-` is standard input.
+The words are texts as everywhere in this package: a character a byte. Files are read and written by these words, and
+`-` is standard input.
 """
 import argparse
 import os
@@ -28,11 +29,16 @@ def name():
 
 
 def parser(doc, output=False):
-    """Returns a parser whose usage is the second paragraph of a script's docstring. With `output` it has the option `-o FILE`."""
+    """Returns a parser whose usage is the second paragraph of a script's docstring. With `output` it has the option
+    `-o FILE`."""
     usage, help_text = doc.split("\n\n")[1].replace("%", "%%"), doc.replace("%", "%%")
-    made = argparse.ArgumentParser(usage=usage, description=help_text, formatter_class=argparse.RawDescriptionHelpFormatter, allow_abbrev=False)
+    made = argparse.ArgumentParser(
+        usage=usage, description=help_text, formatter_class=argparse.RawDescriptionHelpFormatter, allow_abbrev=False
+    )
     if output:
-        made.add_argument("-o", metavar="FILE", dest="output", help="where the output goes, in the place of standard output")
+        made.add_argument(
+            "-o", metavar="FILE", dest="output", help="where the output goes, in the place of standard output"
+        )
     return made
 
 
@@ -41,7 +47,9 @@ def number(least, most=1 << 64):
 
     def read(word):
         if not word.isascii() or not word.isdigit() or not least <= int(word[:20]) <= most:
-            raise argparse.ArgumentTypeError(f"{word[:40]} is no number from {least} on" + (f" to {most}" if most < 1 << 64 else ""))
+            raise argparse.ArgumentTypeError(
+                f"{word[:40]} is no number from {least} on" + (f" to {most}" if most < 1 << 64 else "")
+            )
         return int(word)
 
     return read
@@ -76,7 +84,8 @@ def tell(line):
 
 
 class Progress:
-    """Says on standard error what a script is doing, within a `with`: once it has taken some seconds, and then each new line."""
+    """Says on standard error what a script is doing, within a `with`: once it has taken some seconds, and then each
+    new line."""
 
     def __init__(self):
         self.line, self.is_late = "", False
@@ -122,7 +131,8 @@ def leave(status):
 
 
 def run(main):
-    """Runs the main function of a script: with its words as texts, and its end by one line, with status 1, where something fails it."""
+    """Runs the main function of a script: with its words as texts, and its end by one line, with status 1, where
+    something fails it."""
     sys.argv[1:] = map(latin, sys.argv[1:])
     for stream in (sys.stdout, sys.stderr):
         if stream is not None:

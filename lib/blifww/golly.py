@@ -9,8 +9,8 @@ WORDS = ["-q", "-q", "-s", "/usr/share/golly/Rules/", "-a", "RuleLoader", "-r", 
 
 
 def states_at(file, events):
-    """Runs a pattern's file; `events` has the commands of generations, `set X Y` and `get X Y`. Returns the state of each cell that is got, as
-    {generation: [state]}."""
+    """Runs a pattern's file; `events` has the commands of generations, `set X Y` and `get X Y`. Returns the state of
+    each cell that is got, as {generation: [state]}."""
     script, now = [f"load {file}"], 0
     for generation, commands in sorted(events.items()):
         script += ([f"step {generation - now}"] if generation > now else []) + commands
@@ -20,7 +20,10 @@ def states_at(file, events):
         it.flush()
         said = program.output_of([program.needed("bgolly"), *WORDS, "--exec", it.name])
     states = iter(re.findall(r"^At .* -> (\d)$", said, re.M))
-    return {generation: [next(states, "") for it in commands if it.startswith("get")] for generation, commands in sorted(events.items())}
+    return {
+        generation: [next(states, "") for it in commands if it.startswith("get")]
+        for generation, commands in sorted(events.items())
+    }
 
 
 def seen_at(pattern, file, streams, cycles):
@@ -34,4 +37,7 @@ def seen_at(pattern, file, streams, cycles):
     for generation in asked:
         events.setdefault(generation, []).extend(f"get {x} {y}" for x, y in pattern.outputs.values())
     states = states_at(Path(file), events)
-    return {name: "".join("1" if states[it][number] == "1" else "0" for it in asked) for number, name in enumerate(pattern.outputs)}
+    return {
+        name: "".join("1" if states[it][number] == "1" else "0" for it in asked)
+        for number, name in enumerate(pattern.outputs)
+    }

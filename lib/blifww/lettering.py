@@ -1,5 +1,5 @@
-"""Letters of five by eight points, for the scripts that draw: of each letter of ASCII five columns from the left, as two hexadecimal digits each,
-whose lowest bit is the top point."""
+"""Letters of five by eight points, for the scripts that draw: of each letter of ASCII five columns from the left, as
+two hexadecimal digits each, whose lowest bit is the top point."""
 
 FIRST = " "
 COLUMNS = """
@@ -14,7 +14,9 @@ COLUMNS = """
 """.split()
 UNKNOWN = "7f4141417f"
 WIDE, HIGH = 6, 8  # a letter's points, with the empty column behind it
-ROWS = [bytes(255 * (column >> y & 1) for column in range(256)) for y in range(HIGH)]  # of each row the mask of a column there
+ROWS = [
+    bytes(255 * (column >> y & 1) for column in range(256)) for y in range(HIGH)
+]  # of each row the mask of a column there
 
 
 def columns_of(letter):
@@ -24,14 +26,16 @@ def columns_of(letter):
 
 
 def masks_of(text, size):
-    """Returns the rows of a text's points, each `size` points square, from the top: bytes, 255 where the text is and 0 beside it."""
+    """Returns the rows of a text's points, each `size` points square, from the top: bytes, 255 where the text is and
+    0 beside it."""
     columns = b"".join(columns_of(it) + b"\0" for it in text)
     wide = bytes(it for it in columns for _ in range(size))
     return [wide.translate(it) for it in ROWS for _ in range(size)]
 
 
 def grown(masks):
-    """Returns masks which mark what is beside a marked point, too: they begin a row higher and a column further left, and end so much later."""
+    """Returns masks which mark what is beside a marked point, too: they begin a row higher and a column further
+    left, and end so much later."""
     own = [int.from_bytes(b"\0" + it + b"\0", "big") for it in masks]
     across = [it << 8 | it | it >> 8 for it in own]
     rows = zip([0, 0, *across], [0, *across, 0], [*across, 0, 0])

@@ -8,7 +8,8 @@ RUN = re.compile(rb"C+|A+|B+")
 
 
 class Plane:
-    """Cells, as bytes of letters for each row, of which the first is in column `first`; columns and rows may be negative until the text is made."""
+    """Cells, as bytes of letters for each row, of which the first is in column `first`; columns and rows may be
+    negative until the text is made."""
 
     def __init__(self):
         self.rows, self.first = {}, 0
@@ -57,7 +58,8 @@ class Plane:
 
 
 class World:
-    """A pattern that runs: of its cells only heads and tails are moved, {cell: mark}. A head's mark is that of a head before it."""
+    """A pattern that runs: of its cells only heads and tails are moved, {cell: mark}. A head's mark is that of a
+    head before it."""
 
     def __init__(self, pattern):
         self.wide = pattern.width + 2
@@ -81,13 +83,18 @@ class World:
         return cell % self.wide - 1, cell // self.wide - 1
 
     def step(self):
-        """Goes on to the next generation: a conductor beside one head or two becomes one, a head a tail, and a tail a conductor."""
+        """Goes on to the next generation: a conductor beside one head or two becomes one, a head a tail, and a tail
+        a conductor."""
         near = {}
         for head, mark in self.heads.items():
             for it in self.around:
                 if self.wires[head + it]:
                     near.setdefault(head + it, []).append(mark)
-        heads = {it: marks[0] for it, marks in near.items() if len(marks) < 3 and it not in self.heads and it not in self.tails}
+        heads = {
+            it: marks[0]
+            for it, marks in near.items()
+            if len(marks) < 3 and it not in self.heads and it not in self.tails
+        }
         self.heads, self.tails = heads, self.heads
 
     def enter(self, x, y, mark=None):
@@ -99,7 +106,8 @@ class World:
 
 
 def injections(pattern, streams):
-    """Returns the heads that streams put into the plane, as {generation: [(cell, context)]}; a stream is (context, name, bits)."""
+    """Returns the heads that streams put into the plane, as {generation: [(cell, context)]}; a stream is (context,
+    name, bits)."""
     due = {}
     for context, name, bits in streams:
         for cycle, bit in enumerate(bits):
@@ -109,7 +117,8 @@ def injections(pattern, streams):
 
 
 def seen_at(pattern, streams, cycles):
-    """Returns the bits that the outputs show, {name: bits}; one that is a head at another generation has a `!` at its end."""
+    """Returns the bits that the outputs show, {name: bits}; one that is a head at another generation has a `!` at
+    its end."""
     world, due = World(pattern), injections(pattern, streams)
     asked = [pattern.latency + t * pattern.period for t in range(cycles)]
     cells = {name: world.cell(*cell) for name, cell in pattern.outputs.items()}
@@ -122,16 +131,21 @@ def seen_at(pattern, streams, cycles):
         for name, cell in cells.items():
             if cell in world.heads:
                 seen[name].add(generation)
-    return {name: "".join("01"[it in lit] for it in asked) + "!" * bool(lit.difference(asked)) for name, lit in seen.items()}
+    return {
+        name: "".join("01"[it in lit] for it in asked) + "!" * bool(lit.difference(asked)) for name, lit in seen.items()
+    }
 
 
 def coloured(pattern, streams, generation):
     """Returns the heads and tails of a generation, as {cell: (letter, context)}.
 
-    An electron of an input belongs to the context whose stream put it there. One that stands in the plane at generation 0 belongs to
-    context c if it comes to the column of the inputs at generation 32 c: so the plane is run on until all of these have come.
+    An electron of an input belongs to the context whose stream put it there. One that stands in the plane at
+    generation 0 belongs to context c if it comes to the column of the inputs at generation 32 c: so the plane is run
+    on until all of these have come.
     """
-    entry = min([x for x, _, offset, _, _ in pattern.nets if offset == 0] + [x for x, _ in pattern.inputs.values()], default=0)
+    entry = min(
+        [x for x, _, offset, _, _ in pattern.nets if offset == 0] + [x for x, _ in pattern.inputs.values()], default=0
+    )
     world, due = World(pattern), injections(pattern, streams)
     world.heads = {cell: ("first", cell) for cell in world.heads}
     world.tails = {cell: ("first", mark) for cell, mark in world.tails.items()}
@@ -146,5 +160,11 @@ def coloured(pattern, streams, generation):
                 if world.place(cell)[0] == entry:
                     contexts.setdefault(mark, now // 32)
         if now == generation:
-            seen = {**{cell: ("B", it) for cell, it in world.tails.items()}, **{cell: ("A", it) for cell, it in world.heads.items()}}
-    return {world.place(cell): (letter, it[1] if it[0] == "input" else contexts.get(it, 0)) for cell, (letter, it) in seen.items()}
+            seen = {
+                **{cell: ("B", it) for cell, it in world.tails.items()},
+                **{cell: ("A", it) for cell, it in world.heads.items()},
+            }
+    return {
+        world.place(cell): (letter, it[1] if it[0] == "input" else contexts.get(it, 0))
+        for cell, (letter, it) in seen.items()
+    }

@@ -1,9 +1,12 @@
-"""Writes pictures as PNG, and moving ones as APNG, for the scripts that draw. A picture is a list of rows, bytes of palette numbers."""
+"""Writes pictures as PNG, and moving ones as APNG, for the scripts that draw. A picture is a list of rows, bytes of
+palette numbers."""
 import struct
 import zlib
 
 START = b"\x89PNG\r\n\x1a\n"
-OTHER = b"\0" + b"\xff" * 255  # of the bits in which two points differ: none if these are the same, and all if they are not
+OTHER = (
+    b"\0" + b"\xff" * 255
+)  # of the bits in which two points differ: none if these are the same, and all if they are not
 
 
 def chunk(name, body):
@@ -15,7 +18,8 @@ def packed(rows):
 
 
 def front(rows, palette, clear=False):
-    """Returns what stands before the points: the size, a byte a point, and the palette's colours, after which there may be a clear one."""
+    """Returns what stands before the points: the size, a byte a point, and the palette's colours, after which there
+    may be a clear one."""
     head = struct.pack(">IIBBBBB", len(rows[0]), len(rows), 8, 3, 0, 0, 0)
     colours = b"".join(bytes(it) for it in palette) + bytes(3) * clear
     alpha = chunk(b"tRNS", b"\xff" * len(palette) + b"\0") if clear else b""
@@ -41,7 +45,8 @@ def new_points(old, row, clear):
 
 
 def changed(before, rows, clear):
-    """Returns what is new in a picture, with clear points where nothing is, and its left and top: a part of at least one point."""
+    """Returns what is new in a picture, with clear points where nothing is, and its left and top: a part of at least
+    one point."""
     new = [y for y, (old, row) in enumerate(zip(before, rows)) if old != row] or [0]
     top, bottom = new[0], new[-1] + 1
     part = [new_points(old, row, clear) for old, row in zip(before[top:bottom], rows[top:bottom])]
@@ -53,7 +58,8 @@ def changed(before, rows, clear):
 
 
 def moving(frames, palette, milliseconds):
-    """Returns pictures of one size as an animation that goes round; each stands for some milliseconds, and holds what is new in it."""
+    """Returns pictures of one size as an animation that goes round; each stands for some milliseconds, and holds
+    what is new in it."""
     out = front(frames[0], palette, True) + chunk(b"acTL", struct.pack(">II", len(frames), 0))
     number = 0
     for place, rows in enumerate(frames):
@@ -70,7 +76,8 @@ def moving(frames, palette, milliseconds):
 
 
 def content_of(picture):
-    """Returns a picture's chunks with their points unpacked, since other releases of zlib pack them otherwise; none where it is no PNG."""
+    """Returns a picture's chunks with their points unpacked, since other releases of zlib pack them otherwise; none
+    where it is no PNG."""
     chunks = []
     at = len(START) if picture.startswith(START) else len(picture)
     try:

@@ -7,7 +7,15 @@ import time
 from pathlib import Path
 
 ROOT = Path(__file__).resolve().parents[2]
-PACKAGES = {"yosys": "yosys", "iverilog": "iverilog", "vvp": "iverilog", "bgolly": "golly", "gtkwave": "gtkwave", "Xvfb": "xvfb", "node": "nodejs"}
+PACKAGES = {
+    "yosys": "yosys",
+    "iverilog": "iverilog",
+    "vvp": "iverilog",
+    "bgolly": "golly",
+    "gtkwave": "gtkwave",
+    "Xvfb": "xvfb",
+    "node": "nodejs",
+}
 PACKAGES["berkeley-abc"] = "berkeley-abc"
 
 
@@ -20,7 +28,8 @@ class Refused(ValueError):
 
 
 def blifww():
-    """Returns the path of the program in the variable BLIFWW, or of the one that `./blifww` runs. Raises ValueError where there is none."""
+    """Returns the path of the program in the variable BLIFWW, or of the one that `./blifww` runs. Raises ValueError
+    where there is none."""
     named = os.environ.get("BLIFWW")
     if named:
         return os.path.abspath(named)
@@ -57,7 +66,8 @@ def printed(words, text=""):
 
 
 def needed(command):
-    """Returns the path of a program of others. Raises ValueError, with the package of Debian that has it, where it is not here."""
+    """Returns the path of a program of others. Raises ValueError, with the package of Debian that has it, where it
+    is not here."""
     found = shutil.which(command)
     if found is None:
         raise ValueError(f"there is no {command} (Debian: apt install {PACKAGES.get(command, command)})")

@@ -1,4 +1,5 @@
-"""Patterns in extended RLE, with their port tables; read as the program reads them (docs/FORMATS.md), and refused with its words."""
+"""Patterns in extended RLE, with their port tables; read as the program reads them (docs/FORMATS.md), and refused
+with its words."""
 import re
 from dataclasses import dataclass, field
 
@@ -9,7 +10,16 @@ LANE = 16  # a lane's rows
 LAMP = 96  # the cells along a lamp of the computer
 WIDEST = 70  # letters of a line of cells
 MOST_BYTES, MOST_BOX = 1 << 24, 1 << 28
-STEPS = {"N": (0, -1), "NE": (1, -1), "E": (1, 0), "SE": (1, 1), "S": (0, 1), "SW": (-1, 1), "W": (-1, 0), "NW": (-1, -1)}
+STEPS = {
+    "N": (0, -1),
+    "NE": (1, -1),
+    "E": (1, 0),
+    "SE": (1, 1),
+    "S": (0, 1),
+    "SW": (-1, 1),
+    "W": (-1, 0),
+    "NW": (-1, -1),
+}
 TAGS = {".": ".", "b": ".", "A": "A", "o": "A", "B": "B", "C": "C", "$": "$", "!": "!"}
 NUMBER = r"[ \t]*=[ \t]*([0-9]+)[ \t]*"
 HEADER = re.compile(rf"[ \t]*x{NUMBER},[ \t]*y{NUMBER}(?:,[ \t]*rule[ \t]*=[ \t]*([^ \t].*?)[ \t]*)?", re.S)
@@ -18,7 +28,8 @@ ITEM = re.compile(r"[ \t]+|([0-9]*)(.?)", re.S)
 
 @dataclass
 class Part:
-    """A pattern that stands in another one: its box; its own period; the generation at which its first cycle begins; its latency."""
+    """A pattern that stands in another one: its box; its own period; the generation at which its first cycle begins;
+    its latency."""
 
     x: int
     y: int
@@ -38,8 +49,8 @@ class Part:
 
 @dataclass
 class Wire:
-    """A wire between the cell of an output and that of an input: the step from the one to the wire, and in each context the bits, one for each cycle
-    that the wire is long, with which the input starts."""
+    """A wire between the cell of an output and that of an input: the step from the one to the wire, and in each
+    context the bits, one for each cycle that the wire is long, with which the input starts."""
 
     start: tuple  # (x, y)
     step: str
@@ -57,7 +68,8 @@ class Wire:
 
 @dataclass
 class Pattern:
-    """A pattern and its port table. A run is (x, y, length, letter), where the letter is A (heads), B (tails) or C (conductors)."""
+    """A pattern and its port table. A run is (x, y, length, letter), where the letter is A (heads), B (tails) or C
+    (conductors)."""
 
     width: int = 0
     height: int = 0
@@ -128,7 +140,9 @@ def port_of(words, version):
     word, path = (words[4], words[5]) if words[0] == "NET" else (words[3], "-")
     name = unescaped(word) if version == 2 else word
     numbers = [number_of(it) for it in words[1 : 4 if words[0] == "NET" else 3]]
-    is_path = path == "-" or all(re.fullmatch("0|[1-9][0-9]*", it) and number_of(it) is not None for it in path.split("."))
+    is_path = path == "-" or all(
+        re.fullmatch("0|[1-9][0-9]*", it) and number_of(it) is not None for it in path.split(".")
+    )
     return (words[0], name, path, numbers) if name and is_path and None not in numbers else None
 
 
@@ -176,7 +190,9 @@ def read_wiring(pattern, lines):
             continue
         words = line.split()[1:]
         part = re.fullmatch(r"part( [0-9]+){7}", " ".join(words))
-        wire = re.fullmatch(rf"wire [0-9]+ [0-9]+ ({'|'.join(STEPS)}) [0-9]+ [0-9]+ (-|[01]+(,[01]+)*)", " ".join(words))
+        wire = re.fullmatch(
+            rf"wire [0-9]+ [0-9]+ ({'|'.join(STEPS)}) [0-9]+ [0-9]+ (-|[01]+(,[01]+)*)", " ".join(words)
+        )
         if part:
             pattern.parts.append(Part(*map(int, words[1:])))
         elif wire:
@@ -196,7 +212,8 @@ def lines_of(text):
 
 
 def is_pattern(text):
-    """Returns whether a text is meant as a pattern: whether its first line that is no comment and not blank is a header."""
+    """Returns whether a text is meant as a pattern: whether its first line that is no comment and not blank is a
+    header."""
     first = next((it for it in lines_of(text) if not it.startswith("#") and it.strip(" \t")), "")
     return first.lstrip(" \t").startswith("x") and "=" in first
 
@@ -270,7 +287,8 @@ def read_pattern(text):
 
 
 def pattern_of(file, text=None):
-    """Returns the pattern that a file has, whose text may be read already. Raises ValueError, with the file's name, where it has none."""
+    """Returns the pattern that a file has, whose text may be read already. Raises ValueError, with the file's name,
+    where it has none."""
     try:
         return read_pattern(command.read(file) if text is None else text)
     except ValueError as fault:
@@ -311,7 +329,8 @@ def items_of(runs):
 
 
 def text_of(comments, width, height, runs):
-    """Returns the text of a pattern: its comments, its header, and its cells in lines as long as `compile` writes them."""
+    """Returns the text of a pattern: its comments, its header, and its cells in lines as long as `compile` writes
+    them."""
     lines, line = [*comments, f"x = {width}, y = {height}, rule = WireWorld"], ""
     for it in items_of(runs):
         if len(line) + len(it) > WIDEST:
@@ -325,7 +344,8 @@ def text_of(comments, width, height, runs):
 
 
 def taken_near(pattern):
-    """Gives for each port its name and the conductors (x, y) in its row and the rows beside it, west of an input or east of an output."""
+    """Gives for each port its name and the conductors (x, y) in its row and the rows beside it, west of an input or
+    east of an output."""
     rows = {}
     for x, y, length, _ in pattern.runs:
         rows.setdefault(y, []).append((x, x + length - 1))
@@ -338,11 +358,16 @@ def taken_near(pattern):
 def box_of_cells(pattern):
     """Returns the box of the cells that are not empty: its left, top, and what is right of it and below."""
     ends = [x + length for x, _, length, _ in pattern.runs], [y + 1 for _, y, _, _ in pattern.runs]
-    return min((it[0] for it in pattern.runs), default=0), min((it[1] for it in pattern.runs), default=0), *(max(it, default=0) for it in ends)
+    return (
+        min((it[0] for it in pattern.runs), default=0),
+        min((it[1] for it in pattern.runs), default=0),
+        *(max(it, default=0) for it in ends),
+    )
 
 
 def lamps_of(text):
-    """Returns the lamps of a computer's pattern as (x, y, way), by their numbers: its comments tell where each begins."""
+    """Returns the lamps of a computer's pattern as (x, y, way), by their numbers: its comments tell where each
+    begins."""
     return [(int(x), int(y), way) for x, y, way in re.findall(r"^#C lamp [0-9]+ ([0-9]+) ([0-9]+) (\w+)", text, re.M)]
 
 

@@ -12,7 +12,8 @@ def words_in(text):
 
 
 def beside(file, ending):
-    """Returns the file beside a netlist that has its name and another ending, or that of its name before the last `-`."""
+    """Returns the file beside a netlist that has its name and another ending, or that of its name before the last
+    `-`."""
     own = file.with_suffix(ending)
     return own if own.exists() or "-" not in own.stem else own.with_stem(own.stem.rpartition("-")[0])
 
@@ -42,7 +43,8 @@ def cycles_of(word):
 
 
 def place_of(word, contexts):
-    """Returns the context and the name that a word says. Raises ValueError, with the program's line, where it says none."""
+    """Returns the context and the name that a word says. Raises ValueError, with the program's line, where it says
+    none."""
     name, sign, _ = word.rpartition("=")
     found = re.fullmatch(r"(0|[1-9][0-9]*):(.*)", name, re.S) if contexts > 1 else None
     if not sign:
@@ -53,7 +55,8 @@ def place_of(word, contexts):
 
 
 def bits_in(word, name, inputs, given):
-    """Returns the bits that a word says for an input, or by numbers for those of a bus, {name: bits}; `given` are inputs that have bits already."""
+    """Returns the bits that a word says for an input, or by numbers for those of a bus, {name: bits}; `given` are
+    inputs that have bits already."""
     bits = word.rpartition("=")[2]
     bus = None if name in inputs else next((it for it in buses.buses_of(inputs) if it.is_bus and it.name == name), None)
     if name not in inputs and not bus:
@@ -71,8 +74,10 @@ def bits_in(word, name, inputs, given):
 
 
 def read(words, inputs, contexts=1, is_whole=False):
-    """Returns the number of cycles and the streams {(context, name): bits} that words say; without --cycles that of the longest stream. With
-    `is_whole` each input has a bit in each cycle, and there is a cycle. Raises ValueError, with the program's line, at the first fault."""
+    """Returns the number of cycles and the streams {(context, name): bits} that words say; without --cycles that of
+    the longest stream. With `is_whole` each input has a bit in each cycle, and there is a cycle. Raises ValueError,
+    with the program's line, at the first fault.
+    """
     said, rest = split(words)
     streams, word_of = {}, {}
     for word in rest:
@@ -86,7 +91,9 @@ def read(words, inputs, contexts=1, is_whole=False):
     odd = next((it for it, bits in streams.items() if len(bits) != cycles), None)
     if is_whole and odd:
         raise ValueError(f"stream: BadLength {word_of[odd]}")
-    missing = next(((context, name) for context in range(contexts) for name in inputs if (context, name) not in streams), None)
+    missing = next(
+        ((context, name) for context in range(contexts) for name in inputs if (context, name) not in streams), None
+    )
     if is_whole and missing:
         raise ValueError(f"stream: MissingInput {f'{missing[0]}:' * (contexts > 1)}{missing[1]}")
     return cycles, streams

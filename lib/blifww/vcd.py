@@ -1,6 +1,7 @@
 """Value change dumps: those of `blifww vcd`, those that every reader takes, and those of Icarus Verilog.
 
-A net is (context, path, name), where the path is the numbers of the placed models, as texts. A wave is one net, or the nets of a bus.
+A net is (context, path, name), where the path is the numbers of the placed models, as texts. A wave is one net, or
+the nets of a bus.
 """
 import re
 from dataclasses import dataclass, field
@@ -50,7 +51,8 @@ class Waves:
 
 
 def read_dump(text):
-    """Returns the references of a dump of `blifww vcd`, and for each cycle the bits that change, by the number of the variable."""
+    """Returns the references of a dump of `blifww vcd`, and for each cycle the bits that change, by the number of
+    the variable."""
     if not text.strip():
         raise ValueError("the text is empty: what did `blifww vcd` say?")
     references, numbers, cycles, ended = [], {}, [], False
@@ -100,16 +102,23 @@ def nets_of_pattern(references, pattern):
 
 
 def nets_of_references(references):
-    """Returns the nets of a dump, by the variables' names alone; a net `0/a` of the main model is then taken for the net `a` of place 0."""
+    """Returns the nets of a dump, by the variables' names alone; a net `0/a` of the main model is then taken for the
+    net `a` of place 0."""
     fields = [it.partition(":") for it in references]
     contexts = int(fields[-1][0]) + 1 if fields and re.fullmatch(r"\d{1,9}", fields[-1][0]) else 1
     each = len(references) // contexts
     rests = [it[2] for it in fields]
-    has_contexts = 1 < contexts <= len(references) and [it[0] for it in fields] == [str(it) for it in range(contexts) for _ in range(each)] and rests == rests[:each] * contexts
+    has_contexts = (
+        1 < contexts <= len(references)
+        and [it[0] for it in fields] == [str(it) for it in range(contexts) for _ in range(each)]
+        and rests == rests[:each] * contexts
+    )
     nets = []
     for reference, (context, _, rest) in zip(references, fields):
         path, _, name = re.fullmatch(r"(?:(\d+(\.\d+)*)/)?(.*)", rest if has_contexts else reference).groups()
-        nets.append((int(context) if has_contexts else 0, tuple(path.split(".")) if path else (), unquote(name, "latin-1")))
+        nets.append(
+            (int(context) if has_contexts else 0, tuple(path.split(".")) if path else (), unquote(name, "latin-1"))
+        )
     return nets
 
 
@@ -141,13 +150,16 @@ def place_of(context, path, name, several):
 
 
 def groups_of(nets, plain):
-    """Gives each bus, and each net that is in none: its scope, its name, whether it is a bus, and the numbers of its nets by their bits."""
+    """Gives each bus, and each net that is in none: its scope, its name, whether it is a bus, and the numbers of its
+    nets by their bits."""
     several, numbers = any(it[0] for it in nets), {}
     for number, (context, path, name) in enumerate(nets):
         numbers.setdefault((context, path), {})[name] = number
     for (context, path), number_of in numbers.items():
         for bus in buses.buses_of(number_of, plain, may_miss=True):
-            yield *place_of(context, path, bus.name, several), bus.is_bus, {bit: number_of[name] for bit, name in bus.bits.items()}
+            yield *place_of(context, path, bus.name, several), bus.is_bus, {
+                bit: number_of[name] for bit, name in bus.bits.items()
+            }
 
 
 def waves_of(nets, top, clock, falls=False, plain=False):
@@ -185,7 +197,11 @@ def short_name(number):
 
 def declarations(run):
     """Gives the lines before the first value."""
-    yield from ("$timescale 1 ps $end", f"$scope module {run.top} $end", f"$var wire 1 {short_name(0)} {run.clock} $end")
+    yield from (
+        "$timescale 1 ps $end",
+        f"$scope module {run.top} $end",
+        f"$var wire 1 {short_name(0)} {run.clock} $end",
+    )
     tree = {}
     for wave in run.waves:
         node = tree
@@ -230,7 +246,8 @@ def lines_of_dump(run, cycles):
 
 
 def read_verilog_dump(text):
-    """Returns the changes of the variables of the module under test in a dump of Icarus Verilog, {name: [(time, value)]}."""
+    """Returns the changes of the variables of the module under test in a dump of Icarus Verilog, {name: [(time,
+    value)]}."""
     names, changes, scopes, now = {}, {}, [], 0
     for line in text.splitlines():
         words = line.split()

@@ -3,11 +3,12 @@ import re
 
 from . import command, program
 
-WORDS_IN_ENDS = "\"\n\\"  # what ends a file's name in a script of Yosys, or stands for another letter in it
+WORDS_IN_ENDS = '"\n\\'  # what ends a file's name in a script of Yosys, or stands for another letter in it
 
 
 def reads_of(top, files):
-    """Returns the commands of Yosys that read files and take a top module. Raises ValueError where a name can't stand in such a script."""
+    """Returns the commands of Yosys that read files and take a top module. Raises ValueError where a name can't
+    stand in such a script."""
     if not re.fullmatch(r"[A-Za-z_][A-Za-z0-9_$]*", top):
         raise ValueError(f"{top} is no name of a module: letters, digits, _ and $, not a digit first")
     commands = []

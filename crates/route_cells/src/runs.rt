@@ -41,8 +41,7 @@ pub fn test_runs(alloc: Global, t: &Tables, states: &[State], period: u64) -> Re
     requires some { 0 < period }
     ensures { IfOk result (λ _. ComputesItsList t.now states.now period) }
 {
-    if let Err(fault) = test_gates(t, period) {
-        return Err(RunError::Fault(fault));
-    }
-    test_wires(alloc, t, states, period)
+    test_gates(t, period)?;
+    test_wires(alloc, t, states, period)?;
+    Ok(())
 }

@@ -12,8 +12,8 @@ FURTHER = (0, 8, 16, 24, 32, 48, 64, 96, 128, 192, 256)  # columns by which wire
 
 @dataclass
 class Register:
-    """Latches of which each but the last is read by the next one alone: the net of its data, the nets of its latches from first to last, and the
-    bits that come first out of it."""
+    """Latches of which each but the last is read by the next one alone: the net of its data, the nets of its latches
+    from first to last, and the bits that come first out of it."""
 
     data: str
     nets: list
@@ -28,8 +28,8 @@ class Register:
 
 
 class Drawing:
-    """The parts, wires and cells of a circuit and of its registers. A signal reaches a column of the circuit as many generations late as it is east
-    of the first one."""
+    """The parts, wires and cells of a circuit and of its registers. A signal reaches a column of the circuit as many
+    generations late as it is east of the first one."""
 
     def __init__(self, rows, registers):
         self.rows, self.plane, self.parts, self.wires = rows, Plane(), [], []
@@ -58,7 +58,11 @@ class Drawing:
         for west, east, slots in self.columns():
             for slot in slots:
                 ends = [(strand, west, rows[slot.west] + south) for strand, south in slot.strands_west()]
-                ends += [(strand, east, rows[slot.east] + south) for strand, south in slot.strands_east()] if east > west else []
+                ends += (
+                    [(strand, east, rows[slot.east] + south) for strand, south in slot.strands_east()]
+                    if east > west
+                    else []
+                )
                 for strand, *cell in ends:
                     self.points.setdefault(strand, []).append(tuple(cell))
                 if not isinstance(slot.element, Strand):
@@ -85,7 +89,8 @@ class Drawing:
         self.ways = dict(zip((it.output for it in exits), ways))
 
     def laid_around(self, starts, ends, cycles, further):
-        """Returns the cells of the box, the least period, and ways around the north that take so many cycles; None where there is no room for them."""
+        """Returns the cells of the box, the least period, and ways around the north that take so many cycles; None
+        where there is no room for them."""
         ways, period = [], 0
         for number, (start, end) in enumerate(zip(starts, ends)):
             right, left = self.east + further + APART * (number + 1), -APART * (number + 1)
@@ -100,7 +105,11 @@ class Drawing:
         bundle = Bundle(lambda along, out: (-along, -out), APART + 1, ways)
         if not bundle.fit(wanted):
             return None
-        return (self.east + further + 2 * APART * len(ends) + 1) * (self.rows.height() + bundle.thickness()), period, ways
+        return (
+            (self.east + further + 2 * APART * len(ends) + 1) * (self.rows.height() + bundle.thickness()),
+            period,
+            ways,
+        )
 
     def cells_of(self, strand):
         """Returns the cells of a strand: a column further east in each generation, and at most a row further."""
@@ -150,14 +159,16 @@ class Drawing:
         self.wires.append(Wire(path[0], WORDS[u - x, v - y], path[-1], [starts] if starts else []))
 
     def cell_of(self, strand):
-        """Returns a cell of a strand, and the generation at which it shows the bit of cycle 0; None where it has no cell."""
+        """Returns a cell of a strand, and the generation at which it shows the bit of cycle 0; None where it has no
+        cell."""
         if strand not in self.points:
             return None
         x, y = self.points[strand][-1 if strand.input in self.entries else 0]
         return (x, y, x) if self.plane.has(x, y) else None
 
     def text(self, inputs, outputs, nets):
-        """Returns the pattern's text. Inputs and outputs are pairs of a name in the table and one in the circuit; nets are the words of NET lines."""
+        """Returns the pattern's text. Inputs and outputs are pairs of a name in the table and one in the circuit;
+        nets are the words of NET lines."""
 
         def table(x, y):
             yield from (it.line(x, y) for it in self.parts + self.wires)

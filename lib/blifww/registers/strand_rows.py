@@ -1,7 +1,9 @@
-"""Gives the strands and tiles of a circuit rows and columns of cells: what stands beside each other as near as may be (strands.py has the words).
+"""Gives the strands and tiles of a circuit rows and columns of cells: what stands beside each other as near as may
+be (strands.py has the words).
 
-A strand moves a column east in each generation, and at most a row north or south. So all that is in a column is there at the same time, wherever
-it came from. Tiles stand in columns of tiles, with a gap before each in which strands may change their rows.
+A strand moves a column east in each generation, and at most a row north or south. So all that is in a column is
+there at the same time, wherever it came from. Tiles stand in columns of tiles, with a gap before each in which
+strands may change their rows.
 """
 from collections import deque
 from dataclasses import dataclass
@@ -16,7 +18,8 @@ GAPS = (8, 11, 14)  # widths with which all gaps begin, before those are made na
 
 @dataclass
 class Slot:
-    """An element of a column, and the numbers of its rows: where it begins, and where it ends. A tile has one, that of its upper strands."""
+    """An element of a column, and the numbers of its rows: where it begins, and where it ends. A tile has one, that
+    of its upper strands."""
 
     element: object
     west: int
@@ -48,8 +51,9 @@ def rows_apart(upper, lower):
 
 
 class Rows:
-    """The rows of all slots: each as far north as the others let it. A bound says that a row is so many rows south of another, at least, less
-    the width of a gap. The first slots are the cells of inputs, the last ones those of outputs."""
+    """The rows of all slots: each as far north as the others let it. A bound says that a row is so many rows south
+    of another, at least, less the width of a gap. The first slots are the cells of inputs, the last ones those of
+    outputs."""
 
     def __init__(self, columns, inputs, outputs):
         self.first = []  # by row: how many rows of cells there are north of it
@@ -107,8 +111,8 @@ class Rows:
                     self.bound(slot.west, row, south - own, gap)
 
     def push(self, waiting, most):
-        """Moves rows south as the bounds of the rows that wait ask for. Returns whether it could; where one would have to be further south than there
-        are rows, or it takes too long, none moves."""
+        """Moves rows south as the bounds of the rows that wait ask for. Returns whether it could; where one would
+        have to be further south than there are rows, or it takes too long, none moves."""
         rows, bounds, gaps, old = self.rows, self.bounds, self.gaps, {}
         queue, queued, left = deque(waiting), set(waiting), PATIENCE * len(self.rows)
         while queue:
