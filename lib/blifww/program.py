@@ -40,6 +40,19 @@ def blifww():
     return said.stdout.strip()
 
 
+def wwroute():
+    """Returns the path of the program in the variable WWROUTE, or of the one that `./wwroute` runs. Raises ValueError
+    where there is none."""
+    named = os.environ.get("WWROUTE")
+    if named:
+        return os.path.abspath(named)
+    said = subprocess.run([ROOT / "dev/program", "wwroute"], capture_output=True, text=True)
+    if said.returncode:
+        reason = said.stderr.strip().removeprefix("wwroute: ") or "none was built here"
+        raise ValueError(f"there is no program wwroute yet ({reason}); ./wwroute builds one")
+    return said.stdout.strip()
+
+
 def encoded(words):
     """Returns the words of a command as the system takes them: texts are bytes."""
     return [it.encode("latin-1") if isinstance(it, str) else os.fsencode(it) for it in words]
