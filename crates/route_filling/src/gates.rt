@@ -24,22 +24,34 @@ impl Kinds {
         }
     }
 
+    fn add(&mut self, kind: GateKind, number: u32, lawful: LawfulGate) -> Result<(), FillError> {
+        self.kinds.push(lawful)?;
+        self.numbers.insert(kind, number)?;
+        Ok(())
+    }
+
     // The number of a kind, which is tested when it comes for the first time; none if its drawing
     // keeps no law.
     fn number_of(&mut self, alloc: Global, kind: GateKind) -> Result<Option<u32>, FillError> {
         if let Some(number) = self.numbers.get(&kind) {
             return Ok(Some(*number));
         }
-        let Some(lawful) = LawfulGate::of(drawing_of(alloc, kind)?) else {
-            return Ok(None);
-        };
         let Ok(number) = u32::try_from(self.kinds.len()) else {
             return Err(FillError::NoMemory);
         };
-        self.kinds.push(lawful)?;
-        self.numbers.insert(kind, number)?;
-        Ok(Some(number))
+        match lawful_kind(alloc, kind)? {
+            Some(lawful) => {
+                self.add(kind, number, lawful)?;
+                Ok(Some(number))
+            }
+            None => Ok(None),
+        }
     }
+}
+
+// The drawing of a kind, if it keeps its law.
+fn lawful_kind(alloc: Global, kind: GateKind) -> Result<Option<LawfulGate>, FillError> {
+    Ok(LawfulGate::of(drawing_of(alloc, kind)?))
 }
 
 /// The gates of a drawing in numbers of kinds, without sources.

@@ -1,6 +1,7 @@
 // Lists of cells whose ports, latches and nets are tested to be there.
-ghost use Rattle.std.specs.Prelude.{◌≡◌};
-ghost use Rattle.cell_core.specs.Sources.{are_there};
+ghost use Rattle.std.specs.Prelude.{◌≡◌, length, IsTrue};
+ghost use Rattle.cell_core.specs.Sources.{are_in_order, are_there};
+ghost use Rattle.route_filling.specs.Ends.{FitsCells};
 
 use cell_core::{Cell, CellList, Src};
 use lists::List;
@@ -24,56 +25,69 @@ pub struct Ends {
     pub starts: Vec<bool>,
 }
 
-/// Returns a list without cells that has these ends, if they are all there.
-pub fn empty_list(alloc: Global, inputs: u32, ends: Ends) -> Option<CellList> {
-    let Ends {
-        outs,
-        nets,
-        latches,
-        starts,
-    } = ends;
-    if starts.len() != latches.len()
-        || !are_there(&outs, inputs, starts.len(), 0)
-        || !are_there(&nets, inputs, starts.len(), 0)
-        || !are_there(&latches, inputs, starts.len(), 0)
-    {
-        return None;
+fn fit(ends: &Ends, inputs: u32, cells: usize) -> bool
+    ensures { IsTrue result → FitsCells inputs cells ends.now }
+{
+    let latches = ends.starts.len();
+    if latches != ends.latches.len() {
+        return false;
     }
-    Some(CellList {
-        inputs,
-        cells: List::of(Vec::new(alloc)),
-        outs: List::of(outs),
-        latches: List::of(latches),
-        starts: List::of(starts),
-        nets: List::of(nets),
-    })
+    if !are_there(&ends.outs, inputs, latches, cells) {
+        return false;
+    }
+    if !are_there(&ends.nets, inputs, latches, cells) {
+        return false;
+    }
+    are_there(&ends.latches, inputs, latches, cells)
 }
 
-/// Returns the list with these ends in place of its own, if they are all there.
-pub fn with_ends(list: CellList, ends: Ends) -> Option<CellList> {
+// The list of these cells with ends that fit them.
+fn list_with(inputs: u32, cells: List<Cell>, ends: Ends) -> CellList
+    requires fit { FitsCells inputs (length cells) ends }
+    requires order { IsTrue (are_in_order inputs (length ends.starts.items) 0 cells) }
+{
     let Ends {
         outs,
         nets,
         latches,
         starts,
     } = ends;
-    if starts.len() != latches.len()
-        || starts.len() != list.starts.len()
-        || !are_there(&outs, list.inputs, starts.len(), list.cells.len())
-        || !are_there(&nets, list.inputs, starts.len(), list.cells.len())
-        || !are_there(&latches, list.inputs, starts.len(), list.cells.len())
-    {
-        return None;
-    }
-    let CellList { inputs, cells, .. } = list;
-    Some(CellList {
+    CellList {
         inputs,
         cells,
         outs: List::of(outs),
         latches: List::of(latches),
         starts: List::of(starts),
         nets: List::of(nets),
-    })
+    }
+}
+
+/// Returns a list without cells that has these ends, if they are all there.
+pub fn empty_list(alloc: Global, inputs: u32, ends: Ends) -> Option<CellList> {
+    if !fit(&ends, inputs, 0) {
+        return None;
+    }
+    Some(list_with(inputs, List::of(Vec::new(alloc)), ends))
+}
+
+// Whether the ends have a start bit for each of the list's latches, and are all there.
+fn can_end(list: &CellList, ends: &Ends) -> bool
+    ensures fit { IsTrue result → FitsCells list.now.inputs (length list.now.cells) ends.now }
+    ensures same { IsTrue result → length ends.now.starts.items ≡ length list.now.starts }
+{
+    if ends.starts.len() != list.starts.len() {
+        return false;
+    }
+    fit(ends, list.inputs, list.cells.len())
+}
+
+/// Returns the list with these ends in place of its own, if they are all there.
+pub fn with_ends(list: CellList, ends: Ends) -> Option<CellList> {
+    if !can_end(&list, &ends) {
+        return None;
+    }
+    let CellList { inputs, cells, .. } = list;
+    Some(list_with(inputs, cells, ends))
 }
 
 /// Adds a cell whose sources are there; returns its source, or none if they are not.

@@ -1,7 +1,7 @@
 // The sources of all ports, found from the circuit's inputs and latches on.
 
 use crate::FillError;
-use crate::gates::Gates;
+use crate::gates::{GateRow, Gates};
 use crate::lists_of::{Ends, add_cell, empty_list};
 use cell_core::{Cell, CellList, Src};
 use gate_library::Answer;
@@ -50,16 +50,21 @@ where
     Ok(items)
 }
 
+fn unknown_gate(alloc: Global, row: &GateRow) -> Result<GateSources, FillError> {
+    Ok(GateSources {
+        ins: none(alloc, row.feeds.len())?,
+        outs: none(alloc, row.outs)?,
+        from_ins: none(alloc, row.feeds.len())?,
+        from_outs: none(alloc, row.outs)?,
+    })
+}
+
 // The ports of all gates, of which nothing is known.
 fn unknown(alloc: Global, gates: &Gates) -> Result<Vec<GateSources>, FillError> {
     let mut sources = Vec::new(alloc);
     for row in &gates.rows {
-        sources.push(GateSources {
-            ins: none(alloc, row.feeds.len())?,
-            outs: none(alloc, row.outs)?,
-            from_ins: none(alloc, row.feeds.len())?,
-            from_outs: none(alloc, row.outs)?,
-        })?;
+        let gate = unknown_gate(alloc, row)?;
+        sources.push(gate)?;
     }
     Ok(sources)
 }
@@ -107,6 +112,56 @@ fn first_list(alloc: Global, inputs: u32, starts: &[bool]) -> Result<Option<Cell
     ))
 }
 
+/// The ports of all gates, and of each wire the next one that begins at its port.
+#[derive(Drop)]
+struct PortWires {
+    gates: Vec<GateSources>,
+    next: Vec<Option<u32>>,
+}
+
+fn port_wires(alloc: Global, gates: &Gates, drawing: &Drawing) -> Result<PortWires, FillError> {
+    let mut gates = unknown(alloc, gates)?;
+    let next = note_wires(alloc, &mut gates, drawing)?;
+    Ok(PortWires { gates, next })
+}
+
+// Knows nothing but a list, the ports and the wires.
+fn solver_of(
+    alloc: Global,
+    list: CellList,
+    gates: &Gates,
+    drawing: &Drawing,
+) -> Result<Solver, FillError> {
+    let latches = vec![in alloc; Src::Zero; list.starts.len()]?;
+    let PortWires { gates, next } = port_wires(alloc, gates, drawing)?;
+    Ok(Solver {
+        gates,
+        next,
+        list,
+        latches,
+        waiting: Vec::new(alloc),
+    })
+}
+
+// Sets a source, if it is there and not set; returns whether it did.
+fn set(sources: &mut [Option<Src>], i: usize, source: Src) -> bool {
+    match sources.get_mut(i) {
+        Some(place) if place.is_none() => {
+            *place = Some(source);
+            true
+        }
+        _ => false,
+    }
+}
+
+// The first wire from a port.
+fn first_from(wires: &[Option<u32>], i: usize) -> Option<u32> {
+    match wires.get(i) {
+        Some(wire) => *wire,
+        None => None,
+    }
+}
+
 impl Solver {
     /// Knows nothing but the ports and wires.
     pub fn new(
@@ -115,19 +170,10 @@ impl Solver {
         drawing: &Drawing,
         inputs: u32,
     ) -> Result<Option<Solver>, FillError> {
-        let mut sources = unknown(alloc, gates)?;
-        let next = note_wires(alloc, &mut sources, drawing)?;
-        let starts = drawing.starts.as_slice();
-        let Some(list) = first_list(alloc, inputs, starts)? else {
-            return Ok(None);
-        };
-        Ok(Some(Solver {
-            gates: sources,
-            next,
-            list,
-            latches: vec![in alloc; Src::Zero; starts.len()]?,
-            waiting: Vec::new(alloc),
-        }))
+        match first_list(alloc, inputs, drawing.starts.as_slice())? {
+            Some(list) => Ok(Some(solver_of(alloc, list, gates, drawing)?)),
+            None => Ok(None),
+        }
     }
 
     fn put_latch(&mut self, latch: u32, reads: Src) {
@@ -177,29 +223,22 @@ impl Solver {
     // Sets the source of an input, if it is not set; returns the first wire from there.
     fn set_input(&mut self, known: Known) -> Option<Option<u32>> {
         let gate = self.gates.get_mut(known.gate as usize)?;
-        let place = gate.ins.get_mut(known.input as usize)?;
-        if place.is_some() {
-            return None;
+        let input = known.input as usize;
+        if set(&mut gate.ins, input, known.source) {
+            Some(first_from(&gate.from_ins, input))
+        } else {
+            None
         }
-        *place = Some(known.source);
-        Some(match gate.from_ins.get(known.input as usize) {
-            Some(first) => *first,
-            None => None,
-        })
     }
 
     // Sets the source of an output, if it is not set; returns the first wire from there.
     fn set_output(&mut self, gate: u32, output: usize, source: Src) -> Option<Option<u32>> {
         let gate = self.gates.get_mut(gate as usize)?;
-        let place = gate.outs.get_mut(output)?;
-        if place.is_some() {
-            return None;
+        if set(&mut gate.outs, output, source) {
+            Some(first_from(&gate.from_outs, output))
+        } else {
+            None
         }
-        *place = Some(source);
-        Some(match gate.from_outs.get(output) {
-            Some(first) => *first,
-            None => None,
-        })
     }
 
     fn input_source(&self, gate: u32, input: u32) -> Option<Src> {

@@ -68,26 +68,28 @@ fn sources_of(alloc: Global, solver: &Solver, ports: &[DrawnPort]) -> Result<Vec
     Ok(sources)
 }
 
-// The list of what was solved, with the sources of these outputs and nets.
-fn list_of(
+// The sources of the circuit's outputs and nets, and what its latches read.
+fn ends_of(
     alloc: Global,
-    solver: Solver,
+    solver: &Solver,
     drawing: &Drawing,
-    nets: &[DrawnPort],
-) -> Result<Option<CellList>, FillError> {
-    let outs = sources_of(alloc, &solver, drawing.outs.as_slice())?;
-    let nets = sources_of(alloc, &solver, nets)?;
-    let starts = drawing.starts.as_slice().to_vec(alloc)?;
-    let Solver { list, latches, .. } = solver;
-    Ok(with_ends(
-        list,
-        Ends {
-            outs,
-            nets,
-            latches,
-            starts,
-        },
-    ))
+    ports: &NamedPorts,
+) -> Result<Ends, FillError> {
+    Ok(Ends {
+        outs: sources_of(alloc, solver, &ports.outs)?,
+        nets: sources_of(alloc, solver, &ports.nets)?,
+        latches: solver.latches.to_vec(alloc)?,
+        starts: drawing.starts.as_slice().to_vec(alloc)?,
+    })
+}
+
+// The list of what was solved, with these ends.
+fn list_of(gates: &Gates, solver: Solver, ends: Ends) -> Result<CellList, FillError> {
+    let Solver { list, .. } = solver;
+    match with_ends(list, ends) {
+        Some(list) => Ok(list),
+        None => Err(at_gate(gates, 0, FaultWord::Order)),
+    }
 }
 
 fn at_gate(gates: &Gates, gate: usize, word: FaultWord) -> FillError {
@@ -98,19 +100,35 @@ fn at_gate(gates: &Gates, gate: usize, word: FaultWord) -> FillError {
     FillError::Fault(CellFault { word, x, y })
 }
 
-// The sources of all ports.
-fn solved(alloc: Global, gates: &Gates, drawing: &Drawing) -> Result<Solver, FillError> {
+fn new_solver(alloc: Global, gates: &Gates, drawing: &Drawing) -> Result<Solver, FillError> {
     let Ok(inputs) = u32::try_from(drawing.ins.len()) else {
         return Err(FillError::NoMemory);
     };
-    let Some(mut solver) = Solver::new(alloc, gates, drawing, inputs)? else {
-        return Err(at_gate(gates, 0, FaultWord::Order));
-    };
+    match Solver::new(alloc, gates, drawing, inputs)? {
+        Some(solver) => Ok(solver),
+        None => Err(at_gate(gates, 0, FaultWord::Order)),
+    }
+}
+
+// Finds the sources of all ports.
+fn solve(
+    solver: &mut Solver,
+    alloc: Global,
+    gates: &Gates,
+    drawing: &Drawing,
+) -> Result<(), FillError> {
     solver.solve(alloc, gates, drawing)?;
     match solver.unsolved() {
         Some(gate) => Err(at_gate(gates, gate, FaultWord::Order)),
-        None => Ok(solver),
+        None => Ok(()),
     }
+}
+
+// The sources of all ports.
+fn solved(alloc: Global, gates: &Gates, drawing: &Drawing) -> Result<Solver, FillError> {
+    let mut solver = new_solver(alloc, gates, drawing)?;
+    solve(&mut solver, alloc, gates, drawing)?;
+    Ok(solver)
 }
 
 /// Gates whose inputs are fed, and the inputs that are driven.
@@ -127,11 +145,16 @@ fn fed_gates(alloc: Global, drawing: &Drawing) -> Result<FedGates, FillError> {
     Ok(FedGates { gates, driven })
 }
 
-/// What a drawing computes: the gates with their sources, the list, and the ports of its outputs
-/// and nets.
+/// What a drawing computes: the gates with their sources, and the list with its ports.
 #[derive(Drop)]
 struct Computed {
     gates: List<TableGate>,
+    listed: ListedPorts,
+}
+
+/// The list that a drawing computes, and the ports of its outputs and nets.
+#[derive(Drop)]
+struct ListedPorts {
     list: CellList,
     ports: NamedPorts,
 }
@@ -149,30 +172,35 @@ fn named_ports(alloc: Global, drawing: &Drawing) -> Result<NamedPorts, FillError
     Ok(NamedPorts { outs, nets })
 }
 
-// The list of what was solved.
-fn list_with(
+fn listed_ports(
     alloc: Global,
     gates: &Gates,
-    solver: Solver,
     drawing: &Drawing,
-    ports: &NamedPorts,
-) -> Result<CellList, FillError> {
-    match list_of(alloc, solver, drawing, &ports.nets)? {
-        Some(list) => Ok(list),
-        None => Err(at_gate(gates, 0, FaultWord::Order)),
-    }
+    solver: Solver,
+) -> Result<ListedPorts, FillError> {
+    let ports = named_ports(alloc, drawing)?;
+    let ends = ends_of(alloc, &solver, drawing, &ports)?;
+    let list = list_of(gates, solver, ends)?;
+    Ok(ListedPorts { list, ports })
+}
+
+fn compute_with(
+    alloc: Global,
+    gates: &Gates,
+    drawing: &Drawing,
+    solver: Solver,
+) -> Result<Computed, FillError> {
+    let table = table_gates(alloc, &gates.rows, &solver.gates)?;
+    let listed = listed_ports(alloc, gates, drawing, solver)?;
+    Ok(Computed {
+        gates: table,
+        listed,
+    })
 }
 
 fn compute(alloc: Global, gates: &Gates, drawing: &Drawing) -> Result<Computed, FillError> {
-    let ports = named_ports(alloc, drawing)?;
     let solver = solved(alloc, gates, drawing)?;
-    let table = table_gates(alloc, &gates.rows, &solver.gates)?;
-    let list = list_with(alloc, gates, solver, drawing, &ports)?;
-    Ok(Computed {
-        gates: table,
-        list,
-        ports,
-    })
+    compute_with(alloc, gates, drawing, solver)
 }
 
 /// The listed cells, and the table of their numbers.
@@ -203,7 +231,8 @@ fn tables_with(width: u32, fed: FedGates, numbered: Numbered, computed: Computed
         groups,
         wires,
     } = listing;
-    let Computed { gates, list, ports } = computed;
+    let Computed { gates, listed } = computed;
+    let ListedPorts { list, ports } = listed;
     Tables {
         width,
         kinds: List::of(kinds),
