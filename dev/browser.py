@@ -8,7 +8,14 @@ import subprocess
 import tempfile
 import time
 
-FLAGS = ["--headless=new", "--no-sandbox", "--remote-debugging-pipe", "--hide-scrollbars", "--allow-file-access-from-files", "--mute-audio"]
+FLAGS = [
+    "--headless=new",
+    "--no-sandbox",
+    "--remote-debugging-pipe",
+    "--hide-scrollbars",
+    "--allow-file-access-from-files",
+    "--mute-audio",
+]
 
 
 def pipe():
@@ -29,7 +36,9 @@ class Browser:
         self.incoming, from_browser = pipe()
         fill = 'exec 3<&%d 4>&%d; exec "$@"' % (to_browser, from_browser)  # Chromium reads at 3 and writes at 4
         order = ["bash", "-c", fill, "bash", program, *FLAGS, f"--user-data-dir={self.folder.name}", "about:blank"]
-        self.process = subprocess.Popen(order, pass_fds=(to_browser, from_browser), stdout=subprocess.DEVNULL, stderr=subprocess.DEVNULL)
+        self.process = subprocess.Popen(
+            order, pass_fds=(to_browser, from_browser), stdout=subprocess.DEVNULL, stderr=subprocess.DEVNULL
+        )
         os.close(to_browser)
         os.close(from_browser)
         self.number, self.rest, self.events, self.session = 0, b"", [], None
@@ -104,7 +113,9 @@ class Browser:
         return [json.dumps(it["params"])[:400] for it in self.events if it.get("method") in kinds]
 
     def window(self, width, height, ratio=1, touch=False):
-        self.send("Emulation.setDeviceMetricsOverride", width=width, height=height, deviceScaleFactor=ratio, mobile=touch)
+        self.send(
+            "Emulation.setDeviceMetricsOverride", width=width, height=height, deviceScaleFactor=ratio, mobile=touch
+        )
         self.send("Emulation.setTouchEmulationEnabled", enabled=touch)
 
     def calm(self, is_calm):
@@ -126,4 +137,10 @@ class Browser:
 
     def click(self, x, y):
         for kind in ("mouseMoved", "mousePressed", "mouseReleased"):
-            self.mouse(kind, x, y, button="none" if kind == "mouseMoved" else "left", clickCount=0 if kind == "mouseMoved" else 1)
+            self.mouse(
+                kind,
+                x,
+                y,
+                button="none" if kind == "mouseMoved" else "left",
+                clickCount=0 if kind == "mouseMoved" else 1,
+            )

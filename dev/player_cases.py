@@ -71,7 +71,15 @@ BUSES = [
 ]
 # Words of a link that are at fault.
 LINK_FAULTS = {
-    "speed": "abc", "view": "1,2", "context": "7", "cycles": "99999999", "gen": "9e99", "play": "yes", "repeat": "2", "theme": "blue", "sped": "1",
+    "speed": "abc",
+    "view": "1,2",
+    "context": "7",
+    "cycles": "99999999",
+    "gen": "9e99",
+    "play": "yes",
+    "repeat": "2",
+    "theme": "blue",
+    "sped": "1",
 }
 BAD_WORDS = ["a0=01", "en", "en=2x", "en=01 en=11", "en=01 x=", "q=01"]
 LIT = 240000  # a generation at which lamps of the example gcd are lit
@@ -95,20 +103,30 @@ def made(program, examples):
     two = program.printed(["compile", "--contexts", "2", "1:q=1"], toggle)
     yield "two contexts", two, " ".join(words), [["simulate", "--cycles", "8", *words]]
     many = [f"{c}:en={c % 2}10{c // 2 % 2}1" for c in range(7)]
-    yield "seven contexts", program.printed(["compile", "--contexts", "7", "3:q=1"], toggle), " ".join(many), [["simulate", "--cycles", "5", *many]]
+    yield "seven contexts", program.printed(["compile", "--contexts", "7", "3:q=1"], toggle), " ".join(many), [
+        ["simulate", "--cycles", "5", *many]
+    ]
     older = plain.replace("BLIFWW 2 P 32 L 32 C 1", "BLIFWW 1 P 32 L 32")
-    yield "a table of version 1", older, "a=00110101 b=01010011", [["simulate", "--cycles", "8", "a=00110101", "b=01010011"]]
+    yield "a table of version 1", older, "a=00110101 b=01010011", [
+        ["simulate", "--cycles", "8", "a=00110101", "b=01010011"]
+    ]
     for name in ("toggle", "traffic"):
-        yield f"the tape of {name}", (examples / f"{name}.tape.rle").read_text(), "--cycles 10", [["simulate", "--cycles", "10"]]
+        yield f"the tape of {name}", (examples / f"{name}.tape.rle").read_text(), "--cycles 10", [
+            ["simulate", "--cycles", "10"]
+        ]
     odd = "%e<n=\xc3\xbc"  # its last two bytes are a letter in UTF-8
     renamed = program.printed(["compile"], toggle.replace(" en", f" {odd}"))
     yield "an odd name", renamed, f"{odd}=11011101", [["simulate", "--cycles", "8", f"{odd}=11011101"]]
     spaced = ["\xc3\xa0 b=0011", "b=0101"]  # a letter in UTF-8, and a blank
-    yield "a name with a blank", plain.replace(" 8 a\n", " 8 %C3%A0%20b\n"), " ".join(spaced), [["simulate", "--cycles", "4", *spaced]]
+    yield "a name with a blank", plain.replace(" 8 a\n", " 8 %C3%A0%20b\n"), " ".join(spaced), [
+        ["simulate", "--cycles", "4", *spaced]
+    ]
     shown = ["--cycles", "8", "en=11011101"]
     yield "a net", compiled, "en=11011101", [["simulate", *shown], ["probe", "--net", "n", *shown]]
     bits = ["a0=1111", "a1=0101", "a2=0101", "a3=0011", "b0=0010", "b1=1000", "b2=0000", "b3=0110", "ci=0111"]
-    yield "numbers", program.pattern("adder"), "a=1,7,9,15 b=2,8,9,-8 ci=0111", [["simulate", "--cycles", "4", *numbered(bits, "b3", "0111")]]
+    yield "numbers", program.pattern("adder"), "a=1,7,9,15 b=2,8,9,-8 ci=0111", [
+        ["simulate", "--cycles", "4", *numbered(bits, "b3", "0111")]
+    ]
 
 
 def numbered(bits, name, word):
@@ -137,7 +155,10 @@ def bus_pattern(names):
 
 def linked():
     """Gives acts that open a pattern with odd names, and then the link to what the page shows."""
-    names = [f"#C BLIFWW {it}\n" for it in ("1 P 32 L 32", "IN 0 0 \xc3\xa9", "OUT 32 0 y", "NET 1 0 1 a,b -", "NET 2 0 2 a%2Cb -")]
+    names = [
+        f"#C BLIFWW {it}\n"
+        for it in ("1 P 32 L 32", "IN 0 0 \xc3\xa9", "OUT 32 0 y", "NET 1 0 1 a,b -", "NET 2 0 2 a%2Cb -")
+    ]
     text = json.dumps("".join(names) + "x = 33, y = 1, rule = WireWorld\n33C!\n")
     yield f"do openText({text}, 'a text'); feed('\\u00c3\\u00a9=0110'); addNet('a%2Cb'); addNet('a,b')", "page.chosen.length === 2"
     yield "do page.link = linkOf().split('#')[1], openExample('or')", "page.name === 'or'"
@@ -193,20 +214,28 @@ def hands(program):
     ]
     yield "a click while a large one plays", {"example": "gcd", "play": 1}, [
         ("do 0", "page.isRunning && page.machine.generation > 100"),
-        ("do page.was = performance.now(), command('cycle'), page.took = performance.now() - page.was", "page.took < 150 && page.machine.generation === 7808"),
+        (
+            "do page.was = performance.now(), command('cycle'), page.took = performance.now() - page.was",
+            "page.took < 150 && page.machine.generation === 7808",
+        ),
     ]
     yield "a far generation", {"example": "toggle", "gen": "4e8"}, [
         ("do 0", "$('message').textContent.startsWith('On the way to generation 400,000,000.') && page.isRunning"),
         ("click run", "!page.isRunning && $('message').hidden"),
     ]
     yield "a far generation, and on", {"example": "cpu", "gen": "1e6", "play": 1}, [
-        ("do 0", "page.machine.generation > 1e6 && page.isRunning && !page.isAsked && $('message').hidden"),
+        ("do 0", "page.machine.generation > 1e6 && page.isRunning && !page.isAsked && $('message').hidden")
     ]
     for key, word in LINK_FAULTS.items():
         yield f"a link with {key}={word}", {"example": "toggle", "words": "en=1", "nets": "n", key: word}, [
-            ("do 0", f"$('message').textContent.includes({json.dumps('theme=blue' if key == 'theme' else key)}) && page.name === 'toggle' && page.chosen.length === 1"),
+            (
+                "do 0",
+                f"$('message').textContent.includes({json.dumps('theme=blue' if key == 'theme' else key)}) && page.name === 'toggle' && page.chosen.length === 1",
+            )
         ]
-    yield "a fault and the rest", {"example": "toggle", "speed": "abc", "gen": 5}, [("do 0", "!$('message').hidden && page.machine.generation === 5")]
+    yield "a fault and the rest", {"example": "toggle", "speed": "abc", "gen": 5}, [
+        ("do 0", "!$('message').hidden && page.machine.generation === 5")
+    ]
     yield "buttons", toggle, [
         ("click cycle", "page.machine.generation === 448"),
         ("click step", "page.machine.generation === 449"),
@@ -219,9 +248,15 @@ def hands(program):
         ("click export", "$('showing').open"),
     ]
     yield "files that are dropped", {}, [
-        (drop(files=[("x.rle", program.pattern("gray")), ("x.words", "--cycles 3 reset=000 step=111\n")]), "page.name === 'x.rle' && page.machine.cycles === 3"),
+        (
+            drop(files=[("x.rle", program.pattern("gray")), ("x.words", "--cycles 3 reset=000 step=111\n")]),
+            "page.name === 'x.rle' && page.machine.cycles === 3",
+        ),
         ("do 0", "page.isRunning && page.isRepeating && page.machine.generation > 20"),
-        (drop(text="reset=01 step=11"), "page.machine.cycles === 2 && page.isRunning && page.machine.generation < 4000"),
+        (
+            drop(text="reset=01 step=11"),
+            "page.machine.cycles === 2 && page.isRunning && page.machine.generation < 4000",
+        ),
         (drop(files=[("own.rle", LAMPS)]), "page.name === 'own.rle' && page.isRunning && !plane.isFitted"),
         ("do 0", "(230 * plane.size) / plane.ratio > 60"),
         (drop(files=[("bad.rle", HEAD + "C Q!")]), "$('message').textContent.startsWith('G4 BadItem line 2: ')"),
@@ -237,5 +272,9 @@ def hands(program):
         ("do globalThis.least = 99", "(least = Math.min(least, page.machine.generation)) < 30"),
     ]
     yield "a link", {}, list(linked())
-    yield "contexts", {"example": "toggle.contexts", "context": 1}, [("do 0", "page.context === 1 && $('context').value === '1'")]
-    yield "a view", {"example": "toggle", "view": "160,0,65,64"}, [("do 0", "!plane.isFitted && plane.shown()[2] < 240")]
+    yield "contexts", {"example": "toggle.contexts", "context": 1}, [
+        ("do 0", "page.context === 1 && $('context').value === '1'")
+    ]
+    yield "a view", {"example": "toggle", "view": "160,0,65,64"}, [
+        ("do 0", "!plane.isFitted && plane.shown()[2] < 240")
+    ]

@@ -5,7 +5,18 @@ from pathlib import Path
 
 ROOT = Path(__file__).resolve().parent.parent
 SOURCE = ROOT / "dev/player"
-SCRIPTS = ["reading", "streams", "wires", "machine", "plane", "chart", "page", "signals", "texts", "events"]  # in this order
+SCRIPTS = [
+    "reading",
+    "streams",
+    "wires",
+    "machine",
+    "plane",
+    "chart",
+    "page",
+    "signals",
+    "texts",
+    "events",
+]  # in this order
 
 
 @dataclass
@@ -23,22 +34,105 @@ class Example:
 
 
 EXAMPLES = [
-    Example("toggle", "compile examples/toggle.blif", "Toggle", "Each cycle in which en is 1 flips q, a bit that goes round the loop.", words="en=10011000", nets="n"),
-    Example("or", "examples/or.rle", "OR gate", "y is 1 if a or b is 1. Two diodes keep electrons from running back.", words="a=00110110 b=01011010"),
-    Example("ring", "examples/ring.rle", "Ring counter", "Four lights: one of them is on, and in each cycle the next one.", unfold="OUT light"),
-    Example("lights", "examples/lights.rle", "Traffic light", "Green for three cycles, yellow for one, red for three, red and yellow for one."),
-    Example("noise", "examples/noise.rle", "Noise", "A shift register with feedback: its bits look random, and come again after 15 cycles."),
-    Example("adder", "compile examples/adder.blif", "Adder", "s = a + b + ci in four bits, with a carry co. New numbers enter every 32 generations."),
-    Example("counters", "compile examples/counters.blif", "Counters", "Three counters of two bits in a row count the cycles in which go is 1."),
-    Example("gray", "compile examples/gray.blif", "Gray counter", "From each code to the next one bit changes.", unfold="OUT code"),
-    Example("traffic", "compile examples/traffic.blif", "Traffic light with a timer", "A car that waits ends green early."),
+    Example(
+        "toggle",
+        "compile examples/toggle.blif",
+        "Toggle",
+        "Each cycle in which en is 1 flips q, a bit that goes round the loop.",
+        words="en=10011000",
+        nets="n",
+    ),
+    Example(
+        "or",
+        "examples/or.rle",
+        "OR gate",
+        "y is 1 if a or b is 1. Two diodes keep electrons from running back.",
+        words="a=00110110 b=01011010",
+    ),
+    Example(
+        "ring",
+        "examples/ring.rle",
+        "Ring counter",
+        "Four lights: one of them is on, and in each cycle the next one.",
+        unfold="OUT light",
+    ),
+    Example(
+        "lights",
+        "examples/lights.rle",
+        "Traffic light",
+        "Green for three cycles, yellow for one, red for three, red and yellow for one.",
+    ),
+    Example(
+        "noise",
+        "examples/noise.rle",
+        "Noise",
+        "A shift register with feedback: its bits look random, and come again after 15 cycles.",
+    ),
+    Example(
+        "adder",
+        "compile examples/adder.blif",
+        "Adder",
+        "s = a + b + ci in four bits, with a carry co. New numbers enter every 32 generations.",
+    ),
+    Example(
+        "counters",
+        "compile examples/counters.blif",
+        "Counters",
+        "Three counters of two bits in a row count the cycles in which go is 1.",
+    ),
+    Example(
+        "gray",
+        "compile examples/gray.blif",
+        "Gray counter",
+        "From each code to the next one bit changes.",
+        unfold="OUT code",
+    ),
+    Example(
+        "traffic", "compile examples/traffic.blif", "Traffic light with a timer", "A car that waits ends green early."
+    ),
     Example("alu", "compile examples/alu.blif", "ALU", "a + b, a - b, a AND b or a XOR b, as f is 0, 1, 2 or 3."),
-    Example("uart", "compile examples/uart.blif", "Serial transmitter", "Where start is 1 it takes a byte d, and sends it on tx bit by bit."),
-    Example("cpu", "compile examples/cpu.blif", "Processor with an input", "Its program loads, adds and jumps; a is the accumulator, p the place in the program."),
-    Example("fibonacci", "examples/fibonacci.rle", "Processor: Fibonacci", "A program of eight instructions: the accumulator a shows 1, 1, 2, 3, 5, 8, 13.", nets="p"),
-    Example("gcd", "examples/computer/gcd.rle", "Computer: gcd of 48 and 36", "Its lamps show 36, 24, 12.", words="--cycles 31", nets="step,word"),
-    Example("toggle.tape", "examples/toggle.tape.rle", "Toggle with a tape", "The bits of en lie on the wire in the west, and run in by themselves.", words="--cycles 8", view="2600,0,729,64"),
-    Example("toggle.contexts", "compile --contexts 2 1:q=1 examples/toggle.blif", "Two toggles on the same wires", "The second machine runs 32 generations behind the first, with its own bits.", words="0:en=11110111 1:en=00111101"),
+    Example(
+        "uart",
+        "compile examples/uart.blif",
+        "Serial transmitter",
+        "Where start is 1 it takes a byte d, and sends it on tx bit by bit.",
+    ),
+    Example(
+        "cpu",
+        "compile examples/cpu.blif",
+        "Processor with an input",
+        "Its program loads, adds and jumps; a is the accumulator, p the place in the program.",
+    ),
+    Example(
+        "fibonacci",
+        "examples/fibonacci.rle",
+        "Processor: Fibonacci",
+        "A program of eight instructions: the accumulator a shows 1, 1, 2, 3, 5, 8, 13.",
+        nets="p",
+    ),
+    Example(
+        "gcd",
+        "examples/computer/gcd.rle",
+        "Computer: gcd of 48 and 36",
+        "Its lamps show 36, 24, 12.",
+        words="--cycles 31",
+        nets="step,word",
+    ),
+    Example(
+        "toggle.tape",
+        "examples/toggle.tape.rle",
+        "Toggle with a tape",
+        "The bits of en lie on the wire in the west, and run in by themselves.",
+        words="--cycles 8",
+        view="2600,0,729,64",
+    ),
+    Example(
+        "toggle.contexts",
+        "compile --contexts 2 1:q=1 examples/toggle.blif",
+        "Two toggles on the same wires",
+        "The second machine runs 32 generations behind the first, with its own bits.",
+        words="0:en=11110111 1:en=00111101",
+    ),
 ]
 
 

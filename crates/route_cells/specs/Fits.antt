@@ -4,9 +4,10 @@ use Rattle.pattern_reading.specs.declared.ports.Ports.{Ports}
 use Rattle.cell_core.specs.declared.list.CellList.{CellList}
 use Rattle.cell_core.specs.Loops.{names_one}
 
--- The list has an input, an output and a net for each line of the table, names no constant 1, and
--- fits in memory.
+-- The table has one context, and the list an input, an output and a net for each of its lines. It
+-- names no constant 1, and fits in memory.
 pub record FitsPorts (ports : Ports) (list : CellList) : Type 0 where
+  pub contexts : ports.c ≡ 1
   pub ins : length ports.ins ≡ list.inputs
   pub outs : length ports.outs ≡ length list.outs
   pub nets : length ports.nets ≡ length list.nets

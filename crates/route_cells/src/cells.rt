@@ -50,6 +50,7 @@ fn test_all(alloc: Global, t: &Tables, states: &[State], ports: &Ports) -> Resul
 // Whether the list has an input, an output and a net for each line of the table, and does not name
 // constant 1.
 fn fits(list: &CellList, ports: &Ports) -> bool
+    requires { ports.now.c ≡ 1 }
     ensures { IsTrue result → FitsPorts ports.now list.now }
 {
     let (_cells, _latches) = (list.cells.len(), list.latches.len());
@@ -77,6 +78,7 @@ fn list_of(
 ) -> Result<CellList, RouteError>
     requires checked { IsChecked tables states.now ports.now }
     requires flat { shown states.now pattern.now.width ≡ plane_of pattern.now.rows }
+    requires one { ports.now.c ≡ 1 }
     ensures shows { IfOk result (λ list. ShowsListRuns (plane_of pattern.now.rows) ports.now list) }
     ensures fits { IfOk result (FitsPorts ports.now) }
 {

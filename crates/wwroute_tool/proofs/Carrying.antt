@@ -66,6 +66,6 @@ module _ (text : List ℕ) (pattern : Pattern) (ports : Ports) (reads : ReadsWit
   gives_netlist = (
     lifted_design lift.ins lift.outs lift.list,
     subst (λ list. IsNetlistOf text (lifted_text lift.ins lift.outs list) (lifted_design lift.ins lift.outs list)) (sym is.lifted.cells)
-      (subst (λ (names : List Name). IsNetlistOf text (lifted_text lift.ins names is.list) (lifted_design lift.ins names is.list)) (sym is.lifted.outs)
-      (subst (λ (names : List Name). IsNetlistOf text (lifted_text names (names_of ports.outs) is.list) (lifted_design names (names_of ports.outs) is.list)) (sym is.lifted.ins) netlist_of)),
+        (subst (λ (names : List Name). IsNetlistOf text (lifted_text lift.ins names is.list) (lifted_design lift.ins names is.list)) (sym is.lifted.outs)
+        (subst (λ (names : List Name). IsNetlistOf text (lifted_text names (names_of ports.outs) is.list) (lifted_design names (names_of ports.outs) is.list)) (sym is.lifted.ins) netlist_of)),
   )

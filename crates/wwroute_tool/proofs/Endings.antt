@@ -24,7 +24,7 @@ use Rattle.program_runs.proofs.Given.{gave_whole, gained_whole}
 use Rattle.wwroute_tool.specs.declared.refusal.RouteRefusal.{RouteRefusal}
 use Rattle.wwroute_tool.specs.declared.refusal.RouteRefusal.TheVariants.{Usage, Common, NotCircuit}
 use Rattle.wwroute_tool.specs.Words.{IsExtract}
-use Rattle.wwroute_tool.specs.Refusing.{HasNoTable, HasReason, HasTextReason, IsFree, IsPatternText, route_status}
+use Rattle.wwroute_tool.specs.Refusing.{HasNoTable, HasReason, HasTextReason, IsFree, IsPatternText, route_line, route_status}
 use Rattle.wwroute_tool.specs.Runs.{CutsLine, CutsNetlist, Ends, Extracts, HasStopped, IsDone, IsRefused}
 
 -- what is not written to stays

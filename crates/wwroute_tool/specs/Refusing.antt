@@ -33,8 +33,8 @@ fault_word Net = codes "Net"
 -- the line that tells what is wrong, and a cell near it
 abbrev pub fault_line : CellFault → List ℕ
 fault_line fault =
-    codes "not a circuit: " ++ fault_word fault.word ++ codes " " ++ decimal fault.x ++ codes " "
-    ++ decimal fault.y ++ codes "\n"
+    codes "not a circuit: " ++ (fault_word fault.word
+    ++ (codes " " ++ (decimal fault.x ++ (codes " " ++ (decimal fault.y ++ codes "\n")))))
 
 abbrev pub route_status : RouteRefusal → ℕ
 route_status Usage = 2

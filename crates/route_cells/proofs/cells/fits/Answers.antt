@@ -4,6 +4,7 @@ use Rattle.route_cells.proofs.cells.fits.Goals as goal
 pub returns : goal.returns
 returns c = λ t.
     record {
+      contexts = omega arith;
       ins = omega arith;
       outs = omega arith;
       nets = omega arith;
