@@ -84,8 +84,8 @@ def tell(line):
 
 
 class Progress:
-    """Says on standard error what a script is doing, within a `with`: once it has taken some seconds, and then each
-    new line."""
+    """Says at a terminal what a script is doing, on standard error within a `with`: once it has taken some seconds, and
+    then each new line. A pipe or a file gets no such lines."""
 
     def __init__(self):
         self.line, self.is_late = "", False
@@ -106,7 +106,7 @@ class Progress:
 
     def tell(self, line):
         self.line = line
-        if self.is_late and line:
+        if self.is_late and line and sys.stderr.isatty():
             tell(f"{line} ({time.monotonic() - self.began:.0f} s)")
 
 
