@@ -60,7 +60,7 @@ def read(word="-"):
     if word != "-":
         return path(word).read_bytes().decode("latin-1")
     if sys.stdin is None:
-        raise ValueError("standard input is closed, or a folder")
+        raise ValueError("standard input is closed")
     try:
         return sys.stdin.buffer.read().decode("latin-1")
     except OSError as fault:

@@ -289,8 +289,9 @@ def read_pattern(text):
 def pattern_of(file, text=None):
     """Returns the pattern that a file has, whose text may be read already. Raises ValueError, with the file's name,
     where it has none."""
+    text = command.read(file) if text is None else text
     try:
-        return read_pattern(command.read(file) if text is None else text)
+        return read_pattern(text)
     except ValueError as fault:
         raise ValueError(f"{file}: {fault}") from None
 
