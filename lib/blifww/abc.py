@@ -9,14 +9,6 @@ NAMES = ("berkeley-abc", "abc", "yosys-abc")
 EQUAL, DIFFERENT, UNKNOWN = "equivalent", "not equivalent", "not decided"
 
 
-def found():
-    """Returns ABC's path. Raises ValueError where it is not here."""
-    path = next(filter(None, map(shutil.which, NAMES)), None)
-    if path is None:
-        raise ValueError("not decided: there is no ABC (Debian: apt install berkeley-abc)")
-    return path
-
-
 def value_of(cover, values):
     """Returns what a cover gives where some nets have constant values: False, True, or None where that is not known."""
     products = []
@@ -81,10 +73,13 @@ def verdict_of(said, status):
 
 def asked(command, texts, seconds):
     """Returns ABC's verdict on two texts by one command, and its reason."""
+    path = next(filter(None, map(shutil.which, NAMES)), None)
+    if path is None:
+        return UNKNOWN, "there is no ABC (Debian: apt install berkeley-abc)"
     with tempfile.TemporaryDirectory() as room:
         for name, text in zip(("first.blif", "second.blif"), texts):
             Path(room, name).write_text(text, encoding="latin-1", newline="")
-        words = [found(), "-q", f"{command} first.blif second.blif"]
+        words = [path, "-q", f"{command} first.blif second.blif"]
         try:
             said = subprocess.run(words, cwd=room, capture_output=True, timeout=seconds)
         except subprocess.TimeoutExpired:
