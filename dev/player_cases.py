@@ -87,7 +87,8 @@ LAMPS = "#C lamp 0 2700 1800 east\n#C lamp 1 2796 1812 down\nx = 3000, y = 2000,
 # The contrast of two colours #rrggbb, as the Web Content Accessibility Guidelines count it.
 CONTRAST = """(...colours) => {
   const linear = (it) => (it <= 0.04045 ? it / 12.92 : ((it + 0.055) / 1.055) ** 2.4);
-  const light = (it) => [0.2126, 0.7152, 0.0722].reduce((sum, part, k) => sum + part * linear(parseInt(it.slice(1 + 2 * k, 3 + 2 * k), 16) / 255), 0.05);
+  const part = (it, k) => linear(parseInt(it.slice(1 + 2 * k, 3 + 2 * k), 16) / 255);
+  const light = (it) => [0.2126, 0.7152, 0.0722].reduce((sum, share, k) => sum + share * part(it, k), 0.05);
   const [low, high] = colours.map(light).sort((a, b) => a - b);
   return high / low;
 }"""
@@ -96,7 +97,7 @@ LOUD = "#C BLIFWW 2 P 1 L 3 C 1\n#C BLIFWW IN 0 0 a\n#C BLIFWW OUT 3 0 y\nx = 4,
 
 
 def made(program, examples):
-    """Gives, of patterns that are no examples, a title, the pattern, the words, and the commands whose lines they must show."""
+    """Gives, of patterns that are no examples, a title, the pattern, the words, and the commands whose lines it has."""
     toggle = (examples / "toggle.blif").read_text()
     compiled, plain = program.pattern("toggle"), (examples / "or.rle").read_text()
     words = ["0:en=11011101", "1:en=01100110"]
@@ -136,15 +137,18 @@ def numbered(bits, name, word):
 def transfer(files=(), text=""):
     """The JavaScript that makes what a drop or a paste carries."""
     adds = "".join(f"it.items.add(new File([{json.dumps(body)}], {json.dumps(name)}));" for name, body in files)
-    return f"(() => {{ const it = new DataTransfer(); {adds} {f'it.setData(`text/plain`, {json.dumps(text)});' if text else ''} return it; }})()"
+    adds += f"it.setData(`text/plain`, {json.dumps(text)});" if text else ""
+    return f"(() => {{ const it = new DataTransfer(); {adds} return it; }})()"
 
 
 def drop(**given):
-    return f"do document.dispatchEvent(new DragEvent('drop', {{ bubbles: true, cancelable: true, dataTransfer: {transfer(**given)} }}))"
+    facts = f"{{ bubbles: true, cancelable: true, dataTransfer: {transfer(**given)} }}"
+    return f"do document.dispatchEvent(new DragEvent('drop', {facts}))"
 
 
 def paste(text):
-    return f"do document.body.dispatchEvent(new ClipboardEvent('paste', {{ bubbles: true, clipboardData: {transfer(text=text)} }}))"
+    facts = f"{{ bubbles: true, clipboardData: {transfer(text=text)} }}"
+    return f"do document.body.dispatchEvent(new ClipboardEvent('paste', {facts}))"
 
 
 def bus_pattern(names):
@@ -160,9 +164,12 @@ def linked():
         for it in ("1 P 32 L 32", "IN 0 0 \xc3\xa9", "OUT 32 0 y", "NET 1 0 1 a,b -", "NET 2 0 2 a%2Cb -")
     ]
     text = json.dumps("".join(names) + "x = 33, y = 1, rule = WireWorld\n33C!\n")
-    yield f"do openText({text}, 'a text'); feed('\\u00c3\\u00a9=0110'); addNet('a%2Cb'); addNet('a,b')", "page.chosen.length === 2"
+    opened = f"do openText({text}, 'a text'); feed('\\u00c3\\u00a9=0110'); addNet('a%2Cb'); addNet('a,b')"
+    names = "page.chosen.map((it) => it.label).join()"
+    yield opened, "page.chosen.length === 2"
     yield "do page.link = linkOf().split('#')[1], openExample('or')", "page.name === 'or'"
-    yield "do attempt(() => openLink(new Link(page.link)))", f"page.machine.pattern.text === {text} && page.chosen.map((it) => it.label).join() === 'a%2Cb,a,b'"
+    wanted = f"page.machine.pattern.text === {text} && {names} === 'a%2Cb,a,b'"
+    yield "do attempt(() => openLink(new Link(page.link)))", wanted
 
 
 def hands(program):
@@ -227,11 +234,10 @@ def hands(program):
         ("do 0", "page.machine.generation > 1e6 && page.isRunning && !page.isAsked && $('message').hidden")
     ]
     for key, word in LINK_FAULTS.items():
+        told = json.dumps("theme=blue" if key == "theme" else key)
+        is_kept = "page.name === 'toggle' && page.chosen.length === 1"
         yield f"a link with {key}={word}", {"example": "toggle", "words": "en=1", "nets": "n", key: word}, [
-            (
-                "do 0",
-                f"$('message').textContent.includes({json.dumps('theme=blue' if key == 'theme' else key)}) && page.name === 'toggle' && page.chosen.length === 1",
-            )
+            ("do 0", f"$('message').textContent.includes({told}) && {is_kept}")
         ]
     yield "a fault and the rest", {"example": "toggle", "speed": "abc", "gen": 5}, [
         ("do 0", "!$('message').hidden && page.machine.generation === 5")

@@ -1,4 +1,4 @@
-"""Makes docs/player.html, one file, of its source in dev/player/ and of the patterns listed here. dev/stored writes it."""
+"""Makes docs/player.html, one file, of dev/player/ and of the patterns listed here. dev/stored writes it."""
 import json
 from dataclasses import dataclass
 from pathlib import Path
@@ -21,7 +21,7 @@ SCRIPTS = [
 
 @dataclass
 class Example:
-    """A pattern of the page. `made` is a stored pattern's file, or words of the program with its netlist's file at the end."""
+    """A pattern of the page. `made` is a stored pattern's file, or words of the program and a netlist's file."""
 
     name: str
     made: str

@@ -1,5 +1,5 @@
 #!/usr/bin/env python3
-"""wireworld.py PATTERN WORDS LINES: drives a pattern as its table says, and compares its outputs with lines that another program made."""
+"""wireworld.py PATTERN WORDS LINES: drives a pattern by its table, and compares its bits with another program's."""
 import re
 import sys
 from collections import Counter

@@ -1,5 +1,6 @@
--- Prints what the readers of tools/golly/circuit.lua say of each case of dev/readers/cases, a line for each; `-` where they do not read what the
--- case is about. dev/readers-test compares them. The script's own end, which drives Golly, is cut off.
+-- Prints what the readers of tools/golly/circuit.lua say of each case of dev/readers/cases, a line for each; `-` where
+-- they do not read what the case is about. dev/readers-test compares them. The script's own end, which drives Golly, is
+-- cut off.
 
 local function text_of(name)
     local file = assert(io.open(name, "rb"))

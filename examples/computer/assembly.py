@@ -124,7 +124,7 @@ def memory_of(program, least, count):
     best, order = min(turns, key=lambda it: cost(it[0]))
     if len(best) > MOST_STEPS:
         raise Mistake(
-            f"{program.file}: a turn takes {len(best)} steps, with those that wait for a word, and {MOST_STEPS} are the most"
+            f"{program.file}: a turn takes {len(best)} steps, with those that wait for words; the most are {MOST_STEPS}"
         )
     return Memory(best, [(it, program.words.get(it, 0)) for it in order])
 

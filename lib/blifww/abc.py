@@ -13,7 +13,9 @@ def value_of(cover, values):
     """Returns what a cover gives where some nets have constant values: False, True, or None where that is not known."""
     products = []
     for row in cover.rows:
-        literals = [None if it not in values else values[it] == (bit == "1") for it, bit in zip(cover.inputs, row) if bit != "-"]
+        literals = [
+            None if it not in values else values[it] == (bit == "1") for it, bit in zip(cover.inputs, row) if bit != "-"
+        ]
         products.append(False if False in literals else None if None in literals else True)
     holds = True if True in products else None if None in products else False
     return holds if holds is None or not cover.rows else holds == cover.on
@@ -32,7 +34,11 @@ def stuck_latches(model):
             if len(left) == len(covers):
                 break
             covers = left
-        stays = {it.output: stuck[it.output] for it in model.latches if it.output in stuck and values.get(it.data) is stuck[it.output]}
+        stays = {
+            it.output: stuck[it.output]
+            for it in model.latches
+            if it.output in stuck and values.get(it.data) is stuck[it.output]
+        }
         if len(stays) == len(stuck):
             return stuck
         stuck = stays
