@@ -2,6 +2,8 @@
 import gzip
 import json
 
+from blifww.program import printed
+
 HEAD = "x = 9, y = 9, rule = WireWorld\n"
 TABLE = "#C BLIFWW 2 P 32 L 0 C 1\n"
 BAD_TEXTS = [
@@ -96,15 +98,15 @@ CONTRAST = """(...colours) => {
 LOUD = "#C BLIFWW 2 P 1 L 3 C 1\n#C BLIFWW IN 0 0 a\n#C BLIFWW OUT 3 0 y\nx = 4, y = 1, rule = WireWorld\n4C!\n"
 
 
-def made(program, examples):
+def made(pattern_of, examples):
     """Gives, of patterns that are no examples, a title, the pattern, the words, and the commands whose lines it has."""
     toggle = (examples / "toggle.blif").read_text()
-    compiled, plain = program.pattern("toggle"), (examples / "or.rle").read_text()
+    compiled, plain = pattern_of("toggle"), (examples / "or.rle").read_text()
     words = ["0:en=11011101", "1:en=01100110"]
-    two = program.printed(["compile", "--contexts", "2", "1:q=1"], toggle)
+    two = printed(["compile", "--contexts", "2", "1:q=1"], toggle)
     yield "two contexts", two, " ".join(words), [["simulate", "--cycles", "8", *words]]
     many = [f"{c}:en={c % 2}10{c // 2 % 2}1" for c in range(7)]
-    yield "seven contexts", program.printed(["compile", "--contexts", "7", "3:q=1"], toggle), " ".join(many), [
+    yield "seven contexts", printed(["compile", "--contexts", "7", "3:q=1"], toggle), " ".join(many), [
         ["simulate", "--cycles", "5", *many]
     ]
     older = plain.replace("BLIFWW 2 P 32 L 32 C 1", "BLIFWW 1 P 32 L 32")
@@ -116,7 +118,7 @@ def made(program, examples):
             ["simulate", "--cycles", "10"]
         ]
     odd = "%e<n=\xc3\xbc"  # its last two bytes are a letter in UTF-8
-    renamed = program.printed(["compile"], toggle.replace(" en", f" {odd}"))
+    renamed = printed(["compile"], toggle.replace(" en", f" {odd}"))
     yield "an odd name", renamed, f"{odd}=11011101", [["simulate", "--cycles", "8", f"{odd}=11011101"]]
     spaced = ["\xc3\xa0 b=0011", "b=0101"]  # a letter in UTF-8, and a blank
     yield "a name with a blank", plain.replace(" 8 a\n", " 8 %C3%A0%20b\n"), " ".join(spaced), [
@@ -125,7 +127,7 @@ def made(program, examples):
     shown = ["--cycles", "8", "en=11011101"]
     yield "a net", compiled, "en=11011101", [["simulate", *shown], ["probe", "--net", "n", *shown]]
     bits = ["a0=1111", "a1=0101", "a2=0101", "a3=0011", "b0=0010", "b1=1000", "b2=0000", "b3=0110", "ci=0111"]
-    yield "numbers", program.pattern("adder"), "a=1,7,9,15 b=2,8,9,-8 ci=0111", [
+    yield "numbers", pattern_of("adder"), "a=1,7,9,15 b=2,8,9,-8 ci=0111", [
         ["simulate", "--cycles", "4", *numbered(bits, "b3", "0111")]
     ]
 
@@ -172,7 +174,7 @@ def linked():
     yield "do attempt(() => openLink(new Link(page.link)))", wanted
 
 
-def hands(program):
+def hands(pattern_of):
     """Gives a name, a link, and acts, each with what must hold after it."""
     toggle = {"example": "toggle", "words": "en=11011101"}
     yield "keys", toggle, [
@@ -255,7 +257,7 @@ def hands(program):
     ]
     yield "files that are dropped", {}, [
         (
-            drop(files=[("x.rle", program.pattern("gray")), ("x.words", "--cycles 3 reset=000 step=111\n")]),
+            drop(files=[("x.rle", pattern_of("gray")), ("x.words", "--cycles 3 reset=000 step=111\n")]),
             "page.name === 'x.rle' && page.machine.cycles === 3",
         ),
         ("do 0", "page.isRunning && page.isRepeating && page.machine.generation > 20"),
@@ -268,7 +270,7 @@ def hands(program):
         (drop(files=[("bad.rle", HEAD + "C Q!")]), "$('message').textContent.startsWith('G4 BadItem line 2: ')"),
     ]
     yield "texts that are pasted", {}, [
-        (paste(program.pattern("gray")), "page.machine.table.inputs.length === 2"),
+        (paste(pattern_of("gray")), "page.machine.table.inputs.length === 2"),
         (paste("reset=01 step=11"), "page.machine.cycles === 2"),
         (paste("clk=01"), "$('message').textContent.startsWith('stream: UnknownInput clk=01: ')"),
     ]
