@@ -27,30 +27,25 @@ class Refused(ValueError):
         self.status = status
 
 
-def blifww():
-    """Returns the path of the program in the variable BLIFWW, or of the one that `./blifww` runs. Raises ValueError
-    where there is none."""
-    named = os.environ.get("BLIFWW")
+def found(name):
+    """Returns the path of a program of ours: the one in the variable of its name, such as BLIFWW, or the one that
+    `./blifww` or `./wwroute` runs. Raises ValueError where there is none."""
+    named = os.environ.get(name.upper())
     if named:
         return os.path.abspath(named)
-    said = subprocess.run([ROOT / "dev/program"], capture_output=True, text=True)
+    said = subprocess.run([ROOT / "dev/program", name], capture_output=True, text=True)
     if said.returncode:
-        reason = said.stderr.strip().removeprefix("blifww: ") or "none was built here"
-        raise ValueError(f"there is no program blifww yet ({reason}); ./blifww builds one")
+        reason = said.stderr.strip().removeprefix(f"{name}: ") or "none was built here"
+        raise ValueError(f"there is no program {name} yet ({reason}); ./{name} builds one")
     return said.stdout.strip()
+
+
+def blifww():
+    return found("blifww")
 
 
 def wwroute():
-    """Returns the path of the program in the variable WWROUTE, or of the one that `./wwroute` runs. Raises ValueError
-    where there is none."""
-    named = os.environ.get("WWROUTE")
-    if named:
-        return os.path.abspath(named)
-    said = subprocess.run([ROOT / "dev/program", "wwroute"], capture_output=True, text=True)
-    if said.returncode:
-        reason = said.stderr.strip().removeprefix("wwroute: ") or "none was built here"
-        raise ValueError(f"there is no program wwroute yet ({reason}); ./wwroute builds one")
-    return said.stdout.strip()
+    return found("wwroute")
 
 
 def encoded(words):
