@@ -132,6 +132,16 @@ def made(pattern_of, examples):
     ]
 
 
+ROUTED = (
+    "#C gate XOR-E 8 1 7\n#C gate OR-E 18 4 17\n#C gate LONE-E 1 1 0\n#C gate LONE-E 1 7 0\n#C gate LONE-E 1 10 0\n"
+    "#C gate LONE-E 26 6 25\n#C gate XOR-E 0 0 0\n#C wire 1 1 E 8 1 -\n#C wire 1 7 E 8 7 -\n#C wire 12 4 E 18 4 -\n"
+    "#C wire 1 10 E 18 8 -\n#C wire 20 6 E 26 6 01\n#C wire 8 7 E 8 1 -\n"
+    "#C BLIFWW 2 P 20 L 25 C 1\n#C BLIFWW IN 1 1 a\n#C BLIFWW IN 1 7 b\n#C BLIFWW IN 1 10 c\n#C BLIFWW OUT 26 6 y\n"
+    "#C BLIFWW NET 12 4 11 n -\nx = 27, y = 11, rule = WireWorld\n"
+    "$.8C$9.C$8.4C$8.C2.8C$8.4C7.C$9.C8.9C$.8C10.C$18.C$17.C$.16C!\n"
+)  # an XOR and an OR; a gate that is not there, and a wire that leads elsewhere, count for nothing
+
+
 def numbered(bits, name, word):
     return [f"{name}={word}" if it.startswith(f"{name}=") else it for it in bits]
 
@@ -172,6 +182,26 @@ def linked():
     yield "do page.link = linkOf().split('#')[1], openExample('or')", "page.name === 'or'"
     wanted = f"page.machine.pattern.text === {text} && {names} === 'a%2Cb,a,b'"
     yield "do attempt(() => openLink(new Link(page.link)))", wanted
+
+
+def routed():
+    """Gives acts on a routed circuit: what is told of its gates and wires, and that all of it is shown at first."""
+    told = "$('tip').hidden ? '' : $('tip').textContent"
+    title = "((x, y) => page.routed.describe(page.routed.partAt(x, y, 0)).join(': '))"
+    yield f"do openText({json.dumps(ROUTED)}, 'two gates'), pause()", "page.routed.gates.length === 6"
+    yield "do 0", "page.routed.wires.length === 5 && plane.isFitted && $('grid').hidden && !$('nets').hidden"
+    yield "do 0", f"{title}(10, 4) === 'XOR: 1 if exactly one of the two inputs is 1.'"
+    yield "do 0", f"{title}(12, 1) === 'XOR: 1 if exactly one of the two inputs is 1.'"
+    yield "do 0", f"{title}(4, 1) === 'wire of a: from input a to XOR, 7 cells long'"
+    yield "do 0", f"{title}(15, 4) === 'wire of n: from XOR to OR, 6 cells long'"
+    yield "do 0", f"{title}(23, 6) === 'wire: 2 latches, which start with 01; from OR to output y, 6 cells long'"
+    yield "do 0", "page.routed.partAt(23, 10, 0) === null && page.routed.partAt(23, 8, 2).kind === 'wire'"
+    yield "over 10,3", f"({told}).startsWith('XOR')"
+    yield "over 15,4", f"({told}).startsWith('wire of n') && plane.marked.length === 5"
+    yield "over 23,10", f"({told}) === '' && plane.marked.length === 0"
+    yield "cell 15,4", "page.chosen.map((it) => it.label).join() === 'n'"
+    bare = "!page.routed.gates.length && !$('grid').hidden && page.routed.partAt(1, 8, 0) === null"
+    yield "do openExample('or')", bare
 
 
 def hands(pattern_of):
@@ -283,6 +313,7 @@ def hands(pattern_of):
     yield "contexts", {"example": "toggle.contexts", "context": 1}, [
         ("do 0", "page.context === 1 && $('context').value === '1'")
     ]
+    yield "a routed circuit", {}, list(routed())
     yield "a view", {"example": "toggle", "view": "160,0,65,64"}, [
         ("do 0", "!plane.isFitted && plane.shown()[2] < 240")
     ]

@@ -9,6 +9,7 @@ SCRIPTS = [
     "reading",
     "streams",
     "wires",
+    "gates",
     "machine",
     "plane",
     "chart",
@@ -48,6 +49,13 @@ EXAMPLES = [
         "OR gate",
         "y is 1 if a or b is 1. Two diodes keep electrons from running back.",
         words="a=00110110 b=01011010",
+    ),
+    Example(
+        "gates",
+        "examples/gates.rle",
+        "All gates of small circuits",
+        "Each gate is fed by rings, and shows its table again and again. Point at one to see what it is.",
+        words="--cycles 40",
     ),
     Example(
         "ring",

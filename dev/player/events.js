@@ -92,7 +92,7 @@ function watchPlane() {
   let wheel = 0;
   follow(canvas, { drag: (dx, dy) => plane.move(-dx * plane.ratio, -dy * plane.ratio), pinch: zoom, click: clickPlane });
   canvas.addEventListener("pointermove", (event) => { if (!event.buttons) point(event); });
-  canvas.addEventListener("pointerleave", () => { $("tip").hidden = $("readout").hidden = true; });
+  canvas.addEventListener("pointerleave", leavePlane);
   canvas.addEventListener("wheel", (event) => {
     event.preventDefault();
     wheel += event.deltaMode ? event.deltaY * 30 : event.deltaY;

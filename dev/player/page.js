@@ -9,7 +9,7 @@ const REST = 600; // milliseconds between the end of the streams and their next 
 const isCalm = matchMedia("(prefers-reduced-motion: reduce)").matches;
 const plane = new Plane($("plane"), $("marks")), chart = new Chart($("chart"), $("names"));
 const page = {
-  machine: null, name: "", context: 0, trouble: "", isDirty: true, // what is open, and whether it must be painted
+  machine: null, routed: null, name: "", context: 0, trouble: "", isDirty: true, // what is open, and whether it must be painted
   nets: [], chosen: [], unfolded: new Set(), // rows of nets, those that are in the chart, and the buses whose bits are shown
   isRunning: false, isRepeating: false, goal: Infinity, again: 0, // the generation at which it stops; when it begins again
   isAsked: false, arrive: null, // whether that generation was asked for, and what is to be done there if it is far
@@ -44,20 +44,22 @@ function attempt(work) {
 
 function openPattern(text, { name, title = name, about = "", words = "", unfold = [], nets = [], view }) {
   const machine = new Machine(readPattern(text)), { table } = machine, { lamps } = machine.pattern;
-  Object.assign(page, { machine, name, context: 0, nets: rowsOf(table.nets), chosen: [], unfolded: new Set(unfold) });
+  const routed = new Routed(machine.pattern, machine.wires);
+  Object.assign(page, { machine, routed, name, context: 0, nets: rowsOf(table.nets), chosen: [], unfolded: new Set(unfold) });
   describe(machine.pattern, title, about);
   $("examples").value = exampleOf(name) ? name : "";
   $("machines").hidden = table.contexts < 2;
   const contexts = Array.from({ length: table.contexts }, (_, c) => element("option", { value: c, textContent: c }));
   $("context").replaceChildren(...contexts);
   $("adding").hidden = !table.nets.length;
+  $("grid").hidden = routed.gates.length > 0; // it stands on no tiles
   $("netlist").replaceChildren(...page.nets.map((it) => element("option", { value: it.label })));
   const rate = table.period * (lamps.length ? 0.8 : 0.25); // lamps show something after many cycles
   $("speed").value = stepOf(Math.max(32, rate, table.latency / 6)); // seconds for a cycle, and for the first result
   pause();
   showLegend();
   leaveRoom();
-  plane.open(machine.pattern, machine.wires);
+  plane.open(machine.pattern, machine.wires, routed.gates);
   if (view || lamps.length) plane.show(view ?? lampView(machine.pattern));
   feed(words);
   setRepeating(false);

@@ -4,14 +4,14 @@
 // another hue: it has a contrast of more than 3 to 1 to one that is not.
 const THEMES = {
   dark: {
-    outside: "#282828", empty: "#303030", grid: "#4c4c4c", wire: "#ff8000", head: "#0080ff", tail: "#ffffff", trail: "#ffd050",
+    outside: "#282828", empty: "#303030", grid: "#4c4c4c", wire: "#ff8000", head: "#0080ff", tail: "#ffffff", trail: "#ffd050", mark: "#38d6c4",
     unlit: "#8a4600", lit: "#8dff6a",
     in: "#7ddc87", out: "#ff8fb4", net: "#c9cdd3",
     ground: "#1b1d21", panel: "#23262b", raised: "#2e3238", line: "#3a3f47", text: "#eceef1", soft: "#a7afb9",
     accent: "#4da3ff", onAccent: "#06121f", warn: "#ffb454",
   },
   light: {
-    outside: "#eeeeea", empty: "#fafaf7", grid: "#d2d2cc", wire: "#d87200", head: "#005cd6", tail: "#1c222c", trail: "#8a2800",
+    outside: "#eeeeea", empty: "#fafaf7", grid: "#d2d2cc", wire: "#d87200", head: "#005cd6", tail: "#1c222c", trail: "#8a2800", mark: "#00857c",
     unlit: "#e2b27a", lit: "#0b6b2e",
     in: "#17752b", out: "#b3205c", net: "#4a535d",
     ground: "#eef0f2", panel: "#ffffff", raised: "#f1f3f5", line: "#d3d8de", text: "#1c2127", soft: "#59636e",
@@ -60,7 +60,7 @@ function lampCells(lamps, wires) {
 /** The plane on a canvas; `left` and `top` are its first points on show. */
 class Plane {
   constructor(canvas, marks) {
-    Object.assign(this, { canvas, marks, left: 0, top: 0, ratio: 1, above: 62, below: 46, isFitted: true, part: null, spots: [] });
+    Object.assign(this, { canvas, marks, left: 0, top: 0, ratio: 1, above: 62, below: 46, isFitted: true, part: null, spots: [], gates: [], marked: [] });
     this.shows = { grid: false, nets: false, trail: true };
     this.context = canvas.getContext("2d", { alpha: false });
     this.setLevel(48);
@@ -85,7 +85,7 @@ class Plane {
   paintWith(theme) {
     this.theme = theme;
     this.trails = Uint32Array.from({ length: SHADES }, (_, i) => mixed(theme.trail, theme.wire, ((0.5 + i) / SHADES) ** 2));
-    for (const kind of ["wire", "head", "tail", "lit", "unlit"]) this[kind] = mixed(theme[kind]);
+    for (const kind of ["wire", "head", "tail", "lit", "unlit", "mark"]) this[kind] = mixed(theme[kind]);
     this.densities = Uint32Array.from({ length: SHADES + 1 }, (_, i) => mixed(theme.empty, theme.wire, 0.3 + (0.6 * i) / SHADES));
     this.isStale = true;
   }
@@ -103,8 +103,8 @@ class Plane {
     if (this.part) this.show(this.part);
   }
 
-  open(pattern, wires) {
-    Object.assign(this, { pattern, wires, pointOf: new Int32Array(wires.count), isLamp: lampCells(pattern.lamps, wires) });
+  open(pattern, wires, gates) {
+    Object.assign(this, { pattern, wires, gates, marked: [], pointOf: new Int32Array(wires.count), isLamp: lampCells(pattern.lamps, wires) });
     this.fit();
   }
 
@@ -196,7 +196,7 @@ class Plane {
     const right = Math.ceil(pattern.width * size) - left, bottom = Math.ceil(pattern.height * size) - top;
     base.fill(mixed(theme.outside));
     this.fill(base, -left, -top, right, bottom, mixed(theme.empty));
-    if (this.shows.grid && 16 * size >= 6) this.drawGrid(right, bottom);
+    if (this.shows.grid && 16 * size >= 6 && !this.gates.length) this.drawGrid(right, bottom);
     if (size < 1) this.drawDensity(first, end);
     else for (let i = first; i < end; i++) this.square(base, this.column(xs[i]), this.row(ys[i]), this.side, this.isLamp[i] ? this.unlit : this.wire);
     this.isStale = false;
@@ -234,9 +234,15 @@ class Plane {
     }
   }
 
-  /** Draws tails, then heads; small ones are drawn larger than they are. */
+  /** Marks the wire at which the pointer is, and all that carry its signal. */
+  drawMarked() {
+    const { xs, ys } = this.wires, side = Math.max(this.side, Math.round(2 * this.ratio));
+    for (const i of this.marked) this.square(this.points, this.column(xs[i]), this.row(ys[i]), side, this.mark);
+  }
+
+  /** Draws tails, then heads; small ones are drawn larger than they are, and the larger the fewer they are. */
   drawElectrons() {
-    const { xs, ys, lists, heads, tails } = this.wires, least = heads < 20000 ? Math.round(5 * this.ratio) : 1;
+    const { xs, ys, lists, heads, tails } = this.wires, least = heads < 20000 ? Math.round((heads < 500 ? 7 : 5) * this.ratio) : 1;
     const side = Math.max(this.side, least), shift = (side - this.side) >> 1;
     for (const [list, count, colour] of [[lists[1], tails, this.tail], [lists[0], heads, this.head]]) {
       for (let i = 0; i < count; i++) {
@@ -249,6 +255,7 @@ class Plane {
     if (this.isStale) this.drawBase();
     this.points.set(this.base);
     if (this.shows.trail) this.drawTrail();
+    this.drawMarked();
     this.drawElectrons();
     this.context.putImageData(this.image, 0, 0);
     this.drawNames(names);
@@ -272,6 +279,24 @@ class Plane {
       if (kind !== "NET") spread(own, height, top, bottom);
       for (const it of own) this.drawName(context, it, height);
     }
+    this.drawGateNames(context, wide, high);
+  }
+
+  /** Draws gates' names above them, where the cells are so large that these have room: gates stand at least two cells apart. */
+  drawGateNames(context, wide, high) {
+    const size = this.size / this.ratio;
+    if (size < 4) return;
+    Object.assign(context, { font: `600 11px ${FONT}`, lineWidth: 3, lineJoin: "round", strokeStyle: this.theme.empty });
+    context.textAlign = "center";
+    for (const it of this.gates) {
+      const x = (it.x * this.size - this.left) / this.ratio + (it.wide * size) / 2, y = (it.y * this.size - this.top) / this.ratio - 7;
+      const isSeen = it.high > 1 && x > -60 && y > -20 && x < wide + 60 && y < high + 20;
+      if (!isSeen || context.measureText(it.title).width + 4 > (it.wide + 2) * size) continue;
+      context.fillStyle = it.copies ? this.theme.soft : this.theme.text;
+      context.strokeText(it.title, x, y);
+      context.fillText(it.title, x, y);
+    }
+    context.textAlign = "left";
   }
 
   /** Draws a name where no other stands: its cell's frame, or a line from its cell, and its plate. */

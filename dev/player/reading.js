@@ -186,5 +186,6 @@ function readPattern(text) {
   const lines = linesOf(text), header = headerOf(lines), cells = cellsOf(lines, header, text.endsWith("\n"));
   const table = tableOf(lines, header);
   if (table.contexts > MOST_CONTEXTS) throw new Fault(`This page takes at most ${MOST_CONTEXTS} contexts`);
-  return { ...header, ...cells, table, text, lamps: lampsOf(lines, header) };
+  const gateLines = lines.slice(0, header.at).filter((it) => /^#C (gate|wire) /.test(it));
+  return { ...header, ...cells, table, text, lamps: lampsOf(lines, header), gateLines };
 }

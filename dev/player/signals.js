@@ -24,33 +24,64 @@ function sayPort(port) {
   return [element("b", { textContent: title }), `${bit}cycle t is at generation ${offset + 32 * c} + ${period} t`];
 }
 
-/** The lane and the column of a cell, if the pattern has a body, and its state. */
+/** The lane and the column of a cell, if the pattern has a body of tiles, and its state. */
 function sayCell(x, y) {
   const { wires, pattern: { table } } = page.machine, atStart = [...table.inputs, ...table.nets].filter((it) => it.offset === 0);
   const column = Math.floor((x - Math.min(...atStart.map((it) => it.x))) / 32), isBody = column >= 0 && 32 * column < table.latency;
   const state = ["empty", "head", "tail", "wire"][wires.state[wires.find(x, y)] ?? 0];
-  return `lane ${y >> 4}${isBody ? `, column ${column}` : ""} · cell (${x}, ${y}) ${state}`;
+  const place = page.routed.gates.length ? "" : `lane ${y >> 4}${isBody ? `, column ${column}` : ""} · `;
+  return `${place}cell (${x}, ${y}) ${state}`;
+}
+
+/** The gate or the wire under the pointer, or near it. */
+function partNear(px, py) {
+  const [x, y] = plane.cellAt(px * plane.ratio, py * plane.ratio);
+  return page.routed.partAt(x, y, Math.ceil((5 * plane.ratio) / plane.size));
+}
+
+/** The kind of what a click acts on: a port, or the net of a wire. */
+const useOf = ([port], part) => port?.kind ?? (part?.port?.kind === "NET" ? "NET" : "");
+
+/** What is told of ports, or of a gate or a wire. */
+function sayTip(ports, part) {
+  const [title, line] = part ? page.routed.describe(part) : [];
+  const more = ports.length > 4 ? `and ${ports.length - 4} more` : { IN: "Click: switch it", NET: "Click: show it in the chart" }[useOf(ports, part)];
+  const told = part ? [element("b", { textContent: title }), line] : ports.slice(0, 4).flatMap(sayPort);
+  return [...told, element("div", { className: "soft", textContent: more ?? "" })];
 }
 
 /** Shows what is at the pointer. */
 function point({ offsetX: px, offsetY: py }) {
   const { width, height } = page.machine.pattern, [x, y] = plane.cellAt(px * plane.ratio, py * plane.ratio);
-  const ports = portsNear(px, py), use = { IN: "Click: switch it", NET: "Click: show it in the chart" }[ports[0]?.kind] ?? "";
-  const more = ports.length > 4 ? `and ${ports.length - 4} more` : use, tip = $("tip"), view = $("view");
+  const ports = portsNear(px, py), part = ports.length ? null : partNear(px, py), tip = $("tip"), view = $("view");
   $("readout").hidden = !(x >= 0 && y >= 0 && x < width && y < height);
   $("readout").textContent = sayCell(x, y);
-  $("plane").style.cursor = use && "pointer";
-  tip.hidden = !ports.length;
-  tip.replaceChildren(...ports.slice(0, 4).flatMap(sayPort), element("div", { className: "soft", textContent: more }));
+  $("plane").style.cursor = /IN|NET/.test(useOf(ports, part)) ? "pointer" : "";
+  mark(part ? page.routed.alike(part) : []);
+  tip.hidden = !ports.length && !part;
+  tip.replaceChildren(...sayTip(ports, part));
   const isLow = py + 24 + tip.offsetHeight > view.clientHeight;
   tip.style.left = `${Math.max(0, Math.min(px + 16, view.clientWidth - tip.offsetWidth - 8))}px`;
   tip.style.top = `${isLow ? Math.max(0, py - 16 - tip.offsetHeight) : py + 20}px`;
 }
 
+function mark(cells) {
+  page.isDirty ||= cells.length + plane.marked.length > 0;
+  plane.marked = cells;
+}
+
+/** Takes away what is told at the pointer. */
+function leavePlane() {
+  $("tip").hidden = $("readout").hidden = true;
+  mark([]);
+}
+
+/** Switches an input, or shows a net in the chart; a finger, which does not hover, is told what is there. */
 function clickPlane(event) {
-  const [port] = portsNear(event.offsetX, event.offsetY);
-  if (port?.kind === "IN") switchInput(port);
-  if (port?.kind === "NET") addNet(port.label);
+  const { offsetX: px, offsetY: py } = event, ports = portsNear(px, py), part = ports.length ? null : partNear(px, py), use = useOf(ports, part);
+  if (use === "IN") switchInput(ports[0]);
+  if (use === "NET") addNet((ports[0] ?? part.port).label);
+  if (event.pointerType === "touch") setTimeout(() => point({ offsetX: px, offsetY: py }));
 }
 
 /* Rows of signals */

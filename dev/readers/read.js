@@ -1,8 +1,8 @@
 // Prints what the readers of docs/player.html say of each case of dev/readers/cases, a line for each; dev/readers-test compares them.
 "use strict";
 const fs = require("fs"), path = require("path");
-const scripts = ["reading", "streams"].map((it) => fs.readFileSync(path.join(__dirname, `../player/${it}.js`), "utf8")).join("\n");
-const { readPattern, readWords, rowsOf, Fault } = new Function(`${scripts}; return { readPattern, readWords, rowsOf, Fault };`)();
+const scripts = ["reading", "streams", "gates"].map((it) => fs.readFileSync(path.join(__dirname, `../player/${it}.js`), "utf8")).join("\n");
+const { readPattern, readWords, readGates, rowsOf, Fault } = new Function(`${scripts}; return { readPattern, readWords, readGates, rowsOf, Fault };`)();
 
 const LETTERS = { n: "\n", r: "\r", t: "\t", "\\": "\\" };
 const unescaped = (field) => field.replace(/\\(x(..)|.)/g, (_, letter, digits) => (digits ? String.fromCharCode(parseInt(digits, 16)) : LETTERS[letter]));
@@ -28,9 +28,16 @@ function streamsOf(contexts, inputs, words) {
 
 const busesOf = (names) => rowsOf(portsOf(names)).map((row) => escaped(row.name) + (row.isBus ? `=${row.ports.map((it) => escaped(it.full)).join(",")}` : "")).join(" ");
 
+function gatesOf(text) {
+  const { gates, wires } = readGates(readPattern(text).gateLines);
+  const named = gates.map((it) => `${it.word}-${it.turn} ${it.x} ${it.y} ${it.wide}x${it.high}`);
+  const led = wires.map((it) => `wire ${it.x} ${it.y} ${it.step} ${it.u} ${it.v} ${it.starts || "-"}`);
+  return [...named, ...led].join(", ") || "none";
+}
+
 for (const line of fs.readFileSync(process.argv[2], "latin1").split("\n")) {
   if (!line || line.startsWith("#")) continue;
-  const [kind, ...fields] = line.split(" | ").slice(0, -1), read = { text: tableOf, words: streamsOf, buses: busesOf }[kind];
+  const [kind, ...fields] = line.split(" | ").slice(0, -1), read = { text: tableOf, words: streamsOf, buses: busesOf, gates: gatesOf }[kind];
   try {
     console.log(read(...fields.map(unescaped)));
   } catch (fault) {

@@ -14,13 +14,13 @@ package.preload.gplus = function () return {} end
 package.preload.oplus = function () return {} end
 local source = text_of("tools/golly/circuit.lua")
 local readers = [[
-return read_table, grouped, function (found, text)
+return read_table, read_gates, grouped, function (found, text)
     circuit, P, L, C = found, found.P, found.L, found.C
     clear_streams()
     local cycles, fault = read_words(text, 0)
     return cycles, fault, found
 end]]
-local read_table, grouped, read_words = assert(load(source:sub(1, source:find("\nlocal out = os.getenv", 1, true))..readers))()
+local read_table, read_gates, grouped, read_words = assert(load(source:sub(1, source:find("\nlocal out = os.getenv", 1, true))..readers))()
 
 local LETTERS = {n = "\n", r = "\r", t = "\t", ["\\"] = "\\"}
 local function unescaped(field)
@@ -59,6 +59,15 @@ local function buses_of(names)
     return table.concat(said, " ")
 end
 
+-- It knows the gates alone, and no wires.
+local function gates_of(text)
+    local said = {}
+    for _, it in ipairs(read_gates(text)) do
+        said[#said + 1] = string.format("%s-%s %d %d %dx%d", it.word, it.turn, it.x, it.y, it.wide, it.high)
+    end
+    return #said > 0 and table.concat(said, ", ") or "none"
+end
+
 for line in text_of(arg[1]):gmatch("[^\n]+") do
     local fields = {}
     for field in (line.." | "):gmatch("(.-) | ") do fields[#fields + 1] = unescaped(field) end
@@ -66,6 +75,8 @@ for line in text_of(arg[1]):gmatch("[^\n]+") do
         print(streams_of(tonumber(fields[2]), fields[3], fields[4]))
     elseif fields[1] == "buses" then
         print(buses_of(fields[2]))
+    elseif fields[1] == "gates" then
+        print(fields[2]:find("wire", 1, true) and "-" or gates_of(fields[2]))
     elseif fields[1] == "text" then
         print("-")
     end

@@ -4,7 +4,7 @@ from dataclasses import dataclass, field
 from lamps import BAR, lamps
 from wires import FORK, LANE, TILE, Cells, Plane, by_row, fan, lanes, sort, steps_of
 
-from blifww.rle import Part, Wire, read_pattern
+from blifww.rle import read_pattern
 
 
 def read(text):
@@ -132,8 +132,6 @@ class Drawn:
     before: int
     lit: int = 0
     lamps: list = field(default_factory=list)
-    parts: list = field(default_factory=list)  # the computer with the tiles beside it, and the display with its lamps
-    taps: list = field(default_factory=list)  # the wires to the display
 
 
 class Display:
@@ -170,15 +168,6 @@ class Display:
         self.inner = x - begin + self.display.latency
         return self.core.latency + (self.east - out_x) + steps_of(self.corners(0, begin)) + self.inner + after, shown
 
-    def wiring(self, plane, first):
-        """Returns the part that it is, whose first cycle begins at that generation after the computer's last column,
-        and the wires to it."""
-        _, _, right, bottom = plane.box()
-        late = first + steps_of(self.corners(0, self.begin)) + 1
-        part = Part(self.begin, self.y - 1, right - self.begin + 1, bottom - self.y + 2, TILE, late, self.inner)
-        ways = [self.corners(i, self.begin) for i in range(len(self.taps))]
-        return part, [Wire((way[0][0] - 1, way[0][1]), "E", way[-1], []) for way in ways]
-
 
 def with_display(drawn, core, below):
     """Draws the display so far to the east that the lamps are lit at multiples of the period."""
@@ -188,21 +177,6 @@ def with_display(drawn, core, below):
         drawn.before, shift = drawn.before + core.period - shift, 0
     after, drawn.lamps = below.draw(drawn.plane, below.west + shift)
     drawn.lit = (drawn.before + after) // core.period
-
-
-def main_part(core, ends, drawn):
-    """Returns the part that the computer is, with the tiles east and west of it."""
-    east, west = ends
-    out_x = next(iter(core.outputs.values()))[0]
-    return Part(
-        west,
-        0,
-        east - west,
-        core.height + 2,
-        core.period,
-        drawn.before - drawn.near,
-        drawn.near + core.latency + east - 1 - out_x,
-    )
 
 
 def whole(core, display, bundles):
@@ -219,11 +193,6 @@ def whole(core, display, bundles):
         base, number = wires.top(), number + len(bundle.outputs)
     near = next(iter(core.inputs.values()))[0] - ends[1]
     drawn = Drawn(plane, found, near, near + 64)
-    below = Display(core, display, ends, taps, len(outs)) if display else None
-    if below:
-        with_display(drawn, core, below)
-    drawn.parts.append(main_part(core, ends, drawn))
-    if below:
-        part, drawn.taps = below.wiring(plane, drawn.parts[0].first + drawn.parts[0].latency)
-        drawn.parts.append(part)
+    if display:
+        with_display(drawn, core, Display(core, display, ends, taps, len(outs)))
     return drawn

@@ -12,6 +12,7 @@ import time
 from pathlib import Path
 
 PATIENCE = 2  # seconds that a script is silent
+INTERVAL = 5  # seconds from one line on what it is doing to the next
 
 
 def latin(word):
@@ -84,30 +85,28 @@ def tell(line):
 
 
 class Progress:
-    """Says at a terminal what a script is doing, on standard error within a `with`: once it has taken some seconds, and
-    then each new line. A pipe or a file gets no such lines."""
+    """Says on standard error what a script is doing within a `with`, the text `line`: after some seconds, and then at
+    intervals. It says nothing where the variable BLIFWW_QUIET is set."""
 
-    def __init__(self):
-        self.line, self.is_late = "", False
-        self.began = time.monotonic()
-        self.timer = threading.Timer(PATIENCE, self.wake)
-        self.timer.daemon = True
+    def __init__(self, line=""):
+        self.line, self.began, self.ended = line, time.monotonic(), threading.Event()
+        self.thread = threading.Thread(target=self.run, daemon=True)
 
     def __enter__(self):
-        self.timer.start()
+        if not os.environ.get("BLIFWW_QUIET"):
+            self.thread.start()
         return self
 
     def __exit__(self, *_):
-        self.timer.cancel()
+        self.ended.set()
+        if self.thread.is_alive():
+            self.thread.join()
 
-    def wake(self):
-        self.is_late = True
-        self.tell(self.line)
-
-    def tell(self, line):
-        self.line = line
-        if self.is_late and line and sys.stderr.isatty():
-            tell(f"{line} ({time.monotonic() - self.began:.0f} s)")
+    def run(self):
+        wait = PATIENCE
+        while not self.ended.wait(wait):
+            tell(f"{self.line} ({time.monotonic() - self.began:.0f} s)")
+            wait = INTERVAL
 
 
 def line_of(fault):

@@ -1,10 +1,12 @@
 """The plane: cells that are drawn, and a pattern that runs by Wireworld's rule."""
+import itertools
 import re
 
 from . import rle
 
 ROOM = 1024  # columns by which a plane grows to the west
 RUN = re.compile(rb"C+|A+|B+")
+WORDS = dict(zip(b"ABC.", ("a head", "a tail", "a conductor", "empty")))
 
 
 class Plane:
@@ -55,6 +57,24 @@ class Plane:
         left, top, right, bottom = self.box()
         runs = [(x - left, y - top, length, letter) for x, y, length, letter in self.runs()]
         return rle.text_of(table(-left, -top), right - left + 1, bottom - top + 1, runs)
+
+
+def rows_of(pattern):
+    """Returns the rows of a pattern's cells, letters or `.`."""
+    rows = [bytearray(b"." * pattern.width) for _ in range(pattern.height)]
+    for x, y, length, letter in pattern.runs:
+        rows[y][x : x + length] = letter.encode() * length
+    return rows
+
+
+def first_difference(rows, wanted):
+    """Says at which cell rows first differ from those wanted, or ''. What lies beyond either is empty."""
+    for y, pair in enumerate(itertools.zip_longest(rows, wanted, fillvalue=b"")):
+        if pair[0] != pair[1]:
+            for x, (cell, wish) in enumerate(itertools.zip_longest(*pair, fillvalue=ord("."))):
+                if cell != wish:
+                    return f"({x}, {y}): it is {WORDS[cell]}, and there {WORDS[wish]}"
+    return ""
 
 
 class World:

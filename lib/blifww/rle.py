@@ -27,46 +27,6 @@ ITEM = re.compile(r"[ \t]+|([0-9]*)(.?)", re.S)
 
 
 @dataclass
-class Part:
-    """A pattern that stands in another one: its box; its own period; the generation at which its first cycle begins;
-    its latency."""
-
-    x: int
-    y: int
-    width: int
-    height: int
-    period: int
-    first: int
-    latency: int
-
-    def moved(self, x, y, late):
-        return Part(self.x + x, self.y + y, self.width, self.height, self.period, self.first + late, self.latency)
-
-    def line(self, x=0, y=0):
-        """Returns its line in a table, with its cells moved."""
-        return f"#C part {self.x + x} {self.y + y} {self.width} {self.height} {self.period} {self.first} {self.latency}"
-
-
-@dataclass
-class Wire:
-    """A wire between the cell of an output and that of an input: the step from the one to the wire, and in each
-    context the bits, one for each cycle that the wire is long, with which the input starts."""
-
-    start: tuple  # (x, y)
-    step: str
-    end: tuple  # (x, y)
-    starts: list
-
-    def moved(self, x, y):
-        return Wire((self.start[0] + x, self.start[1] + y), self.step, (self.end[0] + x, self.end[1] + y), self.starts)
-
-    def line(self, x=0, y=0):
-        """Returns its line in a table, with its cells moved."""
-        (a, b), (u, v) = self.start, self.end
-        return f"#C wire {a + x} {b + y} {self.step} {u + x} {v + y} {','.join(self.starts) or '-'}"
-
-
-@dataclass
 class Pattern:
     """A pattern and its port table. A run is (x, y, length, letter), where the letter is A (heads), B (tails) or C
     (conductors)."""
@@ -80,8 +40,6 @@ class Pattern:
     inputs: dict = field(default_factory=dict)  # name: (x, y)
     outputs: dict = field(default_factory=dict)  # name: (x, y)
     nets: list = field(default_factory=list)  # (x, y, offset, name, path)
-    parts: list = field(default_factory=list)
-    wires: list = field(default_factory=list)
     version: int = 0  # of its table; 0 where it has none
 
     def cells(self):
@@ -183,25 +141,6 @@ def read_ports(pattern, lines):
         seen.add(port[:3])
 
 
-def read_wiring(pattern, lines):
-    """Reads the parts and wires in the lines before the header (docs/FORMATS.md, 'Parts and wires')."""
-    for line in lines:
-        if not line.startswith(("#C part ", "#C wire ")):
-            continue
-        words = line.split()[1:]
-        part = re.fullmatch(r"part( [0-9]+){7}", " ".join(words))
-        wire = re.fullmatch(
-            rf"wire [0-9]+ [0-9]+ ({'|'.join(STEPS)}) [0-9]+ [0-9]+ (-|[01]+(,[01]+)*)", " ".join(words)
-        )
-        if part:
-            pattern.parts.append(Part(*map(int, words[1:])))
-        elif wire:
-            (x, y), (u, v) = map(int, words[1:3]), map(int, words[4:6])
-            pattern.wires.append(Wire((x, y), words[3], (u, v), [] if words[6] == "-" else words[6].split(",")))
-        else:
-            raise ValueError(f"this line names no part and no wire: {shown(line)}")
-
-
 # Texts.
 
 
@@ -282,7 +221,6 @@ def read_pattern(text):
     at, pattern = read_header(lines)
     read_cells(pattern, lines, at, text.endswith("\n"))
     read_ports(pattern, lines[:at])
-    read_wiring(pattern, lines[:at])
     return pattern
 
 

@@ -1,6 +1,7 @@
 -- The plan of the flat netlist of a circuit is one of the circuit.
 use Rattle.std.proofs.Common.{◌≡◌, refl, sym, ◌∙◌, ap, subst, ◌+◌, ◌*◌, ◌≤◌, ℕ, Bool, false, List, [], ◌∷◌, length, arith}
 use Rattle.std.specs.Prelude.{◌==◌, if◌then◌else◌}
+use Rattle.std.proofs.lemmas.List.{length-map}
 use Rattle.lane_core.specs.declared.plan.Plan.{Plan}
 use Rattle.lane_core.specs.Plans.{IsAdmissible}
 use Rattle.plan_layout.specs.Starts.{HasStartEdges}
@@ -18,6 +19,8 @@ use Rattle.carries.specs.FlatNets.{CarriesFlat}
 use Rattle.netlist_plans.specs.Lists.{IsPlanned}
 use Rattle.netlist_plans.specs.Sparing.{SparesOne}
 use Rattle.netlist_plans.specs.Planned.{ComputesCells, HasFewInstrs, IsSmall}
+use Rattle.netlist_plans.specs.Contexts.{StartsLoops}
+use Rattle.cell_core.specs.Loops.{loop_state}
 use Rattle.aiger_text.specs.declared.aig.Aig.{Aig}
 use Rattle.aiger_text.specs.SoundAig.{IsSoundAig}
 use Rattle.aiger_meaning.specs.FlatOf.{IsFlatOfAig}
@@ -55,16 +58,32 @@ module _ (aig : Aig) (flat : Flat) (order : List ℕ) (sound : IsSoundAig aig) (
     };
   }
 
-  pub is_plan : IsAdmissible plan → HasStartEdges plan → plan.tape ≡ [] → IsPlanned flat plan → ComputesCells flat plan → IsSmall flat plan → IsTableOf flat plan 1 ports
+  -- the plan computes the cells of its list
+  abbrev cells_of : IsPlanned flat plan → ComputesCells flat plan
+  cells_of p =
+      let m = p.computes.mapped in
+      record {
+        list = p.list;
+        mapped = m;
+        computes = p.is.computes;
+        entries = p.is.entries;
+        exits = p.is.exits;
+        loops = omega (arith, p.is.computes.loops, ap length m.starts ∙ length-map flat.latches _);
+        starts = subst (λ (bits : List Bool). StartsLoops plan (bits ∷ [])) (ap (loop_state p.list) m.starts) p.is.starts;
+      }
+
+  pub is_plan : IsAdmissible plan → HasStartEdges plan → plan.tape ≡ [] → IsPlanned flat plan → IsSmall flat plan → IsTableOf flat plan 1 ports
       → (length flat.latches ≡ 0 → any_needs_one flat ≡ false → ports.p ≡ 32) → (SparesOne flat → ports.p ≡ 32) → CarriesFlat (pattern_text (start_grid plan) ports) flat → IsPlanOfAig aig plan ports
-  is_plan admissible edges bare planned cells small table short shorter carries = record {
+  is_plan admissible edges bare planned small table short shorter carries = record {
     admissible = admissible;
     edges = edges;
     bare = bare;
-    planned = record { flat = flat; is_flat = is_flat; planned = planned; cells = cells };
+    planned = record { flat = flat; is_flat = is_flat; planned = planned; cells = cells_of planned; one_list = refl };
     lanes = subst (λ w. plan.lanes ≤ 4 * w + 4) lowered.weight small.lanes;
     columns = subst (λ w. length plan.columns ≤ 256 * ((w + 1) * (w + 1))) lowered.weight small.columns;
     instrs = subst (λ w. HasFewInstrs w plan) lowered.weight small.instrs;
+    loops = subst (λ n. plan.latches ≤ n + 1) asks.latches small.loops;
+    no_more_loops = λ e. small.no_more_loops (asks.one ∙ e) ∙ asks.latches;
     table = table_of_aig bare table;
     period = λ none e. short (asks.latches ∙ none) (asks.one ∙ e);
     at_zero = λ none. (

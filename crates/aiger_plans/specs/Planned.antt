@@ -30,17 +30,19 @@ pub record IsTableOfAig (aig : Aig) (plan : Plan) (ports : Ports) : Type 0 where
   pub names : NamesAig ports aig
 
 -- A list of cells computes the flat netlist of the circuit, and so its outputs and what its latches
--- read next; the plan is a plan of that list.
+-- read next; the plan is a plan of that list, and computes it with its loops and start edges.
 pub record IsPlannedAig (aig : Aig) (plan : Plan) : Type 0 where
   pub flat : Flat
   pub is_flat : IsFlatOfAig aig flat
   pub planned : IsPlanned flat plan
   pub cells : ComputesCells flat plan
+  pub one_list : cells.list ≡ planned.list
 
 -- The plan can be drawn, its starts are edges of its drawing, and it has no tape. It is a plan of
 -- cells that compute the circuit: so it has a loop for each latch, and one more exactly if constant
--- 1 is named. It is small: if w is the circuit's weight, it has at most 4 w + 4 lanes, at most
--- 256 (w + 1) (w + 1) columns, and at most that many instructions. The table is the plan's. Its
+-- 1 is named; and it has none more if the circuit needs no constant 1. It is small: if w is the
+-- circuit's weight, it has at most 4 w + 4 lanes, at most 256 (w + 1) (w + 1) columns, and at most
+-- that many instructions. The table is the plan's. Its
 -- period is 32 if the circuit has no latch and needs no constant 1; without latches it is 32
 -- exactly if all outputs are 0 while all inputs are. The text that is written of the plan and the
 -- table carries the circuit.
@@ -52,6 +54,8 @@ pub record IsPlanOfAig (aig : Aig) (plan : Plan) (ports : Ports) : Type 0 where
   pub lanes : plan.lanes ≤ 4 * aig_weight aig + 4
   pub columns : length plan.columns ≤ 256 * ((aig_weight aig + 1) * (aig_weight aig + 1))
   pub instrs : HasFewInstrs (aig_weight aig) plan
+  pub loops : plan.latches ≤ length aig.latches + 1
+  pub no_more_loops : aig_needs_one aig ≡ false → plan.latches ≡ length aig.latches
   pub table : IsTableOfAig aig plan ports
   pub period : length aig.latches ≡ 0 → aig_needs_one aig ≡ false → ports.p ≡ 32
   pub at_zero : length aig.latches ≡ 0 → (ports.p ≡ 32) ↔ (some_output_is_one aig ≡ false)

@@ -32,8 +32,8 @@ alone c =
 abbrev pub is_of_second : Crossing → ℕ → Bool
 is_of_second c o = c.answer (false ∷ true ∷ []) o
 
--- The law of crossings: the cells are conductors, each input alone is answered in time, and no
--- output is lit by both inputs, or by none.
+-- The law of crossings: the cells are conductors, each input alone is answered in time, and each
+-- output answers one of the inputs at most, and is dark without them.
 pub record KeepsCrossingLaw (c : Crossing) : Type 0 where
   pub drawn : IsGateDrawn (alone c)
   pub by_first : (bit : Bool) → AnswersInTime (alone c) (bit ∷ false ∷ [])

@@ -29,7 +29,7 @@ input_at cell = record { x = cell.0; y = cell.1; time = 0 }
 abbrev pub two_inputs : (first second : ℕ × ℕ) → List InCell
 two_inputs first second = input_at first ∷ input_at second ∷ []
 
--- the output is dark without inputs, and not lit by both of them
+-- the output is dark without inputs, and answers one of them at most
 pub record IsOfOne (out : OutCell) : Type 0 where
   pub none : flag_at out.table 0 ≡ false
   pub one : (flag_at out.table 1 && flag_at out.table 2) ≡ false

@@ -10,8 +10,8 @@ use Rattle.wire_laws.specs.Rows.{Port, AnswersEachRow}
 -- A gate: a drawing with ports, which is used again and again. A port is a cell, and a generation of
 -- a use: an input is lit then if its bit is 1, an output if its bit of the answer is. So an output's
 -- generation is its delay. The answer gives the bit of each output, by its number, for the bits of
--- the inputs. The next use begins after the gate's time, or later. An output may be an input's cell,
--- as in a gate of one cell, and a gate may have no outputs.
+-- the inputs. The next use begins `time` generations after this one, or later. An output may be an
+-- input's cell, as in a gate of one cell, and a gate may have no outputs.
 pub record Gate : Type 0 where
   pub plane : Plane
   pub ins : List Port

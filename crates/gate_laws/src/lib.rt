@@ -7,4 +7,6 @@ mod laws;
 mod window;
 
 pub use laws::{gates_answer_each_row, lawful_are_gates};
-pub use window::{InCell, OutCell, answers_in_time, has_cells, is_sized, keeps_law};
+pub use window::{
+    CHOICES, InCell, OutCell, answers_in_time, has_cells, is_sized, keeps_law, number_of_bits,
+};

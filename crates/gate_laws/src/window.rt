@@ -320,9 +320,9 @@ fn has_inputs(cells: &[State], width: usize, ins: &[InCell]) -> bool
     true
 }
 
-// The number that up to three bits make, the first of them lowest.
+/// Returns the number that up to three bits make, the first of them lowest.
 #[tactic(auto, using(crate::proofs::Rows::number_of_three))]
-fn number_of_bits(bits: &[bool]) -> usize
+pub fn number_of_bits(bits: &[bool]) -> usize
     requires few { length bits.now ≤ 3 }
     ensures is { result ≡ number_of_bits bits.now }
     ensures few { result < 8 }
@@ -404,7 +404,8 @@ pub fn answers_in_time(
     is_calm(base, now, width, ins)
 }
 
-const CHOICES: [[bool; 3]; 8] = [
+/// All choices of three bits, by the number that they make. Their first bits are all choices of fewer.
+pub const CHOICES: [[bool; 3]; 8] = [
     [false, false, false],
     [true, false, false],
     [false, true, false],

@@ -1,5 +1,5 @@
 // The tests of drawings.
-ghost use Rattle.std.specs.Prelude.{◌≡◌, ◌≢◌, ◌⊎◌, ◌<◌, ◌≤◌, ℕ, Bool, List, cond, get_or, length, true, IsTrue};
+ghost use Rattle.std.specs.Prelude.{◌≡◌, ◌≢◌, ◌⊎◌, ◌<◌, ◌≤◌, ℕ, Bool, List, get_or, length, true, IsTrue};
 ghost use Rattle.lists.specs.Items.{flag_at};
 ghost use Rattle.gate_laws.specs.Gates.{KeepsGateLaw};
 ghost use Rattle.gate_laws.specs.Drawings.{number_of_bits, in_at};
@@ -7,7 +7,7 @@ ghost use Rattle.crossing_laws.specs.Crossings.{KeepsCrossingLaw};
 ghost use Rattle.lawful_gates.specs.Lawful.{own_cell, gate_together, crossing_apart, answer_bit, no_out, KeepsLawOf, SaysAnswer, IsLawful};
 
 use crossing_laws::keeps_crossing_law;
-use gate_laws::{InCell, OutCell, keeps_law};
+use gate_laws::{CHOICES, InCell, OutCell, keeps_law, number_of_bits};
 use gate_library::{Answer, GateDrawing, Timing};
 
 fn bit_at(bits: &[bool], i: u32) -> bool
@@ -33,23 +33,6 @@ fn answer_of(bits: &[bool], answer: Answer) -> bool
     }
 }
 
-fn bit_value(bits: &[bool], i: u32) -> usize
-    ensures is { result ≡ cond (flag_at bits.now i) 1 0 }
-    ensures few { result ≤ 1 }
-{
-    if bit_at(bits, i) { 1 } else { 0 }
-}
-
-// The number that up to three bits make, the first of them lowest.
-#[tactic(auto, using(gate_laws::proofs::Rows::number_of_three))]
-fn number_of_bits(bits: &[bool]) -> usize
-    requires few { length bits.now ≤ 3 }
-    ensures is { result ≡ number_of_bits bits.now }
-    ensures few { result < 8 }
-{
-    bit_value(bits, 0) + 2 * bit_value(bits, 1) + 4 * bit_value(bits, 2)
-}
-
 fn says_row(out: OutCell, bits: &[bool], answer: Answer) -> bool
     requires few { length bits.now ≤ 3 }
     ensures { IsTrue result → flag_at out.table (number_of_bits bits.now)
@@ -57,17 +40,6 @@ fn says_row(out: OutCell, bits: &[bool], answer: Answer) -> bool
 {
     out.table[number_of_bits(bits)] == answer_of(bits, answer)
 }
-
-const CHOICES: [[bool; 3]; 8] = [
-    [false, false, false],
-    [true, false, false],
-    [false, true, false],
-    [true, true, false],
-    [false, false, true],
-    [true, false, true],
-    [false, true, true],
-    [true, true, true],
-];
 
 fn says_together(out: OutCell, count: usize, answer: Answer) -> bool
     requires few { count ≤ 3 }

@@ -18,7 +18,7 @@ use Rattle.cell_core.proofs.OwnBits.{cell_in_order, bit_of_cell}
 use Rattle.cell_moves.specs.Same.{cell_over}
 use Rattle.routed_lists.specs.Runs.{src_at, list_state, list_bit}
 use Rattle.list_matching.specs.Alike.{RunAlike}
-use Rattle.list_matching.specs.Matched.{IsMatched, StandsForCell, StandsForLatch, made_at, stand_in, turned_cell}
+use Rattle.list_matching.specs.Matched.{AreStandIns, StandsForCell, StandsForLatch, made_at, stand_in, turned_cell}
 
 -- a turned cell makes the same bit
 turned_alike : (inputs state made : List Bool) (cell : Cell) → cell_bit inputs state made (turned_cell cell) ≡ cell_bit inputs state made cell
@@ -76,7 +76,7 @@ past_agrees found wanted cells inputs state other all n past =
     get_or_past (cell_bits inputs state found.cells) n false (omega (arith, length-cell_bits inputs state found.cells))
     ∙ sym (ap (bit_of wanted inputs other) (get_or_past cells n Zero (omega arith)))
 
-cells_agree : (found wanted : CellList) (cells latches : List Src) → IsMatched found wanted cells latches → (inputs state other : List Bool)
+cells_agree : (found wanted : CellList) (cells latches : List Src) → AreStandIns found wanted cells latches → (inputs state other : List Bool)
     → Agree wanted latches inputs state other → (n : ℕ) → CellsAgree found wanted cells inputs state other n
 cells_agree found wanted cells latches matched inputs state other agree zero i below = absurd (omega arith)
 cells_agree found wanted cells latches matched inputs state other agree (suc n) i below =
@@ -98,7 +98,7 @@ cells_agree found wanted cells latches matched inputs state other agree (suc n) 
         ⊎_elim (λ (lt : i < length found.cells). inside i is lt before) (λ (ge : length found.cells ≤ i). past_agrees found wanted cells inputs state other matched.all_cells i ge) (cases_lt i (length found.cells))
 
 -- each source has the bit of what stands for it
-all_agree : (found wanted : CellList) (cells latches : List Src) → IsMatched found wanted cells latches → (inputs state other : List Bool)
+all_agree : (found wanted : CellList) (cells latches : List Src) → AreStandIns found wanted cells latches → (inputs state other : List Bool)
     → Agree wanted latches inputs state other → (src : Src) → bit_of found inputs state src ≡ bit_of wanted inputs other (stand_in cells latches src)
 all_agree found wanted cells latches matched inputs state other agree (Input i) = refl
 all_agree found wanted cells latches matched inputs state other agree (Latch l) = agree.bits l
@@ -126,7 +126,7 @@ step_agrees found wanted to inputs next other l (Input i) none = absurd none
 step_agrees found wanted to inputs next other l Zero none = absurd none
 step_agrees found wanted to inputs next other l (Made i) none = absurd none
 
-states_agree : (found wanted : CellList) (cells latches : List Src) → IsMatched found wanted cells latches → (rows : List (List Bool)) (t : ℕ)
+states_agree : (found wanted : CellList) (cells latches : List Src) → AreStandIns found wanted cells latches → (rows : List (List Bool)) (t : ℕ)
     → Agree wanted latches (list_at rows t) (list_state found rows t) (list_state wanted rows t)
 states_agree found wanted cells latches matched rows zero =
     record {
@@ -150,14 +150,14 @@ states_agree found wanted cells latches matched rows (suc t) =
     }
 
 -- ports that stand for the wanted ones show their bits
-ports_agree : (found wanted : CellList) (cells latches : List Src) → IsMatched found wanted cells latches → (sources others : List Src)
+ports_agree : (found wanted : CellList) (cells latches : List Src) → AreStandIns found wanted cells latches → (sources others : List Src)
     → map (stand_in cells latches) sources ≡ others → (rows : List (List Bool)) (t i : ℕ)
     → list_bit found rows t (src_at sources i) ≡ list_bit wanted rows t (src_at others i)
 ports_agree found wanted cells latches matched sources others stand rows t i =
     all_agree found wanted cells latches matched (list_at rows t) (list_state found rows t) (list_state wanted rows t) (states_agree found wanted cells latches matched rows t) (src_at sources i)
     ∙ ap (list_bit wanted rows t) (sym (get_or-map (stand_in cells latches) sources i Zero) ∙ ap (λ l. src_at l i) stand)
 
-pub matched_run_alike : (found wanted : CellList) (cells latches : List Src) → IsMatched found wanted cells latches → RunAlike found wanted
+pub matched_run_alike : (found wanted : CellList) (cells latches : List Src) → AreStandIns found wanted cells latches → RunAlike found wanted
 matched_run_alike found wanted cells latches matched =
     record {
       inputs = matched.inputs;

@@ -46,7 +46,7 @@ StandsForLatch found wanted to l src = ⊥
 
 -- Each source of the list that was found has one of the wanted list that stands for it, and its
 -- outputs and nets stand for the wanted ones.
-pub record IsMatched (found wanted : CellList) (cells latches : List Src) : Type 0 where
+pub record AreStandIns (found wanted : CellList) (cells latches : List Src) : Type 0 where
   pub inputs : found.inputs ≡ wanted.inputs
   pub all_cells : length cells ≡ length found.cells
   pub all_latches : length latches ≡ length found.latches

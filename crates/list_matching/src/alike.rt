@@ -3,7 +3,7 @@ ghost use Rattle.std.specs.Prelude.{IfOk, IsTrue};
 ghost use Rattle.list_matching.specs.Alike.{RunAlike};
 
 use crate::MatchError;
-use crate::matched::{cell_over, is_matched, turned};
+use crate::matched::{are_stand_ins, cell_over, turned};
 use cell_core::{Cell, CellList, Src};
 use std::alloc::Global;
 use std::collections::BTreeMap;
@@ -28,8 +28,9 @@ fn place_of(places: &BTreeMap<Cell, usize>, cell: Cell) -> Src {
     }
 }
 
-// The sources that are to stand for the cells, each found by those that stand for its operands.
-fn stand_ins(
+/// Returns the sources of the wanted list that are to stand for cells, each found by those that stand
+/// for its operands; constant 0 for a cell that is not there.
+pub fn stand_ins(
     alloc: Global,
     found: &[Cell],
     wanted: &[Cell],
@@ -47,8 +48,9 @@ fn stand_ins(
 /// Returns whether a list of cells runs as the wanted one: whether on all rows of input bits its
 /// outputs and nets have the same bits in each cycle. `latches` are the sources of the wanted list
 /// that are to stand for the latches of the list that was found: latches, or constant 1 for one that
-/// starts with 1 and reads itself. The answer may be `false` for lists that run alike; it is `true`
-/// if the cells are the same but for their order and their latches' order.
+/// starts with 1 and reads itself. The found cells are looked up among the wanted ones, in whatever
+/// order these stand. The answer may be `false` for lists that run alike, even for a list and itself
+/// if it has a cell twice.
 pub fn run_alike(
     alloc: Global,
     found: &CellList,
@@ -63,5 +65,5 @@ pub fn run_alike(
         wanted.cells.as_slice(),
         latches,
     )?;
-    Ok(is_matched(found, wanted, &cells, latches))
+    Ok(are_stand_ins(found, wanted, &cells, latches))
 }

@@ -6,6 +6,7 @@
 mod alike;
 mod matched;
 
-pub use alike::run_alike;
+pub use alike::{run_alike, stand_ins};
+pub use matched::stand_in;
 // The answer of `run_alike` when memory runs out.
 pub use lists::OutOfMemory as MatchError;

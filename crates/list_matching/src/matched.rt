@@ -2,7 +2,7 @@
 ghost use Rattle.std.specs.Prelude.{◌≡◌, ◌<◌, ℕ, length, map, IsTrue};
 ghost use Rattle.cell_moves.specs.Same.{cell_over};
 ghost use Rattle.routed_lists.specs.Runs.{src_at};
-ghost use Rattle.list_matching.specs.Matched.{IsMatched, StandsForCell, StandsForLatch, made_at, stand_in, turned_cell};
+ghost use Rattle.list_matching.specs.Matched.{AreStandIns, StandsForCell, StandsForLatch, made_at, stand_in, turned_cell};
 
 use cell_core::{Cell, CellList, Src, is_same_cell, is_same_src};
 
@@ -138,8 +138,8 @@ fn all_stand(first: &[Src], others: &[Src], cells: &[Src], latches: &[Src]) -> b
 
 /// Returns whether each source of the list that was found has one of the wanted list that stands for
 /// it.
-pub fn is_matched(found: &CellList, wanted: &CellList, cells: &[Src], latches: &[Src]) -> bool
-    ensures { IsTrue result → IsMatched found.now wanted.now cells.now latches.now }
+pub fn are_stand_ins(found: &CellList, wanted: &CellList, cells: &[Src], latches: &[Src]) -> bool
+    ensures { IsTrue result → AreStandIns found.now wanted.now cells.now latches.now }
 {
     if found.inputs != wanted.inputs
         || cells.len() != found.cells.len()

@@ -21,7 +21,7 @@ use Rattle.blif_text.proofs.OneFault.{one_design}
 use Rattle.lifted_designs.specs.Lifted.{lifted_design}
 use Rattle.blifww_tool.specs.Lines.{bits_line}
 use Rattle.blifww_tool.specs.Evaluation.{Evaluation, IsEvaluation, evaluation_text}
-use Rattle.program_laws.specs.EvaluatesAlike.{CarriedEvaluateAlike, LiftedEvaluateAlike, CompiledEvaluateInOneWay}
+use Rattle.program_laws.specs.EvaluatesAlike.{CarriedEvaluateAlike, LiftedEvaluateAlike}
 use Rattle.blifww_tool.proofs.Compiled.{carries_alone}
 
 -- the lines that a pattern shows
@@ -71,12 +71,6 @@ carried_evaluate_alike law match decided text a b design other is is_other c k c
     h.lines
     ∙ same_evaluations law match text a b cycles words d e h.is l.is (subst (λ (x : Design). Carries text x) first c) (subst (λ (x : Design). Carries text x) second k) h.run l.run h.is_run l.is_run
     ∙ sym l.lines
-
-pub compiled_evaluate_in_one_way : CarriersShowRuns → StreamsMatch → TextsAreDecided → CompiledEvaluateInOneWay
-compiled_evaluate_in_one_way law match decided contexts starts netlist text compiled cycles words first second h l =
-    let alone : List ℕ = pattern_text (start_grid compiled.base) compiled.base_ports in
-    let c : Carries alone compiled.design = compiled.is_carried.carries in
-    carried_evaluate_alike law match decided alone netlist netlist compiled.design compiled.design compiled.has.netlist compiled.has.netlist c c cycles words first second h l
 
 pub lifted_evaluate_alike : CarriersShowRuns → StreamsMatch → TextsAreDecided → LiftedEvaluateAlike
 lifted_evaluate_alike law match decided netlist text lifted compiled lifts cycles words first second h l =

@@ -20,3 +20,4 @@ pub mod ShownAigs
 pub mod LooplessFlats
 pub mod Held
 pub mod NetlistRuns
+pub mod OneEvaluation

@@ -1,5 +1,5 @@
--- Netlists that one text carries evaluate alike: so a netlist that is carried evaluates in one way, and what `lift`
--- writes of what `compile` wrote evaluates as the netlist that was compiled.
+-- Netlists that one text carries evaluate alike: so what `lift` writes of what `compile` wrote
+-- evaluates as the netlist that was compiled.
 use Rattle.std.specs.Prelude.{ℕ, ◌≡◌, List, []}
 use Rattle.netlist_core.specs.declared.model.Design.{Design}
 use Rattle.netlist_text.specs.NetlistText.{IsNetlist}
@@ -21,13 +21,4 @@ LiftedEvaluateAlike =
     (netlist text lifted : List ℕ) → Prints (compile 1 []) netlist text → Prints lift text lifted
     → (cycles : ℕ) (words : List (List ℕ)) (first second : List ℕ)
     → Prints (eval cycles words) netlist first → Prints (eval cycles words) lifted second
-    → first ≡ second
-
--- `eval` prints one text of a netlist that can be compiled
-abbrev pub CompiledEvaluateInOneWay : Type 0
-CompiledEvaluateInOneWay =
-    (contexts : ℕ) (starts : List (List ℕ)) (netlist text : List ℕ)
-    → Prints (compile contexts starts) netlist text
-    → (cycles : ℕ) (words : List (List ℕ)) (first second : List ℕ)
-    → Prints (eval cycles words) netlist first → Prints (eval cycles words) netlist second
     → first ≡ second

@@ -10,7 +10,7 @@ use Rattle.vcd_write.specs.NetWaves.{nets_in_contexts, reference_of}
 use Rattle.vcd_write.specs.Reading.{VcdForm, ReadsAsVcd, last_time, value_at}
 use Rattle.vcd_write.specs.Writing.{vcd_id}
 use Rattle.command_words.specs.declared.command.View.{View}
-use Rattle.command_words.specs.Shapes.{CommandValues, simulate, probe, window, vcd}
+use Rattle.command_words.specs.Shapes.{CommandValues, simulate, probe, window, vcd, eval}
 use Rattle.blifww_tool.specs.Probing.{net_text}
 use Rattle.blifww_tool.specs.Commands.{Prints}
 use Rattle.program_laws.specs.DumpsNets.{HasVariables}
@@ -22,6 +22,9 @@ PrintsOneAnswer command =
 
 abbrev pub SimulatePrintsOne : Type 0
 SimulatePrintsOne = (cycles : ℕ) (words : List (List ℕ)) → PrintsOneAnswer (simulate cycles words)
+
+abbrev pub EvalPrintsOne : Type 0
+EvalPrintsOne = (cycles : ℕ) (words : List (List ℕ)) → PrintsOneAnswer (eval cycles words)
 
 abbrev pub ProbePrintsOne : Type 0
 ProbePrintsOne =

@@ -9,11 +9,11 @@ pub mod laws;
 
 ghost use Rattle.program_laws.specs.AigPrints.{AigCarriersRunQuietly, AigsAreLifted, AigsPrintRuns, AigsRunQuietly, CarriersPrintAigRuns};
 ghost use Rattle.program_laws.specs.DumpsNets.{CarriersDumpNets, CompiledDumpNets};
-ghost use Rattle.program_laws.specs.EvaluatesAlike.{CarriedEvaluateAlike, CompiledEvaluateInOneWay, LiftedEvaluateAlike};
+ghost use Rattle.program_laws.specs.EvaluatesAlike.{CarriedEvaluateAlike, LiftedEvaluateAlike};
 ghost use Rattle.program_laws.specs.Isolated.{CompiledPrintApart, ContextsPrintApart, NetsPrintApart};
 ghost use Rattle.program_laws.specs.LiftsBack.{CompiledAreLifted, CompiledNamesAreGood, LiftedInOneWay, LiftedPrintAlike};
 ghost use Rattle.program_laws.specs.NetlistRuns.{NetlistRunsAgree};
-ghost use Rattle.program_laws.specs.OneAnswer.{DumpsAreProbed, ProbePrintsOne, SimulatePrintsOne, VcdPrintsOne, WindowPrintsOne};
+ghost use Rattle.program_laws.specs.OneAnswer.{DumpsAreProbed, EvalPrintsOne, ProbePrintsOne, SimulatePrintsOne, VcdPrintsOne, WindowPrintsOne};
 ghost use Rattle.program_laws.specs.Onward.{ContextsGoOn, ContextsShowEachFront, NetsGoOn, NetsShowEachFront};
 ghost use Rattle.program_laws.specs.PrintsAlike.{CarriersPrintAlike, CarriersPrintNets, CarriersPrintNetsInContexts, CarriersPrintRuns, CarriersRunQuietly, CompiledPrintAlike, CompiledPrintNets, CompiledPrintRuns, CompiledRunQuietly};
 ghost use Rattle.program_laws.specs.ShownAigs.{CarriersShowAigRuns};
@@ -132,12 +132,11 @@ pub fn lifted_print_alike()
     draws_one_plan();
 }
 
-/// Netlists that one text carries evaluate alike. So `eval` prints one text of a netlist that can be
-/// compiled; and if `compile` writes a pattern of it without start words, and `eval` prints anything
-/// of what `lift` writes of the pattern, it prints the same.
+/// Netlists that one text carries evaluate alike. So if `compile` writes a pattern of a netlist without
+/// start words, and `eval` prints anything of what `lift` writes of the pattern, it prints of this what it
+/// prints of the netlist.
 pub fn carried_evaluate_alike()
     ensures carried { CarriedEvaluateAlike }
-    ensures one_way { CompiledEvaluateInOneWay }
     ensures lifted { LiftedEvaluateAlike }
 {
     carriers_show_runs();
@@ -217,6 +216,13 @@ pub fn driven_print_one_answer()
     ensures window { WindowPrintsOne }
     ensures vcd { VcdPrintsOne }
 {}
+
+/// `eval` prints one output: two runs of it on one text, with the same words, print the same.
+pub fn eval_prints_one_answer()
+    ensures { EvalPrintsOne }
+{
+    texts_are_decided();
+}
 
 /// The bits that `vcd` writes of a net are those that `probe` prints of it on the same text, with
 /// the same words.

@@ -1,12 +1,13 @@
-//! Writes the pattern of a plan in extended RLE. It takes no memory.
+//! Writes the pattern of a plan, and any pattern, in extended RLE. It takes no memory.
 //!
-//! Theorem: `write` (`ok`, `front`, `cause`).
+//! Theorem: `write` and `write_pattern` (each `ok`, `front`, `cause`).
 #![tactic(auto)]
 
 mod blocks;
 mod items;
+mod pattern_rows;
 mod plan_rows;
 mod rows;
 mod text;
 
-pub use text::write;
+pub use text::{write, write_pattern};

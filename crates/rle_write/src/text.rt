@@ -1,13 +1,16 @@
 // The whole text: the lines of the port table, the header, and the items.
-ghost use Rattle.std.specs.Prelude.{◌≡◌, ◌≤◌, ℕ, List, ◌++◌, take, decimal, OnOk, OnErr};
+ghost use Rattle.std.specs.Prelude.{◌≡◌, ◌≤◌, ◌<◌, ◌^◌, ℕ, List, ◌++◌, take, decimal, OnOk, OnErr};
 ghost use Rattle.std.specs.Io.KnownBytes.{Appends};
 ghost use Rattle.ww_base.specs.Faults.{HasCause};
 ghost use Rattle.lane_core.specs.Plans.{IsAdmissible};
-ghost use Rattle.pattern_writing.specs.Writer.{header_text};
+ghost use Rattle.pattern_writing.specs.Writer.{grid_of, header_text};
+ghost use Rattle.pattern_writing.specs.WrittenText.{IsWritable, pattern_text};
+ghost use Rattle.rle_write.specs.Opening.{opening_text};
 ghost use Rattle.rle_write.specs.PlanText.{text_of_plan};
 ghost use Rattle.ww_base.specs.Pages.{held, column_of};
 ghost use Rattle.ww_base.specs.Progress.{Wrote, Broke};
 
+use crate::pattern_rows::write_rows;
 use crate::plan_rows::write_plan_rows;
 use grid_assembly::size;
 use itoa::Buffer;
@@ -16,6 +19,7 @@ use pattern_reading::Ports;
 use plan_layout::Slot;
 use port_writing::write_table;
 use ww_base::{Failed, Page, Sink};
+use ww_rule::Pattern;
 
 // The greatest number of blocks of a lane that are kept for its rows: 32 columns of cells each.
 const KEPT: usize = 1024;
@@ -64,6 +68,27 @@ fn write_header<O: Sink>(
     page.put(sink, b", rule = WireWorld\n")
 }
 
+// Writes the lines of the port table and the header.
+fn write_opening<O: Sink>(
+    sink: &mut O,
+    page: &mut Page,
+    ports: &Ports,
+    width: u64,
+    height: u64,
+) -> Result<(), Failed>
+    ensures fits { (width < 2 ^ 64) × (height < 2 ^ 64) }
+    ensures column { column_of page.new ≡ column_of page.old }
+    ensures ok { OnOk result ((rest : List ℕ) →
+        Wrote (O.written sink.old) (O.written sink.new) (O.faults sink.old) (O.faults sink.new)
+        (held page.old ++ (opening_text ports.now width height ++ rest)) (held page.new ++ rest)) }
+    ensures err { OnErr result ((rest : List ℕ) →
+        Broke (O.written sink.old) (O.written sink.new) (O.faults sink.old) (O.faults sink.new)
+        (held page.old ++ (opening_text ports.now width height ++ rest))) }
+{
+    write_table(sink, page, ports)?;
+    write_header(sink, page, width, height)
+}
+
 /// Writes the pattern of an admissible plan in extended RLE (`.`, `A`, `B` and `C` for the states,
 /// as Golly describes it for rules of several states), after the lines of its port table. If a
 /// write fails, a prefix of the text has been written. It takes no memory, and holds no pattern.
@@ -79,10 +104,30 @@ pub fn write<O: Sink>(plan: &Plan, ports: &Ports, sink: &mut O) -> Result<(), Fa
 {
     let mut page = Page::new();
     let (width, height) = size(plan);
-    write_table(sink, &mut page, ports)?;
-    write_header(sink, &mut page, width, height)?;
+    write_opening(sink, &mut page, ports, width, height)?;
     let mut blocks = [Slot::Nothing; KEPT];
     let kept = &mut blocks[..kept_blocks(width)];
     write_plan_rows(sink, &mut page, plan, kept, width, height)?;
+    page.flush(sink)
+}
+
+/// Writes a pattern in extended RLE, after the lines of its port table, as `write` writes that of a
+/// plan. If a write fails, a prefix of the text has been written. It takes no memory.
+///
+/// The pattern is writable: so the text reads as the pattern and its ports if their table is sound
+/// and their cells lie in the pattern's box.
+pub fn write_pattern<O: Sink>(pattern: &Pattern, ports: &Ports, sink: &mut O) -> Result<(), Failed>
+    ensures writable { IsWritable (grid_of pattern.now) }
+    ensures ok { OnOk result (
+        Appends (O.written sink.old) (O.written sink.new)
+        (pattern_text (grid_of pattern.now) ports.now)) }
+    ensures front { OnErr result ((n : ℕ) ×
+        Appends (O.written sink.old) (O.written sink.new)
+        (take n (pattern_text (grid_of pattern.now) ports.now))) }
+    ensures cause { HasCause (O.faults sink.old) (O.faults sink.new) result }
+{
+    let mut page = Page::new();
+    write_opening(sink, &mut page, ports, pattern.width, pattern.height)?;
+    write_rows(sink, &mut page, &pattern.rows)?;
     page.flush(sink)
 }

@@ -92,11 +92,11 @@ fn list_of(
     Ok(list)
 }
 
-/// Returns the list of cells that a pattern with its port table computes, if it is the routed
-/// circuit of this drawing: gates of the library that stand apart, joined by wires. The drawing is a
-/// hint; what it says is tested against the pattern. The list has an input for each IN line, an
-/// output for each OUT line and a net for each NET line, in order, and a latch for each period of
-/// each wire. A box of more than 67,108,864 cells is too large.
+/// Returns a list of cells whose runs a pattern shows at the cells of its port table, if it is the
+/// routed circuit of this drawing: gates of the library that stand apart, joined by wires. The
+/// drawing is a hint; what it says is tested against the pattern. The list has an input for each IN
+/// line, an output for each OUT line and a net for each NET line, in order. A box of more than
+/// 67,108,864 cells is too large.
 pub fn cells_of(
     alloc: Global,
     pattern: &Pattern,

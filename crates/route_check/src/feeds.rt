@@ -5,8 +5,7 @@ ghost use Rattle.route_tables.specs.Cells.{IsFed, FeedsItsEnd, IsDrivenInput, Fe
 ghost use Rattle.route_tables.specs.declared.tables.GateInput.{GateInput};
 ghost use Rattle.route_tables.specs.declared.tables.Feed.TheVariants.{Wire, Driven};
 
-use crate::wires::input_port;
-use route_tables::{CellFault, FaultWord, Feed, GateInput, Tables};
+use route_tables::{CellFault, FaultWord, Feed, GateInput, Tables, input_port};
 
 fn is_fed_by_wire(tables: &Tables, at: GateInput, w: usize) -> bool
     ensures { IsTrue result → IsFed tables.now at (Wire w) }
@@ -67,6 +66,14 @@ fn is_drive_fed(tables: &Tables, d: usize) -> bool
     }
 }
 
+// The gate of a driven input.
+fn driven_gate(tables: &Tables, d: usize) -> usize {
+    match driven_input(tables, d) {
+        Some(at) => at.gate as usize,
+        None => 0,
+    }
+}
+
 /// Tests that the driven inputs are inputs that their drives feed.
 pub fn are_drives_fed(tables: &Tables) -> Result<(), CellFault>
     ensures { IfOk result (λ _. (d : ℕ) → d < length tables.now.driven → (at : GateInput) →
@@ -74,7 +81,7 @@ pub fn are_drives_fed(tables: &Tables) -> Result<(), CellFault>
 {
     for d in 0..tables.driven.len() {
         if !is_drive_fed(tables, d) {
-            return Err(tables.fault_at_gate(FaultWord::Fed, 0));
+            return Err(tables.fault_at_gate(FaultWord::Fed, driven_gate(tables, d)));
         }
     }
     Ok(())

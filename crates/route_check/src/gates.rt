@@ -9,9 +9,10 @@ ghost use Rattle.route_tables.specs.Tables.{sourced_by, table_gate, gate_drawing
 ghost use Rattle.route_tables.specs.Cells.{place_cell, IsFed, IsWireEnd, IsCellOfGate, HasCellsOfGate, IsGateThere, IsDrawnInGate};
 ghost use Rattle.route_tables.specs.declared.tables.Feed.TheVariants.{Wire};
 
-use crate::wires::input_port;
 use gate_library::GateDrawing;
-use route_tables::{CellFault, FaultWord, Feed, GateInput, TableGate, Tables, state_at};
+use route_tables::{
+    CellFault, FaultWord, Feed, GateInput, TableGate, Tables, input_port, state_at,
+};
 use ww_rule::State;
 
 // The cell of a box at a place of a gate's drawing.

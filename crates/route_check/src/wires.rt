@@ -4,8 +4,7 @@ ghost use Rattle.wire_laws.specs.Wires.{IsNear};
 ghost use Rattle.route_tables.specs.Tables.{table_wire, IsPort, point_at, input_port, input_point, wire_path, group};
 ghost use Rattle.route_tables.specs.Cells.{IsWireThere, IsOnWire};
 
-use route_tables::{CellFault, FaultWord, GateInput, TableWire, Tables};
-use routed_core::{DrawnPort, GatePort};
+use route_tables::{CellFault, FaultWord, TableWire, Tables, input_port};
 
 fn is_near(a: (u32, u32), b: (u32, u32)) -> bool
     ensures { IsTrue result → IsNear (pos a.0, pos a.1) (pos b.0, pos b.1) }
@@ -36,20 +35,11 @@ fn goes_on(tables: &Tables, wire: TableWire) -> Result<(), CellFault>
     let steps = wire.size as usize + 1;
     for i in 0..steps {
         if !steps_on(tables, wire, i) {
-            return Err(tables.fault_at_cell(FaultWord::Wire, wire.start as usize + i));
+            let last = (wire.size as usize).saturating_sub(1);
+            return Err(tables.fault_at_cell(FaultWord::Wire, wire.start as usize + i.min(last)));
         }
     }
     Ok(())
-}
-
-/// Returns an input as a port.
-pub fn input_port(at: GateInput) -> DrawnPort
-    ensures { result ≡ input_port at }
-{
-    DrawnPort {
-        gate: at.gate,
-        port: GatePort::In(at.input),
-    }
 }
 
 fn has_ends(tables: &Tables, wire: TableWire) -> bool

@@ -54,7 +54,7 @@ fn find_all_gates(alloc: Global, found: &mut Found, ports: &Ports) -> Result<(),
 fn find_cells(alloc: Global, pattern: &Pattern, ports: &Ports) -> Result<Found, FindError> {
     let mut found = nothing_found(alloc, pattern)?;
     find_all_gates(alloc, &mut found, ports)?;
-    follow_wires(&mut found)?;
+    follow_wires(&mut found, pattern)?;
     follow_rings(&mut found, pattern)?;
     Ok(found)
 }

@@ -15,6 +15,7 @@ mod lone;
 mod near;
 mod periods;
 mod result;
+mod rings;
 mod templates;
 mod times;
 mod ways;

@@ -24,10 +24,15 @@ pub fn table_cell(x: u64, y: u64) -> (u32, u32) {
     )
 }
 
+/// Makes a cell a lone cell.
+pub fn add_lone(found: &mut Found, cell: (u32, u32)) -> Result<(), AllocError> {
+    add_gate(found, LONE, cell.0, cell.1)
+}
+
 // Makes a cell that is open a lone cell.
 fn add_lone_if_open(found: &mut Found, cell: (u32, u32)) -> Result<(), AllocError> {
     match found.board.owner(cell) {
-        Owner::Open => add_gate(found, LONE, cell.0, cell.1),
+        Owner::Open => add_lone(found, cell),
         _ => Ok(()),
     }
 }
@@ -76,17 +81,17 @@ pub fn add_ends(found: &mut Found) -> Result<(), AllocError> {
 }
 
 /// Makes a cell a lone cell if it is open and a conductor, and answers whether it was.
-pub fn add_ring(
+pub fn add_if_conductor(
     found: &mut Found,
     pattern: &Pattern,
     cell: (u32, u32),
 ) -> Result<bool, AllocError> {
-    let is_ring = found.board.owner(cell) == Owner::Open
+    let is_added = found.board.owner(cell) == Owner::Open
         && state_at(pattern, cell) == State::Conductor;
-    if is_ring {
-        add_gate(found, LONE, cell.0, cell.1)?;
+    if is_added {
+        add_lone(found, cell)?;
     }
-    Ok(is_ring)
+    Ok(is_added)
 }
 
 /// Fails if a lone cell is beside a gate.

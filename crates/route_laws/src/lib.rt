@@ -1,2 +1,2 @@
-//! Laws of checked tables.
+//! Proofs of what follows from checked tables: no code, and no law that a function names.
 #![tactic(auto)]

@@ -1,0 +1,2 @@
+pub mod FirstGateLines
+pub mod SkippedLines

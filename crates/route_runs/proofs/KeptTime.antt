@@ -18,7 +18,7 @@ use Rattle.route_tables.specs.Tables.{input_port, table_wire, point_at, input_po
 use Rattle.route_tables.specs.Reading.{IsPortAt}
 use Rattle.route_tables.specs.Runs.{IsDelayedByWire, ShowsStarts}
 use Rattle.route_runs.specs.Electrons.{comes_at}
-use Rattle.route_runs.specs.Wires.{KeepsTime}
+use Rattle.route_runs.specs.Wires.{WireKeepsTime}
 
 and_agree : (b x y : Bool) → (b ≡ true → x ≡ y) → (b && x) ≡ (b && y)
 and_agree true x y h = h refl
@@ -33,7 +33,7 @@ comes_as t bits period some point starts g low =
     starts ((g - point.0.1) / period) ((div-lt_iff_lt-mul some).1 (let e : g - point.0.1 < length bits * period = omega (arith, since, low) in e)))
 
 pub kept_time : (t : Tables) (states : List State) (period w : ℕ) → 0 < period → (from to : PortCell) → IsPortAt t (table_wire t w).from from
-    → IsPortAt t (input_port (table_wire t w).to) to → KeepsTime t states period (table_wire t w) from to
+    → IsPortAt t (input_port (table_wire t w).to) to → WireKeepsTime t states period (table_wire t w) from to
     → IsDelayedByWire t period w × ShowsStarts t states period w
 kept_time t states period w some from to begins ends keeps = (delayed, starts)
   where
@@ -76,7 +76,7 @@ kept_time t states period w some from to begins ends keeps = (delayed, starts)
         }
 
 pub kept_wire : (t : Tables) (states : List State) (period w : ℕ) → 0 < period → (wire : TableWire) → wire ≡ table_wire t w → (from to : PortCell) → IsPortAt t wire.from from
-    → IsPortAt t (input_port wire.to) to → KeepsTime t states period wire from to → IsDelayedByWire t period w × ShowsStarts t states period w
+    → IsPortAt t (input_port wire.to) to → WireKeepsTime t states period wire from to → IsDelayedByWire t period w × ShowsStarts t states period w
 kept_wire t states period w some wire is from to begins ends keeps =
     kept_time t states period w some from to (subst (λ (it : TableWire). IsPortAt t it.from from) is begins) (subst (λ (it : TableWire). IsPortAt t (input_port it.to) to) is ends)
-    (subst (λ it. KeepsTime t states period it from to) is keeps)
+    (subst (λ it. WireKeepsTime t states period it from to) is keeps)

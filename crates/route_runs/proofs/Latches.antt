@@ -6,9 +6,9 @@ use Rattle.cell_core.specs.declared.cells.Src.{Src}
 use Rattle.cell_core.specs.declared.list.CellList.{CellList}
 use Rattle.routed_lists.specs.Runs.{list_bit, IsDelayed}
 use Rattle.routed_lists.proofs.Delayed.{latch_later}
-use Rattle.route_runs.specs.Chains.{IsLatch, LeadsBack}
+use Rattle.route_runs.specs.Chains.{IsLatch, LatchesLeadBack}
 
-pub no_latch : (list : CellList) (to : Src) → LeadsBack list to [] to
+pub no_latch : (list : CellList) (to : Src) → LatchesLeadBack list to [] to
 no_latch list to =
     record {
       delayed = λ m from d. let e : m ≡ 0 + m = omega arith in subst (λ n. IsDelayed list n from to) e d;
@@ -16,8 +16,8 @@ no_latch list to =
       later = λ t. let e : 0 + t ≡ t = omega arith in ap (λ n. list_bit list [] n to) e;
     }
 
-pub one_more_latch : (list : CellList) (to : Src) (bits : List Bool) (at reads : Src) (start : Bool) → LeadsBack list to bits at → IsLatch list at reads start
-    → LeadsBack list to (bits ++ start ∷ []) reads
+pub one_more_latch : (list : CellList) (to : Src) (bits : List Bool) (at reads : Src) (start : Bool) → LatchesLeadBack list to bits at → IsLatch list at reads start
+    → LatchesLeadBack list to (bits ++ start ∷ []) reads
 one_more_latch list to bits at reads start back (l, within, is, data_is, start_is) =
     let long : length (bits ++ start ∷ []) ≡ length bits + 1 = length_push bits start in
     let first : list_bit list [] 0 at ≡ start = ap (list_bit list [] 0) is ∙ sym start_is in

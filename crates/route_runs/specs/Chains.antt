@@ -14,7 +14,7 @@ IsLatch list at reads start =
 
 -- As many latches as there are bits lead back from a source to another one. These are the source's
 -- bits in the first cycles, and then it has those of the other one.
-pub record LeadsBack (list : CellList) (to : Src) (bits : List Bool) (at : Src) : Type 0 where
+pub record LatchesLeadBack (list : CellList) (to : Src) (bits : List Bool) (at : Src) : Type 0 where
   pub delayed : (m : ℕ) (from : Src) → IsDelayed list m from at
       → IsDelayed list (length bits + m) from to
   pub starts : (t : ℕ) → t < length bits → list_bit list [] t to ≡ flag_at bits t

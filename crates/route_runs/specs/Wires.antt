@@ -9,7 +9,7 @@ use Rattle.route_tables.specs.declared.tables.TableWire.{TableWire}
 use Rattle.route_tables.specs.declared.tables.Tables.{Tables}
 use Rattle.route_tables.specs.Serials.{listed_cell}
 use Rattle.route_tables.specs.Tables.{box_plane, point_at, input_point}
-use Rattle.route_runs.specs.Chains.{LeadsBack}
+use Rattle.route_runs.specs.Chains.{LatchesLeadBack}
 use Rattle.route_runs.specs.Electrons.{comes_at, state_before}
 
 -- The electrons on a wire that ends here are these bits on their way. None would be in the wire's
@@ -25,10 +25,10 @@ pub record CarriesBits (t : Tables) (states : List State) (period : ℕ) (wire :
 
 -- The wire takes as many generations from the one port to the other as its cycles ask. Its latches
 -- lead from the one's source to the other's, and their start bits are on it.
-pub record KeepsTime (t : Tables) (states : List State) (period : ℕ) (wire : TableWire)
+pub record WireKeepsTime (t : Tables) (states : List State) (period : ℕ) (wire : TableWire)
     (from to : PortCell) : Type 0 where
   pub takes : from.time + suc wire.size ≡ to.time + wire.cycles * period
   pub bits : List Bool
   pub all : length bits ≡ wire.cycles
-  pub leads : LeadsBack t.list (input_point t wire.to).1 bits (point_at t wire.from).1
+  pub leads : LatchesLeadBack t.list (input_point t wire.to).1 bits (point_at t wire.from).1
   pub carries : CarriesBits t states period wire to bits

@@ -1,6 +1,6 @@
 // Rows of latches.
 ghost use Rattle.std.specs.Prelude.{◌≡◌, length, IfOk, IfSome};
-ghost use Rattle.route_runs.specs.Chains.{IsLatch, LeadsBack};
+ghost use Rattle.route_runs.specs.Chains.{IsLatch, LatchesLeadBack};
 
 use cell_core::{CellList, Src, is_same_src};
 use lists::OutOfMemory;
@@ -40,7 +40,7 @@ pub fn start_bits(
     to: Src,
     latches: u32,
 ) -> Result<Option<Vec<bool>>, OutOfMemory>
-    ensures leads { IfOk result (λ o. IfSome o (λ bits. LeadsBack list.now to bits.items from)) }
+    ensures leads { IfOk result (λ o. IfSome o (λ bits. LatchesLeadBack list.now to bits.items from)) }
     ensures all { IfOk result (λ o. IfSome o (λ bits. length bits.items ≡ latches)) }
 {
     let mut bits = Vec::new(alloc);

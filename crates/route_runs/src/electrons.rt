@@ -50,8 +50,8 @@ fn state_before(first: u64, period: u64, bits: &[bool], after: u64) -> State
     }
 }
 
-// Whether cell `i` of a wire has the state of the bits that come out at its end.
-fn shows_cell(
+/// Returns whether cell `i` of a wire has the state of the bits that come out at its end.
+pub fn shows_cell(
     t: &Tables,
     states: &[State],
     wire: TableWire,

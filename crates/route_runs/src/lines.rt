@@ -9,10 +9,9 @@ ghost use Rattle.route_runs.specs.Lines.{IsConductorAt, IsPointAt};
 
 use crate::answers::src_at;
 use crate::electrons::is_same;
-use crate::wires::input_port;
 use cell_core::{Src, is_same_src};
 use pattern_reading::{NetLine, PortLine};
-use route_tables::{CellFault, FaultWord, Tables, state_at};
+use route_tables::{CellFault, FaultWord, Tables, input_port, state_at};
 use routed_core::DrawnPort;
 use ww_rule::State;
 

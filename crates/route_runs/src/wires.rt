@@ -3,15 +3,14 @@ ghost use Rattle.std.specs.Prelude.{◌≡◌, ◌<◌, ◌+◌, ◌*◌, ◌^�
 ghost use Rattle.route_tables.specs.Reading.{IsPortAt};
 ghost use Rattle.route_tables.specs.Runs.{IsDelayedByWire, ShowsStarts};
 ghost use Rattle.route_tables.specs.Tables.{input_port};
-ghost use Rattle.route_runs.specs.Wires.{CarriesBits, KeepsTime};
+ghost use Rattle.route_runs.specs.Wires.{CarriesBits, WireKeepsTime};
 
 use crate::chains::start_bits;
-use crate::electrons::{are_clear, show_bits, shows_end};
+use crate::electrons::{are_clear, show_bits, shows_cell, shows_end};
 use crate::error::RunError;
 use lawful_gates::PortCell;
 use lists::OutOfMemory;
-use route_tables::{FaultWord, GateInput, TableWire, Tables, state_at};
-use routed_core::{DrawnPort, GatePort};
+use route_tables::{CellFault, FaultWord, TableWire, Tables, input_port, state_at};
 use std::alloc::Global;
 use ww_rule::State;
 
@@ -20,16 +19,6 @@ use ww_rule::State;
 struct Ends {
     from: PortCell,
     to: PortCell,
-}
-
-/// Returns the port of an input.
-pub fn input_port(at: GateInput) -> DrawnPort
-    ensures { result ≡ input_port at }
-{
-    DrawnPort {
-        gate: at.gate,
-        port: GatePort::In(at.input),
-    }
 }
 
 fn ends_of(t: &Tables, wire: TableWire) -> Option<Ends>
@@ -72,6 +61,38 @@ fn carries(
     show_bits(t, states, wire, to.time, period, bits)
 }
 
+// A fault at a wire's first cell.
+fn at_start(t: &Tables, wire: TableWire, word: FaultWord) -> CellFault {
+    t.fault_at_cell(word, wire.start as usize)
+}
+
+// The first cell of a wire that has not the state of the bits that come out at its end, or else the
+// input there; or the wire's first cell, if no wire of its size has room for these bits.
+fn wrong_cell(
+    t: &Tables,
+    states: &[State],
+    period: u64,
+    wire: TableWire,
+    to: PortCell,
+    bits: &[bool],
+) -> CellFault
+    requires some { 0 < period }
+{
+    for i in 0..wire.size {
+        if !shows_cell(t, states, wire, i, to.time, period, bits) {
+            return t.fault_at_cell(FaultWord::Electron, wire.start as usize + i as usize);
+        }
+    }
+    if shows_end(state_at(states, t.width, to.x, to.y), to.time, period, bits) {
+        return at_start(t, wire, FaultWord::Electron);
+    }
+    CellFault {
+        word: FaultWord::Electron,
+        x: to.x,
+        y: to.y,
+    }
+}
+
 // Tests a wire from its beginning to its end.
 fn wire_between(
     alloc: Global,
@@ -80,22 +101,23 @@ fn wire_between(
     period: u64,
     wire: TableWire,
     ends: Ends,
-) -> Result<Option<FaultWord>, OutOfMemory>
+) -> Result<Option<CellFault>, OutOfMemory>
     requires some { 0 < period }
-    ensures { IfOk result (λ o. o ≡ None → KeepsTime t.now states.now period wire ends.from
+    ensures { IfOk result (λ o. o ≡ None → WireKeepsTime t.now states.now period wire ends.from
         ends.to) }
 {
     if !takes(ends.from.time, wire.size, ends.to.time, wire.cycles, period) {
-        return Ok(Some(FaultWord::Length));
+        return Ok(Some(at_start(t, wire, FaultWord::Length)));
     }
     let (from, to) = (t.source(wire.from), t.source(input_port(wire.to)));
     let Some(bits) = start_bits(alloc, &t.list, from, to, wire.cycles)? else {
-        return Ok(Some(FaultWord::Order));
+        return Ok(Some(at_start(t, wire, FaultWord::Order)));
     };
     if carries(t, states, period, wire, ends.to, &bits) {
         Ok(None)
     } else {
-        Ok(Some(FaultWord::Electron))
+        let fault = wrong_cell(t, states, period, wire, ends.to, &bits);
+        Ok(Some(fault))
     }
 }
 
@@ -117,6 +139,6 @@ pub fn test_wire(
     };
     match wire_between(alloc, t, states, period, wire, ends)? {
         None => Ok(()),
-        Some(word) => Err(RunError::Fault(t.fault_at_wire(word, w))),
+        Some(fault) => Err(RunError::Fault(fault)),
     }
 }

@@ -18,8 +18,8 @@ placed_at gate port = (
 )
 
 -- the port is there, and stands here
-abbrev pub StandsAt : SourcedGate → GatePort → PortCell → Type 0
-StandsAt gate port here = HasPort gate port × (port_in_cell here ≡ (gate_point gate port).0)
+abbrev pub IsGatePortAt : SourcedGate → GatePort → PortCell → Type 0
+IsGatePortAt gate port here = HasPort gate port × (port_in_cell here ≡ (gate_point gate port).0)
 
 abbrev pub IsPortAt : Tables → DrawnPort → PortCell → Type 0
 IsPortAt t at here = IsPort t at × (port_in_cell here ≡ (point_at t at).0)

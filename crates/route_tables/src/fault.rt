@@ -5,7 +5,8 @@ use crate::Tables;
 /// What is wrong with a drawing that is no routed circuit.
 #[derive(Clone, Copy)]
 pub enum FaultWord {
-    /// A gate's drawing keeps no law, or cannot be used at the period.
+    /// A gate's drawing keeps no law, or cannot be used at the period; or the table has several
+    /// contexts or a period below 3, or the circuit is too large for a search.
     Kind,
     /// A cell of a gate is missing, or has an electron.
     Gate,
@@ -21,13 +22,14 @@ pub enum FaultWord {
     Fed,
     /// The gates have no order, or an output's source is not the answer.
     Order,
-    /// An input or an output of the table stands at no port of its time.
+    /// An input or an output of the table stands at no port of its time, or has a bad name.
     Port,
     /// A net of the table stands at no port of its time.
     Net,
 }
 
-/// A fault, with a cell at or near it.
+/// A fault, with a cell of the gate, the wire or the table's line that is at fault; column 0 and row 0 if it is the
+/// table as a whole.
 #[derive(Clone, Copy)]
 pub struct CellFault {
     pub word: FaultWord,

@@ -6,5 +6,5 @@ mod reading;
 mod tables;
 
 pub use fault::{CellFault, FaultWord};
-pub use reading::state_at;
+pub use reading::{input_port, state_at};
 pub use tables::{Feed, GateInput, TableGate, TableWire, Tables};

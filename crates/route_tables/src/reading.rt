@@ -4,14 +4,24 @@ ghost use Rattle.tile_timing.specs.Window.{shown};
 ghost use Rattle.routed_lists.specs.Runs.{src_at};
 ghost use Rattle.lawful_gates.specs.Lawful.{port_in_cell};
 ghost use Rattle.route_tables.specs.Serials.{label_at};
-ghost use Rattle.route_tables.specs.Tables.{sourced_by, gate_drawing, table_gate, table_wire, IsPort, point_at, wire_path, group, label};
-ghost use Rattle.route_tables.specs.Reading.{placed_at, StandsAt, IsPortAt};
+ghost use Rattle.route_tables.specs.Tables.{sourced_by, gate_drawing, table_gate, table_wire, IsPort, input_port, point_at, wire_path, group, label};
+ghost use Rattle.route_tables.specs.Reading.{placed_at, IsGatePortAt, IsPortAt};
 
 use crate::{Feed, GateInput, TableGate, TableWire, Tables};
 use cell_core::Src;
 use lawful_gates::{LawfulGate, PortCell};
 use routed_core::{DrawnPort, GatePort};
 use ww_rule::State;
+
+/// Returns an input as a port.
+pub fn input_port(at: GateInput) -> DrawnPort
+    ensures { result ≡ input_port at }
+{
+    DrawnPort {
+        gate: at.gate,
+        port: GatePort::In(at.input),
+    }
+}
 
 /// Returns the state at column x and row y of rows of `width` cells.
 pub fn state_at(states: &[State], width: u32, x: u32, y: u32) -> State
@@ -64,7 +74,7 @@ fn placed(gate: &TableGate, port: PortCell) -> Option<PortCell>
 }
 
 fn input_of(gate: &TableGate, kind: &LawfulGate, i: u32) -> Option<PortCell>
-    ensures { IfSome result (StandsAt (sourced_by kind.now gate.now) (GatePort.In i)) }
+    ensures { IfSome result (IsGatePortAt (sourced_by kind.now gate.now) (GatePort.In i)) }
 {
     if i as usize >= gate.ins.len() {
         return None;
@@ -76,7 +86,7 @@ fn input_of(gate: &TableGate, kind: &LawfulGate, i: u32) -> Option<PortCell>
 }
 
 fn output_of(gate: &TableGate, kind: &LawfulGate, o: u32) -> Option<PortCell>
-    ensures { IfSome result (StandsAt (sourced_by kind.now gate.now) (GatePort.Out o)) }
+    ensures { IfSome result (IsGatePortAt (sourced_by kind.now gate.now) (GatePort.Out o)) }
 {
     if o as usize >= gate.outs.len() {
         return None;
@@ -88,7 +98,7 @@ fn output_of(gate: &TableGate, kind: &LawfulGate, o: u32) -> Option<PortCell>
 }
 
 fn port_of(gate: &TableGate, kind: &LawfulGate, port: GatePort) -> Option<PortCell>
-    ensures { IfSome result (StandsAt (sourced_by kind.now gate.now) port) }
+    ensures { IfSome result (IsGatePortAt (sourced_by kind.now gate.now) port) }
 {
     match port {
         GatePort::In(i) => input_of(gate, kind, i),
@@ -223,9 +233,6 @@ impl Tables {
         if i <= wire.size as usize {
             return Some(self.cell(wire.start as usize + (i - 1)));
         }
-        self.port_cell(DrawnPort {
-            gate: wire.to.gate,
-            port: GatePort::In(wire.to.input),
-        })
+        self.port_cell(input_port(wire.to))
     }
 }

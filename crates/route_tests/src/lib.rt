@@ -1,9 +1,7 @@
-//! Tests of the library of gates, of the lines that describe routed circuits, and of the search that finds gates and
-//! wires, and of the check of circuits.
+//! Tests of the library of gates, of the lines that describe routed circuits, of the search that finds gates and wires,
+//! and of the check of circuits. `dev/gate/routed` tries broken ones with the program.
 #![tactic(auto)]
 
-#[cfg(test)]
-mod broken;
 #[cfg(test)]
 mod cases;
 #[cfg(test)]
@@ -13,4 +11,4 @@ mod found;
 #[cfg(test)]
 mod gates;
 #[cfg(test)]
-mod refused;
+mod read;

@@ -14,7 +14,7 @@ use Rattle.lifted_designs.specs.Runs.{ArePortNames}
 use Rattle.lifted_designs.proofs.NoClocks.{lifted_have_no_clock_fault}
 use Rattle.lifted_designs.proofs.Rising.{lifted_have_no_loop}
 use Rattle.blif_write.specs.declared.lift.Lift.{Lift}
-use Rattle.blif_write.specs.Lift.{IsLiftOfCells, text_of_lift}
+use Rattle.blif_write.specs.Lift.{text_of_lift}
 use Rattle.blif_write.specs.Text.{lifted_text}
 use Rattle.blif_write.proofs.TextsRead.{lifted_texts_read}
 use Rattle.lift_carries.proofs.PortNames.{are_port_names, ins_are_words, outs_are_words}

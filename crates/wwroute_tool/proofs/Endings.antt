@@ -1,6 +1,6 @@
 -- How runs end.
-use Rattle.std.proofs.Common.{ℕ, ◌≡◌, ◌≢◌, ◌<◌, ◌⊎◌, inl, inr, refl, sym, ap, ◌∙◌, subst, List, length, take, arith}
-use Rattle.std.specs.Prelude.{Option, Some, None, ◌++◌}
+use Rattle.std.proofs.Common.{ℕ, ◌≡◌, ◌≢◌, ◌<◌, ◌≤◌, ◌*◌, ◌⊎◌, inl, inr, refl, sym, ap, ◌∙◌, subst, List, length, take, arith}
+use Rattle.std.specs.Prelude.{Option, Some, None}
 use Rattle.std.specs.Io.KnownBytes.{Keeps}
 use Rattle.ww_base.specs.declared.whole.ReadAllError.{ReadAllError}
 use Rattle.ww_base.specs.declared.whole.ReadAllError.TheVariants as read_error
@@ -10,22 +10,25 @@ use Rattle.rle_read.specs.declared.error.RleReadError.TheVariants as reading
 use Rattle.port_table.specs.declared.faults.PortFault.{PortFault}
 use Rattle.port_table.specs.declared.reading.PortReadError.{PortReadError}
 use Rattle.port_table.specs.declared.reading.PortReadError.TheVariants as table
+use Rattle.netlist_text.specs.Causes.{HasNetlistCause}
+use Rattle.netlist_text.specs.declared.error.NetlistError.{NetlistError}
+use Rattle.netlist_text.specs.declared.error.NetlistError.TheVariants as netlist
 use Rattle.ww_rule.specs.Grid.{Grid}
 use Rattle.pattern_reading.specs.Pattern.{ReadsWithinLimit}
 use Rattle.pattern_reading.specs.PortTable.{HasPortFault}
-use Rattle.refusals.specs.Refusals.{pattern_error, read_refusal, status_of, status_of_cause, table_error, text_refusal}
+use Rattle.refusals.specs.Refusals.{netlist_error, pattern_error, read_refusal, status_of_cause, table_error, text_refusal}
 use Rattle.refusals.specs.declared.causes.Cause.{Cause}
 use Rattle.refusals.specs.declared.causes.Cause.TheVariants.{NetlistFault, WeightTooLarge, Loop, AigAtFault, AigLoop, Pattern, GridTooLarge, PortTable, Streams, StartWord, NoSuchNet, TooFar, TooManyContexts, NotQuiet, NotCircuit as NoDrawing}
-use Rattle.refusals.specs.declared.refusal.Refusal.{Refusal}
 use Rattle.refusals.specs.declared.refusal.Refusal.TheVariants as refusal
-use Rattle.program_runs.specs.Runs.{Call, Reading, Writing, Gave, GaveAll, Gained, GainedNothing, NoReadFailed, ReadFailed, NoWriteFailed, WriteFailed, text_limit}
-use Rattle.program_runs.specs.Netlists.{IsNetlistOf, WritesItsNetlist}
-use Rattle.program_runs.proofs.Given.{gave_whole, gained_whole}
+use Rattle.program_runs.specs.Runs.{Call, Reading, Gave, GaveAll, Gained, NoReadFailed, ReadFailed, NoWriteFailed, WriteFailed, text_limit}
+use Rattle.wwroute_tool.specs.declared.words.Command.{Command}
+use Rattle.wwroute_tool.specs.declared.words.Command.TheVariants.{Extract, Route}
 use Rattle.wwroute_tool.specs.declared.refusal.RouteRefusal.{RouteRefusal}
 use Rattle.wwroute_tool.specs.declared.refusal.RouteRefusal.TheVariants.{Usage, Common, NotCircuit}
-use Rattle.wwroute_tool.specs.Words.{IsExtract}
-use Rattle.wwroute_tool.specs.Refusing.{HasNoTable, HasReason, HasTextReason, IsFree, IsPatternText, route_line, route_status}
-use Rattle.wwroute_tool.specs.Runs.{CutsLine, CutsNetlist, Ends, Extracts, HasStopped, IsDone, IsRefused}
+use Rattle.wwroute_tool.specs.Words.{AsksFor}
+use Rattle.wwroute_tool.specs.Commands.{HasTextReason}
+use Rattle.wwroute_tool.specs.Refusing.{HasNoCircuit, HasNoPatternOf, NeedsNoReason, IsPatternText, box_limit, route_line, route_status}
+use Rattle.wwroute_tool.specs.Runs.{CutsRefusal, CutsAnswer, CutsBeside, AnswersAll, RouteEnds, HasCommandReason, HasRouteReason, HasBrokenOff}
 
 -- what is not written to stays
 pub kept : (held : Option (List ℕ)) → Keeps held held
@@ -33,18 +36,18 @@ kept None = tt
 kept (Some bytes) = refl
 
 -- ---- reasons
-pub pattern_reason : (text : List ℕ) (e : RleReadError) → HasReadReason text e → HasTextReason text (Common (text_refusal (pattern_error e)))
+pub pattern_reason : (text : List ℕ) (e : RleReadError) → HasReadReason text e → HasNoCircuit text (Common (text_refusal (pattern_error e)))
 pattern_reason text (reading.Fault f) h = h
 pattern_reason text (reading.TooLarge width height) h = inl h
 pattern_reason text reading.NoMemory h = tt
 
 pub table_reason : (text : List ℕ) (grid : Grid) (e : PortReadError) → ReadsWithinLimit text grid
-    → ((f : PortFault) → e ≡ table.Fault f → HasPortFault text grid.width grid.height f.kind f.line) → HasTextReason text (Common (text_refusal (table_error e)))
+    → ((f : PortFault) → e ≡ table.Fault f → HasPortFault text grid.width grid.height f.kind f.line) → HasNoCircuit text (Common (text_refusal (table_error e)))
 table_reason text grid (table.Fault f) reads faults = (grid, reads, faults f refl)
 table_reason text grid table.NoMemory reads faults = tt
 
 -- a free refusal is one of a pattern with a table
-pub free_reason : (text : List ℕ) (r : RouteRefusal) → IsFree r → ((grid : Grid) × (ports : _) × IsPatternText text grid ports) → HasTextReason text r
+pub free_reason : (text : List ℕ) (r : RouteRefusal) → NeedsNoReason r → ((grid : Grid) × (ports : _) × IsPatternText text grid ports × (grid.width * grid.height ≤ box_limit)) → HasNoCircuit text r
 free_reason text Usage free is = absurd free
 free_reason text (NotCircuit fault) free is = is
 free_reason text (Common refusal.Usage) free is = absurd free
@@ -54,21 +57,47 @@ free_reason text (Common refusal.WriteFault) free is = absurd free
 free_reason text (Common refusal.NoMemory) free is = tt
 free_reason text (Common (refusal.Text cause)) free is = absurd free
 
-pub by_text : (words : List (List ℕ)) (src : Reading) (text : List ℕ) (r : RouteRefusal) → IsExtract words → GaveAll src text → HasTextReason text r → HasReason words src r
-by_text words src text Usage asked given h = absurd h
-by_text words src text (NotCircuit fault) asked given h = (asked, record { text = text; given = given; reason = h })
-by_text words src text (Common refusal.Usage) asked given h = absurd h
-by_text words src text (Common refusal.TooLong) asked given h = absurd h
-by_text words src text (Common refusal.ReadFault) asked given h = absurd h
-by_text words src text (Common refusal.WriteFault) asked given h = absurd h
-by_text words src text (Common refusal.NoMemory) asked given h = given.calm
-by_text words src text (Common (refusal.Text cause)) asked given h = (asked, record { text = text; given = given; reason = h })
+pub netlist_reason : (text : List ℕ) (e : NetlistError) → HasNetlistCause text e → HasNoPatternOf text (Common (text_refusal (netlist_error e)))
+netlist_reason text (netlist.Fault fault) h = h
+netlist_reason text (netlist.TooLarge weight) h = h
+netlist_reason text (netlist.Loop names) h = h
+netlist_reason text netlist.NoMemory h = tt
 
-pub by_read : (words : List (List ℕ)) (src : Reading) (e : ReadAllError) → IsExtract words → (((e ≡ read_error.ReadFault) → ⊥) → NoReadFailed src) → ((e ≡ read_error.ReadFault) → ReadFailed src)
-    → ((e ≡ read_error.TooLong) → (given : List ℕ) × Gave src given × (text_limit < length given)) → HasReason words src (Common (read_refusal e))
-by_read words src read_error.ReadFault asked calm failed long = (asked, failed refl)
-by_read words src read_error.TooLong asked calm failed long = let l = long refl in (asked, record { given = l.0; gave = l.1; many = l.2; calm = calm (λ e. cc) })
-by_read words src read_error.NoMemory asked calm failed long = calm (λ e. cc)
+-- no text is a reason for these
+never_too_long : (command : Command) (text : List ℕ) → HasTextReason command text (Common refusal.TooLong) → ⊥
+never_too_long Extract text h = h
+never_too_long (Route nets) text h = h
+
+never_read_fault : (command : Command) (text : List ℕ) → HasTextReason command text (Common refusal.ReadFault) → ⊥
+never_read_fault Extract text h = h
+never_read_fault (Route nets) text h = h
+
+never_write_fault : (command : Command) (text : List ℕ) → HasTextReason command text (Common refusal.WriteFault) → ⊥
+never_write_fault Extract text h = h
+never_write_fault (Route nets) text h = h
+
+reason_of_text : (src : Reading) (text : List ℕ) (command : Command) (r : RouteRefusal) → GaveAll src text → HasTextReason command text r → HasCommandReason command src r
+reason_of_text src text command Usage given h = record { text = text; given = given; reason = h }
+reason_of_text src text command (NotCircuit fault) given h = record { text = text; given = given; reason = h }
+reason_of_text src text command (Common refusal.Usage) given h = record { text = text; given = given; reason = h }
+reason_of_text src text command (Common refusal.TooLong) given h = absurd (never_too_long command text h)
+reason_of_text src text command (Common refusal.ReadFault) given h = absurd (never_read_fault command text h)
+reason_of_text src text command (Common refusal.WriteFault) given h = record { text = text; given = given; reason = h }
+reason_of_text src text command (Common refusal.NoMemory) given h = given.calm
+reason_of_text src text command (Common (refusal.Text cause)) given h = record { text = text; given = given; reason = h }
+
+pub by_text : (words : List (List ℕ)) (src : Reading) (text : List ℕ) (command : Command) (r : RouteRefusal) → AsksFor words command → GaveAll src text → HasTextReason command text r → HasRouteReason words src r
+by_text words src text command r asked given h = inr (command, asked, reason_of_text src text command r given h)
+
+reason_of_read : (src : Reading) (command : Command) (e : ReadAllError) → (((e ≡ read_error.ReadFault) → ⊥) → NoReadFailed src) → ((e ≡ read_error.ReadFault) → ReadFailed src)
+    → ((e ≡ read_error.TooLong) → (given : List ℕ) × Gave src given × (text_limit < length given)) → HasCommandReason command src (Common (read_refusal e))
+reason_of_read src command read_error.ReadFault calm failed long = failed refl
+reason_of_read src command read_error.TooLong calm failed long = let l = long refl in record { given = l.0; gave = l.1; many = l.2; calm = calm (λ e. cc) }
+reason_of_read src command read_error.NoMemory calm failed long = calm (λ e. cc)
+
+pub by_read : (words : List (List ℕ)) (src : Reading) (command : Command) (e : ReadAllError) → AsksFor words command → (((e ≡ read_error.ReadFault) → ⊥) → NoReadFailed src) → ((e ≡ read_error.ReadFault) → ReadFailed src)
+    → ((e ≡ read_error.TooLong) → (given : List ℕ) × Gave src given × (text_limit < length given)) → HasRouteReason words src (Common (read_refusal e))
+by_read words src command e asked calm failed long = inr (command, asked, reason_of_read src command e calm failed long)
 
 -- ---- statuses
 cause_status : (cause : Cause) → (status_of_cause cause ≢ 0) × (status_of_cause cause ≢ 6)
@@ -99,34 +128,51 @@ never_done (Common refusal.NoMemory) = λ e. cc
 never_done (Common (refusal.Text cause)) = (cause_status cause).0
 
 -- a refusal with a reason has not the status of a failed write
-never_cut : (words : List (List ℕ)) (src : Reading) (r : RouteRefusal) → HasReason words src r → route_status r ≢ 6
-never_cut words src Usage h = λ e. cc
-never_cut words src (NotCircuit fault) h = λ e. cc
-never_cut words src (Common refusal.Usage) h = λ e. cc
-never_cut words src (Common refusal.TooLong) h = λ e. cc
-never_cut words src (Common refusal.ReadFault) h = λ e. cc
-never_cut words src (Common refusal.WriteFault) h = absurd h.1.reason
-never_cut words src (Common refusal.NoMemory) h = λ e. cc
-never_cut words src (Common (refusal.Text cause)) h = (cause_status cause).1
+command_never_cut : (command : Command) (src : Reading) (r : RouteRefusal) → HasCommandReason command src r → route_status r ≢ 6
+command_never_cut command src Usage h = λ e. cc
+command_never_cut command src (NotCircuit fault) h = λ e. cc
+command_never_cut command src (Common refusal.Usage) h = λ e. cc
+command_never_cut command src (Common refusal.TooLong) h = λ e. cc
+command_never_cut command src (Common refusal.ReadFault) h = λ e. cc
+command_never_cut command src (Common refusal.WriteFault) h = absurd (never_write_fault command h.text h.reason)
+command_never_cut command src (Common refusal.NoMemory) h = λ e. cc
+command_never_cut command src (Common (refusal.Text cause)) h = (cause_status cause).1
+
+never_cut : (words : List (List ℕ)) (src : Reading) (r : RouteRefusal) → HasRouteReason words src r → route_status r ≢ 6
+never_cut words src r (inl (usage, none, untouched)) = λ six. not_both (route_status r) (ap route_status usage) six
+  where
+    not_both : (s : ℕ) → s ≡ 2 → s ≡ 6 → ⊥
+    not_both s a b = omega (arith, a, b)
+never_cut words src r (inr (command, asked, reason)) = command_never_cut command src r reason
 
 -- ---- ends
-pub done : (c : Call) → IsDone c → ((given : List ℕ) × Gave c.src given) → Ends c 0
-done c d front =
+pub done : (c : Call) (line : List ℕ) → AnswersAll c.words c.src c.out line → Gained c.err line → NoWriteFailed c.out → NoWriteFailed c.err → ((given : List ℕ) × Gave c.src given) → RouteEnds c 0
+done c line d told out_calm err_calm front =
     record {
-      done = λ e. d;
+      done = λ e. record { line = line; done = d; told = told; out_calm = out_calm; err_calm = err_calm };
       refused = λ zero six. absurd (zero refl);
       cut = λ e. cc;
       front = front;
     }
 
-told_as : (c : Call) (status : ℕ) (r : RouteRefusal) → status ≡ route_status r → HasStopped c.words c.src c.out r → Gained c.err (route_line r) → NoWriteFailed c.err
-    → ((given : List ℕ) × Gave c.src given) → Ends c status
+-- the answer is whole, but the line beside it is not
+pub done_untold : (c : Call) (line : List ℕ) → AnswersAll c.words c.src c.out line → ((k : ℕ) × Gained c.err (take k line)) → NoWriteFailed c.out → WriteFailed c.err → ((given : List ℕ) × Gave c.src given) → RouteEnds c 6
+done_untold c line d told out_calm failed front =
+    record {
+      done = λ e. cc;
+      refused = λ zero six. absurd (six refl);
+      cut = λ e. inr (inr (record { line = line; done = d; out_calm = out_calm; size = told.0; front = told.1; failed = failed }));
+      front = front;
+    }
+
+told_as : (c : Call) (status : ℕ) (r : RouteRefusal) → status ≡ route_status r → HasBrokenOff c.words c.src c.out r → Gained c.err (route_line r) → NoWriteFailed c.err
+    → ((given : List ℕ) × Gave c.src given) → RouteEnds c status
 told_as c status r is (inl (write, failed, (k, front))) line calm given =
     let six : status ≡ 6 = is ∙ ap route_status write in
     record {
       done = λ e. absurd (omega (arith, e, six));
       refused = λ zero other. absurd (other six);
-      cut = λ e. inr (record { size = k; front = front; failed = failed; line = inl (calm, subst (λ x. Gained c.err (route_line x)) write line) });
+      cut = λ e. inr (inl (record { size = k; front = front; failed = failed; line = inl (calm, subst (λ x. Gained c.err (route_line x)) write line) }));
       front = given;
     }
 told_as c status r is (inr (nothing, calm, reason)) line err_calm given =
@@ -137,18 +183,18 @@ told_as c status r is (inr (nothing, calm, reason)) line err_calm given =
       front = given;
     }
 
-pub told : (c : Call) (status : ℕ) (r : RouteRefusal) → status ≡ route_status r → HasStopped c.words c.src c.out r → Gained c.err (route_line r) → NoWriteFailed c.err
-    → ((given : List ℕ) × Gave c.src given) → Ends c status
+pub told : (c : Call) (status : ℕ) (r : RouteRefusal) → status ≡ route_status r → HasBrokenOff c.words c.src c.out r → Gained c.err (route_line r) → NoWriteFailed c.err
+    → ((given : List ℕ) × Gave c.src given) → RouteEnds c status
 told c status r is stopped line calm given = told_as c status r is stopped line calm given
 
-cut_by : (c : Call) (r : RouteRefusal) → HasStopped c.words c.src c.out r → ((k : ℕ) × Gained c.err (take k (route_line r))) → WriteFailed c.err → CutsLine c ⊎ CutsNetlist c
+cut_by : (c : Call) (r : RouteRefusal) → HasBrokenOff c.words c.src c.out r → ((k : ℕ) × Gained c.err (take k (route_line r))) → WriteFailed c.err → CutsRefusal c ⊎ (CutsAnswer c ⊎ CutsBeside c)
 cut_by c r (inl (write, failed, (k, front))) line err_failed =
-    inr (record { size = k; front = front; failed = failed; line = inr (err_failed, (line.0, subst (λ x. Gained c.err (take line.0 (route_line x))) write line.1)) })
+    inr (inl (record { size = k; front = front; failed = failed; line = inr (err_failed, (line.0, subst (λ x. Gained c.err (take line.0 (route_line x))) write line.1)) }))
 cut_by c r (inr (nothing, calm, reason)) line err_failed =
     inl (record { refusal = r; reason = reason; nothing = nothing; out_calm = calm; size = line.0; front = line.1; failed = err_failed })
 
-pub untold : (c : Call) (r : RouteRefusal) → HasStopped c.words c.src c.out r → ((k : ℕ) × Gained c.err (take k (route_line r))) → WriteFailed c.err
-    → ((given : List ℕ) × Gave c.src given) → Ends c 6
+pub untold : (c : Call) (r : RouteRefusal) → HasBrokenOff c.words c.src c.out r → ((k : ℕ) × Gained c.err (take k (route_line r))) → WriteFailed c.err
+    → ((given : List ℕ) × Gave c.src given) → RouteEnds c 6
 untold c r stopped line failed given =
     record {
       done = λ e. cc;
@@ -156,9 +202,3 @@ untold c r stopped line failed given =
       cut = λ e. cut_by c r stopped line failed;
       front = given;
     }
-
--- ---- the headline
-pub writes_netlist : (words : List (List ℕ)) (src : Reading) (out : Writing) → Extracts words src out (λ netlist. netlist) → WritesItsNetlist src out
-writes_netlist words src out d text before has held =
-    let same : d.text ≡ text = gave_whole src.left src.left_after d.text text d.given.consumed d.given.end has in
-    (d.netlist, gained_whole out.written out.written_after d.netlist before d.wrote held, d.design, subst (λ (t : List ℕ). IsNetlistOf t d.netlist d.design) same d.is)

@@ -1,2 +1,4 @@
 mod Carrying
+mod Drawings
 mod Endings
+mod Headlines

@@ -1,4 +1,6 @@
 pub mod Words
 pub mod Refusing
 pub mod Carried
+pub mod Answers
+pub mod Commands
 pub mod Runs

@@ -1,21 +1,20 @@
--- Why a run does not end well: its status, its line, and the reason.
-use Rattle.std.specs.Prelude.{ℕ, ◌≡◌, ◌<◌, ◌*◌, ◌++◌, ◌⊎◌, ⊤, List, length, codes, decimal}
+-- Why a text is refused: the status, the line, and the reason.
+use Rattle.std.specs.Prelude.{ℕ, ◌<◌, ◌≤◌, ◌*◌, ◌++◌, ◌⊎◌, ⊤, List, codes, decimal}
 use Rattle.ww_rule.specs.declared.pattern.State.{State}
 use Rattle.ww_rule.specs.Grid.{Grid}
 use Rattle.pattern_reading.specs.declared.ports.Ports.{Ports}
 use Rattle.pattern_reading.specs.Pattern.{ReadsWithinLimit, HasReaderFault, HasLargeBox}
 use Rattle.pattern_reading.specs.PortTable.{ReadsAsPorts, HasPortFault}
+use Rattle.netlist_text.specs.NetlistText.{IsAtFault, IsTooHeavy, HasLoop}
 use Rattle.refusals.specs.Refusals.{status_of, refusal_line}
 use Rattle.refusals.specs.declared.causes.Cause.{Cause}
-use Rattle.refusals.specs.declared.causes.Cause.TheVariants.{Pattern, GridTooLarge, PortTable}
+use Rattle.refusals.specs.declared.causes.Cause.TheVariants.{NetlistFault, WeightTooLarge, Loop, Pattern, GridTooLarge, PortTable}
 use Rattle.refusals.specs.declared.refusal.Refusal.TheVariants as refusal
 use Rattle.route_tables.specs.declared.fault.FaultWord.{FaultWord}
 use Rattle.route_tables.specs.declared.fault.FaultWord.TheVariants.{Kind, Gate, Touches, Wire, Length, Electron, Fed, Order, Port, Net}
 use Rattle.route_tables.specs.declared.fault.CellFault.{CellFault}
-use Rattle.program_runs.specs.Runs.{Reading, Gave, GaveAll, NoReadFailed, ReadFailed, text_limit}
 use Rattle.wwroute_tool.specs.declared.refusal.RouteRefusal.{RouteRefusal}
 use Rattle.wwroute_tool.specs.declared.refusal.RouteRefusal.TheVariants.{Usage, Common, NotCircuit}
-use Rattle.wwroute_tool.specs.Words.{IsExtract}
 
 -- the words for what is wrong
 abbrev pub fault_word : FaultWord → List ℕ
@@ -31,8 +30,8 @@ fault_word Port = codes "Port"
 fault_word Net = codes "Net"
 
 -- the line that tells what is wrong, and a cell near it
-abbrev pub fault_line : CellFault → List ℕ
-fault_line fault =
+abbrev pub cell_fault_line : CellFault → List ℕ
+cell_fault_line fault =
     codes "not a circuit: " ++ (fault_word fault.word
     ++ (codes " " ++ (decimal fault.x ++ (codes " " ++ (decimal fault.y ++ codes "\n")))))
 
@@ -42,8 +41,8 @@ route_status (NotCircuit fault) = 12
 route_status (Common r) = status_of r
 
 abbrev pub route_line : RouteRefusal → List ℕ
-route_line Usage = codes "usage: wwroute extract\n"
-route_line (NotCircuit fault) = fault_line fault
+route_line Usage = codes "usage: wwroute extract|route\n"
+route_line (NotCircuit fault) = cell_fault_line fault
 route_line (Common r) = refusal_line r
 
 -- the text is that of a pattern with a port table
@@ -51,55 +50,54 @@ pub record IsPatternText (text : List ℕ) (grid : Grid) (ports : Ports) : Type 
   pub pattern : ReadsWithinLimit text grid
   pub table : ReadsAsPorts text grid.width grid.height ports
 
--- the pattern's box has more than 67,108,864 cells
-pub record IsTooLarge (text : List ℕ) (width height : ℕ) : Type 0 where
+-- the greatest number of cells of a box that is looked at
+abbrev pub box_limit : ℕ
+box_limit = 67108864
+
+-- the pattern's box has more cells, and its port table no fault
+pub record HasBoxPastLimit (text : List ℕ) (width height : ℕ) : Type 0 where
   pub rows : List (List State)
-  pub reads : ReadsWithinLimit text (record { width = width; height = height; rows = rows })
-  pub many : 67108864 < width * height
+  pub ports : Ports
+  pub is : IsPatternText text (record { width = width; height = height; rows = rows }) ports
+  pub many : box_limit < width * height
 
 -- why the text has no pattern with a port table that is looked at: it is no pattern, its box is too
 -- large, or its port table is at fault
 abbrev pub HasNoTable : List ℕ → Cause → Type 0
 HasNoTable text (Pattern fault) = HasReaderFault text fault.kind fault.line
 HasNoTable text (GridTooLarge width height) =
-    HasLargeBox text width height ⊎ IsTooLarge text width height
+    HasLargeBox text width height ⊎ HasBoxPastLimit text width height
 HasNoTable text (PortTable fault) =
     (grid : Grid) × ReadsWithinLimit text grid
     × HasPortFault text grid.width grid.height fault.kind fault.line
 HasNoTable text _ = ⊥
 
 -- a refusal that any pattern with a port table may have
-abbrev pub IsFree : RouteRefusal → Type 0
-IsFree (NotCircuit fault) = ⊤
-IsFree (Common refusal.NoMemory) = ⊤
-IsFree r = ⊥
+abbrev pub NeedsNoReason : RouteRefusal → Type 0
+NeedsNoReason (NotCircuit fault) = ⊤
+NeedsNoReason (Common refusal.NoMemory) = ⊤
+NeedsNoReason r = ⊥
 
--- Why a text gives no netlist. A pattern with a table may be refused whatever it draws: no clause
--- says that each routed circuit is found.
-abbrev pub HasTextReason : List ℕ → RouteRefusal → Type 0
-HasTextReason text Usage = ⊥
-HasTextReason text (NotCircuit fault) = (grid : Grid) × (ports : Ports) × IsPatternText text grid ports
-HasTextReason text (Common (refusal.Text cause)) = HasNoTable text cause
-HasTextReason text (Common refusal.NoMemory) = ⊤
-HasTextReason text (Common r) = ⊥
+-- Why a text gives no circuit. A pattern with a table, in a box that is looked at, may be refused
+-- whatever it draws: no clause says that each routed circuit is found, or at which cell it is at fault.
+abbrev pub HasNoCircuit : List ℕ → RouteRefusal → Type 0
+HasNoCircuit text Usage = ⊥
+HasNoCircuit text (NotCircuit fault) =
+    (grid : Grid) × (ports : Ports) × IsPatternText text grid ports
+    × (grid.width * grid.height ≤ box_limit)
+HasNoCircuit text (Common (refusal.Text cause)) = HasNoTable text cause
+HasNoCircuit text (Common refusal.NoMemory) = ⊤
+HasNoCircuit text (Common r) = ⊥
 
--- the source gave too many bytes, and no read failed
-pub record GaveTooMuch (src : Reading) : Type 0 where
-  pub given : List ℕ
-  pub gave : Gave src given
-  pub many : text_limit < length given
-  pub calm : NoReadFailed src
+-- why a text is no netlist: it is at fault, or too heavy, or its covers read each other in a circle
+abbrev pub IsNoNetlist : List ℕ → Cause → Type 0
+IsNoNetlist text (NetlistFault fault) = IsAtFault text fault
+IsNoNetlist text (WeightTooLarge weight) = IsTooHeavy text weight
+IsNoNetlist text (Loop names) = HasLoop text names
+IsNoNetlist text _ = ⊥
 
--- the source gave a text, which gives no netlist for this reason
-pub record GaveNoCircuit (src : Reading) (r : RouteRefusal) : Type 0 where
-  pub text : List ℕ
-  pub given : GaveAll src text
-  pub reason : HasTextReason text r
-
--- why a run is refused before it writes; a read failed only if this is why
-abbrev pub HasReason : List (List ℕ) → Reading → RouteRefusal → Type 0
-HasReason words src Usage = (IsExtract words → ⊥) × NoReadFailed src
-HasReason words src (Common refusal.TooLong) = IsExtract words × GaveTooMuch src
-HasReason words src (Common refusal.ReadFault) = IsExtract words × ReadFailed src
-HasReason words src (Common refusal.NoMemory) = NoReadFailed src
-HasReason words src r = IsExtract words × GaveNoCircuit src r
+-- why a text gives no pattern: it is no netlist, or there is not enough memory
+abbrev pub HasNoPatternOf : List ℕ → RouteRefusal → Type 0
+HasNoPatternOf text (Common (refusal.Text cause)) = IsNoNetlist text cause
+HasNoPatternOf text (Common refusal.NoMemory) = ⊤
+HasNoPatternOf text r = ⊥

@@ -1,40 +1,81 @@
 -- How a run ends, by its words and by what its source, its output and its errors hold before and
 -- after.
-use Rattle.std.specs.Prelude.{ℕ, ◌≡◌, ◌≢◌, ◌⊎◌, List, take}
+use Rattle.std.specs.Prelude.{ℕ, ◌≡◌, ◌≢◌, ◌≤◌, ◌<◌, ◌⊎◌, List, length, take, ◌++◌, Some}
 use Rattle.netlist_core.specs.declared.model.Design.{Design}
-use Rattle.program_runs.specs.Runs.{Call, Reading, Writing, Gave, GaveAll, Gained, GainedNothing, NoWriteFailed, WriteFailed}
-use Rattle.program_runs.specs.Netlists.{IsNetlistOf}
+use Rattle.netlist_text.specs.NetlistText.{IsNetlist}
+use Rattle.blif_text.specs.Faults.{IsDesignOf}
+use Rattle.carries.specs.Carries.{Carries}
+use Rattle.routed_plans.specs.declared.nets.ShownNets.{ShownNets}
+use Rattle.routed_plans.specs.Nets.{ShowsNetsBy}
+use Rattle.program_runs.specs.Runs.{Call, Reading, Writing, Gave, GaveAll, Gained, GainedNothing, IsUntouched, NoReadFailed, ReadFailed, NoWriteFailed, WriteFailed, text_limit}
 use Rattle.refusals.specs.Refusals.{refusal_line}
-use Rattle.refusals.specs.declared.refusal.Refusal.TheVariants.{WriteFault}
+use Rattle.refusals.specs.declared.refusal.Refusal.TheVariants as refusal
+use Rattle.wwroute_tool.specs.declared.words.Command.{Command}
+use Rattle.wwroute_tool.specs.declared.words.Command.TheVariants.{Route}
 use Rattle.wwroute_tool.specs.declared.refusal.RouteRefusal.{RouteRefusal}
-use Rattle.wwroute_tool.specs.declared.refusal.RouteRefusal.TheVariants.{Common}
-use Rattle.wwroute_tool.specs.Words.{IsExtract}
-use Rattle.wwroute_tool.specs.Refusing.{HasReason, route_line, route_status}
+use Rattle.wwroute_tool.specs.declared.refusal.RouteRefusal.TheVariants.{Usage, Common}
+use Rattle.wwroute_tool.specs.Words.{AsksFor, AsksForNone}
+use Rattle.wwroute_tool.specs.Commands.{Makes, TellsBeside, HasTextReason}
+use Rattle.wwroute_tool.specs.Refusing.{route_line, route_status}
 
--- The words are `extract`, the source gave a text, and the output gained this part of the text of a
--- netlist that the source's text carries.
-pub record Extracts (words : List (List ℕ)) (src : Reading) (out : Writing)
+-- The words ask for a command, the source gave a text, and the output gained this part of what the
+-- command makes of the text.
+pub record AnswersPart (words : List (List ℕ)) (src : Reading) (out : Writing)
     (part : List ℕ → List ℕ) : Type 0 where
-  pub asked : IsExtract words
+  pub command : Command
+  pub asked : AsksFor words command
   pub text : List ℕ
   pub given : GaveAll src text
-  pub netlist : List ℕ
-  pub design : Design
-  pub is : IsNetlistOf text netlist design
-  pub wrote : Gained out (part netlist)
+  pub answer : List ℕ
+  pub makes : Makes command text answer
+  pub wrote : Gained out (part answer)
 
--- the output has a whole netlist, err gained nothing, and no write failed
-pub record IsDone (c : Call) : Type 0 where
-  pub done : Extracts c.words c.src c.out (λ netlist. netlist)
-  pub silent : GainedNothing c.err
+-- the output gained all that the command makes of the text, and this line is to be told beside it
+pub record AnswersAll (words : List (List ℕ)) (src : Reading) (out : Writing)
+    (line : List ℕ) : Type 0 where
+  pub whole : AnswersPart words src out (λ answer. answer)
+  pub beside : TellsBeside whole.command whole.answer line
+
+-- the source gave too many bytes, and no read failed
+pub record GaveTooMuch (src : Reading) : Type 0 where
+  pub given : List ℕ
+  pub gave : Gave src given
+  pub many : text_limit < length given
+  pub calm : NoReadFailed src
+
+-- the source gave a text, which the command refuses for this reason
+pub record GaveNoAnswer (command : Command) (src : Reading) (r : RouteRefusal) : Type 0 where
+  pub text : List ℕ
+  pub given : GaveAll src text
+  pub reason : HasTextReason command text r
+
+-- why a command is refused before it writes; a read failed only if this is why
+abbrev pub HasCommandReason : Command → Reading → RouteRefusal → Type 0
+HasCommandReason command src (Common refusal.TooLong) = GaveTooMuch src
+HasCommandReason command src (Common refusal.ReadFault) = ReadFailed src
+HasCommandReason command src (Common refusal.NoMemory) = NoReadFailed src
+HasCommandReason command src r = GaveNoAnswer command src r
+
+-- why a run is refused before it writes: the words ask for no command, and the source is unchanged;
+-- or they ask for a command that is refused
+abbrev pub HasRouteReason : List (List ℕ) → Reading → RouteRefusal → Type 0
+HasRouteReason words src r =
+    ((r ≡ Usage) × AsksForNone words × IsUntouched src)
+    ⊎ ((command : Command) × AsksFor words command × HasCommandReason command src r)
+
+-- the output has the whole answer, err the line beside it, and no write failed
+pub record HasAnswered (c : Call) : Type 0 where
+  pub line : List ℕ
+  pub done : AnswersAll c.words c.src c.out line
+  pub told : Gained c.err line
   pub out_calm : NoWriteFailed c.out
   pub err_calm : NoWriteFailed c.err
 
 -- a refusal that has its reason is told by the status and by err, the output gained nothing, and no
 -- write failed
-pub record IsRefused (c : Call) (status : ℕ) : Type 0 where
+pub record HasRefused (c : Call) (status : ℕ) : Type 0 where
   pub refusal : RouteRefusal
-  pub reason : HasReason c.words c.src refusal
+  pub reason : HasRouteReason c.words c.src refusal
   pub nothing : GainedNothing c.out
   pub told : status ≡ route_status refusal
   pub line : Gained c.err (route_line refusal)
@@ -42,33 +83,77 @@ pub record IsRefused (c : Call) (status : ℕ) : Type 0 where
   pub err_calm : NoWriteFailed c.err
 
 -- a refusal's line was cut off by the one write that failed, and the output gained nothing
-pub record CutsLine (c : Call) : Type 0 where
+pub record CutsRefusal (c : Call) : Type 0 where
   pub refusal : RouteRefusal
-  pub reason : HasReason c.words c.src refusal
+  pub reason : HasRouteReason c.words c.src refusal
   pub nothing : GainedNothing c.out
   pub out_calm : NoWriteFailed c.out
   pub size : ℕ
   pub front : Gained c.err (take size (route_line refusal))
   pub failed : WriteFailed c.err
 
--- the netlist was cut off by the one write of the output that failed, and err has the line that
--- tells it, or, if a write of err failed too, a prefix of that line
-pub record CutsNetlist (c : Call) : Type 0 where
+-- the answer was cut off by the one write of the output that failed, and err has the line that tells
+-- it, or, if a write of err failed too, a prefix of that line
+pub record CutsAnswer (c : Call) : Type 0 where
   pub size : ℕ
-  pub front : Extracts c.words c.src c.out (take size)
+  pub front : AnswersPart c.words c.src c.out (take size)
   pub failed : WriteFailed c.out
-  pub line : (NoWriteFailed c.err × Gained c.err (refusal_line WriteFault))
-      ⊎ (WriteFailed c.err × ((k : ℕ) × Gained c.err (take k (refusal_line WriteFault))))
+  pub line : (NoWriteFailed c.err × Gained c.err (refusal_line refusal.WriteFault))
+      ⊎ (WriteFailed c.err × ((k : ℕ) × Gained c.err (take k (refusal_line refusal.WriteFault))))
 
--- how a run ends: by its status it is done, refused or cut off
-pub record Ends (c : Call) (status : ℕ) : Type 0 where
-  pub done : status ≡ 0 → IsDone c
-  pub refused : status ≢ 0 → status ≢ 6 → IsRefused c status
-  pub cut : status ≡ 6 → CutsLine c ⊎ CutsNetlist c
+-- the output has the whole answer, and the line beside it was cut off by the one write that failed
+pub record CutsBeside (c : Call) : Type 0 where
+  pub line : List ℕ
+  pub done : AnswersAll c.words c.src c.out line
+  pub out_calm : NoWriteFailed c.out
+  pub size : ℕ
+  pub front : Gained c.err (take size line)
+  pub failed : WriteFailed c.err
+
+-- how a run ends: by its status it is answered, refused or cut off
+pub record RouteEnds (c : Call) (status : ℕ) : Type 0 where
+  pub done : status ≡ 0 → HasAnswered c
+  pub refused : status ≢ 0 → status ≢ 6 → HasRefused c status
+  pub cut : status ≡ 6 → CutsRefusal c ⊎ (CutsAnswer c ⊎ CutsBeside c)
   pub front : (given : List ℕ) × Gave c.src given
 
--- the output was cut off, or not written to if there is another reason
-abbrev pub HasStopped : List (List ℕ) → Reading → Writing → RouteRefusal → Type 0
-HasStopped words src out refusal =
-    ((refusal ≡ Common WriteFault) × WriteFailed out × ((k : ℕ) × Extracts words src out (take k)))
-    ⊎ (GainedNothing out × NoWriteFailed out × HasReason words src refusal)
+-- the answer was cut off, or the output was not written to if there is another reason
+abbrev pub HasBrokenOff : List (List ℕ) → Reading → Writing → RouteRefusal → Type 0
+HasBrokenOff words src out r =
+    ((r ≡ Common refusal.WriteFault) × WriteFailed out
+    × ((k : ℕ) × AnswersPart words src out (take k)))
+    ⊎ (GainedNothing out × NoWriteFailed out × HasRouteReason words src r)
+
+-- ---- what follows for the words `route`
+-- If the source tells the bytes that it had left, and the output the bytes that it held, then the
+-- bytes that the output gained carry the design of the bytes that the source had left.
+abbrev pub WritesItsPattern : Reading → Writing → Type 0
+WritesItsPattern src out =
+    (text before : List ℕ) → src.left ≡ Some text → out.written ≡ Some before
+    → (pattern : List ℕ) × (out.written_after ≡ Some (before ++ pattern))
+    × (design : Design) × IsDesignOf text design × Carries pattern design
+
+-- So each NET line of what it gained shows a net of this design; with `--nets` each net but the clock
+-- nets has such a line.
+abbrev pub WritesItsNets : ShownNets → Reading → Writing → Type 0
+WritesItsNets nets src out =
+    (text before : List ℕ) → src.left ≡ Some text → out.written ≡ Some before
+    → (pattern : List ℕ) × (out.written_after ≡ Some (before ++ pattern))
+    × (design : Design) × IsDesignOf text design × ShowsNetsBy nets pattern design
+
+-- the words ask for `route`, the source has the text of a netlist within the limits, and nothing
+-- fails
+pub record IsCalmRoute (c : Call) (text : List ℕ) (design : Design) : Type 0 where
+  pub nets : ShownNets
+  pub asked : AsksFor c.words (Route nets)
+  pub has : c.src.left ≡ Some text
+  pub short : length text ≤ text_limit
+  pub netlist : IsNetlist text design
+  pub reads : ReadFailed c.src → ⊥
+  pub writes : WriteFailed c.out → ⊥
+  pub tells : WriteFailed c.err → ⊥
+
+-- such a run is answered, unless memory runs out
+abbrev pub RoutesEachNetlist : Call → (status : ℕ) → Type 0
+RoutesEachNetlist c status =
+    (text : List ℕ) (design : Design) → IsCalmRoute c text design → (status ≡ 0) ⊎ (status ≡ 7)

@@ -1,12 +1,12 @@
 // The netlist of the routed circuit that a pattern draws.
-ghost use Rattle.std.specs.Prelude.{◌≡◌, ◌<◌, ◌*◌, false, IfOk, IfErr, IsTrue};
+ghost use Rattle.std.specs.Prelude.{◌≡◌, ◌<◌, ◌≤◌, ◌*◌, false, IfOk, IfErr, IsTrue};
 ghost use Rattle.ww_rule.specs.Grid.{plane_of};
 ghost use Rattle.tile_match.specs.Names.{has_bad_name};
 ghost use Rattle.blif_write.specs.Lift.{IsLiftOfCells, text_of_lift};
 ghost use Rattle.routed_texts.specs.Tables.{ShowsListRuns};
 ghost use Rattle.route_cells.specs.Fits.{FitsPorts};
 ghost use Rattle.wwroute_tool.specs.Carried.{GivesNetlist, IsLiftOfPattern};
-ghost use Rattle.wwroute_tool.specs.Refusing.{HasTextReason, IsFree};
+ghost use Rattle.wwroute_tool.specs.Refusing.{HasNoCircuit, NeedsNoReason, box_limit};
 
 use crate::RouteRefusal;
 use blif_write::Lift;
@@ -23,7 +23,7 @@ use ww_rule::Pattern;
 
 // The refusal of a pattern that is no routed circuit.
 fn refused(word: FaultWord, x: u32, y: u32) -> RouteRefusal
-    ensures { IsFree result }
+    ensures { NeedsNoReason result }
 {
     RouteRefusal::NotCircuit(CellFault { word, x, y })
 }
@@ -32,14 +32,15 @@ fn refused(word: FaultWord, x: u32, y: u32) -> RouteRefusal
 const MOST_CELLS: u64 = 1 << 26;
 
 fn is_too_large(pattern: &Pattern) -> bool
-    ensures { IsTrue result → 67108864 < pattern.now.width * pattern.now.height }
+    ensures large { IsTrue result → box_limit < pattern.now.width * pattern.now.height }
+    ensures within { result ≡ false → pattern.now.width * pattern.now.height ≤ box_limit }
 {
     u128::from(pattern.width) * u128::from(pattern.height) > u128::from(MOST_CELLS)
 }
 
 // What the search for gates and wires tells.
 fn of_find(error: FindError) -> RouteRefusal
-    ensures { IsFree result }
+    ensures { NeedsNoReason result }
 {
     match error {
         FindError::Fault { kind, x, y } => match kind {
@@ -54,7 +55,7 @@ fn of_find(error: FindError) -> RouteRefusal
 
 // What the test of gates and wires tells.
 fn of_route(error: RouteError) -> RouteRefusal
-    ensures { IsFree result }
+    ensures { NeedsNoReason result }
 {
     match error {
         RouteError::Fault(fault) => RouteRefusal::NotCircuit(fault),
@@ -70,7 +71,7 @@ fn drawing_of(
     pattern: &Pattern,
     ports: &Ports,
 ) -> Result<Drawing, RouteRefusal>
-    ensures { IfErr result IsFree }
+    ensures { IfErr result NeedsNoReason }
 {
     match route_lines::read(alloc, text, pattern, ports) {
         Ok(Some(drawing)) => Ok(drawing),
@@ -91,7 +92,7 @@ fn list_of(
 ) -> Result<CellList, RouteRefusal>
     ensures shows { IfOk result (λ list. ShowsListRuns (plane_of pattern.now.rows) ports.now list) }
     ensures fits { IfOk result (FitsPorts ports.now) }
-    ensures refused { IfErr result IsFree }
+    ensures refused { IfErr result NeedsNoReason }
 {
     let drawing = drawing_of(alloc, text, pattern, ports)?;
     match cells_of(alloc, pattern, ports, &drawing) {
@@ -104,7 +105,7 @@ fn list_of(
 fn lifted(alloc: Global, list: CellList, ports: &Ports) -> Result<Lift, RouteRefusal>
     requires fits { FitsPorts ports.now list }
     ensures lift { IfOk result (IsLiftOfCells list ports.now) }
-    ensures refused { IfErr result IsFree }
+    ensures refused { IfErr result NeedsNoReason }
 {
     match blif_write::of_cells(alloc, list, ports) {
         Ok(lift) => Ok(lift),
@@ -115,7 +116,7 @@ fn lifted(alloc: Global, list: CellList, ports: &Ports) -> Result<Lift, RouteRef
 // Whether a name is no word, or memory is too short to tell.
 fn named(alloc: Global, ports: &Ports) -> Result<(), RouteRefusal>
     ensures named { IfOk result (λ _. has_bad_name ports.now ≡ false) }
-    ensures refused { IfErr result IsFree }
+    ensures refused { IfErr result NeedsNoReason }
 {
     match has_bad_name(alloc, ports) {
         Ok(false) => Ok(()),
@@ -132,7 +133,7 @@ fn netlist_of(
     ports: &Ports,
 ) -> Result<Lift, RouteRefusal>
     ensures carried { IfOk result (λ lift. IsLiftOfPattern pattern.now ports.now lift) }
-    ensures refused { IfErr result IsFree }
+    ensures refused { IfErr result NeedsNoReason }
 {
     named(alloc, ports)?;
     let list = list_of(alloc, text, pattern, ports)?;
@@ -142,7 +143,7 @@ fn netlist_of(
 /// Makes the netlist that the text of a routed circuit carries.
 pub fn extract(alloc: Global, text: &[u8]) -> Result<Lift, RouteRefusal>
     ensures carried { IfOk result (λ lift. GivesNetlist text.now (text_of_lift lift)) }
-    ensures refused { IfErr result (HasTextReason text.now) }
+    ensures refused { IfErr result (HasNoCircuit text.now) }
 {
     let pattern = rle_read::read(alloc, text)?;
     let ports = port_table::read(alloc, text, pattern.width, pattern.height)?;

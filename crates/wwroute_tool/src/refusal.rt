@@ -3,10 +3,11 @@ ghost use Rattle.std.specs.Prelude.{◌≡◌, ℕ, take, OnOk, OnErr};
 ghost use Rattle.std.specs.Io.KnownBytes.{Appends};
 ghost use Rattle.ww_base.specs.Faults.{HasCause};
 ghost use Rattle.refusals.specs.Tells.{Tells};
-ghost use Rattle.wwroute_tool.specs.Refusing.{fault_line, fault_word};
+ghost use Rattle.wwroute_tool.specs.Refusing.{cell_fault_line, fault_word};
 
 use itoa::Buffer;
 use lists::OutOfMemory;
+use netlist_text::NetlistError;
 use port_table::PortReadError;
 use refusals::{Cause, Refusal, TextError};
 use rle_read::RleReadError;
@@ -15,12 +16,23 @@ use std::alloc::AllocError;
 use ww_base::{Failed, ReadAllError, Sink, write_all, write_pieces};
 
 /// Why a run does not end well: the words are no command, the pattern is no routed circuit, or what
-/// other programs of the repository tell alike.
+/// other programs of the repository tell alike, as that a text is no netlist.
 #[derive(Drop)]
 pub enum RouteRefusal {
     Usage,
     NotCircuit(CellFault),
     Common(Refusal),
+}
+
+impl From<NetlistError> for RouteRefusal {
+    ghost use Rattle.refusals.specs.Refusals.{netlist_error, text_refusal};
+    ghost use Rattle.wwroute_tool.specs.declared.refusal.RouteRefusal.TheVariants.{Common};
+
+    ghost from_gives = { λ e r. r ≡ Common (text_refusal (netlist_error e)) };
+
+    fn from(error: NetlistError) -> Self {
+        RouteRefusal::Common(Refusal::from(TextError::from(error)))
+    }
 }
 
 impl From<RleReadError> for RouteRefusal {
@@ -109,7 +121,7 @@ fn fault_word(word: FaultWord) -> &'static [u8]
 
 // Tells what is wrong, and a cell near it.
 fn tell_fault<E: Sink>(err: &mut E, fault: CellFault) -> Result<(), Failed>
-    ensures { Tells (fault_line fault)
+    ensures { Tells (cell_fault_line fault)
         (E.written err.old) (E.written err.new) (E.faults err.old) (E.faults err.new) result }
 {
     let mut columns = Buffer::new();
@@ -154,7 +166,7 @@ impl RouteRefusal {
         ensures cause { HasCause (E.faults err.old) (E.faults err.new) result }
     {
         match self {
-            RouteRefusal::Usage => write_all(err, b"usage: wwroute extract\n"),
+            RouteRefusal::Usage => write_all(err, b"usage: wwroute extract|route\n"),
             RouteRefusal::NotCircuit(fault) => tell_fault(err, *fault),
             RouteRefusal::Common(refusal) => refusal.tell(err),
         }

@@ -1,11 +1,8 @@
-use Rattle.program_laws.proofs.EvaluatesAlike.{carried_evaluate_alike, compiled_evaluate_in_one_way, lifted_evaluate_alike}
+use Rattle.program_laws.proofs.EvaluatesAlike.{carried_evaluate_alike, lifted_evaluate_alike}
 use Rattle.program_laws.proofs.carried_evaluate_alike.Goals as goal
 
 pub returns-clause-carried : goal.returns-clause-carried
 returns-clause-carried c = carried_evaluate_alike c.carriers_show_runs.ensures c.streams_match.ensures.one c.texts_are_decided.ensures
-
-pub returns-clause-one_way : goal.returns-clause-one_way
-returns-clause-one_way c = compiled_evaluate_in_one_way c.carriers_show_runs.ensures c.streams_match.ensures.one c.texts_are_decided.ensures
 
 pub returns-clause-lifted : goal.returns-clause-lifted
 returns-clause-lifted c = lifted_evaluate_alike c.carriers_show_runs.ensures c.streams_match.ensures.one c.texts_are_decided.ensures

@@ -13,9 +13,10 @@ is lit, and what an output's bit is. At no other generation is a port lit.
 
 After as many generations as its time says a gate may be used again; so the period of a circuit is at least the time of
 each of its gates. If its inputs are apart, they may be lit at any two generations that are at least the time apart,
-also modulo the period, and an output is lit so many generations after the input that it copies. That each drawing keeps
-its law with its time, and with no smaller one, is tested by `keeps_law` and `keeps_crossing_law`, whose answer is
-[proved](../crates/gate_laws/src/window.rt).
+also modulo the period, which is then at least twice the time; and an output is lit so many generations after the input
+that it copies. That each drawing keeps its law with its time is computed by `keeps_law` and `keeps_crossing_law`: it is
+[proved](../crates/gate_laws/src/window.rt) that the law holds if they say so. With a smaller time they do not: this is
+tested.
 
 Signals run east in the drawings, and each drawing is there in eight turns. The name of a kind is a gate's name, a
 hyphen and a letter for the turn: E, S, W or N for the direction in which the signals run, and a small letter if the

@@ -16,7 +16,7 @@ pub returns-in-Ok-clause-plan : goal.returns-in-Ok-clause-plan
 returns-in-Ok-clause-plan c =
     let made = c.in-Ok.ensures in
     is_plan c.args.aig.now c.in_ok-lowered.lowered.flat c.in_ok-lowered.lowered.order.nodes c.requires c.in_ok-lowered.ensures.is_flat c.in_ok-lowered.ensures.lowered
-    c.in_ok-lowered.ensures.order c.in-Ok.planned.plan c.in-Ok.planned.ports made.admissible made.edges made.bare made.planned made.cells made.small made.table made.period made.at_zero made.carries
+    c.in_ok-lowered.ensures.order c.in-Ok.planned.plan c.in-Ok.planned.ports made.admissible made.edges made.bare made.planned made.small made.table made.period made.at_zero made.carries
 
 pub returns-clause-refused : goal.returns-clause-refused
 returns-clause-refused c = tt

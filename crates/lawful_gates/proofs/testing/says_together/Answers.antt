@@ -2,7 +2,7 @@ use Rattle.std.proofs.Common.{◌≡◌, get_or, [], take, arith, below_more}
 use Rattle.lists.specs.Items.{flag_at}
 use Rattle.gate_laws.specs.Drawings.{number_of_bits}
 use Rattle.gate_laws.proofs.Windows.{choice_of}
-use Rattle.lawful_gates.specs.declared.testing.TheConstants.{CHOICES}
+use Rattle.gate_laws.specs.declared.window.TheConstants.{CHOICES}
 use Rattle.lawful_gates.specs.Lawful.{answer_bit}
 use Rattle.lawful_gates.proofs.testing.says_together.Goals as goal
 

@@ -1,7 +1,7 @@
 use Rattle.std.proofs.Common.{ℕ, ◌<◌, ◌≡◌, get_or, [], take}
 use Rattle.lists.specs.Items.{flag_at}
 use Rattle.gate_laws.specs.Drawings.{number_of_bits}
-use Rattle.lawful_gates.specs.declared.testing.TheConstants.{CHOICES}
+use Rattle.gate_laws.specs.declared.window.TheConstants.{CHOICES}
 use Rattle.lawful_gates.specs.Lawful.{answer_bit}
 use Rattle.lawful_gates.proofs.testing.says_together.Given as goal
 

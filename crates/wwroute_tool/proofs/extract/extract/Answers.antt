@@ -24,5 +24,5 @@ returns-clause-carried c =
 pub returns-clause-refused : goal.returns-clause-refused
 returns-clause-refused c =
     IfErr-weaker c.netlist_of.result _ _
-    (λ r free. free_reason c.args.text.now r free (grid_of c.in_ok-pattern.pattern, c.in_ok-ports.ports, record { pattern = c.in_ok-pattern.ensures.pattern; table = c.in_ok-ports.ensures.table }))
+    (λ r free. free_reason c.args.text.now r free (grid_of c.in_ok-pattern.pattern, c.in_ok-ports.ports, record { pattern = c.in_ok-pattern.ensures.pattern; table = c.in_ok-ports.ensures.table }, c.is_too_large.ensures.within c.if-is_too_large.false))
     c.netlist_of.ensures.refused

@@ -1,0 +1,14 @@
+use Rattle.std.proofs.Common.{◌++◌, ◌∙◌, ap₂, sym, refl, ◌<◌, [], length, arith}
+use Rattle.std.specs.Option.{option_to_list}
+use Rattle.routed_plans.proofs.Drawn.{drawn_none, drawn_more}
+use Rattle.routed_plans.proofs.wanted.drawn_sources.Goals as goal
+
+pub loop-k-init : goal.loop-k-init
+loop-k-init c = c.new-sources.ensures.items ∙ sym (drawn_none c.args.ports.now [] refl)
+
+pub loop-k-preserved : goal.loop-k-preserved
+loop-k-preserved c =
+    let within : c.loop-k.k < length c.args.nets.now = omega (arith, c.loop-k-test.true, c.loop-k.auto.k-end) in
+    c.in_ok-offer.ensures
+    ∙ ap₂ (λ sources source. sources ++ option_to_list source) c.loop-k.invariant c.drawn_source.ensures
+    ∙ sym (drawn_more c.args.ports.now c.args.nets.now c.loop-k.k _ within)

@@ -1,0 +1,282 @@
+// The routed circuit of a flat netlist.
+ghost use Rattle.std.specs.Prelude.{◌≡◌, ℕ, List, length, IfOk, IfSome, IsTrue};
+ghost use Rattle.ww_rule.specs.Grid.{plane_of};
+ghost use Rattle.netlist_meaning.specs.Flat.{IsInRange, IsNamed, IsSound, IsWeighed};
+ghost use Rattle.netlist_meaning.specs.FlatOrder.{IsOrder};
+ghost use Rattle.plan_carries.specs.Compiled.{ComputesFlat};
+ghost use Rattle.plan_ports.specs.Tables.{HasPortNames, HasTablePlaces};
+ghost use Rattle.route_lines.specs.GateLines.{AreGateLines};
+ghost use Rattle.routed_texts.specs.Tables.{ShowsListRuns};
+ghost use Rattle.routed_plans.specs.Carried.{IsRoutedFor, text_of_routed};
+ghost use Rattle.routed_plans.specs.Drawn.{AreAllDrawn};
+ghost use Rattle.routed_plans.specs.Nets.{ShowsNetsOf};
+ghost use Rattle.routed_plans.specs.Tables.{FitsPattern, NamesRouted};
+ghost use Rattle.routed_plans.specs.Wanted.{IsWanted};
+ghost use Rattle.cell_core.specs.declared.list.CellList.{CellList};
+ghost use Rattle.routed_plans.specs.declared.nets.ShownNets.TheVariants as which;
+
+use crate::RoutedPlanError;
+use crate::lines::lines_of_drawing;
+use crate::nets::{SeenPort, ShownNets};
+use crate::search::draw_list;
+use crate::seen::{SeenDrawing, with_net_ports};
+use crate::tables::{fits_pattern, port_table};
+use crate::wanted::wanted_list;
+use crate::whole::with_all_nets;
+use cell_core::CellList;
+use list_matching::run_alike;
+use lists::Bytes;
+use netlist_core::{Flat, Order};
+use netlist_plans::cell_lists;
+use pattern_reading::Ports;
+use route_cells::{RouteError, cells_of};
+use routed_core::Drawing;
+use std::alloc::Global;
+use strand_core::Effort;
+use strand_drawings::{Drawn, pattern_of};
+use ww_rule::Pattern;
+
+/// A routed circuit: the lines that name its gates and its wires, its pattern, and its port table.
+#[derive(Drop)]
+pub struct Routed {
+    pub lines: Bytes,
+    pub pattern: Pattern,
+    pub ports: Ports,
+}
+
+// So many lists are drawn with the whole search at most, and one alone if it has more cells than these.
+const MOST_WHOLE: usize = 3;
+
+const MANY_CELLS: usize = 1_000;
+
+// The best drawing so far, and the place of its list.
+#[derive(Drop)]
+struct Best {
+    place: usize,
+    drawn: Drawn,
+}
+
+// What a drawing costs: its box times its period.
+fn cost_of(drawing: &Drawing) -> u128 {
+    let cells = u64::from(drawing.width) * u64::from(drawing.height);
+    u128::from(cells) * u128::from(drawing.period)
+}
+
+// The better one of two drawings, the first of them if they cost the same.
+fn better(best: Option<Best>, other: Best) -> Best {
+    match best {
+        Some(first) if cost_of(&first.drawn.drawing) <= cost_of(&other.drawn.drawing) => first,
+        _ => other,
+    }
+}
+
+// The best drawing of lists of cells with little effort. Notes what each list's drawing costs, and the list's place.
+fn briefly_drawn(
+    alloc: Global,
+    lists: &[CellList],
+    costs: &mut Vec<(u128, usize)>,
+) -> Result<Option<Best>, RoutedPlanError> {
+    let mut best = None;
+    for (place, list) in lists.iter().enumerate() {
+        if let Some(drawn) = draw_list(alloc, list, Effort::Brief)? {
+            costs.push((cost_of(&drawn.drawing), place))?;
+            best = Some(better(best, Best { place, drawn }));
+        }
+    }
+    Ok(best)
+}
+
+// How many lists are drawn with the whole search.
+fn most_whole(lists: &[CellList]) -> usize {
+    match lists.first() {
+        Some(list) if list.cells.len() > MANY_CELLS => 1,
+        _ => MOST_WHOLE,
+    }
+}
+
+// The best drawing of lists of cells: all are drawn with little effort, and those whose drawings cost least with the whole
+// search.
+fn best_drawn(alloc: Global, lists: &[CellList]) -> Result<Option<Best>, RoutedPlanError> {
+    let mut costs = Vec::new(alloc);
+    let mut best = briefly_drawn(alloc, lists, &mut costs)?;
+    costs.sort()?;
+    for number in 0..most_whole(lists) {
+        let Some((_, place)) = costs.get(number).copied() else {
+            break;
+        };
+        if let Some(list) = lists.get(place) {
+            if let Some(drawn) = draw_list(alloc, list, Effort::Whole)? {
+                best = Some(better(best, Best { place, drawn }));
+            }
+        }
+    }
+    Ok(best)
+}
+
+// Whether the pattern and the table are a routed circuit of this drawing, and its cells run as those
+// of the list.
+fn is_list_drawn(
+    alloc: Global,
+    list: &CellList,
+    pattern: &Pattern,
+    ports: &Ports,
+    drawn: &Drawn,
+) -> Result<bool, RoutedPlanError>
+    ensures { IfOk result (λ is_drawn. IsTrue is_drawn →
+        ShowsListRuns (plane_of pattern.now.rows) ports.now list.now) }
+{
+    match cells_of(alloc, pattern, ports, &drawn.drawing) {
+        Ok(found) => run_alike(alloc, &found, list, drawn.latches.as_slice()),
+        Err(RouteError::NoMemory) => Err(RoutedPlanError::NoMemory),
+        Err(_) => Ok(false),
+    }
+}
+
+// Whether those nets of a list are drawn that are to be shown.
+fn are_enough(nets: ShownNets, ports: &[Option<SeenPort>], list: &CellList) -> bool
+    ensures { IsTrue result → nets ≡ which.All → AreAllDrawn ports.now (length list.now.nets) }
+{
+    match nets {
+        ShownNets::Drawn => true,
+        ShownNets::All => {
+            ports.len() == list.nets.len() && ports.iter().all(|port| port.is_some())
+        }
+    }
+}
+
+// A drawing of a list in which the nets are seen that are to be shown.
+fn seen_drawing(
+    alloc: Global,
+    list: &CellList,
+    nets: ShownNets,
+    drawn: Drawn,
+) -> Result<Option<SeenDrawing>, RoutedPlanError> {
+    let seen = with_net_ports(alloc, list, drawn)?;
+    match nets {
+        ShownNets::Drawn => Ok(Some(seen)),
+        ShownNets::All => with_all_nets(alloc, list, seen),
+    }
+}
+
+// The pattern of a drawing and its port table.
+#[derive(Drop)]
+struct Page {
+    pattern: Pattern,
+    ports: Ports,
+}
+
+// The pattern and the table of a drawing, if these can be written.
+fn page_of(
+    alloc: Global,
+    flat: &Flat,
+    drawing: &Drawing,
+    seen: &[Option<SeenPort>],
+) -> Result<Option<Page>, RoutedPlanError>
+    requires { IsInRange flat.now }
+    ensures names { IfOk result (λ o. IfSome o (λ page. NamesRouted flat.now seen.now page.ports)) }
+    ensures fits { IfOk result (λ o. IfSome o (λ page. FitsPattern page.pattern page.ports)) }
+{
+    let ports = port_table(alloc, flat, drawing, seen)?;
+    let Some(pattern) = pattern_of(alloc, drawing)? else {
+        return Ok(None);
+    };
+    if fits_pattern(&pattern, &ports) {
+        Ok(Some(Page { pattern, ports }))
+    } else {
+        Ok(None)
+    }
+}
+
+// Whether a page is that of the routed circuit that was drawn of a list, with lines of those of its nets
+// whose ports are drawn.
+fn is_page_drawn(
+    alloc: Global,
+    list: &CellList,
+    seen: &[Option<SeenPort>],
+    page: &Page,
+    drawn: &Drawn,
+) -> Result<bool, RoutedPlanError>
+    ensures { IfOk result (λ is_drawn. IsTrue is_drawn → (wanted : CellList)
+        × IsWanted seen.now wanted list.now
+        × ShowsListRuns (plane_of page.now.pattern.rows) page.now.ports wanted) }
+{
+    match wanted_list(alloc, list, seen)? {
+        Some(wanted) => is_list_drawn(alloc, &wanted, &page.pattern, &page.ports, drawn),
+        None => Ok(false),
+    }
+}
+
+// The routed circuit that was drawn of a list, if it passes the tests.
+fn checked(
+    alloc: Global,
+    flat: &Flat,
+    list: &CellList,
+    nets: ShownNets,
+    drawn: &Drawn,
+    seen: &[Option<SeenPort>],
+) -> Result<Option<Routed>, RoutedPlanError>
+    requires sound { IsSound flat.now }
+    requires ordered { (order : List ℕ) × IsOrder flat.now order }
+    requires named { IsNamed flat.now }
+    requires names { HasPortNames flat.now }
+    requires places { HasTablePlaces flat.now }
+    requires computes { ComputesFlat flat.now list.now }
+    ensures routed { IfOk result (λ o. IfSome o (IsRoutedFor flat.now)) }
+    ensures nets { IfOk result (λ o. IfSome o (λ routed.
+        ShowsNetsOf nets (text_of_routed routed) flat.now)) }
+    ensures lines { IfOk result (λ o. IfSome o (λ routed. AreGateLines routed.lines)) }
+{
+    if !are_enough(nets, seen, list) {
+        return Ok(None);
+    }
+    let Some(page) = page_of(alloc, flat, &drawn.drawing, seen)? else {
+        return Ok(None);
+    };
+    if !is_page_drawn(alloc, list, seen, &page, drawn)? {
+        return Ok(None);
+    }
+    let lines = lines_of_drawing(alloc, &drawn.drawing)?;
+    let Page { pattern, ports } = page;
+    Ok(Some(Routed {
+        lines,
+        pattern,
+        ports,
+    }))
+}
+
+/// Draws a sound flat netlist as a routed circuit. `order` is an order of its covers in which each
+/// cover comes after those that it reads. A search draws each of the netlist's lists of cells; of
+/// these drawings the one with the least box times period is checked. There is none if the search
+/// finds none, or if the check refuses it. The port table has a line for each input and each output,
+/// and for each net that is drawn or, if all are to be shown, for all nets but the clock nets.
+/// The lines name the gates and the wires of the drawing.
+pub fn route_netlist(
+    alloc: Global,
+    flat: &Flat,
+    order: &Order,
+    nets: ShownNets,
+) -> Result<Option<Routed>, RoutedPlanError>
+    requires sound { IsSound flat.now }
+    requires weighed { IsWeighed flat.now }
+    requires ordered { IsOrder flat.now order.now.nodes }
+    requires named { IsNamed flat.now }
+    requires names { HasPortNames flat.now }
+    requires places { HasTablePlaces flat.now }
+    ensures routed { IfOk result (λ o. IfSome o (IsRoutedFor flat.now)) }
+    ensures nets { IfOk result (λ o. IfSome o (λ routed.
+        ShowsNetsOf nets (text_of_routed routed) flat.now)) }
+    ensures lines { IfOk result (λ o. IfSome o (λ routed. AreGateLines routed.lines)) }
+{
+    let lists = cell_lists(alloc, flat, order)?;
+    let Some(best) = best_drawn(alloc, lists.as_slice())? else {
+        return Ok(None);
+    };
+    let Best { place, drawn } = best;
+    let Some(list) = lists.get(place) else {
+        return Ok(None);
+    };
+    match seen_drawing(alloc, list, nets, drawn)? {
+        Some(seen) => checked(alloc, flat, list, nets, &seen.drawn, &seen.ports),
+        None => Ok(None),
+    }
+}

@@ -1,0 +1,86 @@
+// Drawings in which all nets are seen.
+
+use crate::copies::copy_with;
+use crate::nets::SeenPort;
+use crate::search::draw_list;
+use crate::seen::{SeenDrawing, with_net_ports};
+use cell_core::{CellList, Src};
+use lists::{List, OutOfMemory};
+use std::alloc::Global;
+use std::collections::BTreeSet;
+use strand_core::Effort;
+use strand_drawings::Drawn;
+
+// The sources of the nets that are drawn nowhere, each of them once.
+fn unseen_sources(
+    alloc: Global,
+    nets: &[Src],
+    ports: &[Option<SeenPort>],
+) -> Result<Vec<Src>, OutOfMemory> {
+    let mut known = BTreeSet::new(alloc);
+    let mut sources = Vec::new(alloc);
+    for (k, source) in nets.iter().enumerate() {
+        if let Some(Some(_)) = ports.get(k) {
+            continue;
+        }
+        if known.insert(*source)? {
+            sources.push(*source)?;
+        }
+    }
+    Ok(sources)
+}
+
+// A drawing with its first outputs alone.
+fn with_first_outputs(alloc: Global, drawn: Drawn, count: usize) -> Result<Drawn, OutOfMemory> {
+    let Drawn {
+        mut drawing,
+        latches,
+    } = drawn;
+    let mut outs = Vec::new(alloc);
+    for port in drawing.outs.as_slice() {
+        if outs.len() < count {
+            outs.push(*port)?;
+        }
+    }
+    drawing.outs = List::of(outs);
+    Ok(Drawn { drawing, latches })
+}
+
+// The list with further outputs, without its nets.
+fn with_outputs(
+    alloc: Global,
+    list: &CellList,
+    more: &[Src],
+) -> Result<Option<CellList>, OutOfMemory> {
+    let mut outs = list.outs.as_slice().to_vec(alloc)?;
+    outs.extend_from_slice(more)?;
+    copy_with(alloc, list, outs, Vec::new(alloc))
+}
+
+// A drawing of a list in which these further sources are drawn as outputs.
+fn drawn_with(alloc: Global, list: &CellList, more: &[Src]) -> Result<Option<Drawn>, OutOfMemory> {
+    let Some(longer) = with_outputs(alloc, list, more)? else {
+        return Ok(None);
+    };
+    let Some(drawn) = draw_list(alloc, &longer, Effort::Whole)? else {
+        return Ok(None);
+    };
+    Ok(Some(with_first_outputs(alloc, drawn, list.outs.len())?))
+}
+
+/// Returns a drawing in which all nets of the list are seen, if the search finds one: this one or, if
+/// some are drawn nowhere in it, one in which their sources are drawn as further outputs.
+pub fn with_all_nets(
+    alloc: Global,
+    list: &CellList,
+    seen: SeenDrawing,
+) -> Result<Option<SeenDrawing>, OutOfMemory> {
+    let more = unseen_sources(alloc, list.nets.as_slice(), &seen.ports)?;
+    if more.is_empty() {
+        return Ok(Some(seen));
+    }
+    match drawn_with(alloc, list, &more)? {
+        Some(drawn) => Ok(Some(with_net_ports(alloc, list, drawn)?)),
+        None => Ok(None),
+    }
+}

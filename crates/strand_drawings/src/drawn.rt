@@ -1,0 +1,167 @@
+// Drawings of circuits of strands.
+
+use crate::gates::{Corner, Gates, Ports, gates_of, ports_of};
+use crate::loops::{Loops, loops_of};
+use crate::periods::{accepted_period, accepts, least_period};
+use crate::wires::{Scene, Wires, wires_of};
+use cell_core::Src;
+use lists::{List, OutOfMemory};
+use register_ways::{Circuit, Ways, ways_around};
+use routed_core::{Drawing, DrawnPort};
+use std::alloc::{AllocError, Global};
+use strand_core::{Layout, StrandCircuit};
+
+// How often other ways are looked for until all crossings accept their period.
+const ROUNDS: u32 = 8;
+
+/// The drawing of a circuit, and for each latch of the list of cells that it computes which latch of the circuit it is: one
+/// for each period of each wire, in the order of the wires. The register that is always 1 is constant 1.
+#[derive(Drop)]
+pub struct Drawn {
+    pub drawing: Drawing,
+    pub latches: Vec<Src>,
+}
+
+// Ways of all registers, at a period that all crossings accept.
+fn accepted_ways(
+    alloc: Global,
+    circuit: &StrandCircuit,
+    layout: &Layout,
+    loops: &Loops,
+) -> Result<Option<Ways>, OutOfMemory> {
+    let size = Circuit {
+        width: layout.width,
+        height: layout.height,
+    };
+    let mut least = least_period(circuit, layout, loops);
+    for _ in 0..ROUNDS {
+        let Some(period) = accepted_period(circuit, least) else {
+            return Ok(None);
+        };
+        match ways_around(alloc, loops.loops.as_slice(), size, period)? {
+            Some(ways) if accepts(circuit, ways.period) => return Ok(Some(ways)),
+            Some(ways) => least = ways.period.saturating_add(1),
+            None => return Ok(None),
+        }
+    }
+    Ok(None)
+}
+
+// Gives each port that is none yet a lone cell that is lit at a generation first, if it is ever: in every other column of a
+// row, from a cell on. Returns the next cell.
+fn add_lone_ports(
+    gates: &mut Gates,
+    ports: &mut [Option<DrawnPort>],
+    first: u32,
+    from: (u32, u32),
+) -> Result<(u32, u32), AllocError> {
+    let mut cell = from;
+    for port in ports {
+        if port.is_none() {
+            *port = Some(gates.add_lone(cell, first)?);
+            cell = (cell.0.saturating_add(2), cell.1);
+        }
+    }
+    Ok(cell)
+}
+
+// Places lone cells below all others for the inputs that nothing reads, and for the outputs that are always 0. Returns the
+// size of the box.
+fn place_lone_ports(
+    ways: &Ways,
+    gates: &mut Gates,
+    ports: &mut Ports,
+) -> Result<(u32, u32), AllocError> {
+    let row = ways.height.saturating_add(1);
+    let next = add_lone_ports(gates, ports.ins.as_mut_slice(), 0, (0, row))?;
+    let latency = ports.latency;
+    let (x, _) = add_lone_ports(gates, ports.outs.as_mut_slice(), latency, next)?;
+    if x == 0 {
+        Ok((ways.width, ways.height))
+    } else {
+        Ok((ways.width.max(x.saturating_sub(1)), row.saturating_add(1)))
+    }
+}
+
+// The ports of a list of which all are there.
+fn all_ports(alloc: Global, ports: &[Option<DrawnPort>]) -> Result<List<DrawnPort>, AllocError> {
+    let mut all = Vec::new(alloc);
+    for port in ports {
+        if let Some(port) = port {
+            all.push(*port)?;
+        }
+    }
+    Ok(List::of(all))
+}
+
+// The drawing of gates and wires in a box of this size.
+fn assembled(
+    alloc: Global,
+    ways: &Ways,
+    size: (u32, u32),
+    gates: Gates,
+    ports: &Ports,
+    wires: Wires,
+) -> Result<Drawn, OutOfMemory> {
+    let ins = all_ports(alloc, ports.ins.as_slice())?;
+    let outs = all_ports(alloc, ports.outs.as_slice())?;
+    let Gates { gates, .. } = gates;
+    let Wires {
+        wires,
+        path,
+        starts,
+        latches,
+    } = wires;
+    Ok(Drawn {
+        drawing: Drawing {
+            width: size.0,
+            height: size.1,
+            period: ways.period,
+            latency: ports.latency,
+            gates: List::of(gates),
+            wires: List::of(wires),
+            path: List::of(path),
+            starts: List::of(starts),
+            ins,
+            outs,
+            nets: List::of(Vec::new(alloc)),
+        },
+        latches,
+    })
+}
+
+/// Draws a circuit of strands: gates and wires, with the registers led around the north and the south. Inputs that nothing
+/// reads, and outputs that are constant 0, are lone cells that stand apart. Nothing if the registers are in another order at
+/// the west than at the east, there is no room for them, or a strand leads nowhere.
+pub fn drawn_circuit(
+    alloc: Global,
+    circuit: &StrandCircuit,
+    layout: &Layout,
+    inputs: u32,
+    outputs: u32,
+) -> Result<Option<Drawn>, OutOfMemory> {
+    let Some(loops) = loops_of(alloc, circuit, layout)? else {
+        return Ok(None);
+    };
+    let Some(ways) = accepted_ways(alloc, circuit, layout, &loops)? else {
+        return Ok(None);
+    };
+    let corner = Corner {
+        west: ways.west,
+        north: ways.north,
+    };
+    let mut gates = gates_of(alloc, circuit, layout, corner)?;
+    let mut ports = ports_of(alloc, &mut gates, circuit, layout, corner, inputs, outputs)?;
+    let scene = Scene {
+        circuit,
+        layout,
+        loops: &loops,
+        ways: &ways,
+        corner,
+    };
+    let Some(wires) = wires_of(alloc, scene, &gates)? else {
+        return Ok(None);
+    };
+    let size = place_lone_ports(&ways, &mut gates, &mut ports)?;
+    Ok(Some(assembled(alloc, &ways, size, gates, &ports, wires)?))
+}

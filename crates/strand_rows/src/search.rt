@@ -1,0 +1,138 @@
+// Several numbers of rows are tried.
+
+use crate::cells::layout_of;
+use crate::sweep::{Plan, Sweep, longest};
+use crate::tails::tails_of;
+use lists::OutOfMemory;
+use std::alloc::Global;
+use strand_core::{Effort, Layout, StrandCircuit};
+
+// More rows than a circuit needs.
+const UNBOUNDED: i32 = 1 << 20;
+
+// Of so many parts of the rows of the first layout, a part fewer are tried, and so on, so often.
+const PARTS: i32 = 20;
+
+const FEWER: i32 = 9;
+
+// After so many nodes that were looked at, nothing more is tried.
+const MOST_WORK: u64 = 10_000_000;
+
+// Columns for each column of the longest way through a circuit, and besides, after which a search is given up.
+const MOST_COLUMNS: u32 = 6;
+
+const MORE_COLUMNS: u32 = 1000;
+
+// The search for the layout with the least cost, and what has been looked at for it.
+#[derive(Drop)]
+struct Search<'a, 'b> {
+    circuit: &'a StrandCircuit,
+    tails: &'b [u32],
+    best: Option<Layout>,
+    cost: u64,
+    work: u64,
+}
+
+// About the cells of the box with the registers, times the period.
+fn cost(width: u32, height: u32, registers: usize) -> u64 {
+    let registers = u32::try_from(registers).unwrap_or(0) as u64;
+    let wide = registers.saturating_mul(4).saturating_add(width as u64);
+    let high = registers.saturating_mul(2).saturating_add(height as u64);
+    let period = wide.saturating_mul(2).saturating_add(high);
+    wide.saturating_mul(high).saturating_mul(period)
+}
+
+impl<'a, 'b> Search<'a, 'b> {
+    // Takes a layout if it costs less than the best one. Returns whether it costs at most an eighth more.
+    fn offer(&mut self, layout: Layout) -> bool {
+        let cost = cost(layout.width, layout.height, self.circuit.registers.len());
+        if self.best.is_none() || cost < self.cost {
+            self.best = Some(layout);
+            self.cost = cost;
+        }
+        cost <= self.cost.saturating_add(self.cost / 8)
+    }
+
+    // Tries a plan. Returns whether plans with fewer rows are worth a try.
+    fn try_plan(&mut self, alloc: Global, plan: Plan) -> Result<bool, OutOfMemory> {
+        let columns = longest(self.tails)
+            .saturating_mul(MOST_COLUMNS)
+            .saturating_add(MORE_COLUMNS);
+        let mut sweep = Sweep::new(alloc, self.circuit, self.tails, plan)?;
+        let is_placed = sweep.run(columns)?;
+        self.work = self.work.saturating_add(sweep.plane.work);
+        if !is_placed {
+            return Ok(false);
+        }
+        let layout = layout_of(alloc, &sweep)?;
+        Ok(self.offer(layout) && self.work < MOST_WORK)
+    }
+
+    // The width and the rows of the best layout.
+    fn size(&self) -> (u32, i32) {
+        match &self.best {
+            Some(layout) => (
+                layout.width,
+                i32::try_from(layout.height).unwrap_or(UNBOUNDED),
+            ),
+            None => (0, UNBOUNDED),
+        }
+    }
+
+    // Tries fewer and fewer rows, where forks come late if the columns are told.
+    fn try_fewer(
+        &mut self,
+        alloc: Global,
+        rows: i32,
+        columns: Option<u32>,
+    ) -> Result<(), OutOfMemory> {
+        for fewer in 0..FEWER {
+            let most = rows.saturating_sub(rows.saturating_mul(fewer) / PARTS);
+            if !self.try_plan(alloc, Plan { most, columns })? {
+                break;
+            }
+        }
+        Ok(())
+    }
+}
+
+/// Returns columns and rows for the tiles and strands of a circuit. The rows of inputs and outputs are free. If no place
+/// is found for some tile, nothing is drawn.
+pub fn laid_out(
+    alloc: Global,
+    circuit: &StrandCircuit,
+    effort: Effort,
+) -> Result<Layout, OutOfMemory> {
+    let tails = tails_of(alloc, circuit)?;
+    let mut search = Search {
+        circuit,
+        tails: &tails,
+        best: None,
+        cost: 0,
+        work: 0,
+    };
+    let first = Plan {
+        most: UNBOUNDED,
+        columns: None,
+    };
+    let goes_on = search.try_plan(alloc, first)?;
+    if goes_on && effort == Effort::Whole {
+        let (width, rows) = search.size();
+        search.try_fewer(alloc, rows, None)?;
+        search.try_fewer(alloc, rows, Some(width))?;
+    }
+    match search.best {
+        Some(layout) => Ok(layout),
+        None => Ok(empty_layout(alloc)),
+    }
+}
+
+fn empty_layout(alloc: Global) -> Layout {
+    Layout {
+        width: 0,
+        height: 0,
+        tiles: Vec::new(alloc),
+        path: Vec::new(alloc),
+        starts: Vec::new(alloc),
+    }
+}

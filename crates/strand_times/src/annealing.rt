@@ -1,0 +1,172 @@
+// Changes of a circuit, kept as annealing has it.
+use crate::cooling::{most_more, work_of};
+use crate::side::Side;
+use crate::waits::Choice;
+use crate::web::Web;
+use cell_core::Draws;
+use lists::OutOfMemory;
+use std::alloc::Global;
+use strand_core::{Effort, TileKind, West};
+
+// How late registers may begin.
+const STARTS: [u32; 11] = [0, 0, 2, 4, 6, 6, 8, 10, 12, 12, 18];
+
+const SEED: u64 = 1;
+
+// Of 20 changes so many are of the signal that waits at a Cross, and of a register's start.
+const OF_CHOICES: usize = 6;
+
+const OF_STARTS: usize = 1;
+
+/// A search that changes a web.
+#[derive(Drop)]
+struct Search {
+    web: Web,
+    draws: Draws,
+    // the weight of the web
+    cost: u64,
+    // tiles around a change, which may be rewritten
+    near: Vec<u32>,
+}
+
+impl Search {
+    // Rewrites tiles as long as there are fewer crossings.
+    fn rewrite(&mut self) -> Result<(), OutOfMemory> {
+        let most = self.web.nodes.len().saturating_mul(8).saturating_add(64);
+        for _ in 0..most {
+            let Some(at) = self.near.pop() else {
+                break;
+            };
+            self.web.count(1);
+            self.web.rewrite(at, &mut self.near)?;
+        }
+        self.near.clear();
+        Ok(())
+    }
+
+    fn rewrite_all(&mut self) -> Result<(), OutOfMemory> {
+        for i in 0..self.web.nodes.len() {
+            self.near.push(u32::try_from(i).unwrap_or(u32::MAX))?;
+        }
+        self.rewrite()
+    }
+
+    // Keeps or undoes what was changed.
+    fn decide(&mut self, more: u64) -> Result<(), OutOfMemory> {
+        let is_settled = self.web.settle()?;
+        let cost = self.web.cost();
+        if is_settled && cost <= self.cost.saturating_add(more) {
+            self.cost = cost;
+            self.web.keep();
+        } else {
+            self.web.undo();
+        }
+        Ok(())
+    }
+
+    fn random_tile(&mut self) -> u32 {
+        u32::try_from(self.draws.below(self.web.nodes.len())).unwrap_or(0)
+    }
+
+    fn choice(&mut self) -> Choice {
+        if self.draws.coin() {
+            Choice::Later
+        } else {
+            Choice::Earlier
+        }
+    }
+
+    // Changes something. Returns whether it did.
+    fn change(&mut self) -> Result<bool, OutOfMemory> {
+        let drawn = self.draws.below(20);
+        if drawn < OF_CHOICES {
+            self.change_choice()
+        } else if drawn < OF_CHOICES + OF_STARTS {
+            self.change_start()
+        } else {
+            self.turn()
+        }
+    }
+
+    fn change_choice(&mut self) -> Result<bool, OutOfMemory> {
+        let at = self.random_tile();
+        let Some(mut node) = self.web.node(at) else {
+            return Ok(false);
+        };
+        if !matches!(node.tile.kind, TileKind::Cross) {
+            return Ok(false);
+        }
+        node.choice = node.choice.other();
+        self.web.set_node(at, Some(node))?;
+        self.web.touch(at)?;
+        Ok(true)
+    }
+
+    fn change_start(&mut self) -> Result<bool, OutOfMemory> {
+        let number = self.draws.below(self.web.west.len());
+        let late = STARTS
+            .get(self.draws.below(STARTS.len()))
+            .copied()
+            .unwrap_or(0);
+        let Some(end) = self.web.west.get(number) else {
+            return Ok(false);
+        };
+        match (end.is, end.strand) {
+            (West::Register(_), Some(strand)) => {
+                self.web.set_times(Some(strand), late, 0)?;
+                Ok(true)
+            }
+            _ => Ok(false),
+        }
+    }
+
+    fn turn(&mut self) -> Result<bool, OutOfMemory> {
+        let at = self.random_tile();
+        let found = match self.web.braid_at(at, Side::Above) {
+            Some(braid) => Some(braid),
+            None => self.web.braid_at(at, Side::Below),
+        };
+        let Some(braid) = found else {
+            return Ok(false);
+        };
+        let choices = [self.choice(), self.choice(), self.choice()];
+        self.web.turn(braid, choices)?;
+        self.web.look_around(braid.first.at, &mut self.near)?;
+        self.web.look_around(braid.second.at, &mut self.near)?;
+        self.web.look_around(braid.third.at, &mut self.near)?;
+        self.rewrite()?;
+        Ok(true)
+    }
+
+    // Makes changes until the work is done.
+    fn run(&mut self, work: u64) -> Result<(), OutOfMemory> {
+        for _ in 0..work {
+            if self.web.work >= work {
+                break;
+            }
+            self.web.count(1);
+            if self.change()? {
+                let more = most_more(&mut self.draws, self.web.work, work);
+                self.decide(more)?;
+            }
+        }
+        Ok(())
+    }
+}
+
+/// Changes a web so that it has fewer columns, bumps and crossings.
+pub fn anneal(alloc: Global, web: Web, effort: Effort) -> Result<Web, OutOfMemory> {
+    let work = effort.of(work_of(web.nodes.len()));
+    let mut search = Search {
+        web,
+        draws: Draws::new(SEED),
+        cost: u64::MAX,
+        near: Vec::new(alloc),
+    };
+    search.web.update_all()?;
+    search.decide(0)?;
+    search.rewrite_all()?;
+    search.decide(u64::MAX)?;
+    search.run(work)?;
+    Ok(search.web)
+}

@@ -1,1 +1,0 @@
-"""Patterns whose latches are wires, for tools/registers."""
