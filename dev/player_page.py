@@ -22,7 +22,8 @@ SCRIPTS = [
 
 @dataclass
 class Example:
-    """A pattern of the page. `made` is a stored pattern's file, or words of the program and a netlist's file."""
+    """A pattern of the page. `made` is a stored pattern's file, or words of a program and a netlist's file: `route` of a
+    netlist is a routed circuit, `compile` one of tiles."""
 
     name: str
     made: str
@@ -49,6 +50,32 @@ EXAMPLES = [
         "OR gate",
         "y is 1 if a or b is 1. Two diodes keep electrons from running back.",
         words="a=00110110 b=01011010",
+    ),
+    Example(
+        "toggle.small",
+        "route examples/toggle.blif",
+        "Toggle, small",
+        "The same netlist as wwroute draws it, with small gates and free wires.",
+        words="en=10011000",
+        nets="n",
+    ),
+    Example(
+        "counters.small",
+        "route examples/counters.blif",
+        "Counters, small",
+        "Three counters of two bits in a row, drawn by wwroute: a whole machine on one screen.",
+    ),
+    Example(
+        "traffic.small",
+        "route examples/traffic.blif",
+        "Traffic light with a timer, small",
+        "A car that waits ends green early. Point at a gate or at a wire to see what it is.",
+    ),
+    Example(
+        "cpu.small",
+        "route examples/cpu.blif",
+        "Processor with an input, small",
+        "A toy processor in a box of 518 x 130 cells; compile draws it in 4,577 x 544.",
     ),
     Example(
         "gates",
