@@ -22,8 +22,8 @@ SCRIPTS = [
 
 @dataclass
 class Example:
-    """A pattern of the page. `made` is a stored pattern's file, or words of a program and a netlist's file: `route` of a
-    netlist is a routed circuit, `compile` one of tiles."""
+    """A pattern of the page. `made` is a stored pattern's file, or words of a program and a netlist's file: `route`
+    makes a routed circuit, and `compile` one of tiles."""
 
     name: str
     made: str
