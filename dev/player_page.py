@@ -172,7 +172,7 @@ EXAMPLES = [
 
 
 def words_of(example):
-    words = ROOT / f"examples/{example.name}.words"
+    words = ROOT / f"examples/{example.name.removesuffix('.small')}.words"
     return example.words or (" ".join(words.read_text().split()) if words.exists() else "")
 
 
