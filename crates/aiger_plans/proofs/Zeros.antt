@@ -14,7 +14,7 @@ use Rattle.netlist_core.specs.declared.flat.Flat.{Flat}
 use Rattle.netlist_meaning.specs.Flat.{class_of, node_at, no_node, in_classes, out_class}
 use Rattle.netlist_meaning.specs.FlatOrder.{IsOrder, IsDrivenBy}
 use Rattle.cover_mapper.proofs.Weights.{weigh_at_most}
-use Rattle.cell_polarity.specs.Zero.{turned}
+use Rattle.cell_polarity.specs.Zero.{complement_if}
 use Rattle.aiger_text.specs.declared.aig.AigLatch.{AigLatch}
 use Rattle.aiger_text.specs.declared.aig.AigAnd.{AigAnd}
 use Rattle.aiger_text.specs.declared.aig.Aig.{Aig}
@@ -27,7 +27,7 @@ use Rattle.aiger_meaning.proofs.View.{class_is, node_at_is, node_count, literal_
 use Rattle.aiger_meaning.proofs.Within.{read_has, node_has}
 use Rattle.aiger_meaning.proofs.Values.{input_literal, gate_literal}
 use Rattle.aiger_meaning.proofs.Valuations.{gate_reads, no_gate}
-use Rattle.aiger_plans.specs.Zero.{is_odd, gate_of, bit_at_zero, BitsAtZeroAreMeant}
+use Rattle.aiger_plans.specs.Zero.{is_odd, and_gate_of, bit_at_zero, BitsAtZeroAreMeant}
 
 -- ---- what `find` finds
 record FoundAt {X : Type 0} (p : X → Bool) (xs : List X) (x d : X) : Type 0 where
@@ -82,9 +82,9 @@ wires_count (lit ∷ lits) = let e = sum_by-cons of_pair (buffer lit) (map buffe
 abbrev value_of : Aig → ℕ → Option AigAnd → Bool
 value_of aig count found = option_map_or (λ (gate : AigAnd). bit_at_zero aig count gate.rhs0 && bit_at_zero aig count gate.rhs1) found false
 
-turned_none : (b : Bool) → b ≡ turned b false
-turned_none true = refl
-turned_none false = refl
+complement_none : (b : Bool) → b ≡ complement_if b false
+complement_none true = refl
+complement_none false = refl
 
 module _ (aig : Aig) (flat : Flat) (order : List ℕ) (s : IsSoundAig aig) (h : IsFlatOfAig aig flat) (o : IsOrder flat order) where
   gates_many : sum_by of_gate flat.nodes ≡ length aig.ands
@@ -177,10 +177,10 @@ module _ (aig : Aig) (flat : Flat) (order : List ℕ) (s : IsSoundAig aig) (h : 
     no_latches : length aig.latches ≡ 0
     no_latches = sym (length-map aig.latches (λ (latch : AigLatch). bits latch.lit)) ∙ ap (λ (l : List Bool). length l) v.latches_hold
 
-    signed : (lit : ℕ) → turned (is_odd lit) (bits (even lit)) ≡ bits lit
+    signed : (lit : ℕ) → complement_if (is_odd lit) (bits (even lit)) ≡ bits lit
     signed lit = by (lit % 2 == 1) refl
       where
-        by : (b : Bool) → (lit % 2 == 1) ≡ b → turned b (bits (even lit)) ≡ bits lit
+        by : (b : Bool) → (lit % 2 == 1) ≡ b → complement_if b (bits (even lit)) ≡ bits lit
         by true e =
             let odd = eqb-true (lit % 2) 1 e in
             sym (v.inverted (lit / 2)) ∙ ap bits (let is : 2 * (lit / 2) + 1 ≡ lit = omega (arith, odd) in is)
@@ -223,16 +223,16 @@ module _ (aig : Aig) (flat : Flat) (order : List ℕ) (s : IsSoundAig aig) (h : 
         (net_of_literal aig lit - first_gate aig, omega (arith, past, inside, literal_count aig flat s h), omega (arith, past))
 
     same_bit : (count lit : ℕ) → HasNet aig lit → Below count lit → bit_at_zero aig count lit ≡ bits lit
-    same_bit zero lit has below = ⊎_elim (λ low. turned_none (is_odd lit) ∙ ap (turned (is_odd lit)) (sym (leaf lit has low)) ∙ signed lit) gate (cases_lt (net_of_literal aig lit) (first_gate aig))
+    same_bit zero lit has below = ⊎_elim (λ low. complement_none (is_odd lit) ∙ ap (complement_if (is_odd lit)) (sym (leaf lit has low)) ∙ signed lit) gate (cases_lt (net_of_literal aig lit) (first_gate aig))
       where
         gate : first_gate aig ≤ net_of_literal aig lit → bit_at_zero aig zero lit ≡ bits lit
         gate past = let at = split_off lit has past in let few = (below at.0 at.1 at.2).few in absurd (omega (arith, few))
-    same_bit (suc count) lit has below = by (gate_of aig (even lit)) refl (same_bit count)
+    same_bit (suc count) lit has below = by (and_gate_of aig (even lit)) refl (same_bit count)
       where
-        by : (found : Option AigAnd) → gate_of aig (even lit) ≡ found → ((side : ℕ) → HasNet aig side → Below count side → bit_at_zero aig count side ≡ bits side) → bit_at_zero aig (suc count) lit ≡ bits lit
+        by : (found : Option AigAnd) → and_gate_of aig (even lit) ≡ found → ((side : ℕ) → HasNet aig side → Below count side → bit_at_zero aig count side ≡ bits side) → bit_at_zero aig (suc count) lit ≡ bits lit
         by None e sides =
-            ap (λ f. turned (is_odd lit) (value_of aig count f)) e
-            ∙ ⊎_elim (λ low. ap (turned (is_odd lit)) (sym (leaf lit has low)) ∙ signed lit)
+            ap (λ f. complement_if (is_odd lit) (value_of aig count f)) e
+            ∙ ⊎_elim (λ low. ap (complement_if (is_odd lit)) (sym (leaf lit has low)) ∙ signed lit)
             (λ past.
             let at = split_off lit has past in
             let own = own_gate lit has at.0 at.2 at.1 in
@@ -252,8 +252,8 @@ module _ (aig : Aig) (flat : Flat) (order : List ℕ) (s : IsSoundAig aig) (h : 
             let first = sides gate.rhs0 has0 (side_below count j 0 gate.rhs0 lt has0 (omega arith) (ap (λ (g : AigAnd). g.rhs0) at.is) stands_here) in
             let second = sides gate.rhs1 has1 (side_below count j 1 gate.rhs1 lt has1 (omega arith) (ap (λ (g : AigAnd). g.rhs1) at.is) stands_here) in
             let holds : bits gate.lhs ≡ (bits gate.rhs0 && bits gate.rhs1) = subst (λ (g : AigAnd). bits g.lhs ≡ (bits g.rhs0 && bits g.rhs1)) at.is (v.gates_hold j no_gate lt) in
-            ap (λ f. turned (is_odd lit) (value_of aig count f)) e
-            ∙ ap (turned (is_odd lit)) (ap₂ (λ a b. a && b) first second ∙ sym holds ∙ ap bits lhs)
+            ap (λ f. complement_if (is_odd lit) (value_of aig count f)) e
+            ∙ ap (complement_if (is_odd lit)) (ap₂ (λ a b. a && b) first second ∙ sym holds ∙ ap bits lhs)
             ∙ signed lit
 
     all_same : (lits : List ℕ) → ((lit : ℕ) → In lit lits → HasNet aig lit) → map (bit_at_zero aig (length aig.ands)) lits ≡ map bits lits

@@ -4,7 +4,7 @@ use Rattle.std.specs.List.{find, list_any}
 use Rattle.std.specs.Option.{option_map_or}
 use Rattle.netlist_core.specs.declared.flat.Flat.{Flat}
 use Rattle.netlist_meaning.specs.FlatOrder.{IsOrder}
-use Rattle.cell_polarity.specs.Zero.{turned}
+use Rattle.cell_polarity.specs.Zero.{complement_if}
 use Rattle.aiger_text.specs.declared.aig.AigAnd.{AigAnd}
 use Rattle.aiger_text.specs.declared.aig.Aig.{Aig}
 use Rattle.aiger_text.specs.EntryFaults.{even}
@@ -16,16 +16,16 @@ abbrev pub is_odd : ℕ → Bool
 is_odd lit = lit % 2 == 1
 
 -- the gate whose left side is the literal
-abbrev pub gate_of : Aig → ℕ → Option AigAnd
-gate_of aig lit = find (λ (gate : AigAnd). gate.lhs == lit) aig.ands
+abbrev pub and_gate_of : Aig → ℕ → Option AigAnd
+and_gate_of aig lit = find (λ (gate : AigAnd). gate.lhs == lit) aig.ands
 
 -- The bit of a literal, through at most so many gates one after the other. An odd literal has the
 -- other bit of the even one before it, and an even literal that is no left side is 0.
 abbrev pub bit_at_zero : Aig → ℕ → ℕ → Bool
 bit_at_zero aig zero lit = is_odd lit
 bit_at_zero aig (suc depth) lit =
-    turned (is_odd lit) (option_map_or (λ (gate : AigAnd). bit_at_zero aig depth gate.rhs0
-    && bit_at_zero aig depth gate.rhs1) (gate_of aig (even lit)) false)
+    complement_if (is_odd lit) (option_map_or (λ (gate : AigAnd). bit_at_zero aig depth gate.rhs0
+    && bit_at_zero aig depth gate.rhs1) (and_gate_of aig (even lit)) false)
 
 -- while all inputs are 0, some output is 1
 abbrev pub some_output_is_one : Aig → Bool

@@ -17,9 +17,9 @@ use Rattle.cell_core.specs.Meaning.{cell_bit, cell_bits, bit_of}
 use Rattle.cell_core.proofs.OwnBits.{cell_in_order, bit_of_cell}
 use Rattle.cell_sharing.specs.Grown.{HasSource, Grows, Answers}
 use Rattle.cell_sharing.proofs.Growing.{there_after, bit_after}
-use Rattle.cell_polarity.specs.Zero.{zero_bit, turned, cells_for}
+use Rattle.cell_polarity.specs.Zero.{zero_bit, complement_if, cells_for}
 use Rattle.cell_polarity.specs.Low.{low_of, zero_in, IsLowSource, ReadLow, own_bit, low_bit, xor_bit, cells_in, AnswersLow, IsLow, AreLow}
-use Rattle.cell_polarity.proofs.Zeros.{turned_twice, nothing_there}
+use Rattle.cell_polarity.proofs.Zeros.{complement_twice, nothing_there}
 
 -- ---- an answer that needs no constant 1
 pub lower : (l l' : CellList) (n k : ℕ) (P : Type 0) (src : Src) (wanted meant : List Bool → List Bool → Bool) → (P → ⊥) → n ≤ k
@@ -73,20 +73,20 @@ not_both true false = refl
 not_both false true = refl
 not_both false false = refl
 
-pub xor_turned : (p q x y : Bool) → xor_bit x y ≡ turned (xor_bit p q) (xor_bit (turned p x) (turned q y))
-xor_turned false false x y = refl
-xor_turned true false true true = refl
-xor_turned true false true false = refl
-xor_turned true false false true = refl
-xor_turned true false false false = refl
-xor_turned false true true true = refl
-xor_turned false true true false = refl
-xor_turned false true false true = refl
-xor_turned false true false false = refl
-xor_turned true true true true = refl
-xor_turned true true true false = refl
-xor_turned true true false true = refl
-xor_turned true true false false = refl
+pub xor_complement : (p q x y : Bool) → xor_bit x y ≡ complement_if (xor_bit p q) (xor_bit (complement_if p x) (complement_if q y))
+xor_complement false false x y = refl
+xor_complement true false true true = refl
+xor_complement true false true false = refl
+xor_complement true false false true = refl
+xor_complement true false false false = refl
+xor_complement false true true true = refl
+xor_complement false true true false = refl
+xor_complement false true false true = refl
+xor_complement false true false false = refl
+xor_complement true true true true = refl
+xor_complement true true true false = refl
+xor_complement true true false true = refl
+xor_complement true true false false = refl
 
 -- ---- what stands for a source
 module _ (old : CellList) (count : ℕ) (zeros : List Bool) (now : CellList) (lows : List Src) (are : AreLow old count zeros now lows) where
@@ -98,8 +98,8 @@ module _ (old : CellList) (count : ℕ) (zeros : List Bool) (now : CellList) (lo
   zero_at (Made i) there = are.zero_bits i (ltb-true i count there)
 
   pub low_at : (src : Src) → is_there old.inputs (length old.starts) count src ≡ true → IsLow old now src (low_of lows src)
-  low_at (Input i) there = record { stands = record { there = there; bit = λ inputs state. ap (λ z. turned z (get_or inputs i false)) (sym (nothing_there i)) }; other = refl }
-  low_at (Latch i) there = record { stands = record { there = there; bit = λ inputs state. ap (λ z. turned z (get_or state i false)) (sym (nothing_there i)) }; other = refl }
+  low_at (Input i) there = record { stands = record { there = there; bit = λ inputs state. ap (λ z. complement_if z (get_or inputs i false)) (sym (nothing_there i)) }; other = refl }
+  low_at (Latch i) there = record { stands = record { there = there; bit = λ inputs state. ap (λ z. complement_if z (get_or state i false)) (sym (nothing_there i)) }; other = refl }
   low_at One there = record { stands = record { there = refl; bit = λ inputs state. refl }; other = refl }
   low_at Zero there = record { stands = record { there = refl; bit = λ inputs state. refl }; other = refl }
   low_at (Made i) there = are.each i (ltb-true i count there)
@@ -126,8 +126,8 @@ module _ (old : CellList) (count : ℕ) (zeros : List Bool) (now : CellList) (lo
       → own_bit (zero_in zeros src) (low_of lows src) now.cells inputs state ≡ bit_of old inputs state src
   own_at src there inputs state =
       ap (λ z. own_bit z (low_of lows src) now.cells inputs state) (zero_at src there)
-      ∙ ap (turned (zero_bit old src)) ((low_at src there).stands.bit inputs state)
-      ∙ turned_twice (zero_bit old src) (bit_of old inputs state src)
+      ∙ ap (complement_if (zero_bit old src)) ((low_at src there).stands.bit inputs state)
+      ∙ complement_twice (zero_bit old src) (bit_of old inputs state src)
 
   -- a cell at zero, and the wanted bits of its low source
   zero_of : (cell : Cell) → reads_there old.inputs (length old.starts) count cell ≡ true → cell_bit [] [] zeros cell ≡ cell_bit [] [] (cell_bits [] [] old.cells) cell
@@ -136,15 +136,15 @@ module _ (old : CellList) (count : ℕ) (zeros : List Bool) (now : CellList) (lo
   zero_of (AndNot a b) there = ap₂ (λ x y. x && not y) (zero_at a (and_parts _ _ there).0) (zero_at b (and_parts _ _ there).1)
 
   bit_of_low : (cell : Cell) → reads_there old.inputs (length old.starts) count cell ≡ true → (inputs state : List Bool)
-      → low_bit zeros lows cell now.cells inputs state ≡ turned (cell_bit [] [] (cell_bits [] [] old.cells) cell) (cell_bit inputs state (cell_bits inputs state old.cells) cell)
+      → low_bit zeros lows cell now.cells inputs state ≡ complement_if (cell_bit [] [] (cell_bits [] [] old.cells) cell) (cell_bit inputs state (cell_bits inputs state old.cells) cell)
   bit_of_low (Or a b) there inputs state =
-      ap₂ turned (ap₂ (λ x y. x || y) (zero_at a (and_parts _ _ there).0) (zero_at b (and_parts _ _ there).1))
+      ap₂ complement_if (ap₂ (λ x y. x || y) (zero_at a (and_parts _ _ there).0) (zero_at b (and_parts _ _ there).1))
       (ap₂ (λ x y. x || y) (own_at a (and_parts _ _ there).0 inputs state) (own_at b (and_parts _ _ there).1 inputs state))
   bit_of_low (Xor a b) there inputs state =
-      ap₂ turned (ap₂ xor_bit (zero_at a (and_parts _ _ there).0) (zero_at b (and_parts _ _ there).1))
+      ap₂ complement_if (ap₂ xor_bit (zero_at a (and_parts _ _ there).0) (zero_at b (and_parts _ _ there).1))
       (ap₂ xor_bit (own_at a (and_parts _ _ there).0 inputs state) (own_at b (and_parts _ _ there).1 inputs state))
   bit_of_low (AndNot a b) there inputs state =
-      ap₂ turned (ap₂ (λ x y. x && not y) (zero_at a (and_parts _ _ there).0) (zero_at b (and_parts _ _ there).1))
+      ap₂ complement_if (ap₂ (λ x y. x && not y) (zero_at a (and_parts _ _ there).0) (zero_at b (and_parts _ _ there).1))
       (ap₂ (λ x y. x && not y) (own_at a (and_parts _ _ there).0 inputs state) (own_at b (and_parts _ _ there).1 inputs state))
 
   cells_same : (cell : Cell) → reads_there old.inputs (length old.starts) count cell ≡ true → cells_in zeros cell ≡ cells_for old cell
@@ -188,7 +188,7 @@ module _ (old : CellList) (count : ℕ) (zeros : List Bool) (now : CellList) (lo
           stands = record {
             there = ap₂ (λ (n : ℕ) (s : List Bool). is_there n (length s) (length l'.cells) src) (sym (grows.adds.inputs ∙ are.inputs)) (sym (grows.adds.starts ∙ are.starts)) ∙ answers.there;
             bit = λ inputs state. answers.bit inputs state ∙ bit_of_low cell reads inputs state
-                ∙ ap₂ turned (sym (own [] [])) (sym (own inputs state));
+                ∙ ap₂ complement_if (sym (own [] [])) (sym (own inputs state));
           };
           other = false_from_ne_true (is_one src) (λ e. answers.one e);
         })

@@ -9,9 +9,9 @@ use Rattle.lists.proofs.Members.{In, in_from, contains_from, in_left, in_right, 
 use Rattle.cell_core.specs.declared.cells.Src.{Src}
 use Rattle.cell_core.specs.declared.cells.Src.TheVariants.{Input, Latch, One, Zero, Cell as Made}
 use Rattle.cell_core.specs.declared.cells.Cell.{Cell}
-use Rattle.cell_polarity.specs.Needed.{operands, with_operands}
+use Rattle.cell_polarity.specs.Needed.{cell_operands, with_operands}
 use Rattle.cell_polarity.specs.Low.{zero_in}
-use Rattle.cell_polarity.specs.Marks.{marked, AreMarked}
+use Rattle.cell_polarity.specs.Marks.{marks_with, AreMarked}
 use Rattle.cell_polarity.proofs.Zeros.{nothing_there}
 
 -- a flag that is set is one of the flags
@@ -88,7 +88,7 @@ no_cell : (src : Src) (i : ℕ) → is_made src ≡ false → src ≡ Made i →
 unfolding is_made
 no_cell src i e is = true≢false (sym (ap is_made is) ∙ e)
 
-set_mark : (flags : List Bool) (sources : List Src) (marks : List Bool) (src : Src) → zero_in flags src ≡ true → AreMarked flags sources marks → AreMarked flags (sources ++ src ∷ []) (marked marks src)
+set_mark : (flags : List Bool) (sources : List Src) (marks : List Bool) (src : Src) → zero_in flags src ≡ true → AreMarked flags sources marks → AreMarked flags (sources ++ src ∷ []) (marks_with marks src)
 unfolding is_made
 set_mark flags sources marks (Input i) e are = unmarked flags sources marks (Input i) are (λ j is flag. no_cell (Input i) j refl is)
 set_mark flags sources marks (Latch i) e are = unmarked flags sources marks (Latch i) are (λ j is flag. no_cell (Latch i) j refl is)
@@ -99,15 +99,15 @@ set_mark flags sources marks (Made i) e are =
     subst (λ (m : List Bool). AreMarked flags (sources ++ Made i ∷ []) m) (sym (ap (λ b. cond b (slice_set marks i true) marks) (lt-ltb i (length marks) inside))) (newly flags sources marks i are e)
 
 one_mark : (flags : List Bool) (sources : List Src) (marks : List Bool) (src : Src) (b : Bool) → zero_in flags src ≡ b → AreMarked flags sources marks
-    → AreMarked flags (sources ++ src ∷ []) (cond b (marked marks src) marks)
+    → AreMarked flags (sources ++ src ∷ []) (cond b (marks_with marks src) marks)
 one_mark flags sources marks src true e are = set_mark flags sources marks src e are
 one_mark flags sources marks src false e are = unmarked flags sources marks src are (λ j is flag. true≢false (sym flag ∙ ap (zero_in flags) (sym is) ∙ e))
 
 pub marks_more : (flags : List Bool) (sources : List Src) (i : ℕ) (d : Src) (marks new : List Bool) → i < length sources → AreMarked flags (take i sources) marks
-    → new ≡ cond (zero_in flags (get_or sources i d)) (marked marks (get_or sources i d)) marks → AreMarked flags (take (i + 1) sources) new
+    → new ≡ cond (zero_in flags (get_or sources i d)) (marks_with marks (get_or sources i d)) marks → AreMarked flags (take (i + 1) sources) new
 marks_more flags sources i d marks new lt are is =
     subst (λ (m : List Bool). AreMarked flags (take (i + 1) sources) m) (sym is)
-    (subst (λ (l : List Src). AreMarked flags l (cond (zero_in flags (get_or sources i d)) (marked marks (get_or sources i d)) marks)) (sym (take_more sources i d lt))
+    (subst (λ (l : List Src). AreMarked flags l (cond (zero_in flags (get_or sources i d)) (marks_with marks (get_or sources i d)) marks)) (sym (take_more sources i d lt))
     (one_mark flags (take i sources) marks (get_or sources i d) (zero_in flags (get_or sources i d)) refl are))
 
 none_set : (n i : ℕ) → get_or (replicate n false) i false ≡ false
@@ -134,7 +134,7 @@ all_marked flags sources i marks le are = subst (λ (l : List Src). AreMarked fl
 -- a number past the cells names none
 pub nothing_read : (found : List Src) (cells : List Cell) (src : Src) (i : ℕ) → src ≡ Made i → slice_get cells i ≡ None → found ≡ found ++ with_operands cells src
 nothing_read found cells src i is none =
-    sym (append-nil found) ∙ ap (λ (l : List Src). found ++ l) (sym (ap (with_operands cells) is ∙ ap (λ o. option_map_or (λ cell. Made i ∷ operands cell) o []) none))
+    sym (append-nil found) ∙ ap (λ (l : List Src). found ++ l) (sym (ap (with_operands cells) is ∙ ap (λ o. option_map_or (λ cell. Made i ∷ cell_operands cell) o []) none))
 
 -- flags that are all set
 pub all_true : (zeros flags : List Bool) (n : ℕ) → flags ≡ replicate n true → n ≡ length zeros → flags ≡ map (λ (zero : Bool). true) zeros

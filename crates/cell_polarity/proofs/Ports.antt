@@ -15,7 +15,7 @@ use Rattle.cell_core.proofs.Order.{there_more}
 use Rattle.cell_core.proofs.OwnBits.{cell_in_order}
 use Rattle.cell_moves.specs.Same.{is_cell}
 use Rattle.cell_moves.specs.Moved.{NewSources, new_source, goes_to}
-use Rattle.cell_polarity.specs.Needed.{operands, with_operands, ports, needed}
+use Rattle.cell_polarity.specs.Needed.{cell_operands, with_operands, ports_and_nets, needed}
 use Rattle.cell_polarity.specs.Low.{AreLow}
 use Rattle.cell_polarity.specs.Marks.{AreMarked}
 use Rattle.cell_polarity.specs.Raised.{AreRaised, HaveOwn, IsPorted}
@@ -28,7 +28,7 @@ all_there_in inputs latches made (other ∷ sources) src all (inl e) = ap (is_th
 all_there_in inputs latches made (other ∷ sources) src all (inr at) = all_there_in inputs latches made sources src (and_parts _ _ all).1 at
 
 module _ (old : CellList) (kept : List Src) where
-  read_there : (o : Option Cell) (i : ℕ) (src : Src) → slice_get old.cells i ≡ o → In src (option_map_or (λ cell. Made i ∷ operands cell) o []) → is_there old.inputs (length old.starts) (length old.cells) src ≡ true
+  read_there : (o : Option Cell) (i : ℕ) (src : Src) → slice_get old.cells i ≡ o → In src (option_map_or (λ cell. Made i ∷ cell_operands cell) o []) → is_there old.inputs (length old.starts) (length old.cells) src ≡ true
   read_there None i src e at = absurd at
   read_there (Some cell) i src e (inl is) = ap (is_there old.inputs (length old.starts) (length old.cells)) is ∙ lt-ltb i (length old.cells) (slice_get_within old.cells i cell e)
   read_there (Some cell) i src e (inr at) =
@@ -46,20 +46,20 @@ module _ (old : CellList) (kept : List Src) where
 
   pub needed_there : (src : Src) → In src (needed old kept) → is_there old.inputs (length old.starts) (length old.cells) src ≡ true
   needed_there src at = ⊎_elim
-      (λ (h : In src (ports old)). ⊎_elim (all_there_in _ _ _ old.outs src old.outs_there)
+      (λ (h : In src (ports_and_nets old)). ⊎_elim (all_there_in _ _ _ old.outs src old.outs_there)
       (λ (g : In src (old.latches ++ old.nets)). ⊎_elim (all_there_in _ _ _ old.latches src old.latches_there) (all_there_in _ _ _ old.nets src old.nets_there) (in_parts old.latches old.nets src g))
       (in_parts old.outs (old.latches ++ old.nets) src h))
       (λ (h : In src (flat_map (with_operands old.cells) kept)). let r = in_flattened (with_operands old.cells) kept src h in with_there r.0 src r.2)
-      (in_parts (ports old) (flat_map (with_operands old.cells) kept) src at)
+      (in_parts (ports_and_nets old) (flat_map (with_operands old.cells) kept) src at)
 
   pub out_needed : (src : Src) → In src old.outs → In src (needed old kept)
-  out_needed src at = in_left (ports old) (flat_map (with_operands old.cells) kept) src (in_left old.outs (old.latches ++ old.nets) src at)
+  out_needed src at = in_left (ports_and_nets old) (flat_map (with_operands old.cells) kept) src (in_left old.outs (old.latches ++ old.nets) src at)
 
   pub datum_needed : (src : Src) → In src old.latches → In src (needed old kept)
-  datum_needed src at = in_left (ports old) (flat_map (with_operands old.cells) kept) src (in_right old.outs (old.latches ++ old.nets) src (in_left old.latches old.nets src at))
+  datum_needed src at = in_left (ports_and_nets old) (flat_map (with_operands old.cells) kept) src (in_right old.outs (old.latches ++ old.nets) src (in_left old.latches old.nets src at))
 
   pub net_needed : (src : Src) → In src old.nets → In src (needed old kept)
-  net_needed src at = in_left (ports old) (flat_map (with_operands old.cells) kept) src (in_right old.outs (old.latches ++ old.nets) src (in_right old.latches old.nets src at))
+  net_needed src at = in_left (ports_and_nets old) (flat_map (with_operands old.cells) kept) src (in_right old.outs (old.latches ++ old.nets) src (in_right old.latches old.nets src at))
 
   -- ---- and so it has a new source, when all cells have theirs
   pub have_own : (low now : CellList) (lows : List Src) (zeros marks stays : List Bool) (news : NewSources) → AreLow old (length old.cells) zeros low lows → AreMarked zeros (needed old kept) marks

@@ -23,12 +23,12 @@ use Rattle.cell_moves.specs.Moved.{NewSources, new_source, goes_to, AreMoved}
 use Rattle.cell_moves.proofs.Moves.{follows, put_moved, all_the_same}
 use Rattle.cell_sharing.specs.Grown.{HasSource, Grows, Answers}
 use Rattle.cell_sharing.proofs.Growing.{grows, grows_refl, there_after, bit_after}
-use Rattle.cell_polarity.specs.Zero.{zero_bit, turned}
-use Rattle.cell_polarity.specs.Needed.{operands, with_operands, ports, needed}
+use Rattle.cell_polarity.specs.Zero.{zero_bit, complement_if}
+use Rattle.cell_polarity.specs.Needed.{cell_operands, with_operands, ports_and_nets, needed}
 use Rattle.cell_polarity.specs.Low.{AreLow}
 use Rattle.cell_polarity.specs.Marks.{AreMarked}
 use Rattle.cell_polarity.specs.Raised.{Reason, IsRaised, SomeIsOne, AreRaised}
-use Rattle.cell_polarity.proofs.Zeros.{turned_twice, in_any}
+use Rattle.cell_polarity.proofs.Zeros.{complement_twice, in_any}
 
 -- ---- the four ways
 pub raised_own : (l l' : CellList) (low src : Src) (zero wanted kept : Bool) (own : Cell) → kept ≡ true
@@ -40,14 +40,14 @@ raised_own l l' low src zero wanted kept own k a is =
       grows = record { more = a.grows.more; adds = a.grows.adds; few = omega (arith, one, a.grows.few); ones = λ e. inl (k, a.grows.ones e) };
       there = a.there;
       bit = λ inputs state. a.bit inputs state
-          ∙ sym (ap (λ b. cond b (cell_bit inputs state (cell_bits inputs state l.cells) own) (turned zero (bit_in l.cells inputs state low))) k);
+          ∙ sym (ap (λ b. cond b (cell_bit inputs state (cell_bits inputs state l.cells) own) (complement_if zero (bit_in l.cells inputs state low))) k);
       is = λ why. (src, refl);
       stays = λ e. is;
     }
 
 not_kept : (l : CellList) (low : Src) (zero kept : Bool) (own : Cell) (inputs state : List Bool) → kept ≡ false
-    → turned zero (bit_in l.cells inputs state low) ≡ cond kept (cell_bit inputs state (cell_bits inputs state l.cells) own) (turned zero (bit_in l.cells inputs state low))
-not_kept l low zero kept own inputs state k = sym (ap (λ b. cond b (cell_bit inputs state (cell_bits inputs state l.cells) own) (turned zero (bit_in l.cells inputs state low))) k)
+    → complement_if zero (bit_in l.cells inputs state low) ≡ cond kept (cell_bit inputs state (cell_bits inputs state l.cells) own) (complement_if zero (bit_in l.cells inputs state low))
+not_kept l low zero kept own inputs state k = sym (ap (λ b. cond b (cell_bit inputs state (cell_bits inputs state l.cells) own) (complement_if zero (bit_in l.cells inputs state low))) k)
 
 pub raised_low : (l : CellList) (low : Src) (zero wanted kept : Bool) (own : Cell) → kept ≡ false → zero ≡ false → HasSource l low → IsRaised l l low zero wanted kept own (Some low)
 raised_low l low zero wanted kept own k z there =
@@ -55,7 +55,7 @@ raised_low l low zero wanted kept own k z there =
     record {
       grows = record { more = none.more; adds = none.adds; few = omega (arith, none.few); ones = none.ones };
       there = there;
-      bit = λ inputs state. sym (ap (λ b. turned b (bit_in l.cells inputs state low)) z) ∙ not_kept l low zero kept own inputs state k;
+      bit = λ inputs state. sym (ap (λ b. complement_if b (bit_in l.cells inputs state low)) z) ∙ not_kept l low zero kept own inputs state k;
       is = λ why. (low, refl);
       stays = λ e. absurd (true≢false (sym e ∙ k));
     }
@@ -80,7 +80,7 @@ raised_turned l l' low src zero wanted kept own k z w a =
     record {
       grows = record { more = a.grows.more; adds = a.grows.adds; few = omega (arith, one, a.grows.few); ones = λ e. inr (w, z) };
       there = a.there;
-      bit = λ inputs state. a.bit inputs state ∙ sym (ap (λ b. turned b (bit_in l.cells inputs state low)) z) ∙ not_kept l low zero kept own inputs state k;
+      bit = λ inputs state. a.bit inputs state ∙ sym (ap (λ b. complement_if b (bit_in l.cells inputs state low)) z) ∙ not_kept l low zero kept own inputs state k;
       is = λ why. (src, refl);
       stays = λ e. absurd (true≢false (sym e ∙ k));
     }
@@ -91,7 +91,7 @@ is_gone news src new e = e ∙ ap Some (sym (ap (λ o. unwrap_or o src) e))
 
 -- each operand of the cell has a new source
 abbrev pub AreGone : NewSources → Cell → Type 0
-AreGone news cell = (src : Src) → In src (operands cell) → new_source news src ≡ Some (goes_to news src)
+AreGone news cell = (src : Src) → In src (cell_operands cell) → new_source news src ≡ Some (goes_to news src)
 
 module _ (old now : CellList) (news : NewSources) (moved : AreMoved old now.cells news) (inputs_are : now.inputs ≡ old.inputs) (starts_are : now.starts ≡ old.starts) where
   pub gone_bit : (src : Src) → new_source news src ≡ Some (goes_to news src) → (inputs state : List Bool) → bit_in now.cells inputs state (goes_to news src) ≡ bit_of old inputs state src
@@ -128,12 +128,12 @@ module _ (old now : CellList) (news : NewSources) (moved : AreMoved old now.cell
   pair_one a b e =
       ⊎_elim (λ (h : is_one (goes_to news a) ≡ true). (a, inl refl, h)) (λ (h : is_one (goes_to news b) ≡ true). (b, inr (inl refl), h)) (or_cases (is_one (goes_to news a)) (is_one (goes_to news b)) e)
 
-  which_one : (cell : Cell) → reads_one (cell_over (goes_to news) cell) ≡ true → (src : Src) × In src (operands cell) × (is_one (goes_to news src) ≡ true)
+  which_one : (cell : Cell) → reads_one (cell_over (goes_to news) cell) ≡ true → (src : Src) × In src (cell_operands cell) × (is_one (goes_to news src) ≡ true)
   which_one (Or a b) e = pair_one a b e
   which_one (Xor a b) e = pair_one a b e
   which_one (AndNot a b) e = pair_one a b e
 
-  pub operand_one : (cell : Cell) → AreGone news cell → reads_one (cell_over (goes_to news) cell) ≡ true → (src : Src) × In src (operands cell) × (zero_bit old src ≡ true)
+  pub operand_one : (cell : Cell) → AreGone news cell → reads_one (cell_over (goes_to news) cell) ≡ true → (src : Src) × In src (cell_operands cell) × (zero_bit old src ≡ true)
   operand_one cell gone e = let r = which_one cell e in (r.0, r.1, one_at_zero r.0 (gone r.0 r.1) r.2)
 
 -- ---- a list that grows
@@ -169,7 +169,7 @@ still_cell l l' n P g src cell (k, is, at) =
           ∙ ap Some (get_or_append_left l.cells g.more cell k lt) ∙ sym (slice_get-get_or l.cells k cell lt) ∙ at,
     )
 
-pub operand_there : (inputs latches made : ℕ) (cell : Cell) (src : Src) → In src (operands cell) → reads_there inputs latches made cell ≡ true → is_there inputs latches made src ≡ true
+pub operand_there : (inputs latches made : ℕ) (cell : Cell) (src : Src) → In src (cell_operands cell) → reads_there inputs latches made cell ≡ true → is_there inputs latches made src ≡ true
 operand_there inputs latches made (Or a b) src (inl e) there = ap (is_there inputs latches made) e ∙ (and_parts _ _ there).0
 operand_there inputs latches made (Or a b) src (inr (inl e)) there = ap (is_there inputs latches made) e ∙ (and_parts _ _ there).1
 operand_there inputs latches made (Or a b) src (inr (inr never)) there = absurd never
@@ -211,7 +211,7 @@ module _ (old low : CellList) (kept lows : List Src) (zeros marks stays : List B
   -- what a kept cell reads is needed
   kept_needed : (i : ℕ) (src : Src) → get_or stays i false ≡ true → In src (with_operands old.cells (Made i)) → In src (needed old kept)
   kept_needed i src e at =
-      in_right (ports old) (flat_map (with_operands old.cells) kept) src (in_flat (with_operands old.cells) kept (Made i) src (in_from kept (Made i) (stays_are.from i e).0) at)
+      in_right (ports_and_nets old) (flat_map (with_operands old.cells) kept) src (in_flat (with_operands old.cells) kept (Made i) src (in_from kept (Made i) (stays_are.from i e).0) at)
 
   module _ (count : ℕ) (now : CellList) (news : NewSources) (are : AreRaised old low kept zeros marks stays count now news) where
     now_inputs : now.inputs ≡ old.inputs
@@ -247,8 +247,8 @@ module _ (old low : CellList) (kept lows : List Src) (zeros marks stays : List B
       bit_is : (inputs state : List Bool) → bit_of old inputs state (Made count) ≡ cell_bit inputs state (cell_bits inputs state old.cells) cell
       bit_is inputs state = bit_of_cell old count d inputs state within ∙ ap (cell_bit inputs state (cell_bits inputs state old.cells)) is
 
-      read_needed : (src : Src) → get_or stays count false ≡ true → In src (operands cell) → In src (needed old kept)
-      read_needed src e i = kept_needed count src e (subst (λ o. In src (option_map_or (λ c. Made count ∷ operands c) o [])) (sym at) (inr i))
+      read_needed : (src : Src) → get_or stays count false ≡ true → In src (cell_operands cell) → In src (needed old kept)
+      read_needed src e i = kept_needed count src e (subst (λ o. In src (option_map_or (λ c. Made count ∷ cell_operands c) o [])) (sym at) (inr i))
 
       gone : get_or stays count false ≡ true → AreGone news cell
       gone e = λ src i. has_new src (read_needed src e i) (operand_there old.inputs (length old.starts) count cell src i reads)
@@ -270,17 +270,17 @@ module _ (old low : CellList) (kept lows : List Src) (zeros marks stays : List B
         inside : count < length news
         inside = omega (arith, within, are.long)
 
-        turned_bit : (inputs state : List Bool) → turned (get_or zeros count false) (bit_in now.cells inputs state (get_or lows count Zero)) ≡ bit_of old inputs state (Made count)
+        turned_bit : (inputs state : List Bool) → complement_if (get_or zeros count false) (bit_in now.cells inputs state (get_or lows count Zero)) ≡ bit_of old inputs state (Made count)
         turned_bit inputs state =
-            ap₂ turned (low_are.zero_bits count within) (bit_after low now _ _ are.grows (get_or lows count Zero) low_before inputs state ∙ (low_are.each count within).stands.bit inputs state)
-            ∙ turned_twice (zero_bit old (Made count)) (bit_of old inputs state (Made count))
+            ap₂ complement_if (low_are.zero_bits count within) (bit_after low now _ _ are.grows (get_or lows count Zero) low_before inputs state ∙ (low_are.each count within).stands.bit inputs state)
+            ∙ complement_twice (zero_bit old (Made count)) (bit_of old inputs state (Made count))
 
         own_or_turned : (inputs state : List Bool) → cond (get_or stays count false) (cell_bit inputs state (cell_bits inputs state now.cells) (cell_over (goes_to news) cell))
-            (turned (get_or zeros count false) (bit_in now.cells inputs state (get_or lows count Zero))) ≡ bit_of old inputs state (Made count)
+            (complement_if (get_or zeros count false) (bit_in now.cells inputs state (get_or lows count Zero))) ≡ bit_of old inputs state (Made count)
         own_or_turned inputs state = by_kept (get_or stays count false) refl
           where
             by_kept : (b : Bool) → get_or stays count false ≡ b → cond b (cell_bit inputs state (cell_bits inputs state now.cells) (cell_over (goes_to news) cell))
-                (turned (get_or zeros count false) (bit_in now.cells inputs state (get_or lows count Zero))) ≡ bit_of old inputs state (Made count)
+                (complement_if (get_or zeros count false) (bit_in now.cells inputs state (get_or lows count Zero))) ≡ bit_of old inputs state (Made count)
             by_kept true e = own_bit_is old now news are.moved now_inputs now_starts cell (gone e) inputs state ∙ sym (bit_is inputs state)
             by_kept false e = turned_bit inputs state
 
@@ -292,9 +292,9 @@ module _ (old low : CellList) (kept lows : List Src) (zeros marks stays : List B
         put (Some src) e =
             let there : HasSource l' src = subst (λ o. IfSome o (HasSource l')) e raised.there in
             let bit : (inputs state : List Bool) → bit_in l'.cells inputs state src ≡ cond (get_or stays count false) (cell_bit inputs state (cell_bits inputs state now.cells) (cell_over (goes_to news) cell))
-            (turned (get_or zeros count false) (bit_in now.cells inputs state (get_or lows count Zero))) =
+            (complement_if (get_or zeros count false) (bit_in now.cells inputs state (get_or lows count Zero))) =
             subst (λ o. IfSome o (λ s. (inputs state : List Bool) → bit_in l'.cells inputs state s ≡ cond (get_or stays count false) (cell_bit inputs state (cell_bits inputs state now.cells) (cell_over (goes_to news) cell))
-            (turned (get_or zeros count false) (bit_in now.cells inputs state (get_or lows count Zero))))) e raised.bit in
+            (complement_if (get_or zeros count false) (bit_in now.cells inputs state (get_or lows count Zero))))) e raised.bit in
             put_moved old l'.cells news base count src inside
             (ap₂ (λ (n : ℕ) (s : List Bool). is_there n (length s) (length l'.cells) src) (sym (raised.grows.adds.inputs ∙ now_inputs)) (sym (raised.grows.adds.starts ∙ now_starts)) ∙ there)
             (λ inputs state. bit inputs state ∙ own_or_turned inputs state)

@@ -20,7 +20,7 @@ use Rattle.cell_meaning.specs.Mapped.{IsCell}
 use Rattle.cell_moves.specs.Same.{cell_over, StaysCell, StaysBit}
 use Rattle.cell_moves.specs.Moved.{NewSources, goes_to}
 use Rattle.cell_polarity.specs.Zero.{zero_bit, cells_for}
-use Rattle.cell_polarity.specs.Needed.{operands, with_operands, ports, needed}
+use Rattle.cell_polarity.specs.Needed.{cell_operands, with_operands, ports_and_nets, needed}
 use Rattle.cell_polarity.specs.Complements.{Complements}
 use Rattle.cell_polarity.specs.Low.{low_of, zero_in, AreLow}
 use Rattle.cell_polarity.specs.Marks.{AreMarked}
@@ -59,8 +59,8 @@ module _ (old low now new : CellList) (kept lows still : List Src) (zeros marks 
   kept_bit : (src : Src) → Contains kept src → StaysBit old new (goes_to news) src
   kept_bit src among cell (i, is, at) inputs state =
       let here : In src (with_operands old.cells src) =
-      subst (λ s. In src (with_operands old.cells s)) (sym is) (subst (λ o. In src (option_map_or (λ c. Made i ∷ operands c) o [])) (sym at) (inl is)) in
-      let need : In src (needed old kept) = in_right (ports old) (flat_map (with_operands old.cells) kept) src (in_flat (with_operands old.cells) kept src src (in_from kept src among) here) in
+      subst (λ s. In src (with_operands old.cells s)) (sym is) (subst (λ o. In src (option_map_or (λ c. Made i ∷ cell_operands c) o [])) (sym at) (inl is)) in
+      let need : In src (needed old kept) = in_right (ports_and_nets old) (flat_map (with_operands old.cells) kept) src (in_flat (with_operands old.cells) kept src src (in_from kept src among) here) in
       ap (λ (c : List Cell). bit_in c inputs state (goes_to news src)) ported.cells
       ∙ gone_bit old now news have.moved have.inputs have.starts src (gone_of old kept now news have src need) inputs state
 

@@ -12,13 +12,13 @@ use Rattle.cell_core.specs.declared.list.CellList.{CellList}
 use Rattle.cell_core.specs.Sources.{is_one, reads_one, read_one}
 use Rattle.cell_core.specs.Loops.{names_one}
 use Rattle.cell_core.specs.Meaning.{source_bit, cell_bit, bits_from}
-use Rattle.cell_polarity.specs.Zero.{zero_bit, turned, NothingIsOneAtZero}
-use Rattle.cell_polarity.specs.Needed.{operands, with_operands, ports, needed}
+use Rattle.cell_polarity.specs.Zero.{zero_bit, complement_if, NothingIsOneAtZero}
+use Rattle.cell_polarity.specs.Needed.{cell_operands, with_operands, ports_and_nets, needed}
 
-pub turned_twice : (p b : Bool) → turned p (turned p b) ≡ b
-turned_twice true true = refl
-turned_twice true false = refl
-turned_twice false b = refl
+pub complement_twice : (p b : Bool) → complement_if p (complement_if p b) ≡ b
+complement_twice true true = refl
+complement_twice true false = refl
+complement_twice false b = refl
 
 pub nothing_there : (i : ℕ) → get_or [] i false ≡ false
 nothing_there zero = refl
@@ -90,12 +90,12 @@ nothing_is_one_at_zero cells src none other =
     source_zero (bits_from [] [] [] cells) src (all_zero [] cells nothing_there none) other
 
 -- ---- what is needed of such a list
-operand_of : (cell : Cell) (src : Src) → In src (operands cell) → reads_one cell ≡ false → is_one src ≡ false
+operand_of : (cell : Cell) (src : Src) → In src (cell_operands cell) → reads_one cell ≡ false → is_one src ≡ false
 operand_of (Or a b) src at e = none_in is_one (a ∷ b ∷ []) src (ap₂ (λ x y. x || (y || false)) (or_parts (is_one a) (is_one b) e).0 (or_parts (is_one a) (is_one b) e).1) at
 operand_of (Xor a b) src at e = none_in is_one (a ∷ b ∷ []) src (ap₂ (λ x y. x || (y || false)) (or_parts (is_one a) (is_one b) e).0 (or_parts (is_one a) (is_one b) e).1) at
 operand_of (AndNot a b) src at e = none_in is_one (a ∷ b ∷ []) src (ap₂ (λ x y. x || (y || false)) (or_parts (is_one a) (is_one b) e).0 (or_parts (is_one a) (is_one b) e).1) at
 
-read_by : (cells : List Cell) (o : Option Cell) (i : ℕ) (src : Src) → slice_get cells i ≡ o → read_one cells ≡ false → In src (option_map_or (λ cell. Made i ∷ operands cell) o []) → is_one src ≡ false
+read_by : (cells : List Cell) (o : Option Cell) (i : ℕ) (src : Src) → slice_get cells i ≡ o → read_one cells ≡ false → In src (option_map_or (λ cell. Made i ∷ cell_operands cell) o []) → is_one src ≡ false
 read_by cells None i src e none at = absurd at
 read_by cells (Some cell) i src e none (inl is) = ap is_one is
 read_by cells (Some cell) i src e none (inr at) = operand_of cell src at (none_in reads_one cells cell none (in_got cells i cell e))
@@ -111,11 +111,11 @@ pub needed_other : (list : CellList) (kept : List Src) (src : Src) → names_one
 needed_other list kept src e at =
     let none = names_none list e in
     ⊎_elim
-    (λ (h : In src (ports list)). ⊎_elim (none_in is_one list.outs src none.outs)
+    (λ (h : In src (ports_and_nets list)). ⊎_elim (none_in is_one list.outs src none.outs)
     (λ (g : In src (list.latches ++ list.nets)). ⊎_elim (none_in is_one list.latches src none.latches) (none_in is_one list.nets src none.nets) (in_parts list.latches list.nets src g))
     (in_parts list.outs (list.latches ++ list.nets) src h))
     (λ (h : In src (flat_map (with_operands list.cells) kept)). let r = in_flattened (with_operands list.cells) kept src h in with_read list.cells r.0 src none.cells r.2)
-    (in_parts (ports list) (flat_map (with_operands list.cells) kept) src at)
+    (in_parts (ports_and_nets list) (flat_map (with_operands list.cells) kept) src at)
 
 -- where a needed source is 1 at zero, the list names constant 1
 pub needs_one : (list : CellList) (kept : List Src) → list_any (zero_bit list) (needed list kept) ≡ true → names_one list ≡ true

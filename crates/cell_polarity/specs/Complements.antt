@@ -8,15 +8,15 @@ use Rattle.cell_core.specs.Sources.{is_there, read_one}
 use Rattle.cell_core.specs.Loops.{names_one}
 use Rattle.cell_core.specs.Meaning.{bit_in, bit_of}
 use Rattle.cell_moves.specs.Same.{Keeps}
-use Rattle.cell_polarity.specs.Zero.{zero_bit, turned, cells_for}
+use Rattle.cell_polarity.specs.Zero.{zero_bit, complement_if, cells_for}
 use Rattle.cell_polarity.specs.Needed.{needed}
 
 -- Among these cells, the source stands for one of the list: it is there, and under all inputs and
--- states its bit is that of the other, turned if that one is 1 at zero.
+-- states its bit is that of the other, or the complement if that one is 1 at zero.
 pub record StandsLow (old : CellList) (low : List Cell) (src by : Src) : Type 0 where
   pub there : is_there old.inputs (length old.starts) (length low) by ≡ true
   pub bit : (inputs state : List Bool)
-      → bit_in low inputs state by ≡ turned (zero_bit old src) (bit_of old inputs state src)
+      → bit_in low inputs state by ≡ complement_if (zero_bit old src) (bit_of old inputs state src)
 
 -- The new list has low cells and then high ones. The low cells read no constant 1, and each source
 -- of the old list that is there has one among them that stands for it; there are at most

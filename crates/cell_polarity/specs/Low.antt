@@ -8,7 +8,7 @@ use Rattle.cell_core.specs.declared.list.CellList.{CellList}
 use Rattle.cell_core.specs.Sources.{is_one, read_one}
 use Rattle.cell_core.specs.Meaning.{source_bit, bit_in}
 use Rattle.cell_sharing.specs.Grown.{HasSource, Answers}
-use Rattle.cell_polarity.specs.Zero.{zero_bit, turned, cells_for}
+use Rattle.cell_polarity.specs.Zero.{zero_bit, complement_if, cells_for}
 use Rattle.cell_polarity.specs.Complements.{StandsLow}
 
 -- the source that stands for a source, if these stand for the cells
@@ -35,24 +35,24 @@ ReadLow list lows (AndNot a b) = IsLowSource list (low_of lows a) × IsLowSource
 
 -- the bit of the operand itself
 abbrev pub own_bit : Bool → Src → List Cell → List Bool → List Bool → Bool
-own_bit one low cells inputs state = turned one (bit_in cells inputs state low)
+own_bit one low cells inputs state = complement_if one (bit_in cells inputs state low)
 
 -- the wanted bits of the low source for an OR, an XOR and an AND-NOT of two operands, the first of
 -- which is 1 at zero if `p`, and the second if `q`
 abbrev pub low_or : Bool → Bool → Src → Src → List Cell → List Bool → List Bool → Bool
 low_or p q a b cells inputs state =
-    turned (p || q) (own_bit p a cells inputs state || own_bit q b cells inputs state)
+    complement_if (p || q) (own_bit p a cells inputs state || own_bit q b cells inputs state)
 
 abbrev pub xor_bit : Bool → Bool → Bool
 xor_bit p q = (p || q) && not (p && q)
 
 abbrev pub low_xor : Bool → Bool → Src → Src → List Cell → List Bool → List Bool → Bool
 low_xor p q a b cells inputs state =
-    turned (xor_bit p q) (xor_bit (own_bit p a cells inputs state) (own_bit q b cells inputs state))
+    complement_if (xor_bit p q) (xor_bit (own_bit p a cells inputs state) (own_bit q b cells inputs state))
 
 abbrev pub low_and_not : Bool → Bool → Src → Src → List Cell → List Bool → List Bool → Bool
 low_and_not p q a b cells inputs state =
-    turned (p && not q) (own_bit p a cells inputs state && not (own_bit q b cells inputs state))
+    complement_if (p && not q) (own_bit p a cells inputs state && not (own_bit q b cells inputs state))
 
 -- the list has more cells, at most so many and none of which reads constant 1, and a source with
 -- the wanted bits, which is not constant 1

@@ -4,13 +4,13 @@ use Rattle.cell_core.specs.declared.cells.Src.{Src}
 use Rattle.cell_core.specs.declared.cells.Src.TheVariants.{Input, Latch, One, Zero, Cell as Made}
 use Rattle.cell_polarity.specs.Low.{zero_in}
 
--- the flags after this one is set, if the source is a cell
-abbrev pub marked : List Bool → Src → List Bool
-marked marks (Input i) = marks
-marked marks (Latch i) = marks
-marked marks One = marks
-marked marks Zero = marks
-marked marks (Made i) = cond (nat_lt i (length marks)) (slice_set marks i true) marks
+-- the marks after the source is marked, if it is a cell
+abbrev pub marks_with : List Bool → Src → List Bool
+marks_with marks (Input i) = marks
+marks_with marks (Latch i) = marks
+marks_with marks One = marks
+marks_with marks Zero = marks
+marks_with marks (Made i) = cond (nat_lt i (length marks)) (slice_set marks i true) marks
 
 -- the marks are set at the cells among the sources that have a flag, and nowhere else
 pub record AreMarked (flags : List Bool) (sources : List Src) (marks : List Bool) : Type 0 where

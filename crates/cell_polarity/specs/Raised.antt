@@ -12,10 +12,10 @@ use Rattle.cell_meaning.specs.Mapped.{IsCell}
 use Rattle.cell_moves.specs.Same.{cell_over, MovesBy}
 use Rattle.cell_moves.specs.Moved.{NewSources, new_source, goes_to, AreMoved}
 use Rattle.cell_sharing.specs.Grown.{HasSource, Grows}
-use Rattle.cell_polarity.specs.Zero.{zero_bit, turned}
+use Rattle.cell_polarity.specs.Zero.{zero_bit, complement_if}
 use Rattle.cell_polarity.specs.Needed.{needed}
 
--- why constant 1 may be read: a kept cell reads it, or a wanted one is turned
+-- why constant 1 may be read: a kept cell reads it, or a wanted one is complemented
 abbrev pub Reason : Bool → Bool → Bool → Cell → Type 0
 Reason zero wanted kept own =
     ((kept ≡ true) × (reads_one own ≡ true))
@@ -29,7 +29,7 @@ pub record IsRaised (old new : CellList) (low : Src) (zero wanted kept : Bool) (
   pub there : IfSome by (HasSource new)
   pub bit : IfSome by (λ src. (inputs state : List Bool) → bit_in new.cells inputs state src
       ≡ cond kept (cell_bit inputs state (cell_bits inputs state old.cells) own)
-      (turned zero (bit_in old.cells inputs state low)))
+      (complement_if zero (bit_in old.cells inputs state low)))
   pub is : ((kept ≡ true) ⊎ ((zero ≡ false) ⊎ (wanted ≡ true))) → (src : Src) × (by ≡ Some src)
   pub stays : kept ≡ true → IfSome by (λ src. IsCell new src own)
 

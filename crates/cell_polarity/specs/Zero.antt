@@ -11,9 +11,9 @@ use Rattle.cell_core.specs.Meaning.{bit_in, bit_of}
 abbrev pub zero_bit : CellList → Src → Bool
 zero_bit list src = bit_of list [] [] src
 
--- the exclusive-or of two bits, the first of which says whether the second is turned
-abbrev pub turned : Bool → Bool → Bool
-turned by bit = cond by (not bit) bit
+-- the bit, or its complement if the first bit is 1
+abbrev pub complement_if : Bool → Bool → Bool
+complement_if by bit = cond by (not bit) bit
 
 -- How many cells a cell becomes at most, if each operand that is 1 at zero is read as its
 -- complement: two where what is left is the AND of the operands that are read, else one.

@@ -1,17 +1,17 @@
 // Marks at the cells that are among some sources.
 ghost use Rattle.std.specs.Prelude.{◌≡◌, ◌∷◌, ◌++◌, false, cond, replicate, length, slice_get, flat_map, IfOk, OnOk};
 ghost use Rattle.cell_polarity.specs.Low.{zero_in};
-ghost use Rattle.cell_polarity.specs.Marks.{marked, AreMarked};
-ghost use Rattle.cell_polarity.specs.Needed.{operands, with_operands, needed};
+ghost use Rattle.cell_polarity.specs.Marks.{marks_with, AreMarked};
+ghost use Rattle.cell_polarity.specs.Needed.{cell_operands, with_operands, needed};
 
 use crate::PolarityError;
 use crate::low::zero_in;
 use cell_core::{Cell, CellList, Src};
 use std::alloc::Global;
 
-// Sets the flag of a source, if it is a cell.
+// Marks a source, if it is a cell.
 fn mark(marks: &mut [bool], src: Src)
-    ensures { marks.new ≡ marked marks.old src }
+    ensures { marks.new ≡ marks_with marks.old src }
 {
     if let Src::Cell(i) = src {
         if (i as usize) < marks.len() {
@@ -20,9 +20,9 @@ fn mark(marks: &mut [bool], src: Src)
     }
 }
 
-// Sets the flag of a source, if it is a cell with a flag.
+// Marks a source, if it is a cell with a flag.
 fn mark_flagged(marks: &mut [bool], flags: &[bool], src: Src)
-    ensures { marks.new ≡ cond (zero_in flags.now src) (marked marks.old src) marks.old }
+    ensures { marks.new ≡ cond (zero_in flags.now src) (marks_with marks.old src) marks.old }
 {
     if zero_in(flags, src) {
         mark(marks, src);
@@ -51,7 +51,7 @@ pub fn marks_of(alloc: Global, flags: &[bool], sources: &[Src]) -> Result<Vec<bo
 
 // Adds a source and what its cell reads.
 fn push_cell(found: &mut Vec<Src>, src: Src, cell: Cell) -> Result<(), PolarityError>
-    ensures { OnOk result (found.new.items ≡ found.old.items ++ src ∷ operands cell) }
+    ensures { OnOk result (found.new.items ≡ found.old.items ++ src ∷ cell_operands cell) }
 {
     match cell {
         Cell::Or(a, b) | Cell::Xor(a, b) | Cell::AndNot(a, b) => {

@@ -12,7 +12,7 @@ use Rattle.cell_core.specs.declared.list.CellList.{CellList}
 use Rattle.cell_core.specs.Sources.{is_there, are_there, reads_there, is_one, reads_one}
 use Rattle.cell_core.specs.Meaning.{source_bit, cell_bit, cell_bits}
 use Rattle.cell_sharing.specs.Grown.{Answers}
-use Rattle.cover_cells.specs.Covers.{some_is_one, most_cells, AnswersCover}
+use Rattle.cover_cells.specs.Covers.{some_is_one, most_cells_of_cover, AnswersCover}
 use Rattle.cell_meaning.specs.Singles.{is_only, are_both, are_pair, cell_of_rows, single_cell}
 use Rattle.cell_sharing.proofs.Growing.{answers, grows_refl}
 
@@ -21,7 +21,7 @@ pub record IsFor (sources : List Src) (rows : List (List ℕ)) (on : Bool) (cell
   pub there : (inputs latches made : ℕ) → are_there inputs latches made sources ≡ true → reads_there inputs latches made cell ≡ true
   pub one : reads_one cell ≡ true → some_is_one sources ≡ true
   pub value : (inputs state made : List Bool) → cell_bit inputs state made cell ≡ cover_value rows on (map (source_bit inputs state made) sources)
-  pub few : 1 ≤ most_cells rows on
+  pub few : 1 ≤ most_cells_of_cover rows on
 
 -- ---- rows that are known
 only_is : (rows : List (List ℕ)) (a : List ℕ) → is_only rows a ≡ true → rows ≡ a ∷ []
@@ -39,14 +39,14 @@ pair_are : (rows : List (List ℕ)) (a b : List ℕ) → are_pair rows a b ≡ t
 pair_are rows a b e = ⊎_elim (λ h. inl (both_are rows a b h)) (λ h. inr (both_are rows b a h)) (or_cases (are_both rows a b) (are_both rows b a) e)
 
 -- ---- they may take a cell
-two_few : (a b : List ℕ) → 1 ≤ most_cells (a ∷ b ∷ []) true
-two_few a b = let e : most_cells (a ∷ b ∷ []) true ≡ 2 * rows_weight (a ∷ b ∷ []) = refl in omega (arith, e)
+two_few : (a b : List ℕ) → 1 ≤ most_cells_of_cover (a ∷ b ∷ []) true
+two_few a b = let e : most_cells_of_cover (a ∷ b ∷ []) true ≡ 2 * rows_weight (a ∷ b ∷ []) = refl in omega (arith, e)
 
-pair_few : (rows : List (List ℕ)) (a b : List ℕ) → are_pair rows a b ≡ true → 1 ≤ most_cells rows true
-pair_few rows a b e = ⊎_elim (λ h. subst (λ r. 1 ≤ most_cells r true) (sym h) (two_few a b)) (λ h. subst (λ r. 1 ≤ most_cells r true) (sym h) (two_few b a)) (pair_are rows a b e)
+pair_few : (rows : List (List ℕ)) (a b : List ℕ) → are_pair rows a b ≡ true → 1 ≤ most_cells_of_cover rows true
+pair_few rows a b e = ⊎_elim (λ h. subst (λ r. 1 ≤ most_cells_of_cover r true) (sym h) (two_few a b)) (λ h. subst (λ r. 1 ≤ most_cells_of_cover r true) (sym h) (two_few b a)) (pair_are rows a b e)
 
-only_few : (rows : List (List ℕ)) (a : List ℕ) → is_only rows a ≡ true → most_cells (a ∷ []) true ≡ 4 → 1 ≤ most_cells rows true
-only_few rows a e four = subst (λ r. 1 ≤ most_cells r true) (sym (only_is rows a e)) (omega (arith, four))
+only_few : (rows : List (List ℕ)) (a : List ℕ) → is_only rows a ≡ true → most_cells_of_cover (a ∷ []) true ≡ 4 → 1 ≤ most_cells_of_cover rows true
+only_few rows a e four = subst (λ r. 1 ≤ most_cells_of_cover r true) (sym (only_is rows a e)) (omega (arith, four))
 
 -- ---- their values
 four : (P : Bool → Bool → Type 0) → P true true → P true false → P false true → P false false → (p q : Bool) → P p q
@@ -98,7 +98,7 @@ straight : (a b : Src) (rows : List (List ℕ)) (cell : Cell)
     → ((inputs latches made : ℕ) → (is_there inputs latches made a && is_there inputs latches made b) ≡ true → reads_there inputs latches made cell ≡ true)
     → (reads_one cell ≡ true → (is_one a || is_one b) ≡ true)
     → ((inputs state made : List Bool) → cell_bit inputs state made cell ≡ value_of rows (source_bit inputs state made a) (source_bit inputs state made b))
-    → 1 ≤ most_cells rows true
+    → 1 ≤ most_cells_of_cover rows true
     → IsFor (a ∷ b ∷ []) rows true cell
 straight a b rows cell there one value few =
     record {

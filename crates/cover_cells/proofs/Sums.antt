@@ -14,7 +14,7 @@ use Rattle.cell_core.specs.Sources.{is_one}
 use Rattle.cell_core.specs.Meaning.{bit_in}
 use Rattle.cell_sharing.specs.Grown.{HasSources, bits_of, Grows, Answers}
 use Rattle.cell_meaning.specs.Needs.{has_no_positive}
-use Rattle.cover_cells.specs.Covers.{RowNeedsOne, RowsNeedOne, CoverNeedsOne, most_cells, AnswersRow, AnswersCover}
+use Rattle.cover_cells.specs.Covers.{RowNeedsOne, RowsNeedOne, CoverNeedsOne, most_cells_of_cover, AnswersRow, AnswersCover}
 use Rattle.cell_sharing.proofs.Growing.{grows, grows_refl, answers, bit_after, bits_after}
 
 -- what a sum has, as far as it has come
@@ -30,7 +30,7 @@ row_reason sources rows i within (inr e) = inr (list_any_at (has_no_positive (le
 pub row_alone : (l l' : CellList) (sources : List Src) (row : List ℕ) (src : Src) → AnswersRow l l' sources row src → AnswersCover l l' sources (row ∷ []) true src
 row_alone l l' sources row src h =
     answers l l l' 0 _ _ (RowNeedsOne sources row) _ _ src _ (grows_refl l (RowNeedsOne sources row)) h reason reason
-    (let e : most_cells (row ∷ []) true ≡ 2 * sum_by literals (row ∷ []) = refl in let f : sum_by literals (row ∷ []) ≡ literals row + 0 = sum_by-cons literals row [] in omega (arith, e, f))
+    (let e : most_cells_of_cover (row ∷ []) true ≡ 2 * sum_by literals (row ∷ []) = refl in let f : sum_by literals (row ∷ []) ≡ literals row + 0 = sum_by-cons literals row [] in omega (arith, e, f))
     _ (λ inputs state. sym (or-false (product_holds row (bits_of l sources inputs state))))
   where
     reason : RowNeedsOne sources row → CoverNeedsOne sources (row ∷ []) true

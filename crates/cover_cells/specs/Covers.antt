@@ -48,12 +48,12 @@ is_product rows on = on && nat_lt (length rows) 2
 
 -- how many cells a cover takes at most: a product two for each literal, and another cover twice its
 -- weight
-abbrev pub most_cells : List (List ℕ) → Bool → ℕ
-most_cells rows on =
+abbrev pub most_cells_of_cover : List (List ℕ) → Bool → ℕ
+most_cells_of_cover rows on =
     cond (is_product rows on) (2 * sum_by literals rows) (2 * rows_weight rows)
 
 -- the source has the value of the cover, with at most as many new cells as that
 abbrev pub AnswersCover : CellList → CellList → List Src → List (List ℕ) → Bool → Src → Type 0
 AnswersCover old new sources rows on src =
-    Answers old new (most_cells rows on) (CoverNeedsOne sources rows on) src
+    Answers old new (most_cells_of_cover rows on) (CoverNeedsOne sources rows on) src
     (λ inputs state. cover_value rows on (bits_of old sources inputs state))

@@ -5,7 +5,7 @@ use Rattle.cell_core.specs.declared.cells.Src.{Src}
 use Rattle.cell_core.specs.Sources.{is_there, are_in_order, is_one, read_one}
 use Rattle.cell_core.specs.Meaning.{bit_in}
 use Rattle.cover_cells.specs.declared.search.Found.{Found}
-use Rattle.cover_cells.specs.Covers.{CoverNeedsOne, most_cells}
+use Rattle.cover_cells.specs.Covers.{CoverNeedsOne, most_cells_of_cover}
 
 -- the cells read only so many nets and cells before them
 pub record StandsAlone (nets : ℕ) (found : Found) : Type 0 where
@@ -20,7 +20,7 @@ ReadsOneRoot found = (read_one found.cells ≡ true) ⊎ (is_one found.root ≡ 
 pub record Suits (sources : List Src) (rows : List (List ℕ)) (on : Bool)
     (found : Found) : Type 0 where
   pub alone : StandsAlone (length sources) found
-  pub few : length found.cells ≤ most_cells rows on
+  pub few : length found.cells ≤ most_cells_of_cover rows on
   pub one : ReadsOneRoot found → CoverNeedsOne sources rows on
   pub bits : (bits : List Bool) → length bits ≡ length sources
       → bit_in found.cells bits [] found.root ≡ cover_value rows on bits

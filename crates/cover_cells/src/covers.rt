@@ -6,7 +6,7 @@ ghost use Rattle.cell_core.specs.Sources.{is_one, reads_one, read_one};
 ghost use Rattle.cell_sharing.specs.Grown.{HasSources, bits_of, Answers};
 ghost use Rattle.cell_meaning.specs.Mapped.{IsCell};
 ghost use Rattle.cell_meaning.specs.Needs.{has_no_positive};
-ghost use Rattle.cover_cells.specs.Covers.{CoverNeedsOne, AnswersCover, most_cells};
+ghost use Rattle.cover_cells.specs.Covers.{CoverNeedsOne, AnswersCover, most_cells_of_cover};
 ghost use Rattle.cover_cells.specs.Placed.{ReadsOne};
 ghost use Rattle.cell_meaning.specs.Singles.{constant_source, single_cell};
 ghost use Rattle.cell_core.specs.declared.cells.Cell.{Cell};
@@ -66,8 +66,8 @@ fn needs_one(sources: &[Src], rows: &[Bytes], on: bool) -> bool
 
 // How many cells the cover takes at most, or the greatest u64 if it is more. The weight of a product
 // is that of its literals, one for the cover and one for its row.
-fn most_cells(rows: &[Bytes], on: bool) -> u64
-    ensures { result ≡ min (most_cells rows.now on) u64.MAX }
+fn most_cells_of_cover(rows: &[Bytes], on: bool) -> u64
+    ensures { result ≡ min (most_cells_of_cover rows.now on) u64.MAX }
 {
     let weight = rows_weight(rows);
     if !is_product(rows, on) {
@@ -80,10 +80,10 @@ fn most_cells(rows: &[Bytes], on: bool) -> u64
 
 // Whether what was found is no larger than it may be, and uses constant 1 only if it may.
 fn is_small(found: &Found, sources: &[Src], rows: &[Bytes], on: bool) -> bool
-    ensures few { IsTrue result → length found.now.cells ≤ most_cells rows.now on }
+    ensures few { IsTrue result → length found.now.cells ≤ most_cells_of_cover rows.now on }
     ensures one { IsTrue result → ReadsOneRoot found.now → CoverNeedsOne sources.now rows.now on }
 {
-    if found.cells.len() as u64 > most_cells(rows, on) {
+    if found.cells.len() as u64 > most_cells_of_cover(rows, on) {
         return false;
     }
     if read_one(found.cells.as_slice()) {

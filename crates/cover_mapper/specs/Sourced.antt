@@ -13,7 +13,7 @@ use Rattle.cell_core.specs.declared.cells.Cell.{Cell}
 use Rattle.cell_core.specs.declared.list.CellList.{CellList}
 use Rattle.cell_core.specs.Sources.{is_one}
 use Rattle.cell_core.specs.Meaning.{bit_in}
-use Rattle.cover_cells.specs.Covers.{most_cells}
+use Rattle.cover_cells.specs.Covers.{most_cells_of_cover}
 use Rattle.cell_sharing.specs.Grown.{HasSource, Grows}
 use Rattle.cell_meaning.specs.Mapped.{IsCell, IsOwn, constant_of}
 use Rattle.cell_meaning.specs.Singles.{single_cell}
@@ -21,7 +21,7 @@ use Rattle.cell_meaning.specs.Needs.{any_needs_one}
 
 -- how many cells the cover of a node takes at most, and below it those of all nodes
 abbrev pub node_cells : Node → ℕ
-node_cells node = most_cells node.rows node.on
+node_cells node = most_cells_of_cover node.rows node.on
 
 abbrev pub most_cells_of : Flat → ℕ
 most_cells_of flat = sum_by node_cells flat.nodes

@@ -26,7 +26,7 @@ use Rattle.cell_meaning.specs.Mapped.{HasBits}
 use Rattle.cell_plans.specs.PlanOf.{IsPlanOfOne}
 use Rattle.cover_mapper.specs.Sourced.{most_cells_of}
 use Rattle.cell_polarity.specs.Zero.{zero_bit}
-use Rattle.cell_polarity.specs.Needed.{ports, needed, with_operands}
+use Rattle.cell_polarity.specs.Needed.{ports_and_nets, needed, with_operands}
 use Rattle.cell_polarity.proofs.Zeros.{nothing_there, names_none, nothing_is_one_at_zero}
 use Rattle.plan_carries.specs.Compiled.{ComputesFlat}
 use Rattle.netlist_plans.specs.Lists.{MapsFlat}
@@ -73,8 +73,8 @@ outputs_are flat list bits has =
 -- ---- room for complements
 only_outs : (list : CellList) (kept : List Src) → list.latches ≡ [] → list.nets ≡ [] → kept ≡ [] → needed list kept ≡ list.outs
 only_outs list kept none_read nets none =
-    ap (λ k. ports list ++ flat_map (with_operands list.cells) k) none
-    ∙ append-nil (ports list)
+    ap (λ k. ports_and_nets list ++ flat_map (with_operands list.cells) k) none
+    ∙ append-nil (ports_and_nets list)
     ∙ ap₂ (λ l m. list.outs ++ (l ++ m)) none_read nets
     ∙ append-nil list.outs
 

@@ -49,7 +49,7 @@ use Rattle.routed_texts.proofs.Flats.{first_shown, mapped_at}
 use Rattle.routed_plans.specs.declared.nets.SeenPort.{SeenPort}
 use Rattle.routed_plans.specs.declared.nets.ShownNets.{ShownNets}
 use Rattle.routed_plans.specs.declared.nets.ShownNets.TheVariants as which
-use Rattle.routed_plans.specs.Drawn.{drawn_of, AreAllDrawn}
+use Rattle.routed_plans.specs.Drawn.{items_drawn, AreAllDrawn}
 use Rattle.routed_plans.specs.Nets.{ShowsNetsOf}
 use Rattle.routed_plans.specs.Wanted.{IsWanted}
 use Rattle.routed_plans.specs.Tables.{NamesRouted}
@@ -119,19 +119,19 @@ module _ (flat : Flat) (shown : List (Option SeenPort)) (list wanted : CellList)
       ∙ ap (λ bits. get_or bits o false) (map-map (run t) (λ (port : FlatPort). class_of flat port.net) flat.outs)
 
   -- the bits of the nets that are drawn
-  drawn_bits : (t : ℕ) → t < length rows → map (bit_of wanted (row_at t) (list_state wanted rows t)) wanted.nets ≡ map (λ (net : FlatNet). run t net.class) (drawn_of shown (listed_nets flat))
+  drawn_bits : (t : ℕ) → t < length rows → map (bit_of wanted (row_at t) (list_state wanted rows t)) wanted.nets ≡ map (λ (net : FlatNet). run t net.class) (items_drawn shown (listed_nets flat))
   drawn_bits t lt =
-      same_bits (row_at t) (list_state wanted rows t) wanted.nets (drawn_of shown list.nets) is.net_ends
+      same_bits (row_at t) (list_state wanted rows t) wanted.nets (items_drawn shown list.nets) is.net_ends
       ∙ sym (drawn-map (bit_of list (row_at t) (list_state wanted rows t)) shown list.nets)
-      ∙ ap (drawn_of shown) ((has t lt).nets ∙ map-map (run t) (λ (net : FlatNet). net.class) (listed_nets flat))
+      ∙ ap (items_drawn shown) ((has t lt).nets ∙ map-map (run t) (λ (net : FlatNet). net.class) (listed_nets flat))
       ∙ drawn-map (λ (net : FlatNet). run t net.class) shown (listed_nets flat)
 
-  net_is : (k t : ℕ) (net : FlatNet) → slice_get (drawn_of shown (listed_nets flat)) k ≡ Some net → t < length rows → list_bit wanted rows t (src_at wanted.nets k) ≡ run t net.class
+  net_is : (k t : ℕ) (net : FlatNet) → slice_get (items_drawn shown (listed_nets flat)) k ≡ Some net → t < length rows → list_bit wanted rows t (src_at wanted.nets k) ≡ run t net.class
   net_is k t net at lt =
       sym (mapped_at (bit_of wanted (row_at t) (list_state wanted rows t)) wanted.nets k Zero false refl)
       ∙ ap (λ bits. get_or bits k false) (drawn_bits t lt)
-      ∙ get_or-map (λ (net : FlatNet). run t net.class) (drawn_of shown (listed_nets flat)) k net false (slice_get_within (drawn_of shown (listed_nets flat)) k net at)
-      ∙ ap (λ (net : FlatNet). run t net.class) (get_or_from_slice_get (drawn_of shown (listed_nets flat)) k net net at)
+      ∙ get_or-map (λ (net : FlatNet). run t net.class) (items_drawn shown (listed_nets flat)) k net false (slice_get_within (items_drawn shown (listed_nets flat)) k net at)
+      ∙ ap (λ (net : FlatNet). run t net.class) (get_or_from_slice_get (items_drawn shown (listed_nets flat)) k net net at)
 
 -- the table without its NET lines
 abbrev without_nets : Ports → Ports
@@ -185,10 +185,10 @@ module _ (text : List ℕ) (flat : Flat) (grid : Grid) (ports : Ports) (shown : 
           shows = design_runs;
         }
 
-    drawn_shown : ShowsNets (plane_of grid.rows) ports design (drawn_of shown (seen_nets design flat))
+    drawn_shown : ShowsNets (plane_of grid.rows) ports design (items_drawn shown (seen_nets design flat))
     drawn_shown = design_nets_shown design flat faultless clean h (plane_of grid.rows) ports shown (nets_shown flat shown list wanted is computes (plane_of grid.rows) ports shows)
 
-    named : NamesNets ports (drawn_of shown (seen_nets design flat))
+    named : NamesNets ports (items_drawn shown (seen_nets design flat))
     named = names.nets ∙ drawn_are_named design flat h shown
 
   -- the text carries the designs of the flat netlist
@@ -202,8 +202,8 @@ module _ (text : List ℕ) (flat : Flat) (grid : Grid) (ports : Ports) (shown : 
     carried = carried design faultless clean h;
     seen = seen_nets design flat;
     are_seen = are_seen design flat faultless clean h;
-    nets = drawn_of shown (seen_nets design flat);
-    among = all_of (Contains (seen_nets design flat)) (drawn_of shown (seen_nets design flat)) (λ net i. contains_from (seen_nets design flat) net (in_drawn shown (seen_nets design flat) net i));
+    nets = items_drawn shown (seen_nets design flat);
+    among = all_of (Contains (seen_nets design flat)) (items_drawn shown (seen_nets design flat)) (λ net i. contains_from (seen_nets design flat) net (in_drawn shown (seen_nets design flat) net i));
     names = named design faultless clean h;
     shows = drawn_shown design faultless clean h;
   }
@@ -213,7 +213,7 @@ module _ (text : List ℕ) (flat : Flat) (grid : Grid) (ports : Ports) (shown : 
   unfolding carried
   all_nets whole design faultless clean h =
       let many : length list.nets ≡ length (seen_nets design flat) = net_count design flat h computes in
-      let same : drawn_of shown (seen_nets design flat) ≡ seen_nets design flat =
+      let same : items_drawn shown (seen_nets design flat) ≡ seen_nets design flat =
       drawn_whole shown (seen_nets design flat) (subst (AreAllDrawn shown) many whole) in
       record {
         carried = carried design faultless clean h;

@@ -35,7 +35,7 @@ use Rattle.plan_carries.proofs.SeenNets.{seen_nets, seen_are_flat, seen_has_bit}
 use Rattle.routed_plans.specs.declared.nets.SeenPort.{SeenPort}
 use Rattle.routed_plans.specs.declared.nets.ShownNets.{ShownNets}
 use Rattle.routed_plans.specs.declared.nets.ShownNets.TheVariants as which
-use Rattle.routed_plans.specs.Drawn.{drawn_of}
+use Rattle.routed_plans.specs.Drawn.{items_drawn}
 use Rattle.routed_plans.specs.Nets.{ShowsNetsBy}
 use Rattle.routed_plans.proofs.Drawn.{drawn-map, in_drawn}
 
@@ -61,7 +61,7 @@ nets_are_shown which.All text design carries = carries
 abbrev pub ShowsDrawnNets : Plane → Ports → Flat → List (Option SeenPort) → Type 0
 ShowsDrawnNets plane ports flat shown =
     (rows : List (List Bool)) (run : ℕ → ℕ → Bool) → IsFlatRun flat (start_bits flat) rows run
-    → ShowsNetLines plane ports rows (drawn_of shown (listed_nets flat)) (λ t net. run t net.class)
+    → ShowsNetLines plane ports rows (items_drawn shown (listed_nets flat)) (λ t net. run t net.class)
 
 same_from : (first period cycles : ℕ) (bit other : ℕ → Bool) (g : ℕ) (plane : Plane) (x y : ℕ) → ((t : ℕ) → t < cycles → bit t ≡ other t)
     → ShowsBitsFrom first period cycles bit g plane x y → ShowsBitsFrom first period cycles other g plane x y
@@ -71,14 +71,14 @@ same_from first period cycles bit other g plane x y same shown = (
 )
 
 -- the design has those nets that are drawn
-drawn_are_flat : (design : Design) (flat : Flat) → IsFlatOf design flat → (shown : List (Option SeenPort)) → drawn_of shown (listed_nets flat) ≡ map (flat_net design) (drawn_of shown (seen_nets design flat))
-drawn_are_flat design flat h shown = ap (drawn_of shown) (seen_are_flat design flat h) ∙ drawn-map (flat_net design) shown (seen_nets design flat)
+drawn_are_flat : (design : Design) (flat : Flat) → IsFlatOf design flat → (shown : List (Option SeenPort)) → items_drawn shown (listed_nets flat) ≡ map (flat_net design) (items_drawn shown (seen_nets design flat))
+drawn_are_flat design flat h shown = ap (items_drawn shown) (seen_are_flat design flat h) ∙ drawn-map (flat_net design) shown (seen_nets design flat)
 
 pub drawn_are_named : (design : Design) (flat : Flat) → IsFlatOf design flat → (shown : List (Option SeenPort))
-    → named_paths (drawn_of shown (listed_nets flat)) ≡ map (λ (net : Net). name_and_path net.place net.name) (drawn_of shown (seen_nets design flat))
+    → named_paths (items_drawn shown (listed_nets flat)) ≡ map (λ (net : Net). name_and_path net.place net.name) (items_drawn shown (seen_nets design flat))
 drawn_are_named design flat h shown =
     ap named_paths (drawn_are_flat design flat h shown)
-    ∙ map-map (λ (net : FlatNet). name_and_path net.place net.name) (flat_net design) (drawn_of shown (seen_nets design flat))
+    ∙ map-map (λ (net : FlatNet). name_and_path net.place net.name) (flat_net design) (items_drawn shown (seen_nets design flat))
 
 -- valuations that agree on the nets but the clock nets have one next state
 latches_same : (design : Design) → AreFaultless design.models → HasNoClockFault design → (bits others : Valuation) → AgreeOnNets design bits others → latches_after design bits ≡ latches_after design others
@@ -124,17 +124,17 @@ module _ (design : Design) (flat : Flat) (faultless : AreFaultless design.models
         subst (λ state. IsFlatValuation flat given state (own t)) (sym (own_state t (omega (arith, within)))) (have.is_flat given (latches t) (run t) (is t given e))
 
   -- in which its nets have their bits
-  pub design_nets_shown : (plane : Plane) (ports : Ports) (shown : List (Option SeenPort)) → ShowsDrawnNets plane ports flat shown → ShowsNets plane ports design (drawn_of shown (seen_nets design flat))
+  pub design_nets_shown : (plane : Plane) (ports : Ports) (shown : List (Option SeenPort)) → ShowsDrawnNets plane ports flat shown → ShowsNets plane ports design (items_drawn shown (seen_nets design flat))
   design_nets_shown plane ports shown shows rows are run is number net line is_net is_line g early =
       same_from line.offset ports.p (length rows) (λ t. own rows run is t (class_of_net design net)) (λ t. run t net.place net.name) g (driven (drive ports rows) plane g) line.x line.y
       (λ t lt. seen_has_bit design flat faultless clean h (row rows run is t) (latches rows run is t) (run t) (solves rows run is t lt) place.0 net place.1)
       (shows rows (own rows run is) (own_run rows run is) number (flat_net design net) line there is_line g early)
     where
       place : (k : ℕ) × (slice_get (seen_nets design flat) k ≡ Some net)
-      place = got_from (seen_nets design flat) net (in_drawn shown (seen_nets design flat) net (in_got (drawn_of shown (seen_nets design flat)) number net is_net))
+      place = got_from (seen_nets design flat) net (in_drawn shown (seen_nets design flat) net (in_got (items_drawn shown (seen_nets design flat)) number net is_net))
 
-      there : slice_get (drawn_of shown (listed_nets flat)) number ≡ Some (flat_net design net)
+      there : slice_get (items_drawn shown (listed_nets flat)) number ≡ Some (flat_net design net)
       there =
           ap (λ (nets : List FlatNet). slice_get nets number) (drawn_are_flat design flat h shown)
-          ∙ slice_get-map (flat_net design) (drawn_of shown (seen_nets design flat)) number
+          ∙ slice_get-map (flat_net design) (items_drawn shown (seen_nets design flat)) number
           ∙ ap (option_map (flat_net design)) is_net

@@ -11,7 +11,7 @@ use Rattle.place_paths.specs.Paths.{name_and_path}
 use Rattle.plan_ports.specs.Tables.{named_paths}
 use Rattle.plan_ports.proofs.NetLines.{net_words}
 use Rattle.routed_plans.specs.declared.nets.SeenPort.{SeenPort}
-use Rattle.routed_plans.specs.Drawn.{drawn_of, nets_now}
+use Rattle.routed_plans.specs.Drawn.{items_drawn, nets_now}
 use Rattle.routed_plans.proofs.Drawn.{drawn-map, drawn_none}
 
 -- the name and the path of a net
@@ -22,12 +22,12 @@ pub words_are : (nets : List (Bor FlatNet)) → named_paths (nets_now nets) ≡ 
 words_are nets = map-map net_words (λ (net : Bor FlatNet). net.now) nets
 
 -- if no nets are listed, none are drawn
-pub none_listed : (flat : Flat) (ports : List (Option SeenPort)) → flat.listed ≡ false → named_paths (drawn_of ports (listed_nets flat)) ≡ []
+pub none_listed : (flat : Flat) (ports : List (Option SeenPort)) → flat.listed ≡ false → named_paths (items_drawn ports (listed_nets flat)) ≡ []
 none_listed flat ports none =
-    ap (λ listed. named_paths (drawn_of ports (cond listed (nets_but_clocks flat) []))) none ∙ ap named_paths (drawn_none ports [] refl)
+    ap (λ listed. named_paths (items_drawn ports (cond listed (nets_but_clocks flat) []))) none ∙ ap named_paths (drawn_none ports [] refl)
 
 -- if they are, those that are drawn are no clock nets
-pub plain_listed : (flat : Flat) (ports : List (Option SeenPort)) → flat.listed ≡ true → drawn_of ports (named_paths (nets_but_clocks flat)) ≡ named_paths (drawn_of ports (listed_nets flat))
+pub plain_listed : (flat : Flat) (ports : List (Option SeenPort)) → flat.listed ≡ true → items_drawn ports (named_paths (nets_but_clocks flat)) ≡ named_paths (items_drawn ports (listed_nets flat))
 plain_listed flat ports listed =
     drawn-map net_words ports (nets_but_clocks flat)
-    ∙ ap (λ (b : Bool). named_paths (drawn_of ports (cond b (nets_but_clocks flat) []))) (sym listed)
+    ∙ ap (λ (b : Bool). named_paths (items_drawn ports (cond b (nets_but_clocks flat) []))) (sym listed)

@@ -18,7 +18,7 @@ use Rattle.place_paths.proofs.Paths.{paths_are_read, paths_are_distinct}
 use Rattle.plan_ports.specs.Tables.{HasPortNames, HasTablePlaces, named_paths}
 use Rattle.plan_ports.proofs.NetLines.{line_words, net_words}
 use Rattle.routed_plans.specs.declared.nets.SeenPort.{SeenPort}
-use Rattle.routed_plans.specs.Drawn.{drawn_of}
+use Rattle.routed_plans.specs.Drawn.{items_drawn}
 use Rattle.routed_plans.proofs.Drawn.{all_drawn, pairs_drawn}
 
 -- a name and a path that can stand in a table
@@ -35,9 +35,9 @@ lines_sound width height wide high (line ∷ lines) (at, rest) small names =
       lines_sound width height wide high lines rest (All-tail (λ (l : NetLine). l.offset < 4294967296) line lines small) (All-tail IsNamed (line.name, line.path) (names_and_paths lines) names),
     )
 
-module _ (flat : Flat) (shown : List (Option SeenPort)) (names : HasPortNames flat) (places : HasTablePlaces flat) (lines : List NetLine) (named : names_and_paths lines ≡ named_paths (drawn_of shown (listed_nets flat))) where
+module _ (flat : Flat) (shown : List (Option SeenPort)) (names : HasPortNames flat) (places : HasTablePlaces flat) (lines : List NetLine) (named : names_and_paths lines ≡ named_paths (items_drawn shown (listed_nets flat))) where
   abbrev drawn : List FlatNet
-  drawn = drawn_of shown (listed_nets flat)
+  drawn = items_drawn shown (listed_nets flat)
 
   numbers : All (λ (net : FlatNet). HasTableNumbers net.place) drawn
   numbers = all_drawn (λ (net : FlatNet). HasTableNumbers net.place) shown (listed_nets flat) places.numbers

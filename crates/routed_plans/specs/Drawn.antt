@@ -7,11 +7,11 @@ use Rattle.netlist_core.specs.declared.flat.Net.{Net as FlatNet}
 use Rattle.netlist_meaning.specs.Flat.{is_clock_class}
 
 -- those of the items beside which the first list has something, in order
-abbrev pub drawn_of : {X Y : Type 0} → List (Option X) → List Y → List Y
-drawn_of [] items = []
-drawn_of (port ∷ ports) [] = []
-drawn_of (port ∷ ports) (item ∷ items) =
-    option_to_list (option_map (λ _. item) port) ++ drawn_of ports items
+abbrev pub items_drawn : {X Y : Type 0} → List (Option X) → List Y → List Y
+items_drawn [] items = []
+items_drawn (port ∷ ports) [] = []
+items_drawn (port ∷ ports) (item ∷ items) =
+    option_to_list (option_map (λ _. item) port) ++ items_drawn ports items
 
 -- the first list has something beside each of so many items
 pub record AreAllDrawn {X : Type 0} (ports : List (Option X)) (count : ℕ) : Type 0 where

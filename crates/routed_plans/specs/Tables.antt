@@ -10,14 +10,14 @@ use Rattle.pattern_reading.specs.Numbers.{greatest_number}
 use Rattle.pattern_reading.specs.Laws.{HasCellsInside}
 use Rattle.pattern_reading.specs.declared.ports.Ports.{Ports}
 use Rattle.pattern_reading.specs.Ports.{names_of}
-use Rattle.routed_plans.specs.Drawn.{drawn_of}
+use Rattle.routed_plans.specs.Drawn.{items_drawn}
 
 -- the table names the inputs and the outputs of the flat netlist, and those of its listed nets whose
 -- ports are drawn, each in order; it has one context
 pub record NamesRouted (flat : Flat) (shown : List (Option SeenPort)) (ports : Ports) : Type 0 where
   pub ins : names_of ports.ins ≡ names_of_ports flat flat.ins
   pub outs : names_of ports.outs ≡ names_of_ports flat flat.outs
-  pub nets : names_and_paths ports.nets ≡ named_paths (drawn_of shown (listed_nets flat))
+  pub nets : names_and_paths ports.nets ≡ named_paths (items_drawn shown (listed_nets flat))
   pub contexts : ports.c ≡ 1
 
 -- the table can be written beside the pattern: its period is not 0, its numbers fit 64 bits (offsets

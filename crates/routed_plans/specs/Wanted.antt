@@ -3,7 +3,7 @@ use Rattle.std.specs.Prelude.{◌≡◌, List, Option}
 use Rattle.cell_core.specs.declared.cells.Src.{Src}
 use Rattle.cell_core.specs.declared.list.CellList.{CellList}
 use Rattle.routed_plans.specs.declared.nets.SeenPort.{SeenPort}
-use Rattle.routed_plans.specs.Drawn.{drawn_of}
+use Rattle.routed_plans.specs.Drawn.{items_drawn}
 
 -- the second list is the first one with these outputs and nets
 pub record IsCopyWith (list : CellList) (outs nets : List Src) (copy : CellList) : Type 0 where
@@ -16,4 +16,4 @@ pub record IsCopyWith (list : CellList) (outs nets : List Src) (copy : CellList)
 
 -- the wanted list is the list with those of its nets alone whose ports are drawn
 abbrev pub IsWanted : (ports : List (Option SeenPort)) → (wanted list : CellList) → Type 0
-IsWanted ports wanted list = IsCopyWith list list.outs (drawn_of ports list.nets) wanted
+IsWanted ports wanted list = IsCopyWith list list.outs (items_drawn ports list.nets) wanted

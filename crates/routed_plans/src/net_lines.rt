@@ -4,7 +4,7 @@ ghost use Rattle.std.specs.Option.{option_to_list};
 ghost use Rattle.netlist_meaning.specs.Flat.{IsInRange, listed_nets, nets_but_clocks};
 ghost use Rattle.place_paths.specs.Paths as paths;
 ghost use Rattle.plan_ports.specs.Tables.{named_paths};
-ghost use Rattle.routed_plans.specs.Drawn.{drawn_of, is_plain, nets_now};
+ghost use Rattle.routed_plans.specs.Drawn.{items_drawn, is_plain, nets_now};
 
 use crate::nets::SeenPort;
 use lists::{Bytes, OutOfMemory};
@@ -84,7 +84,7 @@ fn lines_of(
     nets: &[&Net],
 ) -> Result<Vec<NetLine>, OutOfMemory>
     ensures { IfOk result (λ lines. paths.names_and_paths lines.items
-        ≡ drawn_of ports.now (named_paths (nets_now nets.now))) }
+        ≡ items_drawn ports.now (named_paths (nets_now nets.now))) }
 {
     let mut lines = Vec::new(alloc);
     for k in 0..nets.len() {
@@ -101,7 +101,7 @@ pub fn lines_of_nets(
 ) -> Result<Vec<NetLine>, OutOfMemory>
     requires { IsInRange flat.now }
     ensures { IfOk result (λ lines. paths.names_and_paths lines.items
-        ≡ named_paths (drawn_of ports.now (listed_nets flat.now))) }
+        ≡ named_paths (items_drawn ports.now (listed_nets flat.now))) }
 {
     if !flat.listed {
         return Ok(Vec::new(alloc));

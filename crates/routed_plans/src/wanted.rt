@@ -1,7 +1,7 @@
 // The list of cells with which a drawing is matched.
 ghost use Rattle.std.specs.Prelude.{◌≡◌, ◌++◌, get_or, option_map, None, IfOk, IfSome, OnOk};
 ghost use Rattle.std.specs.Option.{option_to_list};
-ghost use Rattle.routed_plans.specs.Drawn.{drawn_of};
+ghost use Rattle.routed_plans.specs.Drawn.{items_drawn};
 ghost use Rattle.routed_plans.specs.Wanted.{IsWanted};
 
 use crate::copies::copy_with;
@@ -35,7 +35,7 @@ fn drawn_sources(
     ports: &[Option<SeenPort>],
     nets: &[Src],
 ) -> Result<Vec<Src>, OutOfMemory>
-    ensures { IfOk result (λ sources. sources.items ≡ drawn_of ports.now nets.now) }
+    ensures { IfOk result (λ sources. sources.items ≡ items_drawn ports.now nets.now) }
 {
     let mut sources = Vec::new(alloc);
     for k in 0..nets.len() {

@@ -6,7 +6,7 @@ use denote.Ref.{Bor}
 use Rattle.netlist_core.specs.declared.flat.Net.{Net as FlatNet}
 use Rattle.netlist_core.specs.Names.{Name}
 use Rattle.place_paths.specs.Paths.{names_and_paths}
-use Rattle.routed_plans.specs.Drawn.{drawn_of}
+use Rattle.routed_plans.specs.Drawn.{items_drawn}
 use Rattle.routed_plans.proofs.Drawn.{drawn_none, mapped_more}
 use Rattle.routed_plans.proofs.ListedNets.{words_are, words_of}
 use Rattle.routed_plans.proofs.net_lines.lines_of.Goals as goal
@@ -24,5 +24,5 @@ loop-k-preserved c =
 pub returns : goal.returns
 returns c =
     c.loop-k.invariant
-    ∙ ap (λ (nets : List (Bor FlatNet)). drawn_of c.args.ports.now (map words_of nets)) (take_all c.loop-k.k c.args.nets.now (omega (arith, c.loop-k-test.false)))
-    ∙ ap (drawn_of c.args.ports.now) (sym (words_are c.args.nets.now))
+    ∙ ap (λ (nets : List (Bor FlatNet)). items_drawn c.args.ports.now (map words_of nets)) (take_all c.loop-k.k c.args.nets.now (omega (arith, c.loop-k-test.false)))
+    ∙ ap (items_drawn c.args.ports.now) (sym (words_are c.args.nets.now))
