@@ -24,7 +24,7 @@ window_crossing cells width first second outs time =
 
 -- an input at this cell that is lit at generation 0
 abbrev pub input_at : ℕ × ℕ → InCell
-input_at cell = record { x = cell.0; y = cell.1; time = 0 }
+input_at cell = record { x = cell.0; y = cell.1; generation = 0 }
 
 abbrev pub two_inputs : (first second : ℕ × ℕ) → List InCell
 two_inputs first second = input_at first ∷ input_at second ∷ []

@@ -36,12 +36,12 @@ pub fn keeps_crossing_law(
         InCell {
             x: first.0,
             y: first.1,
-            time: 0,
+            generation: 0,
         },
         InCell {
             x: second.0,
             y: second.1,
-            time: 0,
+            generation: 0,
         },
     ];
     if !is_sized(cells, width, &ins, time) {

@@ -83,10 +83,10 @@ entry_in ins port among =
 each_entry : (P : InCell → Type 0) (ins : List InCell) → All P ins → (port : Port) (entry : IsEntry ins port) → P entry.input
 each_entry P ins all port entry = subst P entry.at (All-get_or P ins entry.number no_in entry.within all)
 
-pub early_from : (ins : List InCell) (time : ℕ) → All (λ (input : InCell). input.time < time) ins → (port : Port) → Contains (map in_port_of ins) port → port.1 < time
+pub early_from : (ins : List InCell) (time : ℕ) → All (λ (input : InCell). input.generation < time) ins → (port : Port) → Contains (map in_port_of ins) port → port.1 < time
 early_from ins time all port among =
     let entry = entry_in ins port among in
-    subst (λ (p : Port). p.1 < time) (sym entry.is) (each_entry (λ (input : InCell). input.time < time) ins all port entry)
+    subst (λ (p : Port). p.1 < time) (sym entry.is) (each_entry (λ (input : InCell). input.generation < time) ins all port entry)
 
 -- a lit cell is in the window
 lit_inside : (from : List State) (width : ℕ) (ins : List InCell) (bits : List Bool) (g : ℕ) → All (IsInside (length from) width) ins → (c : ℤ × ℤ) → is_lit_input (map in_port_of ins) bits g c.0 c.1 ≡ true → InWindow from width c
@@ -182,7 +182,7 @@ module _ (width : ℕ) (ins : List InCell) where
   pub ready_from : (now : List State) (generation : ℕ) → AreInputsReady now width ins generation → (port : Port) → Contains (map in_port_of ins) port → port.1 ≡ generation → IsReady (shown now width) port.0
   ready_from now generation ready port among at =
       let entry = entry_in ins port among in
-      let time : (in_at ins entry.number).time ≡ generation = ap (λ (input : InCell). input.time) entry.at ∙ sym (ap (λ (p : Port). p.1) entry.is) ∙ at in
+      let time : (in_at ins entry.number).generation ≡ generation = ap (λ (input : InCell). input.generation) entry.at ∙ sym (ap (λ (p : Port). p.1) entry.is) ∙ at in
       subst (λ (p : Port). IsReady (shown now width) p.0) (sym entry.is) (is_ready now width entry.input (subst (IsReadyInput now width) entry.at (ready entry.number entry.within time)))
 
 -- a port that is in time at each generation shows its bit once
@@ -212,8 +212,8 @@ module _ (base : List State) (width : ℕ) (ins : List InCell) (outs : List OutC
     ins = λ i port bit has is g low. (let input = entry_at i port has in
         let bit_is : flag_at bits i ≡ bit = get_or_from_slice_get bits i bit false is in
         subst (λ (p : Port). (cell_state (used gate bits g) p.0 ≡ Head) ↔ ((g ≡ p.1) × (bit ≡ true))) input.1
-        (subst (λ b. (cell_state (used gate bits g) (in_port_of (in_at ins i)).0 ≡ Head) ↔ ((g ≡ (in_at ins i).time) × (b ≡ true))) bit_is
-        (once_from g (in_at ins i).time (flag_at bits i) _ ((in_time g low).ins_are i input.0))));
+        (subst (λ b. (cell_state (used gate bits g) (in_port_of (in_at ins i)).0 ≡ Head) ↔ ((g ≡ (in_at ins i).generation) × (b ≡ true))) bit_is
+        (once_from g (in_at ins i).generation (flag_at bits i) _ ((in_time g low).ins_are i input.0))));
     outs = λ o port has g low. (let out = out_at o port has in
         let item = All-get_or (λ (out : OutCell). (used gate bits g (pos out.x) (pos out.y) ≡ Head) ↔ ((g == out.delay && flag_at out.table (number_of_bits bits)) ≡ true)) outs o no_out out.0 (in_time g low).outs_are in
         let table : list_at (map out_table outs) o ≡ out_table (get_or outs o no_out) = get_or-map out_table outs o no_out [] out.0 in

@@ -12,7 +12,7 @@ use Rattle.gate_laws.specs.declared.window.OutCell.{OutCell}
 use Rattle.gate_laws.specs.Gates.{Gate}
 
 abbrev pub in_port_of : InCell → Port
-in_port_of input = ((pos input.x, pos input.y), input.time)
+in_port_of input = ((pos input.x, pos input.y), input.generation)
 
 abbrev pub out_port_of : OutCell → Port
 out_port_of out = ((pos out.x, pos out.y), out.delay)
@@ -26,7 +26,7 @@ number_of_bits [] = 0
 number_of_bits (bit ∷ bits) = cond bit 1 0 + 2 * number_of_bits bits
 
 abbrev pub no_in : InCell
-no_in = record { x = 0; y = 0; time = 0 }
+no_in = record { x = 0; y = 0; generation = 0 }
 
 abbrev pub in_at : List InCell → ℕ → InCell
 in_at ins i = get_or ins i no_in
@@ -76,7 +76,7 @@ next_time time g = cond (g + 1 == time) 0 (g + 1)
 -- all inputs of a generation are ready
 abbrev pub AreInputsReady : List State → (width : ℕ) → List InCell → (generation : ℕ) → Type 0
 AreInputsReady now width ins generation =
-    (i : ℕ) → i < length ins → (in_at ins i).time ≡ generation
+    (i : ℕ) → i < length ins → (in_at ins i).generation ≡ generation
     → IsReadyInput now width (in_at ins i)
 
 -- the ports are in time at a generation: each input is a head at its own generation alone, if its
@@ -84,7 +84,7 @@ AreInputsReady now width ins generation =
 abbrev pub IsInputInTime : Plane → List InCell → List Bool → (g i : ℕ) → Type 0
 IsInputInTime p ins bits g i =
     (p (pos (in_at ins i).x) (pos (in_at ins i).y) ≡ Head)
-    ↔ ((g == (in_at ins i).time && flag_at bits i) ≡ true)
+    ↔ ((g == (in_at ins i).generation && flag_at bits i) ≡ true)
 
 abbrev pub IsOutputInTime : Plane → (number g : ℕ) → OutCell → Type 0
 IsOutputInTime p number g out =
@@ -122,6 +122,6 @@ pub record HasCells (cells : List State) (width : ℕ) (ins : List InCell) (outs
   pub unlit : All (λ cell. (cell ≡ Empty) ⊎ (cell ≡ Conductor)) cells
   pub inputs : HasInputs cells width ins
   pub inside : All (IsInside (length cells) width) ins
-  pub early : All (λ (input : InCell). input.time < time) ins
+  pub early : All (λ (input : InCell). input.generation < time) ins
   pub outputs : All (λ (out : OutCell). (shown cells width (pos out.x) (pos out.y) ≡ Conductor)
       × (out.delay < time)) outs

@@ -15,7 +15,7 @@ use ww_rule::State;
 pub struct InCell {
     pub x: u32,
     pub y: u32,
-    pub time: u32,
+    pub generation: u32,
 }
 
 /// An output of a drawing: its cell, its delay in generations, and its bit for each number that the
@@ -90,7 +90,7 @@ fn is_lit_number(
 {
     match (ins.get(number), bits.get(number)) {
         (Some(cell), Some(bit)) => {
-            *bit && generation == cell.time as usize && cell.x as usize == x && cell.y as usize == y
+            *bit && generation == cell.generation as usize && cell.x as usize == x && cell.y as usize == y
         }
         _ => false,
     }
@@ -182,7 +182,7 @@ fn ins_in_time(
             width,
             cell.x,
             cell.y,
-            generation == cell.time as usize && bits[i],
+            generation == cell.generation as usize && bits[i],
         ) {
             return false;
         }
@@ -284,9 +284,9 @@ fn is_ready_if(now: &[State], width: usize, input: InCell, generation: usize) ->
     requires sized { length now.now ≤ 1024 }
     requires wide { 0 < width }
     requires narrow { width < 65536 }
-    ensures { IsTrue result → input.time ≡ generation → IsReadyInput now.now width input }
+    ensures { IsTrue result → input.generation ≡ generation → IsReadyInput now.now width input }
 {
-    if input.time as usize == generation {
+    if input.generation as usize == generation {
         return is_ready_input(now, width, input);
     }
     true
@@ -493,9 +493,9 @@ fn are_inside(size: usize, width: usize, ins: &[InCell]) -> bool
 }
 
 fn are_early(ins: &[InCell], time: usize) -> bool
-    ensures { IsTrue result ↔ All (λ (input : InCell). input.time < time) ins.now }
+    ensures { IsTrue result ↔ All (λ (input : InCell). input.generation < time) ins.now }
 {
-    ins.iter().all(|input| (input.time as usize) < time)
+    ins.iter().all(|input| (input.generation as usize) < time)
 }
 
 /// Returns whether the cells are conductors or empty, and conductors at the ports, whose

@@ -93,4 +93,4 @@ LawfulAreGatesAtPeriod =
 
 -- a port of a drawing, or of a gate that stands somewhere
 abbrev pub port_in_cell : PortCell → Port
-port_in_cell port = ((pos port.x, pos port.y), port.time)
+port_in_cell port = ((pos port.x, pos port.y), port.generation)

@@ -15,7 +15,7 @@ use gate_library::Timing;
 pub struct PortCell {
     pub x: u32,
     pub y: u32,
-    pub time: u64,
+    pub generation: u64,
 }
 
 fn input_together(ins: &[InCell], i: usize) -> Option<PortCell>
@@ -25,7 +25,7 @@ fn input_together(ins: &[InCell], i: usize) -> Option<PortCell>
         Some(cell) => Some(PortCell {
             x: cell.x,
             y: cell.y,
-            time: u64::from(cell.time),
+            generation: u64::from(cell.generation),
         }),
         None => None,
     }
@@ -39,18 +39,18 @@ fn in_at(ins: &[InCell], i: usize) -> InCell
         None => InCell {
             x: 0,
             y: 0,
-            time: 0,
+            generation: 0,
         },
     }
 }
 
-fn lit_at(cell: InCell, time: u32) -> PortCell
-    ensures { port_in_cell result ≡ ((pos cell.x, pos cell.y), time) }
+fn lit_at(cell: InCell, generation: u32) -> PortCell
+    ensures { port_in_cell result ≡ ((pos cell.x, pos cell.y), generation) }
 {
     PortCell {
         x: cell.x,
         y: cell.y,
-        time: u64::from(time),
+        generation: u64::from(generation),
     }
 }
 
@@ -73,7 +73,7 @@ fn output_together(outs: &[OutCell], o: usize) -> Option<PortCell>
         Some(out) => Some(PortCell {
             x: out.x,
             y: out.y,
-            time: u64::from(out.delay),
+            generation: u64::from(out.delay),
         }),
         None => None,
     }
@@ -98,7 +98,7 @@ fn output_apart(outs: &[OutCell], o: usize, later: u32) -> Option<PortCell>
         Some(out) => Some(PortCell {
             x: out.x,
             y: out.y,
-            time: spread_delay(*out, later),
+            generation: spread_delay(*out, later),
         }),
         None => None,
     }

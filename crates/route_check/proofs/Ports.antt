@@ -59,7 +59,7 @@ length_ins d is later = count_ins d.timing d is.law later
 cell_in : (timing : Timing) (d : GateDrawing) (later i : ℕ) → i < length (gate_by timing d later).ins → (get_or (gate_by timing d later).ins i no_port).0 ≡ (pos (input_cell d i).0, pos (input_cell d i).1)
 cell_in Together d later i low =
     let few = length-map d.ins in_port_of in
-    ap (λ (port : Port). port.0) (get_or-map in_port_of d.ins i (record { x = 0; y = 0; time = 0 }) no_port (omega (arith, low, few)))
+    ap (λ (port : Port). port.0) (get_or-map in_port_of d.ins i (record { x = 0; y = 0; generation = 0 }) no_port (omega (arith, low, few)))
 cell_in Apart d later zero low = refl
 cell_in Apart d later (suc zero) low = refl
 cell_in Apart d later (suc (suc i)) low = absurd (omega (arith, low))

@@ -35,7 +35,7 @@ fn copied_input(drawing: &GateDrawing, output: u32) -> u32 {
 fn input_time(drawing: &GateDrawing, first: u32, input: u32) -> PortTime {
     match drawing.timing {
         Timing::Together => match drawing.ins.as_slice().get(input as usize) {
-            Some(cell) => time_after(first, cell.time),
+            Some(cell) => time_after(first, cell.generation),
             None => time_after(first, 0),
         },
         Timing::Apart => time_after(first.saturating_add(input), 0),

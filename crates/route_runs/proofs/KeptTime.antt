@@ -40,13 +40,13 @@ kept_time t states period w some from to begins ends keeps = (delayed, starts)
     wire : TableWire
     wire = table_wire t w
 
-    first : to.time ≡ (input_point t (table_wire t w).to).0.1
+    first : to.generation ≡ (input_point t (table_wire t w).to).0.1
     first = ap (λ (p : Port). p.1) ends.1
 
     takes : (point_at t (table_wire t w).from).0.1 + suc (table_wire t w).size ≡ (input_point t (table_wire t w).to).0.1 + (table_wire t w).cycles * period
     takes = ap (λ n. n + suc (table_wire t w).size) (sym (ap (λ (p : Port). p.1) begins.1)) ∙ keeps.takes ∙ ap (λ n. n + (table_wire t w).cycles * period) first
 
-    comes : (g : ℕ) → g ≤ (table_wire t w).size → is_lit period (point_signal t.list [] (input_point t (table_wire t w).to)) g ≡ comes_at to.time period keeps.bits g
+    comes : (g : ℕ) → g ≤ (table_wire t w).size → is_lit period (point_signal t.list [] (input_point t (table_wire t w).to)) g ≡ comes_at to.generation period keeps.bits g
     comes g low =
         comes_as t keeps.bits period some (input_point t (table_wire t w).to) keeps.leads.starts g
         (subst (λ n. g < (input_point t (table_wire t w).to).0.1 + n * period) (sym keeps.all) (omega (arith, takes, low)))

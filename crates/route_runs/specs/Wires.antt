@@ -16,18 +16,18 @@ use Rattle.route_runs.specs.Electrons.{comes_at, state_before}
 -- first cell, or before it.
 pub record CarriesBits (t : Tables) (states : List State) (period : ℕ) (wire : TableWire)
     (to : PortCell) (bits : List Bool) : Type 0 where
-  pub clear : (c : ℕ) → c < length bits → wire.size ≤ to.time + c * period → flag_at bits c ≡ false
+  pub clear : (c : ℕ) → c < length bits → wire.size ≤ to.generation + c * period → flag_at bits c ≡ false
   pub end : cell_state (box_plane t states) (pos to.x, pos to.y)
-      ≡ (if comes_at to.time period bits 0 then Head else Conductor)
+      ≡ (if comes_at to.generation period bits 0 then Head else Conductor)
   pub cells : (i : ℕ) → i < wire.size → (rest : ℕ) → i + suc rest ≡ wire.size
       → cell_state (box_plane t states) (listed_cell t.cells (wire.start + i))
-      ≡ state_before to.time period bits rest
+      ≡ state_before to.generation period bits rest
 
 -- The wire takes as many generations from the one port to the other as its cycles ask. Its latches
 -- lead from the one's source to the other's, and their start bits are on it.
 pub record WireKeepsTime (t : Tables) (states : List State) (period : ℕ) (wire : TableWire)
     (from to : PortCell) : Type 0 where
-  pub takes : from.time + suc wire.size ≡ to.time + wire.cycles * period
+  pub takes : from.generation + suc wire.size ≡ to.generation + wire.cycles * period
   pub bits : List Bool
   pub all : length bits ≡ wire.cycles
   pub leads : LatchesLeadBack t.list (input_point t wire.to).1 bits (point_at t wire.from).1

@@ -32,7 +32,7 @@ fn is_point(t: &Tables, at: DrawnPort, x: u64, y: u64, first: u64, source: Src) 
         Some(port) => {
             u64::from(port.x) == x
                 && u64::from(port.y) == y
-                && port.time == first
+                && port.generation == first
                 && is_same_src(t.source(at), source)
         }
         None => false,

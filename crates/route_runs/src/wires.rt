@@ -52,13 +52,13 @@ fn carries(
     requires few { length bits.now < 2 ^ 32 }
     ensures { IsTrue result → CarriesBits t.now states.now period wire to bits.now }
 {
-    if !are_clear(wire.size, to.time, period, bits) {
+    if !are_clear(wire.size, to.generation, period, bits) {
         return false;
     }
-    if !shows_end(state_at(states, t.width, to.x, to.y), to.time, period, bits) {
+    if !shows_end(state_at(states, t.width, to.x, to.y), to.generation, period, bits) {
         return false;
     }
-    show_bits(t, states, wire, to.time, period, bits)
+    show_bits(t, states, wire, to.generation, period, bits)
 }
 
 // A fault at a wire's first cell.
@@ -79,11 +79,11 @@ fn wrong_cell(
     requires some { 0 < period }
 {
     for i in 0..wire.size {
-        if !shows_cell(t, states, wire, i, to.time, period, bits) {
+        if !shows_cell(t, states, wire, i, to.generation, period, bits) {
             return t.fault_at_cell(FaultWord::Electron, wire.start as usize + i as usize);
         }
     }
-    if shows_end(state_at(states, t.width, to.x, to.y), to.time, period, bits) {
+    if shows_end(state_at(states, t.width, to.x, to.y), to.generation, period, bits) {
         return at_start(t, wire, FaultWord::Electron);
     }
     CellFault {
@@ -106,7 +106,7 @@ fn wire_between(
     ensures { IfOk result (λ o. o ≡ None → WireKeepsTime t.now states.now period wire ends.from
         ends.to) }
 {
-    if !takes(ends.from.time, wire.size, ends.to.time, wire.cycles, period) {
+    if !takes(ends.from.generation, wire.size, ends.to.generation, wire.cycles, period) {
         return Ok(Some(at_start(t, wire, FaultWord::Length)));
     }
     let (from, to) = (t.source(wire.from), t.source(input_port(wire.to)));

@@ -14,7 +14,7 @@ use Rattle.route_tables.specs.Tables.{HasPort, IsPort, gate_point, point_at}
 abbrev pub placed_at : TableGate → PortCell → Port
 placed_at gate port = (
   (pos port.x +ℤ pos gate.x, pos port.y +ℤ pos gate.y),
-  gate.first + port.time,
+  gate.first + port.generation,
 )
 
 -- the port is there, and stands here

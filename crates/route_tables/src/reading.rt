@@ -67,8 +67,8 @@ fn placed(gate: &TableGate, port: PortCell) -> Option<PortCell>
     let (Some(x), Some(y)) = (port.x.checked_add(gate.x), port.y.checked_add(gate.y)) else {
         return None;
     };
-    match u64::from(gate.first).checked_add(port.time) {
-        Some(time) => Some(PortCell { x, y, time }),
+    match u64::from(gate.first).checked_add(port.generation) {
+        Some(generation) => Some(PortCell { x, y, generation }),
         None => None,
     }
 }

@@ -114,8 +114,8 @@ fn push_answer(page: &mut String, answer: Answer) -> Result<(), AllocError> {
 fn push_table(page: &mut String, drawing: &GateDrawing) -> Result<(), AllocError> {
     page.push_str("| Port | Lit at | Bit |\n|---|---|---|\n")?;
     for (i, input) in drawing.ins.as_slice().iter().enumerate() {
-        let (name, time) = (input_letter(i), input.time);
-        writeln!(page, "| `{name}` | {time} | |")?;
+        let (name, generation) = (input_letter(i), input.generation);
+        writeln!(page, "| `{name}` | {generation} | |")?;
     }
     for (o, (output, answer)) in drawing
         .outs

@@ -62,7 +62,7 @@ fn note_port(
             port,
             x: cell.x,
             y: cell.y,
-            first: cell.time,
+            first: cell.generation,
         },
     )
 }
