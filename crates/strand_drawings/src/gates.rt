@@ -209,7 +209,7 @@ pub struct Ports {
     pub latency: u32,
 }
 
-// Adds the lone cells of inputs.
+// Adds the lone cells of inputs, and those of constant 0, which are never lit.
 fn add_inputs(
     gates: &mut Gates,
     ins: &mut [Option<DrawnPort>],
@@ -218,14 +218,19 @@ fn add_inputs(
     corner: Corner,
 ) -> Result<(), AllocError> {
     for end in &circuit.west {
-        let (Some(strand), West::Input(input)) = (end.strand, end.is) else {
+        let Some(strand) = end.strand else {
             continue;
+        };
+        let input = match end.is {
+            West::Input(input) => Some(input),
+            West::Zero => None,
+            West::Register(_) => continue,
         };
         if let Some(cell) = cells_of(layout, strand).first() {
             let first = cell.0.saturating_add(late(circuit, end.strand));
             let port = gates.add_lone(corner.shifted(*cell), first)?;
             set_source(gates.sources.as_mut_slice(), end.strand, port);
-            set_source(ins, Some(input), port);
+            set_source(ins, input, port);
         }
     }
     Ok(())

@@ -33,23 +33,6 @@ fn add_unread(west: &mut Vec<End<West>>, values: &Values) -> Result<(), AllocErr
     Ok(())
 }
 
-// Adds the registers whose data is constant 0.
-fn add_dark_data(
-    east: &mut Vec<End<East>>,
-    values: &Values,
-    data: &[Src],
-) -> Result<(), AllocError> {
-    for (number, src) in data.iter().enumerate() {
-        if values.number(*src).is_none() {
-            east.push(End {
-                strand: None,
-                is: East::Register(small(number)),
-            })?;
-        }
-    }
-    Ok(())
-}
-
 // Adds the outputs that are constant 0.
 fn add_dark_outs(
     east: &mut Vec<End<East>>,
@@ -135,10 +118,8 @@ fn add_ends(
     circuit: &mut StrandCircuit,
     list: &CellList,
     values: &Values,
-    data: &[Src],
 ) -> Result<(), AllocError> {
     add_unread(&mut circuit.west, values)?;
-    add_dark_data(&mut circuit.east, values, data)?;
     add_dark_outs(&mut circuit.east, values, list.outs.as_slice())
 }
 
@@ -157,7 +138,7 @@ fn fill(
         return Ok(false);
     };
     weave(alloc, circuit, &graph, &found)?;
-    add_ends(circuit, list, values, &registers.data)?;
+    add_ends(circuit, list, values)?;
     Ok(true)
 }
 

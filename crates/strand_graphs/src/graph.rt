@@ -4,7 +4,7 @@ use crate::forks::{Branch, Reading, Tree};
 use crate::readers::{Readers, entry_of};
 use crate::registers::Registers;
 use crate::values::Values;
-use cell_core::{Cell, CellList};
+use cell_core::{Cell, CellList, Src};
 use std::alloc::{AllocError, Global};
 use strand_core::{East, West, put};
 use strand_orders::small;
@@ -80,6 +80,7 @@ impl Graph {
     ) -> Result<(), AllocError> {
         self.add_inputs(values, readers)?;
         self.add_registers(values, registers, readers)?;
+        self.add_zeros(values, &registers.data)?;
         self.add_cells(list.cells.as_slice(), values, readers)?;
         let data = small(registers.data.len());
         self.add_data(values.cells, data, readers)?;
@@ -115,7 +116,24 @@ impl Graph {
         Ok(())
     }
 
+    // Adds constant 0 for each register of which it is the data.
+    fn add_zeros(&mut self, values: &Values, data: &[Src]) -> Result<(), AllocError> {
+        for (number, src) in data.iter().enumerate() {
+            if values.number(*src).is_none() {
+                let reader = values.cells.saturating_add(small(number));
+                let node = self.add_west(West::Zero, values.zero())?;
+                self.lead(node, Branch::Entry(entry_of(reader)));
+            }
+        }
+        Ok(())
+    }
+
     fn add_source(&mut self, is: West, value: u32, readers: &Readers) -> Result<(), AllocError> {
+        let node = self.add_west(is, value)?;
+        self.add_forks(node, value, readers)
+    }
+
+    fn add_west(&mut self, is: West, value: u32) -> Result<u32, AllocError> {
         let node = small(self.nodes.len());
         self.nodes.push(Node {
             kind: NodeKind::West(is),
@@ -123,7 +141,7 @@ impl Graph {
             value,
             layer: 0,
         })?;
-        self.add_forks(node, value, readers)
+        Ok(node)
     }
 
     // The layer behind a node.
@@ -180,7 +198,7 @@ impl Graph {
         Ok(())
     }
 
-    // Adds the registers' data, but for what is dark.
+    // Adds the registers' data.
     fn add_data(
         &mut self,
         first: u32,

@@ -5,7 +5,7 @@ use std::alloc::{AllocError, Global};
 use strand_core::{at, put};
 use strand_orders::small;
 
-/// The values of a list, by numbers: the inputs, the latches, the cells and constant 1. Constant 0 has none.
+/// The values of a list, by numbers: the inputs, the latches, the cells and constant 1. Constant 0 is none of them.
 #[derive(Drop)]
 pub struct Values {
     pub inputs: u32,
@@ -88,6 +88,11 @@ impl Values {
     /// Returns the number of constant 1.
     pub fn one(&self) -> u32 {
         self.made_by(self.cells)
+    }
+
+    /// Returns the number behind those of all values, which stands for constant 0.
+    pub fn zero(&self) -> u32 {
+        self.one().saturating_add(1)
     }
 
     /// Returns the number of a latch.
