@@ -47,12 +47,13 @@ fn is_told(alloc: Global, text: &[u8], wanted: &[u8]) -> Result<bool, Fail> {
 fn case_told(alloc: Global, case: &str) -> Result<(&str, bool), Fail> {
     let (about, rest) = case.split_once('\n').unwrap_or((case, ""));
     let (text, wanted) = rest.split_once("==\n").unwrap_or((rest, "no case"));
-    Ok((about, is_told(alloc, text.as_bytes(), wanted.as_bytes())?))
+    let is_so = is_told(alloc, text.as_bytes(), wanted.as_bytes())?;
+    Ok((about.trim(), is_so))
 }
 
 #[test]
 fn gates_and_wires_are_found(rt: HostRuntime) -> Result<(), Fail> {
-    for case in CASES.split("> ").skip(1) {
+    for case in CASES.split('>').skip(1) {
         let (about, is_so) = case_told(rt.alloc(), case)?;
         expect_holds(about, is_so)?;
     }

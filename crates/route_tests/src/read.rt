@@ -63,7 +63,8 @@ fn is_list_of_cells(list: &CellList) -> bool {
 
 #[test]
 fn two_gates_are_read(rt: HostRuntime) -> Result<(), Fail> {
-    expect_holds("the list", is_list_of_cells(&list_of(rt.alloc())?))
+    let list = list_of(rt.alloc())?;
+    expect_holds("the list", is_list_of_cells(&list))
 }
 
 // What the search draws of the list.

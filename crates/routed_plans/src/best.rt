@@ -26,13 +26,17 @@ fn cost_of(drawing: &Drawing) -> u128 {
     u128::from(cells) * u128::from(drawing.period)
 }
 
-// Keeps a drawing if it costs less than the best one so far.
-fn keep_better(best: &mut Option<Best>, other: Best) {
-    let is_better = match best {
-        Some(first) => cost_of(&other.drawn.drawing) < cost_of(&first.drawn.drawing),
+// Whether a drawing costs less than the best one so far.
+fn is_better(drawing: &Drawing, best: &Option<Best>) -> bool {
+    match best {
+        Some(first) => cost_of(drawing) < cost_of(&first.drawn.drawing),
         None => true,
-    };
-    if is_better {
+    }
+}
+
+// Keeps a drawing if it is better than the best one so far.
+fn keep_better(best: &mut Option<Best>, other: Best) {
+    if is_better(&other.drawn.drawing, best) {
         *best = Some(other);
     }
 }
