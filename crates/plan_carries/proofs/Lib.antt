@@ -1,4 +1,4 @@
-mod Alike
+pub mod Alike
 pub mod SeenNets
 mod Runs
 pub mod Designs

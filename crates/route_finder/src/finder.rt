@@ -51,12 +51,17 @@ fn find_all_gates(alloc: Global, found: &mut Found, ports: &Ports) -> Result<(),
 }
 
 // Finds gates, lone cells, and the wires between them.
-fn find_cells(alloc: Global, pattern: &Pattern, ports: &Ports) -> Result<Found, FindError> {
-    let mut found = nothing_found(alloc, pattern)?;
-    find_all_gates(alloc, &mut found, ports)?;
-    follow_wires(&mut found, pattern)?;
-    follow_rings(&mut found, pattern)?;
-    Ok(found)
+fn find_cells(
+    alloc: Global,
+    found: &mut Found,
+    pattern: &Pattern,
+    ports: &Ports,
+) -> Result<(), FindError> {
+    find_all_gates(alloc, found, ports)?;
+    follow_wires(found, pattern)?;
+    follow_rings(found, pattern)?;
+    direct_wires(alloc, found, pattern, ports)?;
+    check_ends(alloc, found, pattern, ports)
 }
 
 // Finds when each gate is lit.
@@ -74,14 +79,25 @@ fn time_gates(
     Ok(())
 }
 
+// The drawing of a pattern on whose board nothing is found yet.
+fn drawn_on(
+    alloc: Global,
+    found: &mut Found,
+    pattern: &Pattern,
+    ports: &Ports,
+    period: u32,
+    latency: u32,
+) -> Result<Drawing, FindError> {
+    find_cells(alloc, found, pattern, ports)?;
+    time_gates(alloc, found, pattern, ports, period, latency)?;
+    drawing_of(alloc, found, pattern, ports, period, latency)
+}
+
 /// Finds the gates and the wires of a routed circuit in its cells, and when each gate is lit first, from the cells of
 /// the port table and from the electrons. Gates are the library's drawings in all turns; wires are rows of cells with two
 /// cells beside each; and cells at which wires end or meet are lone cells.
 pub fn find(alloc: Global, pattern: &Pattern, ports: &Ports) -> Result<Drawing, FindError> {
     let (period, latency) = (moderate(ports.p)?, moderate(ports.l)?);
-    let mut found = find_cells(alloc, pattern, ports)?;
-    direct_wires(alloc, &mut found, pattern, ports)?;
-    check_ends(alloc, &found, pattern, ports)?;
-    time_gates(alloc, &mut found, pattern, ports, period, latency)?;
-    drawing_of(alloc, found, pattern, ports, period, latency)
+    let mut found = nothing_found(alloc, pattern)?;
+    drawn_on(alloc, &mut found, pattern, ports, period, latency)
 }

@@ -12,6 +12,7 @@ use lists::List;
 use pattern_reading::{PortLine, Ports};
 use routed_core::{Drawing, DrawnGate, DrawnPort, DrawnWire, GatePort};
 use std::alloc::{AllocError, Global};
+use std::mem;
 use ww_rule::Pattern;
 
 fn generation(number: i64) -> u32 {
@@ -251,29 +252,30 @@ pub fn set_times(
     Ok(())
 }
 
-/// Makes the drawing.
+/// Makes the drawing. The gates that were found go into it.
 pub fn drawing_of(
     alloc: Global,
-    found: Found,
+    found: &mut Found,
     pattern: &Pattern,
     ports: &Ports,
     period: u32,
     latency: u32,
 ) -> Result<Drawing, FindError> {
-    let ins = ports_at(alloc, &found, ports.ins.as_slice())?;
-    let outs = ports_at(alloc, &found, ports.outs.as_slice())?;
-    let nets = nets_at(alloc, &found, ports)?;
+    let ins = ports_at(alloc, found, ports.ins.as_slice())?;
+    let outs = ports_at(alloc, found, ports.outs.as_slice())?;
+    let nets = nets_at(alloc, found, ports)?;
     let Wires {
         wires,
         path,
         starts,
-    } = wires_of(alloc, &found, pattern, period)?;
+    } = wires_of(alloc, found, pattern, period)?;
+    let gates = mem::replace(&mut found.gates, Vec::new(alloc));
     Ok(Drawing {
         width: found.board.width(),
         height: found.board.height(),
         period,
         latency,
-        gates: List::of(found.gates),
+        gates: List::of(gates),
         wires: List::of(wires),
         path: List::of(path),
         starts: List::of(starts),

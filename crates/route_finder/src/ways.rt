@@ -190,6 +190,42 @@ impl Inputs {
         }
         Ok(())
     }
+
+    // Directs the wires whose directions are known at once.
+    fn direct_at_once(
+        &mut self,
+        alloc: Global,
+        found: &mut Found,
+        pattern: &Pattern,
+    ) -> Result<(), AllocError> {
+        let ways = ways_at_once(alloc, found, pattern, self)?;
+        for (i, way) in ways.as_slice().iter().enumerate() {
+            if let Some(link) = found.links.get_mut(i) {
+                self.direct(link, *way)?;
+            }
+        }
+        Ok(())
+    }
+
+    // Looks at all inputs.
+    fn settle_each(&mut self, links: &mut [Link]) -> Result<(), AllocError> {
+        let count = u32::try_from(self.are_fed.len()).unwrap_or(u32::MAX);
+        for input in 0..count {
+            self.todo.push(input)?;
+        }
+        self.settle_all(links)
+    }
+
+    // Lets the wires that are left run onward, each with what it tells of others.
+    fn direct_rest(&mut self, links: &mut [Link]) -> Result<(), AllocError> {
+        for i in 0..links.len() {
+            if let Some(link) = links.get_mut(i) {
+                self.direct(link, Way::Onward)?;
+            }
+            self.settle_all(links)?;
+        }
+        Ok(())
+    }
 }
 
 fn is_open(links: &[Link], number: u32) -> bool {
@@ -222,22 +258,7 @@ pub fn direct_wires(
 ) -> Result<(), AllocError> {
     let mut inputs = Inputs::new(alloc, found)?;
     inputs.feed_driven(found, ports);
-    let ways = ways_at_once(alloc, found, pattern, &inputs)?;
-    for (i, way) in ways.as_slice().iter().enumerate() {
-        if let Some(link) = found.links.get_mut(i) {
-            inputs.direct(link, *way)?;
-        }
-    }
-    let count = u32::try_from(inputs.are_fed.len()).unwrap_or(u32::MAX);
-    for input in 0..count {
-        inputs.todo.push(input)?;
-    }
-    inputs.settle_all(found.links.as_mut_slice())?;
-    for i in 0..found.links.len() {
-        if let Some(link) = found.links.get_mut(i) {
-            inputs.direct(link, Way::Onward)?;
-        }
-        inputs.settle_all(found.links.as_mut_slice())?;
-    }
-    Ok(())
+    inputs.direct_at_once(alloc, found, pattern)?;
+    inputs.settle_each(found.links.as_mut_slice())?;
+    inputs.direct_rest(found.links.as_mut_slice())
 }

@@ -14,7 +14,7 @@ fn told(alloc: Global, pattern: &Pattern, ports: &Ports) -> Result<Bytes, Fail> 
     match find(alloc, pattern, ports) {
         Ok(drawing) => Ok(gate_lines(alloc, &drawing)?),
         Err(FindError::Fault { kind, x, y }) => {
-            let text = format!(in alloc; "{kind:?} {x} {y}")?;
+            let text = format!(in alloc; "{kind:?} {x} {y}\n")?;
             Ok(List::of(text.as_bytes().to_vec(alloc)?))
         }
         Err(_) => Err(Fail::new("no drawing")),
@@ -43,13 +43,19 @@ fn is_told(alloc: Global, text: &[u8], wanted: &[u8]) -> Result<bool, Fail> {
     Ok(told.as_slice() == wanted && (again.as_slice() == wanted || again.len() == 0))
 }
 
+// Whether a case is told as it should be, and what it shows.
+fn case_told(alloc: Global, case: &str) -> Result<(&str, bool), Fail> {
+    let (about, rest) = case.split_once('\n').unwrap_or((case, ""));
+    let (text, wanted) = rest.split_once("==\n").unwrap_or((rest, "no case"));
+    let is_so = is_told(alloc, text.as_bytes(), wanted.as_bytes())?;
+    Ok((about.trim(), is_so))
+}
+
 #[test]
 fn gates_and_wires_are_found(rt: HostRuntime) -> Result<(), Fail> {
-    for (about, text, wanted) in CASES {
-        expect_holds(
-            about,
-            is_told(rt.alloc(), text.as_bytes(), wanted.as_bytes())?,
-        )?;
+    for case in CASES.split('>').skip(1) {
+        let (about, is_so) = case_told(rt.alloc(), case)?;
+        expect_holds(about, is_so)?;
     }
     Ok(())
 }

@@ -111,32 +111,52 @@ fn push_answer(page: &mut String, answer: Answer) -> Result<(), AllocError> {
     })
 }
 
-fn push_table(page: &mut String, drawing: &GateDrawing) -> Result<(), AllocError> {
-    page.push_str("| Port | Lit at | Bit |\n|---|---|---|\n")?;
+// Begins the row of a port that is lit at this generation.
+fn push_port(page: &mut String, letter: char, generation: u32) -> Result<(), AllocError> {
+    write!(page, "| `{letter}` | {generation} | ")
+}
+
+fn push_inputs(page: &mut String, drawing: &GateDrawing) -> Result<(), AllocError> {
     for (i, input) in drawing.ins.as_slice().iter().enumerate() {
-        let (name, generation) = (input_letter(i), input.generation);
-        writeln!(page, "| `{name}` | {generation} | |")?;
+        push_port(page, input_letter(i), input.generation)?;
+        page.push_str("|\n")?;
     }
-    for (o, (output, answer)) in drawing
-        .outs
-        .as_slice()
-        .iter()
-        .zip(drawing.answers.as_slice())
-        .enumerate()
-    {
-        let (name, time) = (output_letter(o), output.delay);
-        write!(page, "| `{name}` | {time} | ")?;
-        push_answer(page, *answer)?;
+    Ok(())
+}
+
+fn push_outputs(page: &mut String, drawing: &GateDrawing) -> Result<(), AllocError> {
+    let answers = drawing.answers.as_slice();
+    for (o, output) in drawing.outs.as_slice().iter().enumerate() {
+        push_port(page, output_letter(o), output.delay)?;
+        if let Some(answer) = answers.get(o) {
+            push_answer(page, *answer)?;
+        }
         page.push_str(" |\n")?;
     }
     Ok(())
+}
+
+fn push_table(page: &mut String, drawing: &GateDrawing) -> Result<(), AllocError> {
+    page.push_str("| Port | Lit at | Bit |\n|---|---|---|\n")?;
+    push_inputs(page, drawing)?;
+    push_outputs(page, drawing)
+}
+
+fn drawn_count(cells: &[State]) -> u32 {
+    let mut count = 0u32;
+    for state in cells {
+        if *state != State::Empty {
+            count = count.saturating_add(1);
+        }
+    }
+    count
 }
 
 fn push_sizes(page: &mut String, drawing: &GateDrawing) -> Result<(), AllocError> {
     let (time, width) = (drawing.time, drawing.width as usize);
     let cells = drawing.cells.as_slice();
     let height = cells.len().checked_div(width).unwrap_or(0);
-    let count = cells.iter().filter(|state| **state != State::Empty).count();
+    let count = drawn_count(cells);
     write!(page, "\nTime {time}, box {width} x {height}, cells {count}")?;
     page.push_str(match drawing.timing {
         Timing::Together => ".\n",

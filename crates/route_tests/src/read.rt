@@ -6,7 +6,7 @@ use route_cells::cells_of;
 use route_lines::read;
 use std::alloc::Global;
 use std::test::Fail;
-use strand_core::Effort;
+use strand_core::{Effort, StrandCircuit};
 use strand_drawings::{Drawn, drawn_circuit, pattern_of};
 use strand_graphs::strand_circuit;
 use strand_rows::laid_out;
@@ -53,12 +53,18 @@ fn list_of(alloc: Global) -> Result<CellList, Fail> {
     }
 }
 
+// Whether a list has three inputs, these cells and one output.
+fn is_list_of_cells(list: &CellList) -> bool {
+    list.inputs == 3
+        && list.latches.len() == 0
+        && list.cells.as_slice() == CELLS
+        && list.outs.as_slice() == &[Src::Cell(1)][..]
+}
+
 #[test]
 fn two_gates_are_read(rt: HostRuntime) -> Result<(), Fail> {
     let list = list_of(rt.alloc())?;
-    expect_holds("inputs", list.inputs == 3 && list.latches.len() == 0)?;
-    expect_holds("cells", list.cells.as_slice() == CELLS)?;
-    expect_holds("outputs", list.outs.as_slice() == &[Src::Cell(1)][..])
+    expect_holds("the list", is_list_of_cells(&list))
 }
 
 // What the search draws of the list.
@@ -73,15 +79,20 @@ C..C.....C...
 CCCC.........
 ";
 
-fn drawn(alloc: Global, list: &CellList) -> Result<Drawn, Fail> {
-    let Some(woven) = strand_circuit(alloc, list, 1, Effort::Whole)? else {
-        return Err(Fail::new("no strands"));
-    };
-    let circuit = timed(alloc, &woven, Effort::Whole)?;
-    let layout = laid_out(alloc, &circuit, Effort::Whole)?;
-    match drawn_circuit(alloc, &circuit, &layout, 3, 1)? {
+// The drawing of a circuit of strands.
+fn drawn_of(alloc: Global, circuit: &StrandCircuit) -> Result<Drawn, Fail> {
+    let layout = laid_out(alloc, circuit, Effort::Whole)?;
+    match drawn_circuit(alloc, circuit, &layout, 3, 1)? {
         Some(drawn) => Ok(drawn),
         None => Err(Fail::new("no drawing")),
+    }
+}
+
+fn timed_circuit(alloc: Global) -> Result<StrandCircuit, Fail> {
+    let list = list_of(alloc)?;
+    match strand_circuit(alloc, &list, 1, Effort::Whole)? {
+        Some(woven) => Ok(timed(alloc, &woven, Effort::Whole)?),
+        None => Err(Fail::new("no strands")),
     }
 }
 
@@ -106,18 +117,19 @@ fn text_of(alloc: Global, pattern: &Pattern) -> Result<Vec<u8>, Fail> {
     Ok(text)
 }
 
-#[test]
-fn two_gates_are_drawn(rt: HostRuntime) -> Result<(), Fail> {
-    let alloc = rt.alloc();
-    let list = list_of(alloc)?;
-    let drawn = drawn(alloc, &list)?;
+// Whether a drawing has these rows, and the period 10.
+fn is_as_drawn(alloc: Global, drawn: &Drawn) -> Result<bool, Fail> {
     let Some(pattern) = pattern_of(alloc, &drawn.drawing)? else {
-        return Err(Fail::new("no pattern"));
+        return Ok(false);
     };
     let text = text_of(alloc, &pattern)?;
-    expect_holds("the drawing", text.as_slice() == DRAWN.as_bytes())?;
-    expect_holds(
-        "its period",
-        drawn.drawing.period == 10 && drawn.latches.len() == 0,
-    )
+    let has_rows = text.as_slice() == DRAWN.as_bytes();
+    Ok(has_rows && drawn.drawing.period == 10 && drawn.latches.len() == 0)
+}
+
+#[test]
+fn two_gates_are_drawn(rt: HostRuntime) -> Result<(), Fail> {
+    let circuit = timed_circuit(rt.alloc())?;
+    let drawn = drawn_of(rt.alloc(), &circuit)?;
+    expect_holds("the drawing", is_as_drawn(rt.alloc(), &drawn)?)
 }

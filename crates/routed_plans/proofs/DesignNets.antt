@@ -1,27 +1,20 @@
 -- What shows nets of a flat netlist shows those of its designs.
-use Rattle.std.proofs.Common.{◌≡◌, refl, sym, ◌∙◌, ap, subst, ℕ, zero, suc, ◌<◌, ◌≤◌, Bool, List, [], length, map, get_or, arith}
-use Rattle.std.specs.Prelude.{Contains, Option, Some, None, slice_get, option_map}
+use Rattle.std.proofs.Common.{◌≡◌, sym, ◌∙◌, ap, subst, ℕ, zero, suc, ◌<◌, ◌≤◌, Bool, List, [], length, map, get_or, arith}
+use Rattle.std.specs.Prelude.{Contains, Option, Some, slice_get, option_map}
 use Rattle.std.proofs.lemmas.Option.{slice_get-map, slice_get-get_or, slice_get_within}
 use Rattle.std.proofs.lemmas.Simd.{map-map}
-use Rattle.std.proofs.Math.Path.{fun_ext}
 use Rattle.ww_rule.specs.Wireworld.{Plane, driven}
 use Rattle.netlist_core.specs.declared.model.Design.{Design}
-use Rattle.netlist_core.specs.declared.model.LatchRow.{LatchRow}
-use Rattle.netlist_core.specs.declared.model.Model.{Model}
 use Rattle.netlist_core.specs.declared.flat.Flat.{Flat}
 use Rattle.netlist_core.specs.declared.flat.Net.{Net as FlatNet}
-use Rattle.netlist_meaning.specs.Places.{Place, latch_at, model_at}
-use Rattle.netlist_meaning.specs.Nets.{Net, net_at}
+use Rattle.netlist_meaning.specs.Nets.{Net}
 use Rattle.netlist_meaning.specs.Flat.{listed_nets}
 use Rattle.netlist_meaning.specs.FlatOf.{class_of_net, flat_net, IsFlatOf}
 use Rattle.netlist_meaning.specs.FlatValuation.{IsFlatValuation, IsFlatRun, flat_state_in, start_bits}
-use Rattle.netlist_meaning.specs.Valuation.{Valuation, LatchState, IsValuation, IsRun, AgreeOnNets, data_bit, start_state, latches_after, latches_in}
+use Rattle.netlist_meaning.specs.Valuation.{Valuation, LatchState, IsValuation, IsRun, start_state, latches_in}
 use Rattle.netlist_rules.specs.ModelFaults.{AreFaultless}
-use Rattle.netlist_meaning.proofs.Names.{and_then-from}
-use Rattle.netlist_rules.specs.Clocks.{HasNoClockFault, by_latch}
+use Rattle.netlist_rules.specs.Clocks.{HasNoClockFault}
 use Rattle.flat_designs.specs.Laws.{state_in_order, class_bits, net_bits, HasValuations}
-use Rattle.flat_designs.proofs.Faultless.{wired}
-use Rattle.flat_designs.proofs.Sound.{data_net}
 use Rattle.flat_designs.proofs.Valuations.{valuations_are_flat}
 use Rattle.flat_designs.proofs.Lists.{all_of}
 use Rattle.lists.proofs.Members.{contains_from, in_got, got_from}
@@ -31,6 +24,7 @@ use Rattle.pattern_reading.specs.declared.ports.Ports.{Ports}
 use Rattle.carries.specs.Cells.{ShowsBitsFrom, ShowsNetLines, drive}
 use Rattle.carries.specs.Carries.{Carries}
 use Rattle.carries.specs.Nets.{ShowsNets, CarriesNets}
+use Rattle.plan_carries.proofs.Alike.{latches_alike}
 use Rattle.plan_carries.proofs.SeenNets.{seen_nets, seen_are_flat, seen_has_bit}
 use Rattle.routed_plans.specs.declared.nets.SeenPort.{SeenPort}
 use Rattle.routed_plans.specs.declared.nets.ShownNets.{ShownNets}
@@ -80,20 +74,6 @@ drawn_are_named design flat h shown =
     ap named_paths (drawn_are_flat design flat h shown)
     ∙ map-map (λ (net : FlatNet). name_and_path net.place net.name) (flat_net design) (items_drawn shown (seen_nets design flat))
 
--- valuations that agree on the nets but the clock nets have one next state
-latches_same : (design : Design) → AreFaultless design.models → HasNoClockFault design → (bits others : Valuation) → AgreeOnNets design bits others → latches_after design bits ≡ latches_after design others
-latches_same design faultless clean bits others agree = fun_ext (λ place. fun_ext (λ number. at place number (latch_at design place number) refl))
-  where
-    at : (place : Place) (number : ℕ) (o : Option LatchRow) → latch_at design place number ≡ o → data_bit (bits place) (latch_at design place number) ≡ data_bit (others place) (latch_at design place number)
-    at place number None none = ap (data_bit (bits place)) none ∙ sym (ap (data_bit (others place)) none)
-    at place number (Some latch) some =
-        let of = and_then-from (λ (m : Model). slice_get m.latches number) (model_at design place) latch some in
-        let among = in_got of.0.latches number latch of.2 in
-        ap (data_bit (bits place)) some
-        ∙ agree (net_at place latch.input) (data_net design place of.0 latch of.1 among)
-        (λ clock. (wired design faultless clean).clocks_unread latch.line 0 (net_at place latch.input) (by_latch of.1 (contains_from of.0.latches latch among) refl, clock))
-        ∙ sym (ap (data_bit (others place)) some)
-
 module _ (design : Design) (flat : Flat) (faultless : AreFaultless design.models) (clean : HasNoClockFault design) (h : IsFlatOf design flat) where
   have : HasValuations design flat
   have = valuations_are_flat design flat faultless clean h
@@ -116,7 +96,7 @@ module _ (design : Design) (flat : Flat) (faultless : AreFaultless design.models
     own_state zero low = have.starts
     own_state (suc t) low =
         have.next (own t)
-        ∙ ap (state_in_order design) (latches_same design faultless clean (net_bits design flat (own t)) (run t) (have.same_bits (row t) (latches t) (run t) (solves t (omega arith))))
+        ∙ latches_alike design faultless clean (net_bits design flat (own t)) (run t) (have.same_bits (row t) (latches t) (run t) (solves t (omega arith)))
 
     own_run : IsFlatRun flat (start_bits flat) rows own
     own_run t given e =

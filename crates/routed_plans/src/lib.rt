@@ -4,6 +4,7 @@
 //! Theorem: `route_netlist` (`routed`, `nets`, `lines`); definitions `IsRoutedFor`, `CarriesDesignsOf`, `ShowsNetsBy`.
 #![tactic(auto)]
 
+mod best;
 mod copies;
 mod lines;
 mod net_lines;

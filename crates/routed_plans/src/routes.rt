@@ -16,9 +16,9 @@ ghost use Rattle.cell_core.specs.declared.list.CellList.{CellList};
 ghost use Rattle.routed_plans.specs.declared.nets.ShownNets.TheVariants as which;
 
 use crate::RoutedPlanError;
+use crate::best::{Best, best_drawn};
 use crate::lines::lines_of_drawing;
 use crate::nets::{SeenPort, ShownNets};
-use crate::search::draw_list;
 use crate::seen::{SeenDrawing, with_net_ports};
 use crate::tables::{fits_pattern, port_table};
 use crate::wanted::wanted_list;
@@ -32,7 +32,6 @@ use pattern_reading::Ports;
 use route_cells::{RouteError, cells_of};
 use routed_core::Drawing;
 use std::alloc::Global;
-use strand_core::Effort;
 use strand_drawings::{Drawn, pattern_of};
 use ww_rule::Pattern;
 
@@ -42,75 +41,6 @@ pub struct Routed {
     pub lines: Bytes,
     pub pattern: Pattern,
     pub ports: Ports,
-}
-
-// So many lists are drawn with the whole search at most, and one alone if it has more cells than these.
-const MOST_WHOLE: usize = 3;
-
-const MANY_CELLS: usize = 1_000;
-
-// The best drawing so far, and the place of its list.
-#[derive(Drop)]
-struct Best {
-    place: usize,
-    drawn: Drawn,
-}
-
-// What a drawing costs: its box times its period.
-fn cost_of(drawing: &Drawing) -> u128 {
-    let cells = u64::from(drawing.width) * u64::from(drawing.height);
-    u128::from(cells) * u128::from(drawing.period)
-}
-
-// The better one of two drawings, the first of them if they cost the same.
-fn better(best: Option<Best>, other: Best) -> Best {
-    match best {
-        Some(first) if cost_of(&first.drawn.drawing) <= cost_of(&other.drawn.drawing) => first,
-        _ => other,
-    }
-}
-
-// The best drawing of lists of cells with little effort. Notes what each list's drawing costs, and the list's place.
-fn briefly_drawn(
-    alloc: Global,
-    lists: &[CellList],
-    costs: &mut Vec<(u128, usize)>,
-) -> Result<Option<Best>, RoutedPlanError> {
-    let mut best = None;
-    for (place, list) in lists.iter().enumerate() {
-        if let Some(drawn) = draw_list(alloc, list, Effort::Brief)? {
-            costs.push((cost_of(&drawn.drawing), place))?;
-            best = Some(better(best, Best { place, drawn }));
-        }
-    }
-    Ok(best)
-}
-
-// How many lists are drawn with the whole search.
-fn most_whole(lists: &[CellList]) -> usize {
-    match lists.first() {
-        Some(list) if list.cells.len() > MANY_CELLS => 1,
-        _ => MOST_WHOLE,
-    }
-}
-
-// The best drawing of lists of cells: all are drawn with little effort, and those whose drawings cost least with the whole
-// search.
-fn best_drawn(alloc: Global, lists: &[CellList]) -> Result<Option<Best>, RoutedPlanError> {
-    let mut costs = Vec::new(alloc);
-    let mut best = briefly_drawn(alloc, lists, &mut costs)?;
-    costs.sort()?;
-    for number in 0..most_whole(lists) {
-        let Some((_, place)) = costs.get(number).copied() else {
-            break;
-        };
-        if let Some(list) = lists.get(place) {
-            if let Some(drawn) = draw_list(alloc, list, Effort::Whole)? {
-                best = Some(better(best, Best { place, drawn }));
-            }
-        }
-    }
-    Ok(best)
 }
 
 // Whether the pattern and the table are a routed circuit of this drawing, and its cells run as those

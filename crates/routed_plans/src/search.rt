@@ -3,7 +3,7 @@
 use cell_core::CellList;
 use lists::OutOfMemory;
 use std::alloc::Global;
-use strand_core::Effort;
+use strand_core::{Effort, StrandCircuit};
 use strand_drawings::{Drawn, drawn_circuit};
 use strand_graphs::strand_circuit;
 use strand_rows::laid_out;
@@ -15,22 +15,43 @@ const SEED: u64 = 1;
 // Circuits of more tiles are not laid out: it would take too long.
 const MOST_TILES: usize = 32_000;
 
+// The circuit of strands of a list, with its times.
+fn timed_circuit(
+    alloc: Global,
+    list: &CellList,
+    effort: Effort,
+) -> Result<Option<StrandCircuit>, OutOfMemory> {
+    match strand_circuit(alloc, list, SEED, effort)? {
+        Some(woven) => Ok(Some(timed(alloc, &woven, effort)?)),
+        None => Ok(None),
+    }
+}
+
+// The drawing of the circuit of a list, if it is not too large.
+fn drawn_of(
+    alloc: Global,
+    list: &CellList,
+    circuit: &StrandCircuit,
+    effort: Effort,
+) -> Result<Option<Drawn>, OutOfMemory> {
+    let Ok(outputs) = u32::try_from(list.outs.len()) else {
+        return Ok(None);
+    };
+    if circuit.tiles.len() > MOST_TILES {
+        return Ok(None);
+    }
+    let layout = laid_out(alloc, circuit, effort)?;
+    drawn_circuit(alloc, circuit, &layout, list.inputs, outputs)
+}
+
 /// Draws a list of cells, if the search finds a drawing.
 pub fn draw_list(
     alloc: Global,
     list: &CellList,
     effort: Effort,
 ) -> Result<Option<Drawn>, OutOfMemory> {
-    let Ok(outputs) = u32::try_from(list.outs.len()) else {
-        return Ok(None);
-    };
-    let Some(woven) = strand_circuit(alloc, list, SEED, effort)? else {
-        return Ok(None);
-    };
-    let circuit = timed(alloc, &woven, effort)?;
-    if circuit.tiles.len() > MOST_TILES {
-        return Ok(None);
+    match timed_circuit(alloc, list, effort)? {
+        Some(circuit) => drawn_of(alloc, list, &circuit, effort),
+        None => Ok(None),
     }
-    let layout = laid_out(alloc, &circuit, effort)?;
-    drawn_circuit(alloc, &circuit, &layout, list.inputs, outputs)
 }

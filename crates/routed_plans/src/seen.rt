@@ -134,29 +134,34 @@ fn filled(alloc: Global, drawing: &Drawing) -> Result<Option<Tables>, OutOfMemor
     }
 }
 
+// The ports of a list's nets in the tables of its drawing.
+fn ports_in(
+    alloc: Global,
+    list: &CellList,
+    latches: &[Src],
+    tables: &Tables,
+) -> Result<Vec<Option<SeenPort>>, OutOfMemory> {
+    let found = tables.list.cells.as_slice();
+    let cells = stand_ins(alloc, found, list.cells.as_slice(), latches)?;
+    let reading = Reading {
+        tables,
+        cells: &cells,
+        latches,
+    };
+    let known = first_ports(alloc, reading)?;
+    ports_of(alloc, &known, list.nets.as_slice())
+}
+
 // The ports of a list's nets in its drawing.
 fn net_ports(
     alloc: Global,
     list: &CellList,
     drawn: &Drawn,
 ) -> Result<Vec<Option<SeenPort>>, OutOfMemory> {
-    let Some(tables) = filled(alloc, &drawn.drawing)? else {
-        return Ok(Vec::new(alloc));
-    };
-    let latches = drawn.latches.as_slice();
-    let cells = stand_ins(
-        alloc,
-        tables.list.cells.as_slice(),
-        list.cells.as_slice(),
-        latches,
-    )?;
-    let reading = Reading {
-        tables: &tables,
-        cells: &cells,
-        latches,
-    };
-    let known = first_ports(alloc, reading)?;
-    ports_of(alloc, &known, list.nets.as_slice())
+    match filled(alloc, &drawn.drawing)? {
+        Some(tables) => ports_in(alloc, list, drawn.latches.as_slice(), &tables),
+        None => Ok(Vec::new(alloc)),
+    }
 }
 
 fn drawn_ports(
@@ -173,21 +178,23 @@ fn drawn_ports(
     Ok(List::of(drawn))
 }
 
+// Finds the ports of a list's nets in its drawing, and notes them there.
+fn see_nets(
+    alloc: Global,
+    list: &CellList,
+    drawn: &mut Drawn,
+) -> Result<Vec<Option<SeenPort>>, OutOfMemory> {
+    let ports = net_ports(alloc, list, drawn)?;
+    drawn.drawing.nets = drawn_ports(alloc, &ports)?;
+    Ok(ports)
+}
+
 /// Finds the ports of a list's nets in its drawing.
 pub fn with_net_ports(
     alloc: Global,
     list: &CellList,
-    drawn: Drawn,
+    mut drawn: Drawn,
 ) -> Result<SeenDrawing, OutOfMemory> {
-    let ports = net_ports(alloc, list, &drawn)?;
-    let nets = drawn_ports(alloc, &ports)?;
-    let Drawn {
-        mut drawing,
-        latches,
-    } = drawn;
-    drawing.nets = nets;
-    Ok(SeenDrawing {
-        drawn: Drawn { drawing, latches },
-        ports,
-    })
+    let ports = see_nets(alloc, list, &mut drawn)?;
+    Ok(SeenDrawing { drawn, ports })
 }

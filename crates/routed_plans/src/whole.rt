@@ -6,8 +6,10 @@ use crate::search::draw_list;
 use crate::seen::{SeenDrawing, with_net_ports};
 use cell_core::{CellList, Src};
 use lists::{List, OutOfMemory};
+use routed_core::Drawing;
 use std::alloc::Global;
 use std::collections::BTreeSet;
+use std::mem;
 use strand_core::Effort;
 use strand_drawings::Drawn;
 
@@ -30,20 +32,11 @@ fn unseen_sources(
     Ok(sources)
 }
 
-// A drawing with its first outputs alone.
-fn with_first_outputs(alloc: Global, drawn: Drawn, count: usize) -> Result<Drawn, OutOfMemory> {
-    let Drawn {
-        mut drawing,
-        latches,
-    } = drawn;
-    let mut outs = Vec::new(alloc);
-    for port in drawing.outs.as_slice() {
-        if outs.len() < count {
-            outs.push(*port)?;
-        }
-    }
+// Leaves a drawing its first outputs alone.
+fn keep_outputs(alloc: Global, drawing: &mut Drawing, count: usize) {
+    let mut outs = mem::replace(&mut drawing.outs, List::of(Vec::new(alloc))).into_vec();
+    outs.truncate(count);
     drawing.outs = List::of(outs);
-    Ok(Drawn { drawing, latches })
 }
 
 // The list with further outputs, without its nets.
@@ -59,13 +52,23 @@ fn with_outputs(
 
 // A drawing of a list in which these further sources are drawn as outputs.
 fn drawn_with(alloc: Global, list: &CellList, more: &[Src]) -> Result<Option<Drawn>, OutOfMemory> {
-    let Some(longer) = with_outputs(alloc, list, more)? else {
+    match with_outputs(alloc, list, more)? {
+        Some(longer) => draw_list(alloc, &longer, Effort::Whole),
+        None => Ok(None),
+    }
+}
+
+// A drawing of a list in which these sources, which an earlier drawing lacks, are seen.
+fn drawn_anew(
+    alloc: Global,
+    list: &CellList,
+    more: &[Src],
+) -> Result<Option<SeenDrawing>, OutOfMemory> {
+    let Some(mut drawn) = drawn_with(alloc, list, more)? else {
         return Ok(None);
     };
-    let Some(drawn) = draw_list(alloc, &longer, Effort::Whole)? else {
-        return Ok(None);
-    };
-    Ok(Some(with_first_outputs(alloc, drawn, list.outs.len())?))
+    keep_outputs(alloc, &mut drawn.drawing, list.outs.len());
+    Ok(Some(with_net_ports(alloc, list, drawn)?))
 }
 
 /// Returns a drawing in which all nets of the list are seen, if the search finds one: this one or, if
@@ -77,10 +80,8 @@ pub fn with_all_nets(
 ) -> Result<Option<SeenDrawing>, OutOfMemory> {
     let more = unseen_sources(alloc, list.nets.as_slice(), &seen.ports)?;
     if more.is_empty() {
-        return Ok(Some(seen));
-    }
-    match drawn_with(alloc, list, &more)? {
-        Some(drawn) => Ok(Some(with_net_ports(alloc, list, drawn)?)),
-        None => Ok(None),
+        Ok(Some(seen))
+    } else {
+        drawn_anew(alloc, list, &more)
     }
 }
