@@ -151,7 +151,8 @@ fn mark_head(
     ensures listed { AreListed stride now.new.bytes.items now.new.list.items now.new.many }
     ensures more { AreMore now.old.bytes.items now.new.bytes.items }
     ensures here { beside_mark ≤ number_at now.new.bytes.items i }
-    ensures told { AreTold stride (number_at heads.now i) i tails.now cells.now now.new.bytes.items }
+    ensures told { AreTold stride (number_at heads.now i) i tails.now cells.now
+        now.new.bytes.items }
 {
     let free = Free {
         tails,

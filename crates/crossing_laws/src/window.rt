@@ -29,8 +29,8 @@ pub fn keeps_crossing_law(
     outs: &[OutCell],
     time: usize,
 ) -> bool
-    ensures { IsTrue result → KeepsCrossingLaw (window_crossing cells.now width first second outs.now
-        time) }
+    ensures { IsTrue result
+        → KeepsCrossingLaw (window_crossing cells.now width first second outs.now time) }
 {
     let ins = [
         InCell {

@@ -90,7 +90,9 @@ fn is_lit_number(
 {
     match (ins.get(number), bits.get(number)) {
         (Some(cell), Some(bit)) => {
-            *bit && generation == cell.generation as usize && cell.x as usize == x && cell.y as usize == y
+            *bit && generation == cell.generation as usize
+                && cell.x as usize == x
+                && cell.y as usize == y
         }
         _ => false,
     }
@@ -200,7 +202,8 @@ fn outs_in_time(
 ) -> bool
     requires narrow { width < 65536 }
     requires few { number < 8 }
-    ensures { IsTrue result ↔ All (λ out. IsOutputInTime (shown now.now width) number generation out) outs.now }
+    ensures { IsTrue result
+        ↔ All (λ out. IsOutputInTime (shown now.now width) number generation out) outs.now }
 {
     outs.iter().all(|out| shows(
         now,

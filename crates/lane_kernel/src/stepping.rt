@@ -82,7 +82,8 @@ fn step_entry(
     many: usize,
 ) -> usize
     requires within { k < length entries.now }
-    requires inner { IsInner coming.now.stride (length coming.now.cells.now) (number_at entries.now k) }
+    requires inner { IsInner coming.now.stride (length coming.now.cells.now)
+        (number_at entries.now k) }
     requires tails { length tails.old ≡ length coming.now.cells.now }
     requires bytes { length bytes.old ≡ length coming.now.cells.now }
     requires soon { length soon.old ≡ length coming.now.cells.now }
@@ -98,7 +99,8 @@ fn step_entry(
         → IsUnderWay coming.now.stride
         coming.now.tails.now old coming.now.cells.now entries.now k tails.old bytes.old soon.old
         → IsUnderWay coming.now.stride
-        coming.now.tails.now old coming.now.cells.now entries.now (k + 1) tails.new bytes.new soon.new }
+        coming.now.tails.now old coming.now.cells.now entries.now (k + 1) tails.new bytes.new
+        soon.new }
 {
     let i = entries[k];
     let byte = bytes[i];

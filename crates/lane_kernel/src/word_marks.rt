@@ -129,7 +129,8 @@ fn tell_across(
     ensures long_list { length list.new ≡ length list.old }
     ensures listed { AreListed free.now.stride bytes.new list.new result }
     ensures more { AreMore bytes.old bytes.new }
-    ensures told { AreToldAcross free.now.stride heads i free.now.tails.now free.now.cells.now bytes.new }
+    ensures told { AreToldAcross free.now.stride heads i free.now.tails.now free.now.cells.now
+        bytes.new }
 {
     let many = tell_three(bytes, list, many, i - free.stride, heads << 63, free);
     tell_three(bytes, list, many, i + free.stride, heads >> 63, free)

@@ -7,24 +7,13 @@
 //! Theorem: `texts_carry_flats`, `designs_are_carried`, `texts_carry_contexts`, `designs_are_carried_in_contexts`, `tapes_run_by_themselves`, `designs_run_by_themselves`.
 #![tactic(auto)]
 
-ghost use Rattle.plan_carries.specs.ContextLaws.{DesignsAreCarriedInContexts, PicturesArePlanes, PlanesShowContexts, TextsCarryContexts};
+ghost use Rattle.plan_carries.specs.ContextLaws.{DesignsAreCarriedInContexts, TextsCarryContexts};
 ghost use Rattle.plan_carries.specs.Laws.{DesignsAreCarried, PlansHavePorts, PlanesShowRuns, TextsCarryFlats};
 ghost use Rattle.plan_carries.specs.TapeLaws.{DesignsRunByThemselves, TapesRunByThemselves};
 
 /// A plan that computes the cells of a flat netlist has the netlist's inputs and outputs.
 pub fn plans_have_ports()
     ensures { PlansHavePorts }
-{}
-
-/// The plane of the plan shows the runs of the flat netlist in several contexts, if the lit edges
-/// start the loops of each context.
-pub fn planes_show_contexts()
-    ensures { PlanesShowContexts }
-{}
-
-/// The rows of the drawing of an admissible plan are its plane, whichever edges are lit.
-pub fn pictures_are_planes()
-    ensures { PicturesArePlanes }
 {}
 
 /// The text that is written of the drawing and the plan's table carries the flat netlist in several

@@ -4,7 +4,7 @@ use Rattle.ww_rule.specs.Wireworld.{Due}
 use Rattle.tiling.specs.Tiling.{Edge, Lit}
 use Rattle.tiling.specs.Tiling.Edge.{Beside}
 use Rattle.tiling.specs.MacroStep.{macro_step}
-use Rattle.tiling.specs.Steps.{after_steps, DrivesEntries, driven_edges}
+use Rattle.tiling.specs.Steps.{DrivesEntries, driven_edges}
 use Rattle.lane_core.specs.declared.plan.Plan.{Plan}
 use Rattle.lane_core.specs.Plans.{IsAdmissible, left_of, row_of}
 use Rattle.lane_core.specs.Instrs.{bit_on}
@@ -12,10 +12,6 @@ use Rattle.lane_core.specs.Columns.{after_columns}
 use Rattle.lane_core.specs.Entering.{first_loop_lane}
 use Rattle.plan_layout.specs.Layout.{tiling_of}
 use Rattle.plan_waves.specs.Waves.{is_free_entry, GoesOn, IsDarkInside, bits_at, loop_exit, loop_entry, tiles_back, DrivesInputs}
-
--- the edges after 0, 1, 2 and more macro steps go on by macro steps
-abbrev pub StepsGoOn : Type 0
-StepsGoOn = (plan : Plan) (lit : Lit) → GoesOn plan (after_steps (tiling_of plan) lit)
 
 -- if heads are injected at inputs, the tiling is driven at its free entries
 abbrev pub InputsAreEntries : Type 0

@@ -9,21 +9,13 @@
 mod beside;
 mod contexts;
 mod cycles;
-mod entries;
 mod shown;
 mod waves;
 
 pub use beside::ports_stand_free;
-pub use contexts::{
-    context_rows_are_injected, contexts_are_isolated, plans_run_by_contexts,
-    plans_show_context_rows, plans_show_contexts,
-};
+pub use contexts::{contexts_are_isolated, plans_show_context_rows, plans_show_contexts};
 pub use cycles::edges_run_by_cycles;
-pub use entries::{
-    driven_edges_go_on, free_entries_go_dark, inputs_are_entries, inputs_enter, steps_go_on,
-};
 pub use shown::plans_show_edges;
 pub use waves::{
-    body_begins_dark, columns_pass, loops_come_round, loops_have_ways_back, loops_return,
-    ways_back_are_apart,
+    body_begins_dark, columns_pass, loops_come_round, loops_have_ways_back, ways_back_are_apart,
 };

@@ -1,6 +1,6 @@
 // What comes out of the columns of an admissible plan, and comes back to them.
 ghost use Rattle.plan_waves.specs.WaysBack.{LoopsHaveWaysBack, WaysBackAreApart};
-ghost use Rattle.plan_waves.specs.Laws.{ColumnsPass, LoopsReturn, LoopsComeRound, BodyBeginsDark};
+ghost use Rattle.plan_waves.specs.Laws.{ColumnsPass, LoopsComeRound, BodyBeginsDark};
 
 /// The bits at the entries of the body at any macro time leave the first c columns c macro steps
 /// later, as these columns change them.
@@ -19,12 +19,6 @@ pub fn loops_have_ways_back()
 /// back.
 pub fn ways_back_are_apart()
     ensures { WaysBackAreApart }
-{}
-
-/// What leaves the body on the lane of a loop at any macro time enters it again one macro step
-/// later for each tile of the loop's way back.
-pub fn loops_return()
-    ensures { LoopsReturn }
 {}
 
 /// One period after any macro time, each loop's lane brings what all columns make of the bits that

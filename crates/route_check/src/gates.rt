@@ -82,8 +82,9 @@ fn is_wire_end(tables: &Tables, k: u32, inputs: u32, cell: (u32, u32)) -> bool
 const MOST_INPUTS: u32 = 3;
 
 fn is_calm_or_end(tables: &Tables, states: &[State], k: u32, cell: (u32, u32)) -> bool
-    ensures { IsTrue result → ((cell_state (box_plane tables.now states.now) (pos cell.0, pos cell.1)
-        ≡ Conductor) ⊎ IsWireEnd tables.now k (pos cell.0, pos cell.1)) }
+    ensures { IsTrue result
+        → ((cell_state (box_plane tables.now states.now) (pos cell.0, pos cell.1) ≡ Conductor)
+        ⊎ IsWireEnd tables.now k (pos cell.0, pos cell.1)) }
 {
     if is_conductor(state_at(states, tables.width, cell.0, cell.1)) {
         return true;

@@ -40,7 +40,8 @@ pub fn start_bits(
     to: Src,
     latches: u32,
 ) -> Result<Option<Vec<bool>>, OutOfMemory>
-    ensures leads { IfOk result (λ o. IfSome o (λ bits. LatchesLeadBack list.now to bits.items from)) }
+    ensures leads { IfOk result (λ o. IfSome o (λ bits.
+        LatchesLeadBack list.now to bits.items from)) }
     ensures all { IfOk result (λ o. IfSome o (λ bits. length bits.items ≡ latches)) }
 {
     let mut bits = Vec::new(alloc);

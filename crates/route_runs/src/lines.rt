@@ -80,8 +80,8 @@ pub fn test_inputs(t: &Tables, states: &[State], lines: &[PortLine]) -> Result<(
 
 /// Tests that the driven inputs from this number on are constant 0.
 pub fn test_dark(t: &Tables, from: usize) -> Result<(), CellFault>
-    ensures { IfOk result (λ _. (d : ℕ) (at : GateInput) → from ≤ d → slice_get t.now.driven d ≡ Some at
-        → IsDark t.now at) }
+    ensures { IfOk result (λ _. (d : ℕ) (at : GateInput) → from ≤ d
+        → slice_get t.now.driven d ≡ Some at → IsDark t.now at) }
 {
     for (d, at) in t.driven.as_slice().iter().enumerate() {
         if d >= from && !is_same_src(t.source(input_port(*at)), Src::Zero) {

@@ -55,7 +55,12 @@ fn carries(
     if !are_clear(wire.size, to.generation, period, bits) {
         return false;
     }
-    if !shows_end(state_at(states, t.width, to.x, to.y), to.generation, period, bits) {
+    if !shows_end(
+        state_at(states, t.width, to.x, to.y),
+        to.generation,
+        period,
+        bits,
+    ) {
         return false;
     }
     show_bits(t, states, wire, to.generation, period, bits)
@@ -83,7 +88,12 @@ fn wrong_cell(
             return t.fault_at_cell(FaultWord::Electron, wire.start as usize + i as usize);
         }
     }
-    if shows_end(state_at(states, t.width, to.x, to.y), to.generation, period, bits) {
+    if shows_end(
+        state_at(states, t.width, to.x, to.y),
+        to.generation,
+        period,
+        bits,
+    ) {
         return at_start(t, wire, FaultWord::Electron);
     }
     CellFault {
@@ -106,7 +116,13 @@ fn wire_between(
     ensures { IfOk result (λ o. o ≡ None → WireKeepsTime t.now states.now period wire ends.from
         ends.to) }
 {
-    if !takes(ends.from.generation, wire.size, ends.to.generation, wire.cycles, period) {
+    if !takes(
+        ends.from.generation,
+        wire.size,
+        ends.to.generation,
+        wire.cycles,
+        period,
+    ) {
         return Ok(Some(at_start(t, wire, FaultWord::Length)));
     }
     let (from, to) = (t.source(wire.from), t.source(input_port(wire.to)));

@@ -1,9 +1,8 @@
 //! Laws of parts: each function does nothing, and its contract is the law.
-ghost use Rattle.ww_rule.specs.Wireworld.{Plane};
-ghost use Rattle.wire_laws.specs.PartLaws.{PartsUnite, PartsMove, PartsReadInputs, PartsTakeOrder, UnusedInputsGo, PartsStartLater, ReadyByCount};
+ghost use Rattle.wire_laws.specs.PartLaws.{PartsUnite, PartsStartLater};
 ghost use Rattle.wire_laws.specs.PortWires.{PartsFeed};
-ghost use Rattle.wire_laws.specs.PartTimes.{PartsLitAlike, PartsBeginLater, OutputsBeginEarlier};
-ghost use Rattle.wire_laws.specs.PartJoins.{PartsJoin, LoneCellsAreParts, LoneCellsEndWires};
+ghost use Rattle.wire_laws.specs.PartTimes.{PartsBeginLater};
+ghost use Rattle.wire_laws.specs.PartJoins.{PartsJoin, LoneCellsEndWires};
 
 /// Wires from outputs of a part to inputs of it make another part, without these inputs. Each wire
 /// is a row of latches, as many as the cycles that it is long, which begins with the output's net
@@ -20,36 +19,9 @@ pub fn parts_unite()
     ensures { PartsUnite }
 {}
 
-/// A part may be moved, mirrored, and turned by an exchange of x and y.
-pub fn parts_move()
-    ensures { (p : Plane) → PartsMove p }
-{}
-
-/// What a part makes at its outputs depends on the bits of its inputs alone.
-pub fn parts_read_inputs()
-    ensures { PartsReadInputs }
-{}
-
-/// The inputs of a part may stand in any order, and its outputs too; outputs may be left out or
-/// stand twice, and an input may be read like an output.
-pub fn parts_take_order()
-    ensures { PartsTakeOrder }
-{}
-
-/// The first input of a part may be left without a drive: its bits are 0.
-pub fn unused_inputs_go()
-    ensures { UnusedInputsGo }
-{}
-
 /// A part without electrons is also a part if all its ports begin as many generations later.
 pub fn parts_start_later()
     ensures { PartsStartLater }
-{}
-
-/// Other ports and bits may stand for those of a part, if the cells are the same and are lit at the
-/// same generations. So a second meaning may stand for a part's, with the same bits at each output.
-pub fn parts_lit_alike()
-    ensures { PartsLitAlike }
 {}
 
 /// Each input of a part may begin some cycles later: before, the part gets 0 from it. Each output
@@ -57,12 +29,6 @@ pub fn parts_lit_alike()
 /// part, and no output begins more cycles later than an input, none counts then either.
 pub fn parts_begin_later()
     ensures { PartsBeginLater }
-{}
-
-/// Each output of a part may begin some cycles earlier, with bits that are 0 in these cycles, as if
-/// it came by latches that start as 0. If no later cycle counts for the part, none counts then.
-pub fn outputs_begin_earlier()
-    ensures { OutputsBeginEarlier }
 {}
 
 /// Two parts that stand apart, and wires from outputs of the first to the first inputs of the
@@ -74,20 +40,9 @@ pub fn parts_join()
     ensures { PartsJoin }
 {}
 
-/// A lone cell is a part: an input, and an output that shows the same bits.
-pub fn lone_cells_are_parts()
-    ensures { LoneCellsAreParts }
-{}
-
 /// A wire from an output of a part to a lone cell makes the cell one more output, which shows the
 /// wire's start bits and then the bits of the output. So early outputs can be brought to one
 /// latency, and another wire may begin there.
 pub fn lone_cells_end_wires()
     ensures { LoneCellsEndWires }
-{}
-
-/// A plane that shows its signals, and whose injections meet conductors, carries the signals if at
-/// most two neighbours of each input's cell are drawn, and none of these cells is a tail.
-pub fn ready_by_count()
-    ensures { ReadyByCount }
 {}
