@@ -139,9 +139,11 @@ fn better(alloc: Global, list: &CellList, plan: Plan, reach: u32) -> Result<Plan
 }
 
 /// Returns the reaches for which orders are tried: 2, 3 and 4, or 3 alone for a long list, whose
-/// placing takes long; 3 serves best.
+/// placing takes long; 3 serves best. A list of fewer than two cells has one order.
 pub fn reaches(list: &CellList) -> Range<u32> {
-    if list.cells.len() > LONG_LIST {
+    if list.cells.len() < 2 {
+        2..2
+    } else if list.cells.len() > LONG_LIST {
         3..4
     } else {
         2..5

@@ -22,11 +22,11 @@ use ww_base::{Failed, Page, Sink};
 use ww_rule::Pattern;
 
 // The greatest number of blocks of a lane that are kept for its rows: 32 columns of cells each.
-const KEPT: usize = 1024;
+const KEPT: usize = 16384;
 
 // How many blocks are kept for a drawing of this width.
 fn kept_blocks(width: u64) -> usize
-    ensures { result ≤ 1024 }
+    ensures { result ≤ 16384 }
 {
     (width / 32 + 1).min(KEPT as u64) as usize
 }

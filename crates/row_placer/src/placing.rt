@@ -16,6 +16,9 @@ use lane_core::{NetPlace, Program};
 use lists::List;
 use std::alloc::Global;
 
+// A program with more instructions than these is long.
+const LONG: usize = 200_000;
+
 /// Returns the numbers of the ports: of the loops' data, and then of the outputs.
 pub fn ports_of(alloc: Global, list: &CellList, loops: u32) -> Result<Vec<u32>, PlaceError>
     requires loops { loops ≡ loop_count list.now }
@@ -258,16 +261,26 @@ fn most_spare(list: &CellList) -> u32
     list.inputs.max(list.outs.len() as u32)
 }
 
+// How many more numbers of spare lanes are tried if the first program is this one: none if it is
+// long.
+fn more_tries(first: &Placed) -> u32 {
+    if first.program.instrs.len() > LONG {
+        0
+    } else {
+        4
+    }
+}
+
 /// Places a list on lanes: returns a program that computes it. It tries 0 to 4 spare lanes, but no
-/// more than there are inputs or outputs, whichever are more. The contract leaves open which of the
-/// programs is kept.
+/// more than there are inputs or outputs, whichever are more, and 0 alone if that program is long.
+/// The contract leaves open which of the programs is kept.
 pub fn place(alloc: Global, list: &CellList) -> Result<Program, PlaceError>
     requires small { IsPlaceable list.now }
     ensures { IfOk result (IsPlacedWithin list.now (max list.now.inputs (length list.now.outs))) }
 {
     let loops = count_loops(list);
     let mut best = place_with(alloc, list, loops, 0, &[])?;
-    for spare in 0..most_spare(list).min(4) {
+    for spare in 0..most_spare(list).min(more_tries(&best)) {
         let next = place_with(alloc, list, loops, spare + 1, &[])?;
         best = smaller(best, next);
     }
