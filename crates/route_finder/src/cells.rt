@@ -19,7 +19,7 @@ pub struct Link {
 }
 
 /// The direction of a wire.
-#[derive(Clone, Copy, PartialEq, Eq)]
+#[derive(Clone, Copy, Debug, PartialEq, Eq)]
 pub enum Way {
     Unknown,
     /// From the first port to the second.
