@@ -56,10 +56,13 @@ struct Best {
     drawn: Drawn,
 }
 
+// Of two drawings with shorter periods than this the one with the smaller box is better.
+const SHORT_PERIOD: u32 = 48;
+
 // What a drawing costs: its box times its period.
 fn cost_of(drawing: &Drawing) -> u128 {
     let cells = u64::from(drawing.width) * u64::from(drawing.height);
-    u128::from(cells) * u128::from(drawing.period)
+    u128::from(cells) * u128::from(drawing.period.max(SHORT_PERIOD))
 }
 
 // The better one of two drawings, the first of them if they cost the same.
