@@ -56,7 +56,7 @@ struct Best {
     drawn: Drawn,
 }
 
-// Of two drawings with shorter periods than this the one with the smaller box is better.
+// Of drawings whose periods are shorter than this, the one with the smallest box is best.
 const SHORT_PERIOD: u32 = 48;
 
 // What a drawing costs: its box times its period.
