@@ -9,11 +9,11 @@ use Rattle.clap.specs.Lexer.{long_of, short_of}
 use Rattle.clap.specs.Values.{is_request}
 use Rattle.clap.specs.Matches.{count_text}
 use Rattle.clap.specs.Facts.{explicit_source, unwrap_or_range}
-use Rattle.clap.specs.Walk.{Held, Names, Row, Rule, Step, next, trailing, subcommand, value, Text, Walk, action_of, answers_to, arg_by_id, arg_by_index, arg_by_long, arg_by_short, attached_value, count_of, finished, has_row, is_empty, is_pending, most_values, nothing_held, reacted, settled, stop_after, subcommand_met, takes_several, takes_values, values_or_missing, walk, walk_from, walked, with_default, word_met}
+use Rattle.clap.specs.Walk.{Held, Names, Row, Rule, Step, next, trailing, subcommand, value, Text, Walk, action_of, answers_to, arg_by_id, arg_by_index, arg_by_long, arg_by_short, attached_value, count_of, finished, has_row, is_empty, is_pending, most_values, nothing_held, reacted, settled, subcommand_met, takes_several, takes_values, values_or_missing, walk, walk_from, walked, with_default, word_met}
 use Rattle.clap.specs.Simple.{App, Shape, argument_words, built, entered, is_simple, label_of, names_of}
 use Rattle.clap.specs.Kinds.{Kinds, check_kinds, or_else, range_kinds, request_kinds}
-use Rattle.clap.specs.Takes.{action_passes, built_takes, bundle_passes, bundle_step_passes, count_passes, default_passes, entered_passes, flag_word_passes, flags_pass, is_given, is_valid, level_passes, long_passes, option_passes, other_passes, positional_passes, react_passes, set_passes, settle_passes, short_passes, step_passes, takes, turn_passes, use_passes, value_passes, values_pass, walk_passes, word_passes}
-use Rattle.clap.specs.Faults.{action_fault, built_fault, bundle_fault, bundle_step_fault, check_fault, count_fault, default_fault, defaults_fault, entered_fault, fault_of, flag_word_fault, flags_fault, level_fault, long_fault, option_fault, other_fault, positional_fault, react_fault, set_fault, settle_fault, short_fault, step_fault, turn_fault, use_fault, values_fault, walk_fault, word_fault}
+use Rattle.clap.specs.Takes.{action_passes, built_takes, bundle_step_passes, count_passes, default_passes, entered_passes, flag_word_passes, flags_pass, is_given, is_valid, level_passes, long_passes, option_passes, other_passes, positional_passes, react_passes, set_passes, settle_passes, short_passes, step_passes, takes, turn_passes, use_passes, value_passes, values_pass, walk_passes, word_passes}
+use Rattle.clap.specs.Faults.{action_fault, built_fault, bundle_step_fault, check_fault, count_fault, default_fault, defaults_fault, entered_fault, fault_of, flag_word_fault, flags_fault, level_fault, long_fault, option_fault, other_fault, positional_fault, react_fault, set_fault, settle_fault, short_fault, step_fault, turn_fault, use_fault, values_fault, walk_fault}
 use Rattle.clap.specs.declared.builder.action.ArgAction.{ArgAction}
 use Rattle.clap.specs.declared.error.kind.ErrorKind.TheVariants as kind
 use Rattle.clap.specs.declared.builder.action.ArgAction.TheVariants.{Set, Append, SetTrue, SetFalse, Count, Help, HelpShort, HelpLong, Version}
@@ -62,8 +62,11 @@ values_none a (v ∷ vs) e =
     or_none _ _ (if_true (value_passes a v) _ p.0) (values_none a vs p.1)
 
 no_value : (least n : ℕ) → least ≤ n → (nat_lt 0 least && n == 0) ≡ false
-no_value least zero low = ap (λ t. t && true) (le-ltb 0 least low)
-no_value least (suc n) low = and_false (nat_lt 0 least)
+no_value least n low = go (n == 0) refl
+  where
+    go : (t : Bool) → (n == 0) ≡ t → (nat_lt 0 least && t) ≡ false
+    go true is = let none : n ≡ 0 = eqb-true n 0 is in ap (λ t. t && true) (le-ltb 0 least (omega (arith, none, low)))
+    go false is = and_false (nat_lt 0 least)
 
 range_none : (least most n : ℕ) → least ≤ n → n ≤ most → range_kinds least most n ≡ []
 range_none least most n low high = if_false (nat_lt 0 least && n == 0) _ _ (no_value least n low) (go (least == most) refl)
@@ -146,6 +149,7 @@ module _ (c : List Rule) (again : Bool) where
   flag_none (Some x) flags (suc skip) h f g each e = each (drop (length (encode_utf8 x)) flags) skip h e
 
   flags_none : (k : ℕ) (flags : Text) (skip : ℕ) (h : Held) → flags_pass c again k flags skip h ≡ true → flags_fault c again k flags skip h ≡ []
+  unfolding flags_pass flags_fault
   flags_none zero flags skip h e = refl
   flags_none (suc k) flags skip h e = flag_none (slice_get (chars flags) 0) flags skip h (flags_pass c again k) (flags_fault c again k) (flags_none k) e
 
@@ -180,6 +184,7 @@ module _ (s : Shape) where
       (step_none w.position met.0 met.1 p.1))
 
   walk_none : (names : Names) (w : Walk) (words : List Text) → walk_passes s names w words ≡ true → walk_fault s names w words ≡ []
+  unfolding walk_passes walk_fault
   walk_none names w [] e = refl
   walk_none names w (word ∷ rest) e =
       let p = and_parts (turn_passes s names w word) (walk_passes s names (walked s.rules names w word) rest) e in
@@ -209,6 +214,7 @@ default_none rows a e = go (has_row a.id rows) (is_empty a.defaults) e
         or_none _ _ (no_request (action_of a) p.0) (values_none a a.defaults p.1)
 
 defaults_none : (rows : List Row) (rules : List Rule) → list_all default_passes rules ≡ true → defaults_fault rows rules ≡ []
+unfolding defaults_fault
 defaults_none rows [] e = refl
 defaults_none rows (a ∷ rest) e =
     let p = and_parts (default_passes a) (list_all default_passes rest) e in
@@ -216,12 +222,13 @@ defaults_none rows (a ∷ rest) e =
 
 none_missing : (rows : List Row) (rules : List Rule) → list_all (λ a. not a.required || is_given a.id rows) rules ≡ true → list_any (λ a. a.required && not (is_given a.id rows)) rules ≡ false
 none_missing rows [] e = refl
-none_missing rows (a ∷ rest) e = go a.required (is_given a.id rows) e
+none_missing rows (a ∷ rest) e = go a.required (is_given a.id rows) (none_missing rows rest) e
   where
-    go : (t u : Bool) → ((not t || u) && list_all (λ a. not a.required || is_given a.id rows) rest) ≡ true → ((t && not u) || list_any (λ a. a.required && not (is_given a.id rows)) rest) ≡ false
-    go true true e = none_missing rows rest e
-    go true false e = absurd (true≢false (sym e))
-    go false u e = none_missing rows rest e
+    go : (t u : Bool) → (list_all (λ a. not a.required || is_given a.id rows) rest ≡ true → list_any (λ a. a.required && not (is_given a.id rows)) rest ≡ false)
+        → ((not t || u) && list_all (λ a. not a.required || is_given a.id rows) rest) ≡ true → ((t && not u) || list_any (λ a. a.required && not (is_given a.id rows)) rest) ≡ false
+    go true true later e = later e
+    go true false later e = absurd (true≢false (sym e))
+    go false u later e = later e
 
 checks_none : (wants_help wants_subcommand wants_argument : Bool) → wants_help ≡ false → wants_subcommand ≡ false → wants_argument ≡ false → check_kinds wants_help wants_subcommand wants_argument ≡ []
 checks_none true t u e f g = absurd (true≢false e)

@@ -1,5 +1,5 @@
 -- What clap answers to the words of the program.
-use Rattle.std.proofs.Common.{◌≡◌, ◌∙◌, inl, inr, [], true, ap, sym, subst, Err, Ok}
+use Rattle.std.proofs.Common.{◌≡◌, ◌∙◌, inl, inr, List, [], true, ap, sym, subst, Err, Ok}
 use Rattle.clap.specs.Faults.{fault_of, is_simple_and_free}
 use Rattle.clap.specs.Kinds.{FailsBy, HasKind, Kinds}
 use Rattle.clap.specs.Simple.{App, HasMatchesOf, is_simple, subcommand_of, subcommand_rows_of}
