@@ -1,5 +1,4 @@
 """Drives Chromium without a window, over its debugging pipe, for dev/player-test. Nothing but Chromium is needed."""
-import base64
 import fcntl
 import json
 import os
@@ -122,9 +121,6 @@ class Browser:
         """Says whether pages that are opened from now on are asked for less motion."""
         features = [{"name": "prefers-reduced-motion", "value": "reduce" if is_calm else ""}]
         self.send("Emulation.setEmulatedMedia", features=features)
-
-    def picture(self, file):
-        file.write_bytes(base64.b64decode(self.send("Page.captureScreenshot", format="png")["data"]))
 
     def key(self, key, text=None):
         """Presses a key, such as " " or "ArrowLeft"."""

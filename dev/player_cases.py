@@ -1,4 +1,4 @@
-"""What dev/player-test tries: bad texts and words, patterns that are made for it, and what hands do."""
+"""What dev/player-test tries: files of other kinds, bad words, patterns that are made for it, and what hands do."""
 import gzip
 import json
 
@@ -6,41 +6,6 @@ from blifww.program import printed
 
 HEAD = "x = 9, y = 9, rule = WireWorld\n"
 TABLE = "#C BLIFWW 2 P 32 L 0 C 1\n"
-BAD_TEXTS = [
-    "",
-    "#C only a comment\n",
-    ".model x\n",
-    "[M2]\n",
-    "x=3,y=3\n!",
-    "x = 3 y = 3\n!",
-    "x=3,y=3,rule=\n!",
-    "x=3,y=3,rule=Life\nQ",
-    "x=99999999999999999999,y=3,rule=Life\n!",
-    "x=020000,y=20000,rule=WireWorld\nQ",
-    HEAD + "3\nC!",
-    HEAD + "10C!",
-    HEAD + "CCC\n\n  \n",
-    HEAD + "0C!",
-    HEAD + "2!",
-    HEAD + "C Q!",
-    HEAD + "99999999999999999999C!",
-    HEAD + "9$C!",
-    HEAD + "C\r!",
-    HEAD + "C3",
-    HEAD + "C3\n",
-    HEAD + "C$ #no\n!",
-    "#C BLIFWW 2 P 0 L 0 C 1\n" + HEAD + "!",
-    "#C BLIFWW 2 P 32 L 0\n" + HEAD + "!",
-    "#C BLIFWW 1 P 32 L 0 C 2\n" + HEAD + "!",
-    "#C BLIFWW IN 0 0 a\n" + TABLE + HEAD + "!",
-    TABLE + TABLE + HEAD + "!",
-    TABLE + "#C BLIFWW OUT 9 9 a\n#C BLIFWW FOO\n" + HEAD + "!",
-    TABLE + "#C BLIFWW OUT 2 2 a\n#C BLIFWW OUT 2 1 a\n" + HEAD + "!",
-    TABLE + "#C BLIFWW OUT 2 2 %61\n#C BLIFWW OUT 2 2 a\n" + HEAD + "!",
-    TABLE + "#C BLIFWW OUT 2 2 a%0a\n" + HEAD + "!",
-    TABLE + "#C BLIFWW NET 0 0 0 a 01\n" + HEAD + "!",
-    TABLE + "#C BLIFWW IN 0 0 \n" + HEAD + "!",
-]
 # Files of other kinds, and a word of the message that says so.
 KINDS = {
     gzip.compress((HEAD + "C!").encode(), mtime=0).decode("latin-1"): "gzip",
@@ -54,23 +19,6 @@ KINDS = {
     "\x7fELF\x02\x01\x01\0": "not a text",
     "[M2] (golly 3.3)\n": "macrocell",
 }
-# Names of inputs, and words with numbers: the page must take of them what tools/streams takes, and refuse the others.
-BUSES = [
-    ("a[1] a[2]", "a=3,1,2"),
-    ("a[0] a[1] a[2]", "a=5,-1,0x2"),
-    ("q[6] q[5] q[4]", "q=7,1,4"),
-    ("q[7] q[5] q[4]", "q=1"),
-    ("b3 b4 c", "b=2,1,3"),
-    ("b3 b5", "b=1"),
-    ("a[0] a[1] a0 a1", "a=1,2"),
-    ("a a[0] a[1]", "a=1"),
-    ("a[7]", "a=1"),
-    ("b3 c", "b=1"),
-    ("a[01] a[02]", "a=1"),
-    ("a[1] a[2]", "a=4"),
-    ("a[1] a[2]", "a=1,x"),
-    ("a[1] a[2]", "b=1"),
-]
 # Words of a link that are at fault.
 LINK_FAULTS = {
     "speed": "abc",
@@ -161,12 +109,6 @@ def drop(**given):
 def paste(text):
     facts = f"{{ bubbles: true, clipboardData: {transfer(text=text)} }}"
     return f"do document.body.dispatchEvent(new ClipboardEvent('paste', {facts}))"
-
-
-def bus_pattern(names):
-    """Returns a pattern with inputs of these names."""
-    ports = "".join(f"#C BLIFWW IN 0 {row} {name}\n" for row, name in enumerate(names.split()))
-    return f"{TABLE}{ports}#C BLIFWW OUT 8 0 out\n{HEAD}{'9C$' * 8}9C!\n"
 
 
 def linked():

@@ -6,10 +6,17 @@ script: pyenv's is one. So scripts that are started by others here run in the Py
 """
 import contextlib
 import os
+import re
 import shlex
 import sys
 import tempfile
 from pathlib import Path
+
+from . import command
+from .program import ROOT
+
+READER_CASES = ROOT / "dev/readers/cases"
+LETTERS = {"n": "\n", "r": "\r", "t": "\t", "\\": "\\"}
 
 
 class Checks:
@@ -48,3 +55,16 @@ def own_python():
         finally:
             for name, value in before.items():
                 os.environ.pop(name) if value is None else os.environ.update({name: value})
+
+
+def unescaped(word):
+    return re.sub(r"\\(x(..)|.)", lambda it: chr(int(it[2], 16)) if it[2] else LETTERS[it[1]], word)
+
+
+def reader_cases():
+    """Gives of each case of dev/readers/cases the number of its line, its kind, its other words, and what is said of
+    them."""
+    for at, line in enumerate(command.read(command.latin(READER_CASES)).split("\n")):
+        if line and not line.startswith("#"):
+            kind, *words, said = line.split(" | ")
+            yield at, kind, list(map(unescaped, words)), said

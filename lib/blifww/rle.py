@@ -282,18 +282,6 @@ def text_of(comments, width, height, runs):
 # What other scripts ask of patterns.
 
 
-def taken_near(pattern):
-    """Gives for each port its name and the conductors (x, y) in its row and the rows beside it, west of an input or
-    east of an output."""
-    rows = {}
-    for x, y, length, _ in pattern.runs:
-        rows.setdefault(y, []).append((x, x + length - 1))
-    for name, (x, y) in pattern.inputs.items():
-        yield name, [(first, row) for row in (y - 1, y, y + 1) for first, _ in rows.get(row, []) if first < x]
-    for name, (x, y) in pattern.outputs.items():
-        yield name, [(last, row) for row in (y - 1, y, y + 1) for _, last in rows.get(row, []) if last > x]
-
-
 def box_of_cells(pattern):
     """Returns the box of the cells that are not empty: its left, top, and what is right of it and below."""
     ends = [x + length for x, _, length, _ in pattern.runs], [y + 1 for _, y, _, _ in pattern.runs]

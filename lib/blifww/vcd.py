@@ -1,4 +1,4 @@
-"""Value change dumps: those of `blifww vcd`, those that every reader takes, and those of Icarus Verilog.
+"""Value change dumps: those of `blifww vcd`, and those that every reader takes.
 
 A net is (context, path, name), where the path is the numbers of the placed models, as texts. A wave is one net, or
 the nets of a bus.
@@ -243,24 +243,3 @@ def lines_of_dump(run, cycles):
         yield from (f"#{count * CYCLE + CYCLE // 2}", back + clock)
         count += 1
     yield f"#{count * CYCLE}"
-
-
-def read_verilog_dump(text):
-    """Returns the changes of the variables of the module under test in a dump of Icarus Verilog, {name: [(time,
-    value)]}."""
-    names, changes, scopes, now = {}, {}, [], 0
-    for line in text.splitlines():
-        words = line.split()
-        if words[:1] == ["$scope"]:
-            scopes.append(words[2])
-        elif words[:1] == ["$upscope"]:
-            scopes.pop()
-        elif words[:1] == ["$var"] and len(scopes) > 1:
-            names.setdefault(words[3], []).append(".".join([*scopes[2:], "".join(words[4:-1])]))
-        elif line[:1] == "#":
-            now = int(line[1:])
-        elif line[:1] in set("01xzb"):
-            value, name = words if line[0] == "b" else (line[0], line[1:])
-            for each in names.get(name, ()):
-                changes.setdefault(each, []).append((now, value.removeprefix("b")))
-    return changes

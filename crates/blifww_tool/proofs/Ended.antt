@@ -2,15 +2,15 @@
 use Rattle.std.proofs.Common.{ℕ, Bool, true, false, ◌≡◌, ◌≢◌, ◌≤◌, ◌<◌, ◌⊎◌, refl, sym, ap, ◌∙◌, subst, List, length, take, arith, inl, inr}
 use Rattle.command_words.specs.Shapes.{CommandValues}
 use Rattle.blifww_tool.specs.Commands.{reads_text, Accepts, Prints, Refuses, MustRefuse}
-use Rattle.refusals.specs.Refusals.{status_of, status_of_cause, refusal_line}
-use Rattle.blifww_tool.specs.Answer.{HasStopped, IsUnwritten}
-use Rattle.blifww_tool.specs.Run.{Asks, AsksNothing, HasText, Does, RefusesText, GaveTooMany, HasReason, TellsRefusal, TellsCause, TellsLike, TellsOr7, IsDone, IsRefused, CutsLine, CutsOutput, IsCalm, Ends}
-use Rattle.program_runs.specs.Runs.{Reading, Writing, Call, Gave, GaveIfRead, HoldsIfRead, Gained, GainedNothing, NoWriteFailed, WriteFailed, text_limit}
+use Rattle.refusals.specs.Refusals.{status_of, refusal_line}
+use Rattle.refusals.proofs.Statuses.{cause_is, never_done}
+use Rattle.blifww_tool.specs.Answer.{HasStopped}
+use Rattle.blifww_tool.specs.Run.{Asks, AsksForText, AsksNothing, HasText, Does, RefusesText, HasReason, TellsRefusal, TellsCause, TellsLike, TellsOr7, IsDone, IsRefused, CutsLine, CutsOutput, IsCalm, Ends}
+use Rattle.program_runs.specs.Runs.{Reading, Writing, Call, Gave, GaveIfRead, GaveTooMuch, HoldsIfRead, Gained, GainedNothing, IsUnwritten, NoWriteFailed, WriteFailed, text_limit}
 use Rattle.program_runs.proofs.Given.{gave_whole, no_more}
 use Rattle.blifww_tool.proofs.Given.{one_command}
 use Rattle.blifww_tool.proofs.Decided.{printed_or_refused, accepted_or_refused, one_cause}
 use Rattle.refusals.specs.declared.causes.Cause.{Cause}
-use Rattle.refusals.specs.declared.causes.Cause.TheVariants.{NetlistFault, WeightTooLarge, Loop, AigAtFault, AigLoop, Pattern, GridTooLarge, PortTable, Streams, StartWord, NoSuchNet, TooFar, TooManyContexts, NotQuiet, NotCircuit}
 use Rattle.refusals.specs.declared.refusal.Refusal.{Refusal}
 use Rattle.refusals.specs.declared.refusal.Refusal.TheVariants.{Usage, TooLong, ReadFault, WriteFault, NoMemory, Text}
 
@@ -35,7 +35,7 @@ short_by false src given all = omega (arith, ap length all.1)
 
 given_is : (c : Call) (command other : CommandValues) (text given : List ℕ) → IsCalm c command text → Asks c.words other → HasText other c.src given → given ≡ text
 given_is c command other text given calm asks all =
-    given_by (reads_text command) c.src text given calm.has (subst (λ (v : CommandValues). HasText v c.src given) (one_command c.words other command asks calm.asks) all)
+    given_by (reads_text command) c.src text given calm.has (subst (λ (v : CommandValues). HasText v c.src given) (one_command c.words other command asks calm.asked.asks) all)
 
 short_is : (c : Call) (command other : CommandValues) (text given : List ℕ) → IsCalm c command text → Asks c.words other → HasText other c.src given → length text ≤ text_limit
 short_is c command other text given calm asks all =
@@ -44,22 +44,22 @@ short_is c command other text given calm asks all =
 -- where the command reads, the source has the text, and no read failed
 held_by : (c : Call) (command other : CommandValues) (text : List ℕ) → IsCalm c command text → Asks c.words other → reads_text other ≡ true → HoldsIfRead true c.src text
 held_by c command other text calm asks reads =
-    subst (λ (b : Bool). HoldsIfRead b c.src text) (ap reads_text (one_command c.words command other calm.asks asks) ∙ reads) calm.has
+    subst (λ (b : Bool). HoldsIfRead b c.src text) (ap reads_text (one_command c.words command other calm.asked.asks asks) ∙ reads) calm.has
 
-too_many : (c : Call) (command : CommandValues) (text : List ℕ) → IsCalm c command text → GaveTooMany c.words c.src → text_limit < length text
-too_many c command text calm h =
-    omega (arith, no_more c.src.left c.src.left_after h.given text h.gave (held_by c command h.command text calm h.asked.asks h.reads).0, h.many)
+too_many : (c : Call) (command : CommandValues) (text : List ℕ) → IsCalm c command text → AsksForText c.words → GaveTooMuch c.src → text_limit < length text
+too_many c command text calm a h =
+    omega (arith, no_more c.src.left c.src.left_after h.given text h.gave (held_by c command a.command text calm a.asked.asks a.reads).0, h.many)
 
 -- what was printed is of that text,
 printed_of : (c : Call) (command : CommandValues) (text : List ℕ) (part : List ℕ → List ℕ) → IsCalm c command text → (d : Does c.words c.src c.out part) → Prints command text d.output
 printed_of c command text part calm d =
-    subst (λ (v : CommandValues). Prints v text d.output) (one_command c.words d.command command d.asked.asks calm.asks)
+    subst (λ (v : CommandValues). Prints v text d.output) (one_command c.words d.command command d.asked.asks calm.asked.asks)
     (subst (λ (t : List ℕ). Prints d.command t d.output) (given_is c command d.command text d.text calm d.asked.asks d.given) d.prints)
 
 -- and so is the cause
 refused_of : (c : Call) (command : CommandValues) (text : List ℕ) (cause : Cause) → IsCalm c command text → RefusesText c.words c.src cause → Refuses command text cause
 refused_of c command text cause calm h =
-    subst (λ (v : CommandValues). Refuses v text cause) (one_command c.words h.command command h.asked.asks calm.asks)
+    subst (λ (v : CommandValues). Refuses v text cause) (one_command c.words h.command command h.asked.asks calm.asked.asks)
     (subst (λ (t : List ℕ). Refuses h.command t cause) (given_is c command h.command text h.text calm h.asked.asks h.given) h.refused)
 
 -- why a run in which nothing fails is refused
@@ -69,9 +69,9 @@ data Why (c : Call) (command : CommandValues) (text : List ℕ) (r : Refusal) : 
   by_text : (cause : Cause) → r ≡ Text cause → length text ≤ text_limit → Refuses command text cause → Why c command text r
 
 why : (c : Call) (command : CommandValues) (text : List ℕ) (r : Refusal) → IsCalm c command text → HasReason c.words c.src r → Why c command text r
-why c command text Usage calm h = absurd (h.0 calm.shape)
-why c command text TooLong calm h = too_long refl (too_many c command text calm h)
-why c command text ReadFault calm h = absurd ((held_by c command h.command text calm h.asked.asks h.reads).1 h.failed)
+why c command text Usage calm h = absurd (h.0 command calm.asked)
+why c command text TooLong calm h = too_long refl (too_many c command text calm h.0 h.1)
+why c command text ReadFault calm h = absurd ((held_by c command h.0.command text calm h.0.asked.asks h.0.reads).1 h.1)
 why c command text WriteFault calm h = absurd h
 why c command text NoMemory calm h = no_memory refl
 why c command text (Text cause) calm h =
@@ -133,21 +133,21 @@ long_is_told c status (cut e k) command text calm long = absurd (never_cut c com
 -- why a run is refused whose words ask for nothing
 usage_or_memory : (words : List (List ℕ)) (src : Reading) (r : Refusal) → AsksNothing words → HasReason words src r → (r ≡ Usage) ⊎ (r ≡ NoMemory)
 usage_or_memory words src Usage none h = inl refl
-usage_or_memory words src TooLong none h = absurd (none h.command h.asked.asks)
-usage_or_memory words src ReadFault none h = absurd (none h.command h.asked.asks)
+usage_or_memory words src TooLong none h = absurd (none h.0.command h.0.asked)
+usage_or_memory words src ReadFault none h = absurd (none h.0.command h.0.asked)
 usage_or_memory words src WriteFault none h = absurd h
 usage_or_memory words src NoMemory none h = inr refl
-usage_or_memory words src (Text cause) none h = absurd (none h.command h.asked.asks)
+usage_or_memory words src (Text cause) none h = absurd (none h.command h.asked)
 
 nothing_is_told : (c : Call) (status : ℕ) → Ending c status → AsksNothing c.words → TellsOr7 c status Usage ⊎ ((status ≡ 6) × WriteFailed c.err × GainedNothing c.out)
-nothing_is_told c status (done e d) none = absurd (none d.done.command d.done.asked.asks)
+nothing_is_told c status (done e d) none = absurd (none d.done.command d.done.asked)
 nothing_is_told c status (refused e e' r) none =
     elim (usage_or_memory c.words c.src r.refusal none r.reason) [
       | inl is ↦ inl (inl (told_as c.err status r.refusal Usage is r.told))
       | inr is ↦ inl (inr (r.told.status_is ∙ ap status_of is))
     ]
 nothing_is_told c status (cut e (inl k)) none = inr (e, k.failed, k.nothing)
-nothing_is_told c status (cut e (inr k)) none = absurd (none k.front.command k.front.asked.asks)
+nothing_is_told c status (cut e (inr k)) none = absurd (none k.front.command k.front.asked)
 
 is_done : (c : Call) (status : ℕ) → Ending c status → status ≡ 0 → IsDone c
 is_done c status (done e d) z = d
@@ -176,32 +176,6 @@ ends c status e front = record {
   too_long = long_is_told c status e;
   nothing_asked = nothing_is_told c status e;
 }
-
--- a refusal's status is never that of a run that is done, and that of a cause in a text never that of a failed write
-cause_is : (cause : Cause) → (status_of_cause cause ≢ 0) × (status_of_cause cause ≢ 6)
-cause_is (NetlistFault f) = (λ e. cc, λ e. cc)
-cause_is (WeightTooLarge w) = (λ e. cc, λ e. cc)
-cause_is (Loop names) = (λ e. cc, λ e. cc)
-cause_is (AigAtFault fault) = (λ e. cc, λ e. cc)
-cause_is (AigLoop literals) = (λ e. cc, λ e. cc)
-cause_is (Pattern f) = (λ e. cc, λ e. cc)
-cause_is (GridTooLarge x y) = (λ e. cc, λ e. cc)
-cause_is (PortTable f) = (λ e. cc, λ e. cc)
-cause_is (Streams f) = (λ e. cc, λ e. cc)
-cause_is (StartWord f) = (λ e. cc, λ e. cc)
-cause_is (NoSuchNet name) = (λ e. cc, λ e. cc)
-cause_is (TooFar n) = (λ e. cc, λ e. cc)
-cause_is (TooManyContexts n limit) = (λ e. cc, λ e. cc)
-cause_is (NotQuiet g x y) = (λ e. cc, λ e. cc)
-cause_is (NotCircuit fault) = (λ e. cc, λ e. cc)
-
-never_done : (r : Refusal) → status_of r ≢ 0
-never_done Usage = λ e. cc
-never_done TooLong = λ e. cc
-never_done ReadFault = λ e. cc
-never_done WriteFault = λ e. cc
-never_done NoMemory = λ e. cc
-never_done (Text cause) = (cause_is cause).0
 
 -- a refusal's status is not that of a run that is done
 pub not_done : {A : Type 0} (status : ℕ) (r : Refusal) → status ≡ status_of r → status ≡ 0 → A

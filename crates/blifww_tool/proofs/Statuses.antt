@@ -2,7 +2,7 @@
 use Rattle.std.proofs.Common.{ℕ, ◌≡◌, ◌≢◌, ◌≤◌, ◌<◌, ◌*◌, ◌⊎◌, refl, sym, ap, ◌∙◌, subst, List, Some, inl, inr, arith}
 use Rattle.std.proofs.Math.Nat.{le-max_left}
 use Rattle.std.proofs.lemmas.Bool.{cases_eq}
-use Rattle.command_words.specs.Shapes.{CommandValues, compile, simulate, eval, probe, window, make, self_, tape, aiger, vcd, lift, IsCommand}
+use Rattle.command_words.specs.Shapes.{CommandValues, compile, simulate, eval, probe, window, make, self_, tape, aiger, vcd, lift}
 use Rattle.netlist_core.specs.Names.{Name}
 use Rattle.netlist_rules.specs.declared.fault.Fault.{Fault}
 use Rattle.netlist_text.specs.NetlistText.{IsAtFault, IsTooHeavy, HasLoop}
@@ -12,8 +12,8 @@ use Rattle.blifww_tool.specs.Aigs.{HasNoAig}
 use Rattle.blifww_tool.specs.Commands.{Refuses}
 use Rattle.blifww_tool.specs.Compilation.{HasNoRoom, latch_count, least_room}
 use Rattle.refusals.specs.Refusals.{status_of, status_of_cause}
-use Rattle.blifww_tool.specs.Run.{Asks, IsAsked, GaveTooMany, HasText, HasReason, RefusesText, IsRefused, CutsLine, CutsOutput, Ends}
-use Rattle.program_runs.specs.Runs.{Call, Reading, GaveAll, ReadFailed, WriteFailed}
+use Rattle.blifww_tool.specs.Run.{Asks, AsksForText, AsksNothing, IsAsked, HasText, HasReason, RefusesText, IsRefused, CutsLine, CutsOutput, Ends}
+use Rattle.program_runs.specs.Runs.{Call, Reading, GaveAll, GaveTooMuch, ReadFailed, WriteFailed}
 use Rattle.blifww_tool.specs.Statuses.{StatusesHaveCauses, IsOverALimit, IsTooLarge, HasNoPattern, WordsDoNotFit, IsFirstMiss, IsNotCircuit}
 use Rattle.blifww_tool.proofs.Given.{one_command}
 use Rattle.refusals.specs.declared.causes.Cause.{Cause}
@@ -221,24 +221,24 @@ module _ (words : List (List ℕ)) (src : Reading) where
       let looped = aig_loop_by read.0 cause e read.2 in
       (read.0, looped.0, read.1, looped.1)
 
-usage : (words : List (List ℕ)) (src : Reading) (r : Refusal) → HasReason words src r → status_of r ≡ 2 → IsCommand words → ⊥
+usage : (words : List (List ℕ)) (src : Reading) (r : Refusal) → HasReason words src r → status_of r ≡ 2 → AsksNothing words
 usage words src Usage h e = h.0
-usage words src TooLong h e = cc
-usage words src ReadFault h e = cc
+usage words src TooLong h e = absurd (omega (arith, e))
+usage words src ReadFault h e = absurd (omega (arith, e))
 usage words src WriteFault h e = absurd h
-usage words src NoMemory h e = cc
+usage words src NoMemory h e = absurd (omega (arith, e))
 usage words src (Text cause) h e = absurd ((not_cause cause).0 e)
 
 asked : (words : List (List ℕ)) (src : Reading) (r : Refusal) → HasReason words src r → status_of r ≢ 2 → status_of r ≢ 7 → (command : CommandValues) × IsAsked words command
 asked words src Usage h two seven = absurd (two refl)
-asked words src TooLong h two seven = (h.command, h.asked)
-asked words src ReadFault h two seven = (h.command, h.asked)
+asked words src TooLong h two seven = (h.0.command, h.0.asked)
+asked words src ReadFault h two seven = (h.0.command, h.0.asked)
 asked words src WriteFault h two seven = absurd h
 asked words src NoMemory h two seven = absurd (seven refl)
 asked words src (Text cause) h two seven = (h.command, h.asked)
 
 no_room : (words : List (List ℕ)) (src : Reading) (r : Refusal) (contexts : ℕ) (starts : List (List ℕ)) → HasReason words src r → status_of r ≡ 4 → Asks words (compile contexts starts)
-    → GaveTooMany words src ⊎ ((text : List ℕ) × GaveAll src text × IsRefusedAsLarge contexts starts text)
+    → (AsksForText words × GaveTooMuch src) ⊎ ((text : List ℕ) × GaveAll src text × IsRefusedAsLarge contexts starts text)
 no_room words src Usage contexts starts h e asks = absurd (omega (arith, e))
 no_room words src TooLong contexts starts h e asks = inl h
 no_room words src ReadFault contexts starts h e asks = absurd (omega (arith, e))
@@ -383,7 +383,7 @@ not_circuit c (Text cause) h e = not_circuit_by c cause e h
 read_fault : (words : List (List ℕ)) (src : Reading) (r : Refusal) → HasReason words src r → status_of r ≡ 5 → ReadFailed src
 read_fault words src Usage h e = cc
 read_fault words src TooLong h e = cc
-read_fault words src ReadFault h e = h.failed
+read_fault words src ReadFault h e = h.1
 read_fault words src WriteFault h e = absurd h
 read_fault words src NoMemory h e = cc
 read_fault words src (Text cause) h e = absurd ((not_cause cause).1 e)
@@ -410,13 +410,13 @@ by_refusal c status n e r = record { refusal = r.refusal; reason = r.reason; sta
 refused : (c : Call) (status n : ℕ) → Ends c status → n ≢ 0 → n ≢ 6 → status ≡ n → Refused c n
 refused c status n h not_zero not_six e = by_refusal c status n e (h.refused (λ z. not_zero (sym e ∙ z)) (λ z. not_six (sym e ∙ z)))
 
-usage_of : (c : Call) → Refused c 2 → IsCommand c.words → ⊥
+usage_of : (c : Call) → Refused c 2 → AsksNothing c.words
 usage_of c r = usage c.words c.src r.refusal r.reason r.status_is
 
 too_large_of : (c : Call) → Refused c 4 → (contexts : ℕ) (starts : List (List ℕ)) → Asks c.words (compile contexts starts) → IsTooLarge c contexts starts
 too_large_of c r contexts starts asks = by (no_room c.words c.src r.refusal contexts starts r.reason r.status_is asks)
   where
-    by : GaveTooMany c.words c.src ⊎ ((text : List ℕ) × GaveAll c.src text × IsRefusedAsLarge contexts starts text) → IsTooLarge c contexts starts
+    by : (AsksForText c.words × GaveTooMuch c.src) ⊎ ((text : List ℕ) × GaveAll c.src text × IsRefusedAsLarge contexts starts text) → IsTooLarge c contexts starts
     by (inl many) = inl many
     by (inr (text, given, inl (weight, heavy))) = inr (inl (text, weight, given, heavy))
     by (inr (text, given, inr (limit, room))) = inr (inr (text, limit, given, several contexts starts text limit room, room))

@@ -1,26 +1,21 @@
 -- How the part of a run that reads and writes stops.
-use Rattle.std.proofs.Common.{ℕ, Bool, true, false, ◌≡◌, ◌<◌, refl, subst, List, length, take, Err, Result, IfErr}
-use Rattle.std.specs.Prelude.{Option, Some, None}
-use Rattle.std.specs.Io.KnownBytes.{Keeps}
-use Rattle.command_words.specs.Shapes.{CommandValues, IsCommand}
+use Rattle.std.proofs.Common.{ℕ, Bool, true, false, ◌≡◌, ◌<◌, sym, ◌∙◌, refl, subst, List, length, take, Err, Result, IfErr}
+use Rattle.std.specs.Prelude.{None}
+use Rattle.std.proofs.lemmas.Option.{none-some}
+use Rattle.command_words.specs.Shapes.{CommandValues, IsTaken, command_values}
 use Rattle.command_words.specs.declared.error.WordsError.{WordsError}
 use Rattle.command_words.specs.declared.error.WordsError.TheVariants as words_error
 use Rattle.ww_base.specs.declared.whole.ReadAllError.{ReadAllError}
 use Rattle.ww_base.specs.declared.whole.ReadAllError.TheVariants as read_error
 use Rattle.refusals.specs.declared.causes.TextError.{TextError}
 use Rattle.refusals.specs.declared.causes.TextError.TheVariants as text_error
-use Rattle.blifww_tool.specs.Answer.{HasStopped, HasStoppedOn, IsUnwritten, PrintsPart}
+use Rattle.blifww_tool.specs.Answer.{HasStopped, HasStoppedOn, PrintsPart}
 use Rattle.blifww_tool.specs.Commands.{reads_text, HasTextCause}
 use Rattle.refusals.specs.Refusals.{words_refusal, read_refusal, text_refusal}
-use Rattle.blifww_tool.specs.Run.{IsAsked, HasText, Does}
-use Rattle.program_runs.specs.Runs.{Reading, Writing, Gave, GaveIfRead, NoReadFailed, ReadFailed, text_limit}
+use Rattle.blifww_tool.specs.Run.{AsksNothing, IsAsked, HasText, Does}
+use Rattle.program_runs.specs.Runs.{Reading, Writing, Gave, GaveIfRead, IsUntouched, IsUnwritten, NoReadFailed, ReadFailed, text_limit}
 use Rattle.refusals.specs.declared.refusal.Refusal.{Refusal}
 use Rattle.refusals.specs.declared.refusal.Refusal.TheVariants.{Usage, TooLong, ReadFault, WriteFault, NoMemory, Text}
-
--- what is not written to stays
-pub kept : (held : Option (List ℕ)) → Keeps held held
-kept None = tt
-kept (Some bytes) = refl
 
 -- what is printed of the text that words have is what they do
 pub does : (words : List (List ℕ)) (src : Reading) (out : Writing) (command : CommandValues) (text t : List ℕ) (part : List ℕ → List ℕ) → IsAsked words command → HasText command src text → t ≡ text → PrintsPart command t out part
@@ -29,17 +24,22 @@ does words src out command text t part asked given same h =
     let p = subst (λ (t : List ℕ). PrintsPart command t out part) same h in
     record { command = command; asked = asked; text = text; given = given; output = p.output; prints = p.prints; wrote = p.wrote }
 
+-- words in which clap finds a fault, or that have no values, ask for nothing
+asks_nothing : (words : List (List ℕ)) → (IsTaken words → command_values words ≡ None) → AsksNothing words
+asks_nothing words none command asked = none-some command (sym (none asked.taken) ∙ asked.asks)
+
 -- at words that give no command,
-pub by_words : (words : List (List ℕ)) (src : Reading) (out : Writing) (e : WordsError) → IsUnwritten out → NoReadFailed src → ((e ≡ words_error.Usage) → IsCommand words → ⊥) → HasStopped words src out (words_refusal e)
-by_words words src out words_error.Usage nothing calm h = (nothing, (h refl, calm))
-by_words words src out words_error.NoMemory nothing calm h = (nothing, calm)
+pub by_words : (words : List (List ℕ)) (src : Reading) (out : Writing) (e : WordsError) → IsUnwritten out → IsUntouched src → ((e ≡ words_error.Usage) → IsTaken words → command_values words ≡ None) → HasStopped words src out (words_refusal e)
+by_words words src out words_error.Usage nothing untouched h = (nothing, (asks_nothing words (h refl), untouched))
+by_words words src out words_error.NoMemory nothing untouched h = (nothing, untouched.faults)
 
 -- at a source that gives no text,
 pub by_read : (words : List (List ℕ)) (src : Reading) (out : Writing) (command : CommandValues) (e : ReadAllError) → IsUnwritten out → IsAsked words command → reads_text command ≡ true
     → (((e ≡ read_error.ReadFault) → ⊥) → NoReadFailed src) → ((e ≡ read_error.ReadFault) → ReadFailed src) → ((e ≡ read_error.TooLong) → (given : List ℕ) × Gave src given × (text_limit < length given)) → HasStopped words src out (read_refusal e)
-by_read words src out command read_error.ReadFault nothing asked reads calm failed long = (nothing, record { command = command; asked = asked; reads = reads; failed = failed refl })
+by_read words src out command read_error.ReadFault nothing asked reads calm failed long = (nothing, (record { command = command; asked = asked; reads = reads }, failed refl))
 by_read words src out command read_error.TooLong nothing asked reads calm failed long =
-    let l = long refl in (nothing, record { command = command; asked = asked; reads = reads; given = l.0; gave = l.1; many = l.2; calm = calm (λ e. cc) })
+    let l = long refl in
+    (nothing, (record { command = command; asked = asked; reads = reads }, record { given = l.0; gave = l.1; many = l.2; calm = calm (λ e. cc) }))
 by_read words src out command read_error.NoMemory nothing asked reads calm failed long = (nothing, calm (λ e. cc))
 
 -- at a text that gives no output,

@@ -8,7 +8,7 @@ use Rattle.vcd_write.specs.Vcd.{waves_in}
 use Rattle.command_words.specs.Shapes.{CommandValues}
 use Rattle.blifww_tool.specs.Commands.{Prints, Refuses}
 use Rattle.blifww_tool.specs.Run.{Does, HasReason}
-use Rattle.program_runs.specs.Runs.{Reading, Writing, Gained, GainedNothing, NoWriteFailed, WriteFailed}
+use Rattle.program_runs.specs.Runs.{Reading, Writing, Gained, IsUnwritten, WriteFailed}
 use Rattle.blifww_tool.specs.declared.output.Output.{Output}
 use Rattle.blifww_tool.specs.declared.output.Output.TheVariants.{Lines, Drawing, Waves, Lifted}
 use Rattle.refusals.specs.declared.refusal.Refusal.{Refusal}
@@ -27,11 +27,6 @@ IsWritableOutput (Lines text) = ⊤
 IsWritableOutput (Drawing planned) = IsAdmissible planned.plan
 IsWritableOutput (Waves vcd) = ⊤
 IsWritableOutput (Lifted lift) = ⊤
-
--- out was not written to
-pub record IsUnwritten (out : Writing) : Type 0 where
-  pub nothing : GainedNothing out
-  pub calm : NoWriteFailed out
 
 -- out was cut off, or not written to if there is another reason
 abbrev pub HasStopped : List (List ℕ) → Reading → Writing → Refusal → Type 0

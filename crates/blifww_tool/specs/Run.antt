@@ -5,30 +5,38 @@ use Rattle.std.specs.Prelude.{◌≡◌, ◌≢◌, ◌≤◌, ◌<◌, ◌⊎�
 use Rattle.std.specs.declared.option.Option.{Option}
 use Rattle.std.specs.Io.KnownBytes.{Consumes, Appends, Keeps, IsAtEnd}
 use Rattle.ww_base.specs.Faults.{RoseByOne}
-use Rattle.command_words.specs.Shapes.{CommandValues, command_values, IsCommand, IsTaken}
+use Rattle.command_words.specs.Shapes.{CommandValues, command_values, IsTaken}
 use Rattle.blifww_tool.specs.Commands.{reads_text, Accepts, Prints, Refuses, MustRefuse, AreLikeCauses}
 use Rattle.refusals.specs.Refusals.{status_of, refusal_line}
 use Rattle.refusals.specs.declared.causes.Cause.{Cause}
 use Rattle.refusals.specs.declared.refusal.Refusal.{Refusal}
 use Rattle.refusals.specs.declared.refusal.Refusal.TheVariants.{Usage, TooLong, ReadFault, WriteFault, NoMemory, Text}
-use Rattle.program_runs.specs.Runs.{text_limit, Reading, reading, Writing, writing, Call, call, Gave, ReadFailed, NoReadFailed, GaveAll, IsUntouched, GaveIfRead, Gained, GainedNothing, WriteFailed, NoWriteFailed, HoldsIfRead}
+use Rattle.program_runs.specs.Runs.{text_limit, Reading, reading, Writing, writing, Call, call, Gave, ReadFailed, NoReadFailed, GaveAll, GaveTooMuch, IsUntouched, GaveIfRead, Gained, GainedNothing, WriteFailed, NoWriteFailed, HoldsIfRead}
 
 -- the words ask for this command, with these values
 abbrev pub Asks : List (List ℕ) → CommandValues → Type 0
 Asks words command = command_values words ≡ Some command
 
--- the words ask for no command
-abbrev pub AsksNothing : List (List ℕ) → Type 0
-AsksNothing words = (command : CommandValues) → Asks words command → ⊥
-
--- a command that the words ask for reads nothing
-abbrev pub AsksForNoText : List (List ℕ) → Type 0
-AsksForNoText words = (command : CommandValues) → Asks words command → reads_text command ≡ false
-
 -- the words ask for the command, and clap finds no fault in them
 pub record IsAsked (words : List (List ℕ)) (command : CommandValues) : Type 0 where
   pub asks : Asks words command
   pub taken : IsTaken words
+
+-- the words ask for no command: clap finds a fault in them, or they have no values, as where a
+-- number is not in its range
+abbrev pub AsksNothing : List (List ℕ) → Type 0
+AsksNothing words = (command : CommandValues) → IsAsked words command → ⊥
+
+-- a command that the words ask for reads nothing
+abbrev pub AsksForNoText : List (List ℕ) → Type 0
+AsksForNoText words =
+    (command : CommandValues) → IsAsked words command → reads_text command ≡ false
+
+-- the words ask for a command that reads a text
+pub record AsksForText (words : List (List ℕ)) : Type 0 where
+  pub command : CommandValues
+  pub asked : IsAsked words command
+  pub reads : reads_text command ≡ true
 
 -- the command has this text from the source
 abbrev pub HasText : CommandValues → Reading → List ℕ → Type 0
@@ -55,28 +63,11 @@ pub record RefusesText (words : List (List ℕ)) (src : Reading) (cause : Cause)
   pub given : HasText command src text
   pub refused : Refuses command text cause
 
--- the words ask for a command that reads a text, and the source gave too many bytes; no read failed
-pub record GaveTooMany (words : List (List ℕ)) (src : Reading) : Type 0 where
-  pub command : CommandValues
-  pub asked : IsAsked words command
-  pub reads : reads_text command ≡ true
-  pub given : List ℕ
-  pub gave : Gave src given
-  pub many : text_limit < length given
-  pub calm : NoReadFailed src
-
--- the words ask for a command that reads a text, and one read failed
-pub record FailedToRead (words : List (List ℕ)) (src : Reading) : Type 0 where
-  pub command : CommandValues
-  pub asked : IsAsked words command
-  pub reads : reads_text command ≡ true
-  pub failed : ReadFailed src
-
 -- why a run is refused before it writes; a read failed only if this is why
 abbrev pub HasReason : List (List ℕ) → Reading → Refusal → Type 0
-HasReason words src Usage = (IsCommand words → ⊥) × NoReadFailed src
-HasReason words src TooLong = GaveTooMany words src
-HasReason words src ReadFault = FailedToRead words src
+HasReason words src Usage = AsksNothing words × IsUntouched src
+HasReason words src TooLong = AsksForText words × GaveTooMuch src
+HasReason words src ReadFault = AsksForText words × ReadFailed src
 HasReason words src WriteFault = ⊥
 HasReason words src NoMemory = NoReadFailed src
 HasReason words src (Text cause) = RefusesText words src cause
@@ -123,8 +114,7 @@ pub record CutsOutput (c : Call) : Type 0 where
 
 -- the words ask for the command, the source has the text for it, and nothing failed
 pub record IsCalm (c : Call) (command : CommandValues) (text : List ℕ) : Type 0 where
-  pub shape : IsCommand c.words
-  pub asks : Asks c.words command
+  pub asked : IsAsked c.words command
   pub has : HoldsIfRead (reads_text command) c.src text
   pub writes : WriteFailed c.out → ⊥
   pub tells : WriteFailed c.err → ⊥

@@ -9,19 +9,19 @@ use Rattle.netlist_text.specs.NetlistText.{IsAtFault, IsTooHeavy, HasLoop}
 use Rattle.aiger_text.specs.declared.fault.AigFault.{AigFault}
 use Rattle.aiger_text.specs.AigText.{HasAigFault}
 use Rattle.start_words.specs.declared.error.StartFault.{StartFault}
-use Rattle.command_words.specs.Shapes.{CommandValues, compile, aiger, IsCommand}
+use Rattle.command_words.specs.Shapes.{CommandValues, compile, aiger}
 use Rattle.blifww_tool.specs.Compilation.{HasNoRoom}
 use Rattle.tile_match.specs.declared.error.CircuitFault.{CircuitFault}
 use Rattle.blifww_tool.specs.Aigs.{HasNoAig}
-use Rattle.blifww_tool.specs.Run.{Asks, IsAsked, GaveTooMany, RefusesText, Ends}
-use Rattle.program_runs.specs.Runs.{Call, GaveAll, ReadFailed, WriteFailed}
+use Rattle.blifww_tool.specs.Run.{Asks, AsksForText, AsksNothing, IsAsked, RefusesText, Ends}
+use Rattle.program_runs.specs.Runs.{Call, GaveAll, GaveTooMuch, ReadFailed, WriteFailed}
 use Rattle.refusals.specs.declared.causes.Cause.TheVariants.{WeightTooLarge, AigLoop, Pattern, GridTooLarge, PortTable, Streams, StartWord, NoSuchNet, TooFar, TooManyContexts, NotQuiet, NotCircuit}
 
 -- the source gave too many bytes, or the command refuses the text that it has: for the netlist's
 -- weight, the size of the pattern's box, the number of generations, or the number of contexts
 abbrev pub IsOverALimit : Call → Type 0
 IsOverALimit c =
-    GaveTooMany c.words c.src
+    (AsksForText c.words × GaveTooMuch c.src)
     ⊎ (((weight : ℕ) × RefusesText c.words c.src (WeightTooLarge weight))
     ⊎ (((width height : ℕ) × RefusesText c.words c.src (GridTooLarge width height))
     ⊎ (((generations : ℕ) × RefusesText c.words c.src (TooFar generations))
@@ -31,7 +31,7 @@ IsOverALimit c =
 -- several contexts have no room
 abbrev pub IsTooLarge : Call → (contexts : ℕ) → (starts : List (List ℕ)) → Type 0
 IsTooLarge c contexts starts =
-    GaveTooMany c.words c.src
+    (AsksForText c.words × GaveTooMuch c.src)
     ⊎ (((text : List ℕ) × (weight : ℕ) × GaveAll c.src text × IsTooHeavy text weight)
     ⊎ ((text : List ℕ) × (limit : ℕ) × GaveAll c.src text × (1 < contexts)
     × HasNoRoom contexts starts text limit))
@@ -65,7 +65,7 @@ pub record HaveCauses (c : Call) (status : ℕ) : Type 0 where
       → (text : List ℕ) × (fault : Fault) × GaveAll c.src text × IsAtFault text fault
   pub aig_at_fault : status ≡ 1 → Asks c.words aiger
       → (text : List ℕ) × (fault : AigFault) × GaveAll c.src text × HasAigFault text fault
-  pub usage : status ≡ 2 → IsCommand c.words → ⊥
+  pub usage : status ≡ 2 → AsksNothing c.words
   pub asked : status ≢ 2 → status ≢ 6 → status ≢ 7
       → (command : CommandValues) × IsAsked c.words command
   pub a_loop : status ≡ 3 → ¬ Asks c.words aiger

@@ -56,7 +56,8 @@ fn shown(
 /// Makes a line for each output of the text's pattern in each of its contexts, with the bits that
 /// the output shows. The words are the streams of the inputs. All outputs of context 0 come first.
 /// The plane is run, whatever the pattern is. For long runs: `lift`, then `eval`, which prints the
-/// same lines (`lifted_print_alike` of `program_laws`); `lift` refuses several contexts and tapes.
+/// same lines (`lifted_print_alike` of `program_laws`); `lift` takes one context, and of tapes
+/// those that add nothing.
 pub fn simulate(
     alloc: Global,
     cycles: usize,

@@ -3,6 +3,7 @@ pub mod Entered
 pub mod Found
 pub mod Given
 pub mod Named
+pub mod NoFault
 pub mod Numerals
 pub mod ReadMet
 pub mod Parsed

@@ -177,9 +177,6 @@ met_valued met (inr (inr (inr (inr (inr (inr (inr (inr (inr (inr (inr none))))))
 has_values : (words : List Text) → IsCommand words → is_some (command_values words) ≡ true
 has_values words i = met_valued (subcommand_of blifww_app words) (taken_met words i.taken) i.in_range i.beside
 
-pub no_command : (words : List Text) → command_values words ≡ None → IsCommand words → ⊥
-no_command words none i = true≢false (sym (has_values words i) ∙ ap (λ (o : Option CommandValues). is_some o) none)
-
 some_of : (found : Option CommandValues) → is_some found ≡ true → (v : CommandValues) × (found ≡ Some v)
 some_of None e = absurd (true≢false (sym e))
 some_of (Some v) e = (v, refl)

@@ -1,12 +1,12 @@
 // The command that words ask for.
-ghost use Rattle.std.specs.Prelude.{◌≡◌, ◌≤◌, ◌==◌, not, IfOk, IfSome, List, OnOk, IsErrOf, MatchResult, Some, length, map, option_and_then, option_map, string_bytes};
+ghost use Rattle.std.specs.Prelude.{◌≡◌, ◌≤◌, ◌==◌, not, IfOk, IfSome, List, None, OnOk, IsErrOf, MatchResult, Some, length, map, option_and_then, option_map, string_bytes};
 ghost use Rattle.clap.specs.Simple.{subcommand_rows_of};
 ghost use Rattle.clap.specs.Lexer.{usize_max};
 ghost use Rattle.clap.specs.Walk.{Row, first_of, rows_of};
 ghost use Rattle.clap.specs.Words.{found_of};
 ghost use Rattle.command_words.specs.StreamCommands.{Reads, range_of, values_by, values_of_kind};
 ghost use Rattle.command_words.specs.Numbers.{TakesNumber, contexts_range, cycles_range, seed_range, size_range, tape_cycles_range};
-ghost use Rattle.command_words.specs.Shapes.{CommandValues, HasNumbersInRange, HasViewInRange, IsCommand, IsTaken, IsWritten, command_values, compile_by, contexts_met, driven_command_by, make_by, number_met, probe_by, self_by, streams_met, values_by_name, values_met, values_of, view_met, window_by};
+ghost use Rattle.command_words.specs.Shapes.{CommandValues, HasNumbersInRange, HasViewInRange, IsTaken, IsWritten, command_values, compile_by, contexts_met, driven_command_by, make_by, number_met, probe_by, self_by, streams_met, values_by_name, values_met, values_of, view_met, window_by};
 
 use crate::WordsError;
 use crate::numbers::number_between;
@@ -357,14 +357,16 @@ fn length_fits(words: &[String])
 /// `self --seed S --size K --cycles N`, `tape --cycles N word..`, `aiger`, `vcd --cycles N word..`,
 /// `lift`. Numbers are in decimal digits, with or without leading zeros: C from 1 to 4,294,967,295;
 /// N from 1 to 1,048,576, but for `tape` to 4,096; G to 4,294,967,296; X and Y to 4,294,967,295; W
-/// and H from 1 to 4,096; S to 2,147,483,647; K from 1 to 128. `Usage` comes only if the words are
-/// no command, and a command only if the words have its values.
+/// and H from 1 to 4,096; S to 2,147,483,647; K from 1 to 128. `Usage` comes only if
+/// clap finds a fault in the words, or these have no values; a command only if the words have its
+/// values, and clap finds no fault in them.
 pub fn command_of(alloc: Global, words: &[String]) -> Result<Command, WordsError>
     ensures ok { IfOk result (λ c. command_values (map string_bytes words.now) ≡
         Some (values_of c)) }
     ensures taken { OnOk result (IsTaken (map string_bytes words.now)) }
     ensures numbers { IfOk result (λ c. HasNumbersInRange (values_of c)) }
-    ensures usage { IsErrOf result WordsError.Usage → IsCommand (map string_bytes words.now) → ⊥ }
+    ensures usage { IsErrOf result WordsError.Usage → IsTaken (map string_bytes words.now) →
+        command_values (map string_bytes words.now) ≡ None }
     ensures written { (v : CommandValues) → IsWritten v (map string_bytes words.now) →
         MatchResult result (λ c. values_of c ≡ v) (λ e. e ≡ WordsError.NoMemory) }
 {

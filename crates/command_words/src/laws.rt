@@ -11,7 +11,7 @@ pub fn written_words_are_commands()
     ensures { WrittenIsCommand }
 {}
 
-/// Words that are a command have values.
+/// Words that are a command have values, and clap finds no fault in them.
 pub fn commands_have_values()
     ensures { CommandsHaveValues }
 {}

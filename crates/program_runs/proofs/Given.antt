@@ -1,8 +1,18 @@
--- What a source gave, and a sink gained, where they tell their bytes.
-use Rattle.std.proofs.Common.{ℕ, ◌≡◌, ◌≤◌, sym, ap, ◌∙◌, List, [], ◌++◌, length, arith, length-append}
+-- What a source gave, and a sink gained or kept, where they tell their bytes.
+use Rattle.std.proofs.Common.{ℕ, ◌≡◌, ◌≤◌, refl, sym, ap, ◌∙◌, List, [], ◌++◌, length, arith, length-append}
 use Rattle.std.proofs.lemmas.List.{append-nil}
 use Rattle.std.specs.Prelude.{Option, Some, None}
-use Rattle.std.specs.Io.KnownBytes.{Consumes, Appends, IsAtEnd}
+use Rattle.std.specs.Io.KnownBytes.{Consumes, Appends, IsAtEnd, Keeps}
+
+-- what is not written to stays
+pub kept : (held : Option (List ℕ)) → Keeps held held
+kept None = tt
+kept (Some bytes) = refl
+
+-- and gained nothing
+pub gained_none : (held : Option (List ℕ)) → Appends held held []
+gained_none None = tt
+gained_none (Some bytes) = sym (append-nil bytes)
 
 -- all that it gave is what it had
 pub gave_whole : (left after : Option (List ℕ)) (given text : List ℕ) → Consumes left after given → IsAtEnd after → left ≡ Some text → given ≡ text

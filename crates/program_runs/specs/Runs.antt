@@ -72,6 +72,13 @@ pub record GaveAll (src : Reading) (text : List ℕ) : Type 0 where
   pub within : length text ≤ text_limit
   pub calm : NoReadFailed src
 
+-- the source gave too many bytes, and no read failed
+pub record GaveTooMuch (src : Reading) : Type 0 where
+  pub given : List ℕ
+  pub gave : Gave src given
+  pub many : text_limit < length given
+  pub calm : NoReadFailed src
+
 -- the source is unchanged
 pub record IsUntouched (src : Reading) : Type 0 where
   pub left : src.left_after ≡ src.left
@@ -97,6 +104,11 @@ WriteFailed sink = RoseByOne sink.faults sink.faults_after
 -- no write failed
 abbrev pub NoWriteFailed : Writing → Type 0
 NoWriteFailed sink = sink.faults_after ≡ sink.faults
+
+-- the sink was not written to
+pub record IsUnwritten (sink : Writing) : Type 0 where
+  pub nothing : GainedNothing sink
+  pub calm : NoWriteFailed sink
 
 -- if the source is read, it has this text and no read failed; else the text is the empty one
 abbrev pub HoldsIfRead : Bool → Reading → List ℕ → Type 0

@@ -186,8 +186,9 @@ fn parted_plan(loops: &[Loop], circuit: Circuit, parted: usize, period: u32) -> 
     settled_plan(loops, plan)
 }
 
-// The cheapest plan whose period is at least this one.
-fn cheapest_plan(loops: &[Loop], circuit: Circuit, period: u32) -> Option<Plan> {
+/// Returns the cheapest plan for wires around a circuit whose period is at least this one. Nothing if there is no room for
+/// the wires.
+pub fn plan_of(loops: &[Loop], circuit: Circuit, period: u32) -> Option<Plan> {
     let step = loops.len() / PARTS;
     let mut best = None;
     let mut parted = 0usize;
@@ -199,28 +200,4 @@ fn cheapest_plan(loops: &[Loop], circuit: Circuit, period: u32) -> Option<Plan> 
         parted = parted.saturating_add(step).saturating_add(1);
     }
     best
-}
-
-// The next multiple of 32.
-fn rounded(period: u32) -> u32 {
-    period.saturating_add(31) / 32 * 32
-}
-
-// Whether one number is at most a twentieth over another one.
-fn is_close(a: u64, b: u64) -> bool {
-    a.saturating_mul(20) <= b.saturating_mul(21)
-}
-
-/// Returns a plan for wires around a circuit, of a period from the least one on: a multiple of 32 if that costs at most 5%
-/// of the period and of the box. Without wires it is the least one. Nothing if there is no room for the wires.
-pub fn plan_of(loops: &[Loop], circuit: Circuit, least: u32) -> Option<Plan> {
-    let best = cheapest_plan(loops, circuit, least)?;
-    let period = rounded(best.period);
-    if loops.is_empty() || !is_close(u64::from(period), u64::from(best.period)) {
-        return Some(best);
-    }
-    match cheapest_plan(loops, circuit, period) {
-        Some(plan) if plan.period == period && is_close(plan.area(), best.area()) => Some(plan),
-        _ => Some(best),
-    }
 }

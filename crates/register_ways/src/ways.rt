@@ -99,8 +99,7 @@ fn add_ways(alloc: Global, ways: &mut Ways, plan: Plan, bundle: Bundle) -> Resul
 }
 
 /// Leads wires around a circuit whose ends are in the same order at the east and at the west, from north to south. The
-/// period is as small as the longest wire asks, and at least `least`; or the next multiple of 32, if that costs at most 5%
-/// of the period and of the box. Nothing if there is no room for the wires.
+/// period is as small as the longest wire asks, and at least `least`. Nothing if there is no room for the wires.
 pub fn ways_around(
     alloc: Global,
     loops: &[Loop],

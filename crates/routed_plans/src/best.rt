@@ -20,10 +20,13 @@ pub struct Best {
     pub drawn: Drawn,
 }
 
+// Of drawings whose periods are shorter than this, the one with the smallest box is best.
+const SHORT_PERIOD: u32 = 48;
+
 // What a drawing costs: its box times its period.
 fn cost_of(drawing: &Drawing) -> u128 {
     let cells = u64::from(drawing.width) * u64::from(drawing.height);
-    u128::from(cells) * u128::from(drawing.period)
+    u128::from(cells) * u128::from(drawing.period.max(SHORT_PERIOD))
 }
 
 // Whether a drawing costs less than the best one so far.

@@ -8,7 +8,7 @@ use routed_core::Drawing;
 use std::alloc::Global;
 
 // More bytes of lines are left out, so that the text of a very large circuit is not too long to be read.
-const MOST_BYTES: usize = 1_048_576;
+const MOST_BYTES: usize = 8_388_608;
 
 /// Returns the lines that name the gates and the wires of a drawing, or none if they have too many
 /// bytes, or if a test finds other lines.

@@ -37,12 +37,13 @@ pub struct Strand {
 }
 
 /// What a strand brings that comes in at the west: an input, by its number, or the last latch of a register, by
-/// the register's number, or constant 0, which is the data of a register.
+/// the register's number; or constant 0, which is the data of a register; or constant 1, where no register brings it.
 #[derive(Clone, Copy, Debug, PartialEq, Eq)]
 pub enum West {
     Input(u32),
     Register(u32),
     Zero,
+    One,
 }
 
 /// What a strand that goes out at the east is: an output, by its number, or the data of a register.

@@ -1,12 +1,13 @@
 // Drawings of circuits of strands.
 
-use crate::gates::{Corner, Gates, Ports, gates_of, ports_of};
+use crate::gates::{Corner, Gates, Ports, gates_of, ports_of, set_source};
 use crate::loops::{Loops, loops_of};
-use crate::periods::{accepted_period, accepts, least_period};
+use crate::periods::{accepted_period, accepts, least_period, round_period};
+use crate::rings::{Ring, ring_of};
 use crate::wires::{Scene, Wires, wires_of};
 use cell_core::Src;
 use lists::{List, OutOfMemory};
-use register_ways::{Circuit, Ways, ways_around};
+use register_ways::{Circuit, Loop, Ways, ways_around};
 use routed_core::{Drawing, DrawnPort};
 use std::alloc::{AllocError, Global};
 use strand_core::{Layout, StrandCircuit};
@@ -15,15 +16,55 @@ use strand_core::{Layout, StrandCircuit};
 const ROUNDS: u32 = 8;
 
 /// The drawing of a circuit, and for each latch of the list of cells that it computes which latch of the circuit it is: one
-/// for each period of each wire, in the order of the wires. The register that is always 1 is constant 1.
+/// for each period of each wire, in the order of the wires. A register that is always 1 is constant 1, and so are the
+/// latches of a ring.
 #[derive(Drop)]
 pub struct Drawn {
     pub drawing: Drawing,
     pub latches: Vec<Src>,
 }
 
-// Ways of all registers, at a period that all crossings accept.
+// Ways of all registers, at the least period that is found at which all crossings accept it.
 fn accepted_ways(
+    alloc: Global,
+    circuit: &StrandCircuit,
+    loops: &[Loop],
+    size: Circuit,
+    least: u32,
+) -> Result<Option<Ways>, OutOfMemory> {
+    let mut least = least;
+    for _ in 0..ROUNDS {
+        let Some(period) = accepted_period(circuit, least) else {
+            return Ok(None);
+        };
+        match ways_around(alloc, loops, size, period)? {
+            Some(ways) if accepts(circuit, ways.period) => return Ok(Some(ways)),
+            Some(ways) => least = ways.period.saturating_add(1),
+            None => return Ok(None),
+        }
+    }
+    Ok(None)
+}
+
+// Ways in place of these at a multiple of 32, if that costs at most a twentieth of the period.
+fn rounded_ways(
+    alloc: Global,
+    circuit: &StrandCircuit,
+    loops: &[Loop],
+    size: Circuit,
+    ways: Ways,
+) -> Result<Ways, OutOfMemory> {
+    let Some(period) = round_period(circuit, ways.period) else {
+        return Ok(ways);
+    };
+    match ways_around(alloc, loops, size, period)? {
+        Some(round) if round.period == period => Ok(round),
+        _ => Ok(ways),
+    }
+}
+
+// Ways of all registers. Without registers the period is the least one, else a multiple of 32 if that costs little.
+fn ways_of(
     alloc: Global,
     circuit: &StrandCircuit,
     layout: &Layout,
@@ -33,18 +74,14 @@ fn accepted_ways(
         width: layout.width,
         height: layout.height,
     };
-    let mut least = least_period(circuit, layout, loops);
-    for _ in 0..ROUNDS {
-        let Some(period) = accepted_period(circuit, least) else {
-            return Ok(None);
-        };
-        match ways_around(alloc, loops.loops.as_slice(), size, period)? {
-            Some(ways) if accepts(circuit, ways.period) => return Ok(Some(ways)),
-            Some(ways) => least = ways.period.saturating_add(1),
-            None => return Ok(None),
+    let least = least_period(circuit, layout, loops);
+    let loops = loops.loops.as_slice();
+    match accepted_ways(alloc, circuit, loops, size, least)? {
+        Some(ways) if !loops.is_empty() => {
+            Ok(Some(rounded_ways(alloc, circuit, loops, size, ways)?))
         }
+        ways => Ok(ways),
     }
-    Ok(None)
 }
 
 // Gives each port that is none yet a lone cell that is lit at a generation first, if it is ever: in every other column of a
@@ -130,9 +167,38 @@ fn assembled(
     })
 }
 
-/// Draws a circuit of strands: gates and wires, with the registers led around the north and the south. Inputs that nothing
-/// reads, and outputs that are constant 0, are lone cells that stand apart. Nothing if the registers are in another order at
-/// the west than at the east, there is no room for them, or a strand leads nowhere.
+// The corner of the circuit, after room is made for a ring at the west.
+fn corner_of(ways: &mut Ways, ring: Option<Ring>) -> Corner {
+    let north = ways.north;
+    if let Some(ring) = ring {
+        ways.west = ways.west.saturating_add(ring.columns());
+        ways.width = ways.width.saturating_add(ring.columns());
+        ways.height = ways.height.max(ring.rows(north));
+    }
+    Corner {
+        west: ways.west,
+        north,
+    }
+}
+
+// Adds the fork of a ring. Returns the output at which the ring begins.
+fn add_fork(
+    gates: &mut Gates,
+    ring: Option<Ring>,
+    north: u32,
+) -> Result<Option<DrawnPort>, AllocError> {
+    let Some(ring) = ring else {
+        return Ok(None);
+    };
+    let (upper, lower) = ring.add_fork(gates, north)?;
+    set_source(gates.sources.as_mut_slice(), Some(ring.strand), upper);
+    Ok(Some(lower))
+}
+
+/// Draws a circuit of strands: gates and wires, with the registers led around the north and the south. Without registers
+/// constant 1 comes from a ring. Inputs that nothing reads, and outputs that are constant 0, are lone cells that stand
+/// apart. Nothing if the registers are in another order at the west than at the east, there is no room for them, or a
+/// strand leads nowhere.
 pub fn drawn_circuit(
     alloc: Global,
     circuit: &StrandCircuit,
@@ -143,14 +209,13 @@ pub fn drawn_circuit(
     let Some(loops) = loops_of(alloc, circuit, layout)? else {
         return Ok(None);
     };
-    let Some(ways) = accepted_ways(alloc, circuit, layout, &loops)? else {
+    let Some(mut ways) = ways_of(alloc, circuit, layout, &loops)? else {
         return Ok(None);
     };
-    let corner = Corner {
-        west: ways.west,
-        north: ways.north,
-    };
+    let ring = ring_of(circuit, layout, ways.period);
+    let corner = corner_of(&mut ways, ring);
     let mut gates = gates_of(alloc, circuit, layout, corner)?;
+    let lower = add_fork(&mut gates, ring, corner.north)?;
     let mut ports = ports_of(alloc, &mut gates, circuit, layout, corner, inputs, outputs)?;
     let scene = Scene {
         circuit,
@@ -158,8 +223,9 @@ pub fn drawn_circuit(
         loops: &loops,
         ways: &ways,
         corner,
+        ring,
     };
-    let Some(wires) = wires_of(alloc, scene, &gates)? else {
+    let Some(wires) = wires_of(alloc, scene, &gates, lower)? else {
         return Ok(None);
     };
     let size = place_lone_ports(&ways, &mut gates, &mut ports)?;

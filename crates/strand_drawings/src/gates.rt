@@ -67,7 +67,8 @@ fn set_goal(goals: &mut [Goal], strand: Option<u32>, goal: Goal) {
     }
 }
 
-fn set_source(sources: &mut [Option<DrawnPort>], strand: Option<u32>, port: DrawnPort) {
+/// Notes at which port a strand begins.
+pub fn set_source(sources: &mut [Option<DrawnPort>], strand: Option<u32>, port: DrawnPort) {
     if let Some(strand) = strand {
         if (strand as usize) < sources.len() {
             sources[strand as usize] = Some(port);
@@ -124,7 +125,8 @@ fn output_port(gate: u32, output: u32) -> DrawnPort {
 }
 
 impl Gates {
-    fn next(&self) -> u32 {
+    /// Returns the number of the gate that is added next.
+    pub fn next(&self) -> u32 {
         u32::try_from(self.gates.len()).unwrap_or(u32::MAX)
     }
 
@@ -224,7 +226,7 @@ fn add_inputs(
         let input = match end.is {
             West::Input(input) => Some(input),
             West::Zero => None,
-            West::Register(_) => continue,
+            West::Register(_) | West::One => continue,
         };
         if let Some(cell) = cells_of(layout, strand).first() {
             let first = cell.0.saturating_add(late(circuit, end.strand));

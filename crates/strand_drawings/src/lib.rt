@@ -7,6 +7,7 @@ mod gates;
 mod loops;
 mod patterns;
 mod periods;
+mod rings;
 mod wires;
 
 pub use drawn::{Drawn, drawn_circuit};

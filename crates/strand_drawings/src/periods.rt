@@ -43,6 +43,18 @@ pub fn accepted_period(circuit: &StrandCircuit, least: u32) -> Option<u32> {
     None
 }
 
+/// Returns the least multiple of 32 from a period on that all crossings accept, if it is at most a twentieth over it.
+pub fn round_period(circuit: &StrandCircuit, period: u32) -> Option<u32> {
+    let most = period.saturating_add(period / 20) / 32;
+    for number in period.div_ceil(32)..most.saturating_add(1) {
+        let round = number.saturating_mul(32);
+        if accepts(circuit, round) {
+            return Some(round);
+        }
+    }
+    None
+}
+
 /// Returns the least period at which the data of each register leave the circuit before the next cycle begins.
 pub fn least_period(circuit: &StrandCircuit, layout: &Layout, loops: &Loops) -> u32 {
     let mut least = LEAST_PERIOD;

@@ -2,6 +2,7 @@
 
 use crate::gates::{Corner, Gates, Goal};
 use crate::loops::{Loops, cells_of, number_at};
+use crate::rings::Ring;
 use cell_core::Src;
 use lists::OutOfMemory;
 use register_ways::Ways;
@@ -9,7 +10,7 @@ use routed_core::{DrawnPort, DrawnWire};
 use std::alloc::{AllocError, Global};
 use strand_core::{Layout, StrandCircuit, TileKind};
 
-/// What wires are made of: a circuit with its cells, and the ways of its registers around it.
+/// What wires are made of: a circuit with its cells, the ways of its registers around it, and its ring.
 #[derive(Clone, Copy)]
 pub struct Scene<'a> {
     pub circuit: &'a StrandCircuit,
@@ -17,10 +18,11 @@ pub struct Scene<'a> {
     pub loops: &'a Loops,
     pub ways: &'a Ways,
     pub corner: Corner,
+    pub ring: Option<Ring>,
 }
 
 /// Wires, their cells, their start bits, and which latch of the list of cells each of these belongs to: constant 1 for the
-/// register that is always 1.
+/// register that is always 1, and for the wires of a ring.
 #[derive(Drop)]
 pub struct Wires {
     pub wires: Vec<DrawnWire>,
@@ -115,6 +117,44 @@ impl Wires {
         Ok(number_at(scene.loops.entries.as_slice(), register))
     }
 
+    // Adds latches that are always 1.
+    fn add_ones(&mut self, count: u32) -> Result<(), AllocError> {
+        for _ in 0..count {
+            self.starts.push(true)?;
+            self.latches.push(Src::One)?;
+        }
+        Ok(())
+    }
+
+    // Adds the cells of the strand with which a wire begins, and of the lead from a ring to it.
+    fn begin(&mut self, scene: Scene, strand: u32) -> Result<(), AllocError> {
+        match scene.ring {
+            Some(ring) if ring.strand == strand => {
+                self.add_ones(1)?;
+                ring.add_lead(&mut self.path, scene.corner.north)?;
+                self.add_strand(scene, strand, 0)
+            }
+            _ => self.add_strand(scene, strand, 1),
+        }
+    }
+
+    // Adds a ring, from a port of its fork to the fork.
+    fn add_ring(&mut self, scene: Scene, ring: Ring, from: DrawnPort) -> Result<(), AllocError> {
+        let (start, latch) = (count(self.path.len()), count(self.starts.len()));
+        ring.add_ring(&mut self.path, scene.corner.north)?;
+        self.add_ones(ring.cycles)?;
+        self.wires.push(DrawnWire {
+            from,
+            gate: from.gate,
+            input: 0,
+            start,
+            size: count(self.path.len()).saturating_sub(start),
+            latch,
+            cycles: ring.cycles,
+        })?;
+        Ok(())
+    }
+
     // Adds the cells of a wire from the strand with which it begins on, and answers at which input it ends.
     fn follow(
         &mut self,
@@ -123,7 +163,7 @@ impl Wires {
         strand: u32,
     ) -> Result<Option<(u32, u32)>, AllocError> {
         let mut strand = strand;
-        self.add_strand(scene, strand, 1)?;
+        self.begin(scene, strand)?;
         for _ in 0..goals.len() {
             let next = match goals.get(strand as usize).copied() {
                 Some(Goal::Input { gate, input }) => return Ok(Some((gate, input))),
@@ -180,14 +220,22 @@ fn add_wires(wires: &mut Wires, scene: Scene, gates: &Gates) -> Result<bool, All
     Ok(true)
 }
 
-/// Makes all wires, or nothing if one leads nowhere.
-pub fn wires_of(alloc: Global, scene: Scene, gates: &Gates) -> Result<Option<Wires>, OutOfMemory> {
+/// Makes all wires, with the ring from a port of its fork, or nothing if one leads nowhere.
+pub fn wires_of(
+    alloc: Global,
+    scene: Scene,
+    gates: &Gates,
+    lower: Option<DrawnPort>,
+) -> Result<Option<Wires>, OutOfMemory> {
     let mut wires = Wires {
         wires: Vec::new(alloc),
         path: Vec::new(alloc),
         starts: Vec::new(alloc),
         latches: Vec::new(alloc),
     };
+    if let (Some(ring), Some(from)) = (scene.ring, lower) {
+        wires.add_ring(scene, ring, from)?;
+    }
     if add_wires(&mut wires, scene, gates)? {
         Ok(Some(wires))
     } else {

@@ -103,6 +103,7 @@ impl Graph {
         Ok(())
     }
 
+    // Adds the registers, or constant 1 without them.
     fn add_registers(
         &mut self,
         values: &Values,
@@ -112,6 +113,9 @@ impl Graph {
         for number in 0..small(registers.registers.len()) {
             let value = registers.value(values, number);
             self.add_source(West::Register(number), value, readers)?;
+        }
+        if registers.registers.is_empty() && values.reads_of(values.one()) > 0 {
+            self.add_source(West::One, values.one(), readers)?;
         }
         Ok(())
     }

@@ -63,7 +63,7 @@ fn register_from(
 }
 
 impl Registers {
-    /// Returns the registers of a list.
+    /// Returns the registers of a list. Constant 1 is one of them if there are others.
     pub fn of(alloc: Global, list: &CellList, values: &Values) -> Result<Registers, AllocError> {
         let mut found = Registers {
             registers: Vec::new(alloc),
@@ -71,7 +71,7 @@ impl Registers {
         };
         let nexts = nexts(alloc, values, list.latches.as_slice())?;
         found.find(alloc, list, values, &nexts)?;
-        if values.reads_of(values.one()) > 0 {
+        if values.reads_of(values.one()) > 0 && !found.registers.is_empty() {
             found.add_one(alloc)?;
         }
         Ok(found)

@@ -4,8 +4,8 @@
 // begins with `>` and a line of commands with `|` between them; each command reads what the one
 // before wrote. A command alone may have three numbers in brackets: the number of the source's call
 // that fails, counted from 0, and the rooms of the output and of the errors; a case with malformed
-// brackets fails. Other commands that write the same may follow ` & `, and a remark on the case
-// ` -- `. Then come the lines of the text that the first command reads; a case without them reads
+// brackets fails. Other commands that write the same may follow, each after ` & `, and a remark on
+// the case ` -- `. `route` and `extract` are the commands of `wwroute`. Then come the lines of the text that the first command reads; a case without them reads
 // the text that the last line with `@` names. Then come `== ` with the status, and the lines that
 // the last command writes: to the output if the status is 0, and else to the errors, or to the
 // output up to `== err` and to the errors after it. It writes nothing more. In the output, three
@@ -25,6 +25,7 @@ mod lifts;
 mod long;
 mod nets;
 mod repeating;
+mod routing;
 mod simulating;
 mod tapes;
 mod twice;
@@ -129,7 +130,16 @@ pub fn run_over(
     run_on(alloc, &words, &mut src, rooms)
 }
 
-/// Runs a command line. This is the one call of the program: its contract is long.
+// Whether the words are those of a command of `wwroute`.
+fn are_of_wwroute(words: &[String]) -> bool {
+    match words.get(1) {
+        Some(word) => word.as_bytes() == b"route".as_slice()
+            || word.as_bytes() == b"extract".as_slice(),
+        None => false,
+    }
+}
+
+/// Runs a command line. These are the calls of the two programs: their contracts are long.
 pub fn status_of(
     alloc: Global,
     words: &[String],
@@ -137,7 +147,11 @@ pub fn status_of(
     out: &mut MemSink,
     err: &mut MemSink,
 ) -> u8 {
-    run(alloc, words, src, out, err)
+    if are_of_wwroute(words) {
+        wwroute_tool::run(alloc, words, src, out, err)
+    } else {
+        run(alloc, words, src, out, err)
+    }
 }
 
 // Runs a command line over a source and sinks with these rooms.
@@ -176,9 +190,14 @@ pub fn run_amply(alloc: Global, command: &str, text: &[u8]) -> Result<Outcome, F
     run_within(alloc, command, text, AMPLE)
 }
 
+// Whether a run ended well, and wrote a routed circuit and told its box.
+fn is_routed(got: &Outcome) -> bool {
+    got.status == 0 && matches(&got.out, "#C gate ...\n") && matches(&got.err, "box ...\n")
+}
+
 // Whether a run ended well, and wrote a pattern or a lifted netlist.
 fn is_handed_on(got: &Outcome) -> bool {
-    got.is(0, "#C BLIFWW 2 P ...\n", "") || got.is(0, ".model lifted\n...\n", "")
+    is_routed(got) || got.is(0, "#C BLIFWW 2 P ...\n", "") || got.is(0, ".model lifted\n...\n", "")
 }
 
 /// Returns the pattern or the lifted netlist that a command writes for a text, and fails if the run
@@ -331,13 +350,11 @@ fn is_end(alloc: Global, case: &Case, commands: &str, text: &[u8]) -> Result<boo
 /// Returns whether the commands, and those after ` & `, end as a case wants when they read this
 /// text.
 pub fn are_ends(alloc: Global, case: &Case, commands: &str, text: &[u8]) -> Result<bool, Fail> {
-    let (first, second) = halves(commands, " & ");
-    let is_so = is_end(alloc, case, first, text)?;
-    if second.is_empty() {
-        Ok(is_so)
-    } else {
-        Ok(is_end(alloc, case, second, text)? && is_so)
+    let mut is_so = true;
+    for chain in commands.split('&') {
+        is_so = is_end(alloc, case, chain.trim(), text)? && is_so;
     }
+    Ok(is_so)
 }
 
 // Whether a case ends as it wants, with its commands and with those after ` & `. A case without a
@@ -426,6 +443,7 @@ const LISTS: &[&str] = &[
     lifts::CASES,
     long::CASES,
     nets::CASES,
+    routing::CASES,
     simulating::CASES,
     tapes::CASES,
 ];

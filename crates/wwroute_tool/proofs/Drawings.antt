@@ -29,7 +29,9 @@ use Rattle.routed_plans.specs.declared.routes.Routed.{Routed}
 use Rattle.routed_plans.specs.Nets.{ShowsNetsBy}
 use Rattle.routed_plans.proofs.DesignNets.{nets_are_shown}
 use Rattle.routed_plans.specs.Carried.{IsRoutedFor, text_of_routed}
-use Rattle.wwroute_tool.specs.Answers.{TellsSize, routed_line, lanes_line}
+use Rattle.route_lines.specs.GateLines.{AreGateLines}
+use Rattle.wwroute_tool.specs.Answers.{HasNoPlanForm, TellsSize, routed_line, lanes_line}
+use Rattle.wwroute_tool.proofs.PlanTexts.{no_plan}
 
 -- what a netlist's parts are
 module _ (design : Design) (flat : Flat) (order : List ℕ) (parts : AreParts design flat order) where
@@ -61,5 +63,5 @@ module _ (design : Design) (flat : Flat) (order : List ℕ) (parts : AreParts de
     pub lanes_told : HasPortNames flat → IsAdmissible plan → IsTableOf flat plan 1 ports → TellsSize (text_of_plan plan ports) (lanes_line (size_of plan).0 (size_of plan).1 ports.p)
     lanes_told names admissible is = record { grid = start_grid plan; ports = ports; spells = spells names admissible is; line_is = inr (refl, (plan, admissible, refl)) }
 
-pub routed_told : (flat : Flat) (routed : Routed) → IsRoutedFor flat routed → TellsSize (text_of_routed routed) (routed_line routed.pattern.width routed.pattern.height routed.ports.p)
-routed_told flat routed is = record { grid = grid_of routed.pattern; ports = routed.ports; spells = is.spells; line_is = inl refl }
+pub routed_told : (flat : Flat) (routed : Routed) → IsRoutedFor flat routed → AreGateLines routed.lines → HasNoPlanForm routed → TellsSize (text_of_routed routed) (routed_line routed.pattern.width routed.pattern.height routed.ports.p)
+routed_told flat routed is lines other = record { grid = grid_of routed.pattern; ports = routed.ports; spells = is.spells; line_is = inl (refl, no_plan routed lines is.spells other) }

@@ -1,7 +1,9 @@
 -- How runs end.
-use Rattle.std.proofs.Common.{ℕ, ◌≡◌, ◌≢◌, ◌<◌, ◌≤◌, ◌*◌, ◌⊎◌, inl, inr, refl, sym, ap, ◌∙◌, subst, List, length, take, arith}
-use Rattle.std.specs.Prelude.{Option, Some, None}
-use Rattle.std.specs.Io.KnownBytes.{Keeps}
+use Rattle.std.proofs.Common.{ℕ, ◌≡◌, ◌≢◌, ◌<◌, ◌≤◌, ◌*◌, ◌⊎◌, inl, inr, refl, sym, ap, ◌∙◌, subst, List, ◌++◌, length, take, arith}
+use Rattle.std.specs.Prelude.{Option}
+use Rattle.std.specs.Io.KnownBytes.{Appends}
+use Rattle.std.proofs.KnownBytes.{Appends-trans}
+use Rattle.ww_base.specs.Faults.{RoseByOne}
 use Rattle.ww_base.specs.declared.whole.ReadAllError.{ReadAllError}
 use Rattle.ww_base.specs.declared.whole.ReadAllError.TheVariants as read_error
 use Rattle.rle_read.specs.Answers.{HasReadReason}
@@ -16,38 +18,32 @@ use Rattle.netlist_text.specs.declared.error.NetlistError.TheVariants as netlist
 use Rattle.ww_rule.specs.Grid.{Grid}
 use Rattle.pattern_reading.specs.Pattern.{ReadsWithinLimit}
 use Rattle.pattern_reading.specs.PortTable.{HasPortFault}
-use Rattle.refusals.specs.Refusals.{netlist_error, pattern_error, read_refusal, status_of_cause, table_error, text_refusal}
-use Rattle.refusals.specs.declared.causes.Cause.{Cause}
-use Rattle.refusals.specs.declared.causes.Cause.TheVariants.{NetlistFault, WeightTooLarge, Loop, AigAtFault, AigLoop, Pattern, GridTooLarge, PortTable, Streams, StartWord, NoSuchNet, TooFar, TooManyContexts, NotQuiet, NotCircuit as NoDrawing}
+use Rattle.refusals.specs.Refusals.{netlist_error, pattern_error, read_refusal, refusal_line, table_error, text_refusal}
+use Rattle.refusals.proofs.Statuses.{cause_is, never_done as common_is}
 use Rattle.refusals.specs.declared.refusal.Refusal.TheVariants as refusal
-use Rattle.program_runs.specs.Runs.{Call, Reading, Gave, GaveAll, Gained, NoReadFailed, ReadFailed, NoWriteFailed, WriteFailed, text_limit}
+use Rattle.program_runs.specs.Runs.{Call, call, Reading, Writing, Gave, GaveAll, Gained, NoReadFailed, ReadFailed, NoWriteFailed, WriteFailed, text_limit}
 use Rattle.wwroute_tool.specs.declared.words.Command.{Command}
 use Rattle.wwroute_tool.specs.declared.words.Command.TheVariants.{Extract, Route}
 use Rattle.wwroute_tool.specs.declared.refusal.RouteRefusal.{RouteRefusal}
 use Rattle.wwroute_tool.specs.declared.refusal.RouteRefusal.TheVariants.{Usage, Common, NotCircuit}
 use Rattle.wwroute_tool.specs.Words.{AsksFor}
 use Rattle.wwroute_tool.specs.Commands.{HasTextReason}
-use Rattle.wwroute_tool.specs.Refusing.{HasNoCircuit, HasNoPatternOf, NeedsNoReason, IsPatternText, box_limit, route_line, route_status}
-use Rattle.wwroute_tool.specs.Runs.{CutsRefusal, CutsAnswer, CutsBeside, AnswersAll, RouteEnds, HasCommandReason, HasRouteReason, HasBrokenOff}
-
--- what is not written to stays
-pub kept : (held : Option (List ℕ)) → Keeps held held
-kept None = tt
-kept (Some bytes) = refl
+use Rattle.wwroute_tool.specs.Refusing.{HasNoRoutedCircuit, HasNoPatternOf, NeedsNoReason, IsPatternText, box_limit, route_line, route_status}
+use Rattle.wwroute_tool.specs.Runs.{CutsNotice, AnswersAll, IsCut, RouteEnds, HasCommandReason, HasRouteReason, HasBrokenOff}
 
 -- ---- reasons
-pub pattern_reason : (text : List ℕ) (e : RleReadError) → HasReadReason text e → HasNoCircuit text (Common (text_refusal (pattern_error e)))
+pub pattern_reason : (text : List ℕ) (e : RleReadError) → HasReadReason text e → HasNoRoutedCircuit text (Common (text_refusal (pattern_error e)))
 pattern_reason text (reading.Fault f) h = h
 pattern_reason text (reading.TooLarge width height) h = inl h
 pattern_reason text reading.NoMemory h = tt
 
 pub table_reason : (text : List ℕ) (grid : Grid) (e : PortReadError) → ReadsWithinLimit text grid
-    → ((f : PortFault) → e ≡ table.Fault f → HasPortFault text grid.width grid.height f.kind f.line) → HasNoCircuit text (Common (text_refusal (table_error e)))
+    → ((f : PortFault) → e ≡ table.Fault f → HasPortFault text grid.width grid.height f.kind f.line) → HasNoRoutedCircuit text (Common (text_refusal (table_error e)))
 table_reason text grid (table.Fault f) reads faults = (grid, reads, faults f refl)
 table_reason text grid table.NoMemory reads faults = tt
 
 -- a free refusal is one of a pattern with a table
-pub free_reason : (text : List ℕ) (r : RouteRefusal) → NeedsNoReason r → ((grid : Grid) × (ports : _) × IsPatternText text grid ports × (grid.width * grid.height ≤ box_limit)) → HasNoCircuit text r
+pub free_reason : (text : List ℕ) (r : RouteRefusal) → NeedsNoReason r → ((grid : Grid) × (ports : _) × IsPatternText text grid ports × (grid.width * grid.height ≤ box_limit)) → HasNoRoutedCircuit text r
 free_reason text Usage free is = absurd free
 free_reason text (NotCircuit fault) free is = is
 free_reason text (Common refusal.Usage) free is = absurd free
@@ -100,32 +96,10 @@ pub by_read : (words : List (List ℕ)) (src : Reading) (command : Command) (e :
 by_read words src command e asked calm failed long = inr (command, asked, reason_of_read src command e calm failed long)
 
 -- ---- statuses
-cause_status : (cause : Cause) → (status_of_cause cause ≢ 0) × (status_of_cause cause ≢ 6)
-cause_status (NetlistFault f) = (λ e. cc, λ e. cc)
-cause_status (WeightTooLarge w) = (λ e. cc, λ e. cc)
-cause_status (Loop names) = (λ e. cc, λ e. cc)
-cause_status (AigAtFault fault) = (λ e. cc, λ e. cc)
-cause_status (AigLoop literals) = (λ e. cc, λ e. cc)
-cause_status (Pattern f) = (λ e. cc, λ e. cc)
-cause_status (GridTooLarge x y) = (λ e. cc, λ e. cc)
-cause_status (PortTable f) = (λ e. cc, λ e. cc)
-cause_status (Streams f) = (λ e. cc, λ e. cc)
-cause_status (StartWord f) = (λ e. cc, λ e. cc)
-cause_status (NoSuchNet name) = (λ e. cc, λ e. cc)
-cause_status (TooFar n) = (λ e. cc, λ e. cc)
-cause_status (TooManyContexts n limit) = (λ e. cc, λ e. cc)
-cause_status (NotQuiet g x y) = (λ e. cc, λ e. cc)
-cause_status (NoDrawing fault) = (λ e. cc, λ e. cc)
-
 pub never_done : (r : RouteRefusal) → route_status r ≢ 0
 never_done Usage = λ e. cc
 never_done (NotCircuit fault) = λ e. cc
-never_done (Common refusal.Usage) = λ e. cc
-never_done (Common refusal.TooLong) = λ e. cc
-never_done (Common refusal.ReadFault) = λ e. cc
-never_done (Common refusal.WriteFault) = λ e. cc
-never_done (Common refusal.NoMemory) = λ e. cc
-never_done (Common (refusal.Text cause)) = (cause_status cause).0
+never_done (Common r) = common_is r
 
 -- a refusal with a reason has not the status of a failed write
 command_never_cut : (command : Command) (src : Reading) (r : RouteRefusal) → HasCommandReason command src r → route_status r ≢ 6
@@ -136,7 +110,7 @@ command_never_cut command src (Common refusal.TooLong) h = λ e. cc
 command_never_cut command src (Common refusal.ReadFault) h = λ e. cc
 command_never_cut command src (Common refusal.WriteFault) h = absurd (never_write_fault command h.text h.reason)
 command_never_cut command src (Common refusal.NoMemory) h = λ e. cc
-command_never_cut command src (Common (refusal.Text cause)) h = (cause_status cause).1
+command_never_cut command src (Common (refusal.Text cause)) h = (cause_is cause).1
 
 never_cut : (words : List (List ℕ)) (src : Reading) (r : RouteRefusal) → HasRouteReason words src r → route_status r ≢ 6
 never_cut words src r (inl (usage, none, untouched)) = λ six. not_both (route_status r) (ap route_status usage) six
@@ -146,59 +120,95 @@ never_cut words src r (inl (usage, none, untouched)) = λ six. not_both (route_s
 never_cut words src r (inr (command, asked, reason)) = command_never_cut command src r reason
 
 -- ---- ends
-pub done : (c : Call) (line : List ℕ) → AnswersAll c.words c.src c.out line → Gained c.err line → NoWriteFailed c.out → NoWriteFailed c.err → ((given : List ℕ) × Gave c.src given) → RouteEnds c 0
-done c line d told out_calm err_calm front =
-    record {
-      done = λ e. record { line = line; done = d; told = told; out_calm = out_calm; err_calm = err_calm };
-      refused = λ zero six. absurd (zero refl);
-      cut = λ e. cc;
-      front = front;
-    }
+-- a run whose err held `old`, then `mid` and at the end `new`, with the faults f, g and h
+module _ (words : List (List ℕ)) (src : Reading) (out : Writing) (old mid new : Option (List ℕ)) (f g h : ℕ) (front : (given : List ℕ) × Gave src given) where
+  abbrev before : Writing
+  before = record { written = old; written_after = mid; faults = f; faults_after = g }
 
--- the answer is whole, but the line beside it is not
-pub done_untold : (c : Call) (line : List ℕ) → AnswersAll c.words c.src c.out line → ((k : ℕ) × Gained c.err (take k line)) → NoWriteFailed c.out → WriteFailed c.err → ((given : List ℕ) × Gave c.src given) → RouteEnds c 6
-done_untold c line d told out_calm failed front =
-    record {
-      done = λ e. cc;
-      refused = λ zero six. absurd (six refl);
-      cut = λ e. inr (inr (record { line = line; done = d; out_calm = out_calm; size = told.0; front = told.1; failed = failed }));
-      front = front;
-    }
+  abbrev whole : Writing
+  whole = record { written = old; written_after = new; faults = f; faults_after = h }
 
-told_as : (c : Call) (status : ℕ) (r : RouteRefusal) → status ≡ route_status r → HasBrokenOff c.words c.src c.out r → Gained c.err (route_line r) → NoWriteFailed c.err
-    → ((given : List ℕ) × Gave c.src given) → RouteEnds c status
-told_as c status r is (inl (write, failed, (k, front))) line calm given =
-    let six : status ≡ 6 = is ∙ ap route_status write in
-    record {
-      done = λ e. absurd (omega (arith, e, six));
-      refused = λ zero other. absurd (other six);
-      cut = λ e. inr (inl (record { size = k; front = front; failed = failed; line = inl (calm, subst (λ x. Gained c.err (route_line x)) write line) }));
-      front = given;
-    }
-told_as c status r is (inr (nothing, calm, reason)) line err_calm given =
-    record {
-      done = λ e. absurd (never_done r (sym is ∙ e));
-      refused = λ zero other. record { refusal = r; reason = reason; nothing = nothing; told = is; line = line; out_calm = calm; err_calm = err_calm };
-      cut = λ e. absurd (never_cut c.words c.src r reason (sym is ∙ e));
-      front = given;
-    }
+  gained : (notice line : List ℕ) → Gained before notice → Appends mid new line → Gained whole (notice ++ line)
+  gained notice line first last = Appends-trans old mid new notice line first last
 
-pub told : (c : Call) (status : ℕ) (r : RouteRefusal) → status ≡ route_status r → HasBrokenOff c.words c.src c.out r → Gained c.err (route_line r) → NoWriteFailed c.err
-    → ((given : List ℕ) × Gave c.src given) → RouteEnds c status
-told c status r is stopped line calm given = told_as c status r is stopped line calm given
+  calm_after : NoWriteFailed before → h ≡ g → NoWriteFailed whole
+  calm_after calm same = same ∙ calm
 
-cut_by : (c : Call) (r : RouteRefusal) → HasBrokenOff c.words c.src c.out r → ((k : ℕ) × Gained c.err (take k (route_line r))) → WriteFailed c.err → CutsRefusal c ⊎ (CutsAnswer c ⊎ CutsBeside c)
-cut_by c r (inl (write, failed, (k, front))) line err_failed =
-    inr (inl (record { size = k; front = front; failed = failed; line = inr (err_failed, (line.0, subst (λ x. Gained c.err (take line.0 (route_line x))) write line.1)) }))
-cut_by c r (inr (nothing, calm, reason)) line err_failed =
-    inl (record { refusal = r; reason = reason; nothing = nothing; out_calm = calm; size = line.0; front = line.1; failed = err_failed })
+  failed_after : NoWriteFailed before → RoseByOne g h → WriteFailed whole
+  failed_after calm rose = subst (λ (n : ℕ). RoseByOne n h) calm rose
 
-pub untold : (c : Call) (r : RouteRefusal) → HasBrokenOff c.words c.src c.out r → ((k : ℕ) × Gained c.err (take k (route_line r))) → WriteFailed c.err
-    → ((given : List ℕ) × Gave c.src given) → RouteEnds c 6
-untold c r stopped line failed given =
+  pub done : (line : List ℕ) (d : AnswersAll words src out line) → Gained before d.begun.notice → Appends mid new line → NoWriteFailed out → NoWriteFailed before → h ≡ g → RouteEnds (call words src out whole) 0
+  done line d first last out_calm calm same =
+      record {
+        done = λ e. record { line = line; done = d; told = gained d.begun.notice line first last; out_calm = out_calm; err_calm = calm_after calm same };
+        refused = λ zero six. absurd (zero refl);
+        cut = λ e. absurd (omega (arith, e));
+        front = front;
+      }
+
+  -- the answer is whole, but the line beside it is not
+  pub done_cut : (line : List ℕ) (d : AnswersAll words src out line) → Gained before d.begun.notice → ((k : ℕ) × Appends mid new (take k line)) → NoWriteFailed out → NoWriteFailed before → RoseByOne g h
+      → RouteEnds (call words src out whole) 6
+  done_cut line d first last out_calm calm rose =
+      record {
+        done = λ e. absurd (omega (arith, e));
+        refused = λ zero six. absurd (six refl);
+        cut = λ e. inr (inr (inr (record { line = line; done = d; out_calm = out_calm; size = last.0; front = gained d.begun.notice (take last.0 line) first last.1; failed = failed_after calm rose })));
+        front = front;
+      }
+
+  -- a refusal is told,
+  pub told : (status : ℕ) (r : RouteRefusal) → status ≡ route_status r → HasBrokenOff words src out before r → NoWriteFailed before → Appends mid new (route_line r) → h ≡ g → RouteEnds (call words src out whole) status
+  told status r is (notice, first, inl (write, failed, (k, part, own))) calm last same =
+      let six : status ≡ 6 = is ∙ ap route_status write in
+      let line : Gained whole (notice ++ refusal_line refusal.WriteFault) = subst (λ (x : RouteRefusal). Gained whole (notice ++ route_line x)) write (gained notice (route_line r) first last) in
+      record {
+        done = λ e. absurd (omega (arith, e, six));
+        refused = λ zero other. absurd (other six);
+        cut = λ e. inr (inr (inl (record {
+          size = k;
+          front = part;
+          failed = failed;
+          line = inl (calm_after calm same, subst (λ (n : List ℕ). Gained whole (n ++ refusal_line refusal.WriteFault)) own line);
+        })));
+        front = front;
+      }
+  told status r is (notice, first, inr stopped) calm last same =
+      record {
+        done = λ e. absurd (never_done r (sym is ∙ e));
+        refused = λ zero other. record { refusal = r; notice = notice; stopped = stopped; told = is; line = gained notice (route_line r) first last; err_calm = calm_after calm same };
+        cut = λ e. absurd (never_cut words src r stopped.reason (sym is ∙ e));
+        front = front;
+      }
+
+  cut_by : (r : RouteRefusal) → HasBrokenOff words src out before r → NoWriteFailed before → ((k : ℕ) × Appends mid new (take k (route_line r))) → RoseByOne g h → IsCut (call words src out whole)
+  cut_by r (notice, first, inl (write, failed, (k, part, own))) calm last rose =
+      let line : Gained whole (notice ++ take last.0 (refusal_line refusal.WriteFault)) = subst (λ (x : RouteRefusal). Gained whole (notice ++ take last.0 (route_line x))) write (gained notice (take last.0 (route_line r)) first last.1) in
+      inr (inr (inl (record {
+        size = k;
+        front = part;
+        failed = failed;
+        line = inr (failed_after calm rose, (last.0, subst (λ (n : List ℕ). Gained whole (n ++ take last.0 (refusal_line refusal.WriteFault))) own line));
+      })))
+  cut_by r (notice, first, inr stopped) calm last rose =
+      inr (inl (record { refusal = r; notice = notice; stopped = stopped; size = last.0; front = gained notice (take last.0 (route_line r)) first last.1; failed = failed_after calm rose }))
+
+  -- or its line is cut off
+  pub told_cut : (r : RouteRefusal) → HasBrokenOff words src out before r → NoWriteFailed before → ((k : ℕ) × Appends mid new (take k (route_line r))) → RoseByOne g h → RouteEnds (call words src out whole) 6
+  told_cut r stopped calm last rose =
+      record {
+        done = λ e. absurd (omega (arith, e));
+        refused = λ zero other. absurd (other refl);
+        cut = λ e. cut_by r stopped calm last rose;
+        front = front;
+      }
+
+-- the notice is cut off
+pub unnoticed : (c : Call) → CutsNotice c → ((given : List ℕ) × Gave c.src given) → RouteEnds c 6
+unnoticed c cut front =
     record {
-      done = λ e. cc;
+      done = λ e. absurd (omega (arith, e));
       refused = λ zero other. absurd (other refl);
-      cut = λ e. cut_by c r stopped line failed;
-      front = given;
+      cut = λ e. inl cut;
+      front = front;
     }

@@ -21,7 +21,7 @@ use Rattle.wwroute_tool.specs.Words.{AsksFor}
 use Rattle.wwroute_tool.specs.Carried.{GivesNetlist, GivesPattern}
 use Rattle.wwroute_tool.specs.Commands.{Makes}
 use Rattle.wwroute_tool.specs.Refusing.{HasNoPatternOf, IsNoNetlist, route_status}
-use Rattle.wwroute_tool.specs.Runs.{CutsRefusal, CutsAnswer, CutsBeside, AnswersAll, AnswersPart, RouteEnds, GaveNoAnswer, HasCommandReason, HasRouteReason, IsCalmRoute, HasRefused, RoutesEachNetlist, WritesItsNets, WritesItsPattern}
+use Rattle.wwroute_tool.specs.Runs.{AnswersAll, IsBegun, IsCut, RouteEnds, GaveNoAnswer, HasCommandReason, HasRouteReason, IsCalmRoute, HasRefused, RoutesEachNetlist, WritesItsNets, WritesItsPattern}
 
 abbrev word_count : List (List ℕ) → ℕ
 word_count words = length words
@@ -43,23 +43,26 @@ one_command words (Route which.All) (Route which.All) asks others = refl
 
 -- ---- what is written
 module _ (words : List (List ℕ)) (src : Reading) (out : Writing) (line : List ℕ) (all : AnswersAll words src out line) where
-  abbrev d : AnswersPart words src out (λ answer. answer)
-  d = all.whole
+  abbrev d : IsBegun words src
+  d = all.begun
 
-  makes : (command : Command) → AsksFor words command → Makes command d.text d.answer
-  makes command asks = subst (λ (c : Command). Makes c d.text d.answer) (one_command words d.command command d.asked asks) d.makes
+  abbrev answer : List ℕ
+  answer = all.made.whole.answer
+
+  makes : (command : Command) → AsksFor words command → Makes command d.text answer
+  makes command asks = subst (λ (c : Command). Makes c d.text answer) (one_command words d.command command d.asked asks) all.made.whole.makes
 
   pub writes_netlist : AsksFor words Extract → WritesItsNetlist src out
   writes_netlist asks text before has held =
       let given : d.text ≡ text = gave_whole src.left src.left_after d.text text d.given.consumed d.given.end has in
-      let gives : GivesNetlist d.text d.answer = makes Extract asks in
-      (d.answer, gained_whole out.written out.written_after d.answer before d.wrote held, gives.0, subst (λ (t : List ℕ). IsNetlistOf t d.answer gives.0) given gives.1)
+      let gives : GivesNetlist d.text answer = makes Extract asks in
+      (answer, gained_whole out.written out.written_after answer before all.made.whole.wrote held, gives.0, subst (λ (t : List ℕ). IsNetlistOf t answer gives.0) given gives.1)
 
   pub writes_nets : (nets : ShownNets) → AsksFor words (Route nets) → WritesItsNets nets src out
   writes_nets nets asks text before has held =
       let given : d.text ≡ text = gave_whole src.left src.left_after d.text text d.given.consumed d.given.end has in
-      let gives : GivesPattern nets d.text d.answer = makes (Route nets) asks in
-      (d.answer, gained_whole out.written out.written_after d.answer before d.wrote held, gives.0, (subst (λ (t : List ℕ). IsNetlist t gives.0) given gives.1).is.design_of, gives.2)
+      let gives : GivesPattern nets d.text answer = makes (Route nets) asks in
+      (answer, gained_whole out.written out.written_after answer before all.made.whole.wrote held, gives.0, (subst (λ (t : List ℕ). IsNetlist t gives.0) given gives.1).is.design_of, gives.2)
 
   pub writes_pattern : (nets : ShownNets) → AsksFor words (Route nets) → WritesItsPattern src out
   writes_pattern nets asks text before has held =
@@ -107,15 +110,16 @@ module _ (c : Call) (text : List ℕ) (design : Design) (calm : IsCalmRoute c te
   refused_by r (inr (command, asked, reason)) =
       only_memory r (subst (λ (k : Command). HasCommandReason k c.src r) (one_command c.words command (Route calm.nets) asked calm.asked) reason)
 
-  never_cut : CutsRefusal c ⊎ (CutsAnswer c ⊎ CutsBeside c) → ⊥
+  never_cut : IsCut c → ⊥
   never_cut (inl cut) = calm.tells cut.failed
-  never_cut (inr (inl cut)) = calm.writes cut.failed
-  never_cut (inr (inr cut)) = calm.tells cut.failed
+  never_cut (inr (inl cut)) = calm.tells cut.failed
+  never_cut (inr (inr (inl cut))) = calm.writes cut.failed
+  never_cut (inr (inr (inr cut))) = calm.tells cut.failed
 
 pub routes : (c : Call) (status : ℕ) → RouteEnds c status → RoutesEachNetlist c status
 routes c status ends text design calm =
     ⊎_elim (λ (zero : status ≡ 0). inl zero)
     (λ (some : status ≡ 0 → ⊥).
     inr (let refused : HasRefused c status = ends.refused some (λ (six : status ≡ 6). never_cut c text design calm (ends.cut six)) in
-    refused.told ∙ refused_by c text design calm refused.refusal refused.reason))
+    refused.told ∙ refused_by c text design calm refused.refusal refused.stopped.reason))
     (cases_eq status 0)

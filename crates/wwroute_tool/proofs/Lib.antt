@@ -2,3 +2,5 @@ mod Carrying
 mod Drawings
 mod Endings
 mod Headlines
+mod PlanTexts
+mod Tasks

@@ -80,14 +80,14 @@ NeedsNoReason r = ⊥
 
 -- Why a text gives no circuit. A pattern with a table, in a box that is looked at, may be refused
 -- whatever it draws: no clause says that each routed circuit is found, or at which cell it is at fault.
-abbrev pub HasNoCircuit : List ℕ → RouteRefusal → Type 0
-HasNoCircuit text Usage = ⊥
-HasNoCircuit text (NotCircuit fault) =
+abbrev pub HasNoRoutedCircuit : List ℕ → RouteRefusal → Type 0
+HasNoRoutedCircuit text Usage = ⊥
+HasNoRoutedCircuit text (NotCircuit fault) =
     (grid : Grid) × (ports : Ports) × IsPatternText text grid ports
     × (grid.width * grid.height ≤ box_limit)
-HasNoCircuit text (Common (refusal.Text cause)) = HasNoTable text cause
-HasNoCircuit text (Common refusal.NoMemory) = ⊤
-HasNoCircuit text (Common r) = ⊥
+HasNoRoutedCircuit text (Common (refusal.Text cause)) = HasNoTable text cause
+HasNoRoutedCircuit text (Common refusal.NoMemory) = ⊤
+HasNoRoutedCircuit text (Common r) = ⊥
 
 -- why a text is no netlist: it is at fault, or too heavy, or its covers read each other in a circle
 abbrev pub IsNoNetlist : List ℕ → Cause → Type 0

@@ -6,7 +6,7 @@ ghost use Rattle.blif_write.specs.Lift.{IsLiftOfCells, text_of_lift};
 ghost use Rattle.routed_texts.specs.Tables.{ShowsListRuns};
 ghost use Rattle.route_cells.specs.Fits.{FitsPorts};
 ghost use Rattle.wwroute_tool.specs.Carried.{GivesNetlist, IsLiftOfPattern};
-ghost use Rattle.wwroute_tool.specs.Refusing.{HasNoCircuit, NeedsNoReason, box_limit};
+ghost use Rattle.wwroute_tool.specs.Refusing.{HasNoRoutedCircuit, NeedsNoReason, box_limit};
 
 use crate::RouteRefusal;
 use blif_write::Lift;
@@ -143,7 +143,7 @@ fn netlist_of(
 /// Makes the netlist that the text of a routed circuit carries.
 pub fn extract(alloc: Global, text: &[u8]) -> Result<Lift, RouteRefusal>
     ensures carried { IfOk result (λ lift. GivesNetlist text.now (text_of_lift lift)) }
-    ensures refused { IfErr result (HasNoCircuit text.now) }
+    ensures refused { IfErr result (HasNoRoutedCircuit text.now) }
 {
     let pattern = rle_read::read(alloc, text)?;
     let ports = port_table::read(alloc, text, pattern.width, pattern.height)?;

@@ -8,11 +8,13 @@ mod extract;
 mod refusal;
 mod report;
 mod route;
+mod task;
 mod top;
 mod words;
 
 pub use answer::Answer;
 pub use refusal::RouteRefusal;
 pub use report::{Report, Size};
-pub use top::run;
+pub use task::Task;
+pub use top::{Stop, run};
 pub use words::Command;

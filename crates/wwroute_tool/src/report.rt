@@ -1,9 +1,9 @@
-// The line that tells the size of an answer.
+// The lines that tell the weight of a netlist, and the size of an answer.
 ghost use Rattle.std.specs.Prelude.{ℕ, ◌++◌, take, OnOk, OnErr};
 ghost use Rattle.std.specs.Io.KnownBytes.{Appends};
 ghost use Rattle.ww_base.specs.Faults.{HasCause};
 ghost use Rattle.refusals.specs.Tells.{Tells};
-ghost use Rattle.wwroute_tool.specs.Answers.{size_text};
+ghost use Rattle.wwroute_tool.specs.Answers.{notice_line, size_text};
 
 use itoa::Buffer;
 use ww_base::{Failed, Sink, write_pieces};
@@ -16,11 +16,13 @@ pub struct Size {
     pub period: u64,
 }
 
-/// What is told beside an answer.
+/// What is told before an answer and beside it.
 #[derive(Clone, Copy)]
 pub enum Report {
     /// Nothing, beside a netlist.
     Nothing,
+    /// The weight of a netlist that is to be drawn, if the search may take long.
+    Notice(u64),
     /// The size of a routed circuit.
     Routed(Size),
     /// The size of a pattern that is drawn by lanes, as `compile` draws it.
@@ -41,6 +43,23 @@ fn tell_size<E: Sink>(err: &mut E, size: Size, end: &[u8]) -> Result<(), Failed>
     write_pieces(err, &[b"box ", width, b" x ", height, b", P ", period, end])
 }
 
+// Tells the weight of a netlist that is to be drawn.
+fn tell_weight<E: Sink>(err: &mut E, weight: u64) -> Result<(), Failed>
+    ensures { Tells (notice_line weight)
+        (E.written err.old) (E.written err.new) (E.faults err.old) (E.faults err.new) result }
+{
+    let mut digits = Buffer::new();
+    let number = digits.format(weight).as_bytes();
+    write_pieces(
+        err,
+        &[
+            b"drawing a netlist of weight ",
+            number,
+            b": this may take some time\n",
+        ],
+    )
+}
+
 impl Report {
     ghost use Rattle.wwroute_tool.specs.Answers.{report_line};
 
@@ -55,6 +74,7 @@ impl Report {
     {
         match self {
             Report::Nothing => Ok(()),
+            Report::Notice(weight) => tell_weight(err, weight),
             Report::Routed(size) => tell_size(err, size, b"\n"),
             Report::ByLanes(size) => tell_size(err, size, b", drawn by lanes\n"),
         }

@@ -3,41 +3,68 @@ ghost use Rattle.std.specs.Prelude.{◌≡◌, ℕ, List, map, string_bytes, tak
 ghost use Rattle.std.specs.Io.KnownBytes.{Appends};
 ghost use Rattle.ww_base.specs.Faults.{HasCause};
 ghost use Rattle.program_runs.specs.Netlists.{WritesItsNetlist};
-ghost use Rattle.program_runs.specs.Runs.{call, reading, writing, Gave, NoWriteFailed};
+ghost use Rattle.program_runs.specs.Runs.{call, reading, writing, Gained, Gave, NoWriteFailed};
 ghost use Rattle.wwroute_tool.specs.declared.words.Command.TheVariants.{Extract, Route};
 ghost use Rattle.routed_plans.specs.declared.nets.ShownNets.{ShownNets};
 ghost use Rattle.wwroute_tool.specs.Words.{AsksFor};
 ghost use Rattle.wwroute_tool.specs.Answers.{answer_text, report_line, report_of, IsWritableAnswer};
-ghost use Rattle.wwroute_tool.specs.Commands.{HasTextReason, Makes, TellsBeside};
-ghost use Rattle.wwroute_tool.specs.Runs.{AnswersAll, HasBrokenOff, RouteEnds, RoutesEachNetlist, WritesItsNets, WritesItsPattern};
+ghost use Rattle.wwroute_tool.specs.Runs.{AnswersAll, HasEarlyEnd, HasRouteReason, RouteEnds, RoutesEachNetlist, WritesItsNets, WritesItsPattern};
+ghost use Rattle.wwroute_tool.specs.Tasks.{BreaksOffTask, ForTask, HasTask, IsSoundTask, MakesAll};
 
+use crate::RouteRefusal;
 use crate::answer::Answer;
-use crate::extract::extract;
 use crate::report::Report;
-use crate::route::route;
+use crate::task::{Task, task_of};
 use crate::words::command_of;
-use crate::{Command, RouteRefusal};
 use std::alloc::Global;
 use ww_base::{Failed, Sink, Source, read_all};
 
 // The greatest number of bytes that are read.
 const TEXT_LIMIT: usize = 16_777_216;
 
-// What a command makes of a text. All memory that it needs is taken here.
-fn made(alloc: Global, command: Command, text: &[u8]) -> Result<Answer, RouteRefusal>
-    ensures makes { IfOk result (λ answer. Makes command text.now (answer_text answer)) }
-    ensures tells { IfOk result (λ answer. TellsBeside command (answer_text answer)
-        (report_line (report_of answer))) }
-    ensures writable { IfOk result IsWritableAnswer }
-    ensures refused { IfErr result (HasTextReason command text.now) }
-{
-    match command {
-        Command::Extract => match extract(alloc, text) {
-            Ok(lift) => Ok(Answer::Netlist(lift)),
-            Err(refusal) => Err(refusal),
-        },
-        Command::Route(nets) => route(alloc, text, nets),
+/// Why a run ends before its last line.
+#[derive(Drop)]
+pub enum Stop {
+    /// The refusal is to be told.
+    Refused(RouteRefusal),
+    /// The notice was cut off.
+    Untold,
+}
+
+impl From<Failed> for Stop {
+    ghost use Rattle.wwroute_tool.specs.declared.top.Stop.TheVariants.{Untold};
+
+    ghost from_gives = { λ _ stop. stop ≡ Untold };
+
+    fn from(_: Failed) -> Self {
+        Stop::Untold
     }
+}
+
+impl From<RouteRefusal> for Stop {
+    ghost use Rattle.wwroute_tool.specs.declared.top.Stop.TheVariants.{Refused};
+
+    ghost from_gives = { λ r stop. stop ≡ Refused r };
+
+    fn from(refusal: RouteRefusal) -> Self {
+        Stop::Refused(refusal)
+    }
+}
+
+// Reads the text of the command that the words ask for.
+fn begin<S: Source>(alloc: Global, words: &[String], src: &mut S) -> Result<Task, RouteRefusal>
+    ensures begun { IfOk result (HasTask (map string_bytes words.now)
+        (reading S.left S.faults src.old src.new)) }
+    ensures refused { IfErr result (HasRouteReason (map string_bytes words.now)
+        (reading S.left S.faults src.old src.new)) }
+    ensures front { (given : List ℕ) × Gave (reading S.left S.faults src.old src.new) given }
+{
+    let Some(command) = command_of(words) else {
+        return Err(RouteRefusal::Usage);
+    };
+    let text = read_all(alloc, src, TEXT_LIMIT)?;
+    let task = task_of(alloc, command, text)?;
+    Ok(task)
 }
 
 // Writes an answer, and drops it. Returns what is told beside it.
@@ -59,28 +86,44 @@ fn send<O: Sink>(answer: Answer, out: &mut O) -> Result<Report, Failed>
     }
 }
 
-// Does what the words ask for, and returns what is to be told beside the answer.
-fn work<S: Source, O: Sink>(
+// Does a task, and writes its answer. Returns what is to be told beside it.
+fn finish<O: Sink>(alloc: Global, task: &Task, out: &mut O) -> Result<Report, RouteRefusal>
+    requires { IsSoundTask task.now }
+    ensures done { IfOk result (λ report. ForTask task.now (λ command text. MakesAll command text
+        (writing O.written O.faults out.old out.new) (report_line report))) }
+    ensures calm { OnOk result (NoWriteFailed (writing O.written O.faults out.old out.new)) }
+    ensures stopped { IfErr result (λ r. ForTask task.now (λ command text.
+        BreaksOffTask command text task.now (writing O.written O.faults out.old out.new) r)) }
+{
+    let answer = task.answer(alloc)?;
+    let report = send(answer, out)?;
+    Ok(report)
+}
+
+// Does what the words ask for, and returns what is to be told beside the answer. Before that it tells
+// the notice.
+fn work<S: Source, O: Sink, E: Sink>(
     alloc: Global,
     words: &[String],
     src: &mut S,
     out: &mut O,
-) -> Result<Report, RouteRefusal>
-    ensures done { IfOk result (λ report. AnswersAll (map string_bytes words.now)
+    err: &mut E,
+) -> Result<Report, Stop>
+    ensures done { IfOk result (λ report. (done : AnswersAll (map string_bytes words.now)
         (reading S.left S.faults src.old src.new)
-        (writing O.written O.faults out.old out.new) (report_line report)) }
-    ensures calm { OnOk result (NoWriteFailed (writing O.written O.faults out.old out.new)) }
-    ensures stopped { IfErr result (HasBrokenOff (map string_bytes words.now)
+        (writing O.written O.faults out.old out.new) (report_line report))
+        × Gained (writing E.written E.faults err.old err.new) done.begun.notice) }
+    ensures out_calm { OnOk result (NoWriteFailed (writing O.written O.faults out.old out.new)) }
+    ensures err_calm { OnOk result (NoWriteFailed (writing E.written E.faults err.old err.new)) }
+    ensures stopped { IfErr result (HasEarlyEnd (map string_bytes words.now)
         (reading S.left S.faults src.old src.new)
-        (writing O.written O.faults out.old out.new)) }
+        (writing O.written O.faults out.old out.new)
+        (writing E.written E.faults err.old err.new)) }
     ensures front { (given : List ℕ) × Gave (reading S.left S.faults src.old src.new) given }
 {
-    let Some(command) = command_of(words) else {
-        return Err(RouteRefusal::Usage);
-    };
-    let text = read_all(alloc, src, TEXT_LIMIT)?;
-    let answer = made(alloc, command, text.as_slice())?;
-    let report = send(answer, out)?;
+    let task = begin(alloc, words, src)?;
+    task.notice().tell(err)?;
+    let report = finish(alloc, &task, out)?;
     Ok(report)
 }
 
@@ -95,7 +138,8 @@ fn work<S: Source, O: Sink>(
 ///   `out`, as extended RLE with lines that say where its ports are: a routed circuit, after lines that
 ///   name its gates and wires, or, if none is found, the pattern that `blifww compile` draws by lanes.
 ///   A net that is drawn has a NET line. It writes one line to `err`, which tells the box and the
-///   period.
+///   period. If the netlist weighs more than 400, it first writes a line there that tells the weight,
+///   since the search may take long.
 /// - `route --nets` draws all nets but the clock nets, and each of these has a NET line.
 ///
 /// The statuses:
@@ -116,7 +160,8 @@ fn work<S: Source, O: Sink>(
 ///
 /// If several apply to a netlist, the first in this order is answered: 2, 5, 4 (the text), 1 (lines
 /// and models), 4 (the weight), 1 (clocks), 3, 6. With each status except 0 and 6, one line on `err`
-/// tells it, and `out` has gained nothing. With 2, `src` is as it was.
+/// tells it, and `out` has gained nothing; with 7, the line of the weight may stand before it. With 2,
+/// `src` is as it was.
 pub fn run<S: Source, O: Sink, E: Sink>(
     alloc: Global,
     words: &[String],
@@ -151,20 +196,22 @@ pub fn run<S: Source, O: Sink, E: Sink>(
         (writing O.written O.faults out.old out.new) }
 
     // How the run ends: done, refused or cut off, each status only with its reason. A pattern that
-    // is written is told by a line with its box and its period.
+    // is written is told by a line with its box and its period, and before a heavy netlist is drawn
+    // stands a line with its weight.
     ensures ends { RouteEnds (call (map string_bytes words.now)
         (reading S.left S.faults src.old src.new)
         (writing O.written O.faults out.old out.new)
         (writing E.written E.faults err.old err.new)) result }
 {
-    match work(alloc, words, src, out) {
+    match work(alloc, words, src, out, err) {
         Ok(report) => match report.tell(err) {
             Ok(()) => 0,
             Err(Failed) => 6,
         },
-        Err(refusal) => match refusal.tell(err) {
+        Err(Stop::Refused(refusal)) => match refusal.tell(err) {
             Ok(()) => refusal.status(),
             Err(Failed) => 6,
         },
+        Err(Stop::Untold) => 6,
     }
 }

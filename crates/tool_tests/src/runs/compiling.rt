@@ -7,7 +7,7 @@ pub const TOGGLE: &str = ".model t\n.outputs q\n.latch n q 0\n.names q n\n0 1\n.
 pub const INVERTER: &str = ".model n\n.inputs a\n.outputs y\n.names a y\n0 1\n";
 
 /// Netlists and how their patterns begin: with the times and the names, some of which have escapes;
-/// then netlists that print what their patterns print.
+/// then netlists that print what their patterns print, drawn by lanes and as routed circuits.
 pub const CASES: &str = "
 > compile -- a gate is compiled by its names
 .model X
@@ -67,7 +67,7 @@ x = 0, y = 0, rule = WireWorld
 #C BLIFWW OUT 32 8 y
 #C BLIFWW NET 0 8 0 a%25 -
 ...
-> eval --cycles 4 a=0011 b=0101 & compile | simulate --cycles 4 a=0011 b=0101 -- both the netlist and its pattern print this
+> eval --cycles 4 a=0011 b=0101 & compile|simulate --cycles 4 a=0011 b=0101 & route|simulate --cycles 4 a=0011 b=0101
 .model or
 .inputs a b
 .outputs y
@@ -77,7 +77,7 @@ x = 0, y = 0, rule = WireWorld
 .end
 == 0
 y=0111
-> eval --cycles 4 a=0011 b=0101 & compile | simulate --cycles 4 a=0011 b=0101
+> eval --cycles 4 a=0011 b=0101 & compile|simulate --cycles 4 a=0011 b=0101 & route|simulate --cycles 4 a=0011 b=0101
 .model or
 .inputs a b
 .outputs y
@@ -86,7 +86,7 @@ y=0111
 .end
 == 0
 y=0010
-> eval --cycles 4 a=0110 & compile | simulate --cycles 4 a=0110
+> eval --cycles 4 a=0110 & compile|simulate --cycles 4 a=0110 & route|simulate --cycles 4 a=0110
 .model n
 .inputs a
 .outputs y
@@ -94,7 +94,7 @@ y=0010
 0 1
 == 0
 y=1001
-> eval --cycles 4 a=0011 b=0101 & compile | simulate --cycles 4 a=0011 b=0101
+> eval --cycles 4 a=0011 b=0101 & compile|simulate --cycles 4 a=0011 b=0101 & route|simulate --cycles 4 a=0011 b=0101
 .model or
 .inputs a b
 .outputs y
@@ -103,7 +103,7 @@ y=1001
 .end
 == 0
 y=1110
-> eval --cycles 3 & compile | simulate --cycles 3
+> eval --cycles 3 & compile|simulate --cycles 3 & route|simulate --cycles 3
 .model c
 .outputs y
 .names y
@@ -111,14 +111,14 @@ y=1110
 .end
 == 0
 y=111
-> eval --cycles 3 & compile | simulate --cycles 3
+> eval --cycles 3 & compile|simulate --cycles 3 & route|simulate --cycles 3
 .model c
 .outputs y
 .names y
 .end
 == 0
 y=000
-> eval --cycles 4 & compile | simulate --cycles 4
+> eval --cycles 4 & compile|simulate --cycles 4 & route|simulate --cycles 4
 .model t
 .outputs q
 .latch n q 0
@@ -127,7 +127,7 @@ y=000
 .end
 == 0
 q=0101
-> eval --cycles 4 d=0010 & compile | simulate --cycles 4 d=0010
+> eval --cycles 4 d=0010 & compile|simulate --cycles 4 d=0010 & route|simulate --cycles 4 d=0010
 .model r
 .inputs d
 .outputs q
@@ -135,7 +135,7 @@ q=0101
 .end
 == 0
 q=1001
-> eval --cycles 4 a=0011 b=0101 & compile | simulate --cycles 4 a=0011 b=0101
+> eval --cycles 4 a=0011 b=0101 & compile|simulate --cycles 4 a=0011 b=0101 & route|simulate --cycles 4 a=0011 b=0101
 .model x
 .inputs a b
 .outputs p q
@@ -147,7 +147,7 @@ q=1001
 == 0
 p=0101
 q=0011
-> eval --cycles 2 d=11 & compile | simulate --cycles 2 d=11
+> eval --cycles 2 d=11 & compile|simulate --cycles 2 d=11 & route|simulate --cycles 2 d=11
 .model r
 .inputs d
 .outputs q
@@ -155,7 +155,7 @@ q=0011
 .end
 == 0
 q=01
-> eval --cycles 2 a=01 & compile | simulate --cycles 2 a=01
+> eval --cycles 2 a=01 & compile|simulate --cycles 2 a=01 & route|simulate --cycles 2 a=01
 .model f
 .inputs a
 .outputs y0 y1 y2 y3 y4
@@ -176,7 +176,7 @@ y1=01
 y2=01
 y3=01
 y4=01
-> eval --cycles 5 & compile | simulate --cycles 5
+> eval --cycles 5 & compile|simulate --cycles 5 & route|simulate --cycles 5
 .model k
 .outputs q0 q1
 .latch n0 q0 0
@@ -214,7 +214,7 @@ q1=00110
 s0=0
 s1=0
 c=1
-> eval --cycles 2 d=10 & compile | simulate --cycles 2 d=10
+> eval --cycles 2 d=10 & compile|simulate --cycles 2 d=10 & route|simulate --cycles 2 d=10
 .model m
 .inputs d \\
 clk # two

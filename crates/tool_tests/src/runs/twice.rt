@@ -15,6 +15,10 @@ toggle: compile --contexts 2 1:q=1 & compile --contexts 2 1:q=1
 toggle: tape --cycles 3 & tape --cycles 3
 toggle: compile & compile --contexts 1
 toggle: compile & tape --cycles 4
+gate: route & route
+toggle: route & route
+adder: route & route
+counter: route --nets & route --nets
 ";
 
 // Fails if the commands of a line write two texts.

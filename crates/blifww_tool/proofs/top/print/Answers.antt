@@ -2,7 +2,8 @@ use Rattle.std.proofs.Common.{refl}
 use Rattle.std.proofs.lemmas.Result.{err_from_is_err_and}
 use Rattle.command_words.specs.Shapes.{values_of}
 use Rattle.blifww_tool.specs.Answer.{output_text}
-use Rattle.blifww_tool.proofs.Stopped.{kept, refused_on}
+use Rattle.program_runs.proofs.Given.{kept}
+use Rattle.blifww_tool.proofs.Stopped.{refused_on}
 use Rattle.blifww_tool.proofs.top.print.Goals as goal
 
 pub answer-requires : goal.answer-requires

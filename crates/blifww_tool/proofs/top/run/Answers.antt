@@ -1,7 +1,7 @@
 use Rattle.std.proofs.Common.{arith, refl}
 use Rattle.blifww_tool.proofs.Headline.{aigs, dumps, headline, in_contexts, lifts, tapes}
 use Rattle.blifww_tool.proofs.Ended.{done, told, untold, ends, not_done}
-use Rattle.blifww_tool.proofs.Stopped.{kept}
+use Rattle.program_runs.proofs.Given.{kept}
 use Rattle.blifww_tool.proofs.top.run.Goals as goal
 
 pub returns-in-Ok-clause-headline : goal.returns-in-Ok-clause-headline

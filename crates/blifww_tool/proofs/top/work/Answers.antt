@@ -1,13 +1,14 @@
 use Rattle.std.proofs.Common.{◌≡◌, ap, refl, Err}
 use Rattle.std.proofs.lemmas.Result.{err_from_is_err_and, on_ok_weaker, IfErr-at_err, IfErr-weaker}
 use Rattle.command_words.specs.Shapes.{values_of}
-use Rattle.blifww_tool.proofs.Stopped.{kept, by_words, by_read, by_text, does, never_usage}
+use Rattle.program_runs.proofs.Given.{kept}
+use Rattle.blifww_tool.proofs.Stopped.{by_words, by_read, by_text, does, never_usage}
 use Rattle.blifww_tool.proofs.top.work.Goals as goal
 
 pub returns-in_err-command-clause-stopped : goal.returns-in_err-command-clause-stopped
 returns-in_err-command-clause-stopped g c =
     let p = err_from_is_err_and c.from_residual.result c.from_residual.ensures.1 in
-    rw (p.1, p.2) (by_words _ _ _ c.in_err-command.field-0.0 (record { nothing = kept _; calm = refl }) refl (λ w. c.in_err-command.ensures.usage (ap Err w)))
+    rw (p.1, p.2) (by_words _ _ _ c.in_err-command.field-0.0 (record { nothing = kept _; calm = refl }) (record { left = refl; faults = refl }) (λ w. c.in_err-command.ensures.usage (ap Err w)))
 
 pub returns-in_err-text-clause-stopped : goal.returns-in_err-text-clause-stopped
 returns-in_err-text-clause-stopped g c =

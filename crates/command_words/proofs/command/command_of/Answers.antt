@@ -7,7 +7,6 @@ use Rattle.command_words.specs.Errors.{error_of}
 use Rattle.command_words.specs.Shapes.{CommandValues, command_values, values_met, values_of}
 use Rattle.command_words.specs.declared.error.WordsError.TheVariants.{Usage}
 use Rattle.command_words.proofs.Answered.{OnOk-by, answered, err_inj, read_numbers, read_ok, read_usage}
-use Rattle.command_words.proofs.Named.{no_command}
 use Rattle.command_words.proofs.Parsed.{parsed_rows, parsed_taken, refused}
 use Rattle.command_words.proofs.command.command_of.Goals as goal
 
@@ -15,7 +14,8 @@ pub returns-in_err-found-clause-usage : goal.returns-in_err-found-clause-usage
 returns-in_err-found-clause-usage c u i =
     let words = map string_bytes c.args.words.now in
     let made : c.from_residual-in_err-found.result ≡ Err (error_of c.in_err-found.field-0.0) = search rules in
-    refused (app_of c.in_ok-blifww_command.field-0) words c.in_err-found.field-0.0 Usage c.in_ok-blifww_command.ensures c.in_err-found.ensures.passes (err_inj c.from_residual-in_err-found.result Usage (error_of c.in_err-found.field-0.0) u made) refl i
+    absurd (refused (app_of c.in_ok-blifww_command.field-0) words c.in_err-found.field-0.0 Usage c.in_ok-blifww_command.ensures c.in_err-found.ensures.kinds
+    (err_inj c.from_residual-in_err-found.result Usage (error_of c.in_err-found.field-0.0) u made) refl i)
 
 pub returns-in_err-found-clause-written : goal.returns-in_err-found-clause-written
 returns-in_err-found-clause-written c =
@@ -42,7 +42,7 @@ pub returns-clause-usage : goal.returns-clause-usage
 returns-clause-usage c e i =
     let words = map string_bytes c.args.words.now in
     let same = ap values_met (parsed_rows _ words c.in_ok-found.found c.in_ok-blifww_command.ensures c.in_ok-found.ensures.matches) in
-    no_command words (sym same ∙ read_usage (values_met (subcommand_rows_of c.in_ok-found.found)) c.command_in.result c.command_in.ensures e) i
+    sym same ∙ read_usage (values_met (subcommand_rows_of c.in_ok-found.found)) c.command_in.result c.command_in.ensures e
 
 pub returns-clause-written : goal.returns-clause-written
 returns-clause-written c =
