@@ -32,7 +32,11 @@ fn ins_of(alloc: Global, sketch: Sketch, letters: &Letters) -> Result<Vec<InCell
     let mut letter = b'a';
     for time in sketch.ins {
         let (x, y) = letters.place_of(letter);
-        ins.push(InCell { x, y, generation: *time })?;
+        ins.push(InCell {
+            x,
+            y,
+            generation: *time,
+        })?;
         letter = letter.saturating_add(1);
     }
     Ok(ins)
