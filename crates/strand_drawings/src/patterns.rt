@@ -14,7 +14,7 @@ fn input_of(library: &GateLibrary, gate: DrawnGate, input: u32) -> Option<((u32,
     let drawing = library.drawing(gate.kind);
     let found = drawing.ins.as_slice().get(input as usize)?;
     let later = match drawing.timing {
-        Timing::Together => found.time,
+        Timing::Together => found.generation,
         Timing::Apart => gate.later.saturating_mul(input),
     };
     let cell = (
