@@ -1,5 +1,5 @@
 -- How runs end.
-use Rattle.std.proofs.Common.{ℕ, ◌≡◌, ◌≢◌, ◌<◌, ◌≤◌, ◌*◌, ◌⊎◌, inl, inr, refl, sym, ap, ◌∙◌, subst, List, ◌++◌, length, take, arith}
+use Rattle.std.proofs.Common.{ℕ, ◌≡◌, ◌≢◌, ◌<◌, ◌≤◌, ◌*◌, inl, inr, refl, sym, ap, ◌∙◌, subst, List, ◌++◌, length, take, arith}
 use Rattle.std.specs.Prelude.{Option}
 use Rattle.std.specs.Io.KnownBytes.{Appends}
 use Rattle.std.proofs.KnownBytes.{Appends-trans}
@@ -26,10 +26,12 @@ use Rattle.wwroute_tool.specs.declared.words.Command.{Command}
 use Rattle.wwroute_tool.specs.declared.words.Command.TheVariants.{Extract, Route}
 use Rattle.wwroute_tool.specs.declared.refusal.RouteRefusal.{RouteRefusal}
 use Rattle.wwroute_tool.specs.declared.refusal.RouteRefusal.TheVariants.{Usage, Common, NotCircuit}
+use Rattle.wwroute_tool.specs.declared.top.Stop.{Stop}
+use Rattle.wwroute_tool.specs.declared.top.Stop.TheVariants.{Refused}
 use Rattle.wwroute_tool.specs.Words.{AsksFor}
 use Rattle.wwroute_tool.specs.Commands.{HasTextReason}
 use Rattle.wwroute_tool.specs.Refusing.{HasNoRoutedCircuit, HasNoPatternOf, NeedsNoReason, IsPatternText, box_limit, route_line, route_status}
-use Rattle.wwroute_tool.specs.Runs.{CutsNotice, AnswersAll, IsCut, RouteEnds, HasCommandReason, HasRouteReason, HasBrokenOff}
+use Rattle.wwroute_tool.specs.Runs.{CutsNotice, AnswersAll, IsCut, RouteEnds, HasCommandReason, HasRouteReason, HasBrokenOff, HasEarlyEnd}
 
 -- ---- reasons
 pub pattern_reason : (text : List ℕ) (e : RleReadError) → HasReadReason text e → HasNoRoutedCircuit text (Common (text_refusal (pattern_error e)))
@@ -202,6 +204,10 @@ module _ (words : List (List ℕ)) (src : Reading) (out : Writing) (old mid new 
         cut = λ e. cut_by r stopped calm last rose;
         front = front;
       }
+
+-- an early end at a refusal
+pub refused_early : (words : List (List ℕ)) (src : Reading) (out err : Writing) (stop : Stop) (r : RouteRefusal) → stop ≡ Refused r → HasEarlyEnd words src out err stop → HasBrokenOff words src out err r × NoWriteFailed err
+refused_early words src out err stop r is h = subst (λ (s : Stop). HasEarlyEnd words src out err s) is h
 
 -- the notice is cut off
 pub unnoticed : (c : Call) → CutsNotice c → ((given : List ℕ) × Gave c.src given) → RouteEnds c 6

@@ -1,5 +1,5 @@
 -- What the ends of runs say of each command.
-use Rattle.std.proofs.Common.{ℕ, ◌≡◌, ◌⊎◌, ⊎_elim, inl, inr, refl, sym, ap, ◌∙◌, subst, List, [], length, get_or, arith}
+use Rattle.std.proofs.Common.{ℕ, ◌≡◌, ⊎_elim, inl, inr, refl, sym, ap, ◌∙◌, subst, List, [], length, get_or, arith}
 use Rattle.std.proofs.lemmas.Bool.{cases_eq}
 use Rattle.netlist_core.specs.declared.model.Design.{Design}
 use Rattle.netlist_text.specs.NetlistText.{IsNetlist}

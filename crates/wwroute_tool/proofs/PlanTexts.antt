@@ -1,5 +1,5 @@
 -- A text that begins with lines of gates and wires, or whose box is none of a plan, is no plan's.
-use Rattle.std.proofs.Common.{ℕ, ◌≡◌, ◌<◌, ◌≤◌, ◌+◌, ◌*◌, ◌%◌, ◌⊎◌, inl, inr, refl, sym, ap, ◌∙◌, subst, Bool, true, false, List, [], ◌∷◌, ◌++◌, length, get_or, codes, arith, ◌==◌}
+use Rattle.std.proofs.Common.{ℕ, ◌≡◌, ◌<◌, ◌≤◌, ◌+◌, ◌*◌, ◌%◌, inl, inr, refl, sym, ap, ◌∙◌, subst, Bool, true, false, List, [], ◌∷◌, ◌++◌, length, get_or, arith, ◌==◌}
 use Rattle.std.specs.Prelude.{flat_map, if◌then◌else◌}
 use Rattle.std.specs.List.{AllByRecursion}
 use Rattle.ww_rule.specs.Grid.{Grid}
@@ -27,8 +27,10 @@ use Rattle.wwroute_tool.specs.Answers.{IsPlanText, HasNoPlanForm}
 
 -- ---- the box of a plan
 -- its columns and its rows, by tiles and lanes
-box_is : (none : Bool) (tiles lanes : ℕ)
-    → ((if none then (0, 0) else (32 * tiles + 1, 16 * lanes)).0 % 32 ≤ 1) × ((if none then (0, 0) else (32 * tiles + 1, 16 * lanes)).1 % 16 ≡ 0)
+abbrev box : Bool → (tiles lanes : ℕ) → ℕ × ℕ
+box none tiles lanes = if none then (0, 0) else (32 * tiles + 1, 16 * lanes)
+
+box_is : (none : Bool) (tiles lanes : ℕ) → ((box none tiles lanes).0 % 32 ≤ 1) × ((box none tiles lanes).1 % 16 ≡ 0)
 box_is true tiles lanes = (omega arith, refl)
 box_is false tiles lanes = (omega arith, omega arith)
 
@@ -36,7 +38,7 @@ size_is : (plan : Plan) → ((size_of plan).0 % 32 ≤ 1) × ((size_of plan).1 %
 size_is plan = box_is (plan.lanes == 0) (tape_shift plan + (length plan.columns + 2 * plan.latches)) (plan.lanes + plan.latches)
 
 -- ---- the fourth byte of a text
-fourth : List ℕ → ℕ
+abbrev fourth : List ℕ → ℕ
 fourth text = get_or text 3 0
 
 of_plan : (plan : Plan) (ports : Ports) → fourth (text_of_plan plan ports) ≡ 66

@@ -1,16 +1,14 @@
 -- What a task does is what its command does with its text.
-use Rattle.std.proofs.Common.{ℕ, ◌≡◌, ◌⊎◌, inl, inr, refl, sym, ap, ◌∙◌, subst, List}
-use Rattle.netlist_core.specs.declared.model.Design.{Design}
+use Rattle.std.proofs.Common.{ℕ, ◌≡◌, ◌⊎◌, inl, inr, refl, ap, subst, List}
 use Rattle.netlist_text.specs.declared.netlist.Netlist.{Netlist}
 use Rattle.netlist_text.specs.NetlistText.{IsNetlist}
-use Rattle.program_runs.specs.Runs.{Reading, Writing, Gained, NoReadFailed}
+use Rattle.program_runs.specs.Runs.{Reading, Writing, Gained}
 use Rattle.refusals.specs.declared.refusal.Refusal.TheVariants as refusal
 use Rattle.routed_plans.specs.declared.nets.ShownNets.{ShownNets}
 use Rattle.wwroute_tool.specs.declared.words.Command.{Command}
 use Rattle.wwroute_tool.specs.declared.words.Command.TheVariants.{Extract, Route}
 use Rattle.wwroute_tool.specs.declared.refusal.RouteRefusal.{RouteRefusal}
 use Rattle.wwroute_tool.specs.declared.refusal.RouteRefusal.TheVariants.{Common}
-use Rattle.wwroute_tool.specs.declared.report.Report.{Report}
 use Rattle.wwroute_tool.specs.declared.report.Report.TheVariants as report
 use Rattle.wwroute_tool.specs.declared.task.Task.{Task}
 use Rattle.wwroute_tool.specs.declared.task.Task.TheVariants as tasks
@@ -30,7 +28,7 @@ of_route netlist nets holds h Extract text is = absurd is
 of_route netlist nets holds h (Route other) text is = subst (λ (n : ShownNets). holds (Route n) text) is.0 (h text is.1)
 
 -- the notice of a task is that of its command and its text
-before_is : (command : Command) (text : List ℕ) (t : Task) → IsTaskOf command text t → IsSoundTask t → TellsBefore command text (report_line (notice_of t))
+pub before_is : (command : Command) (text : List ℕ) (t : Task) → IsTaskOf command text t → IsSoundTask t → TellsBefore command text (report_line (notice_of t))
 before_is Extract text (tasks.Extract read) is sound = refl
 before_is Extract text (tasks.Route netlist shown) is sound = absurd is
 before_is (Route nets) text (tasks.Extract read) is sound = absurd is
@@ -47,12 +45,12 @@ module _ (words : List (List ℕ)) (src : Reading) (t : Task) (has : HasTask wor
     before = before_is has.command has.text t has.is has.sound;
   }
 
-  pub all_made : (out : Writing) (line : List ℕ) → ForTask t (λ command text. MakesAll command text out line) → AnswersAll words src out line
+  abbrev pub all_made : (out : Writing) (line : List ℕ) → ForTask t (λ command text. MakesAll command text out line) → AnswersAll words src out line
   all_made out line made = record { begun = begun; made = made has.command has.text has.is }
 
   before_refusal : (r : RouteRefusal) → (notice_of t ≡ report.Nothing) ⊎ (r ≡ Common refusal.NoMemory) → IsBeforeRefusal words src r (report_line (notice_of t))
   before_refusal r (inl none) = inl (ap report_line none)
-  before_refusal r (inr memory) = inr (memory, begun, refl)
+  before_refusal r (inr memory) = inr (memory, (begun, refl))
 
   pub broken_off : (out err : Writing) (r : RouteRefusal) → Gained err (report_line (notice_of t)) → ForTask t (λ command text. BreaksOffTask command text t out r) → HasBrokenOff words src out err r
   broken_off out err r told breaks = go (breaks has.command has.text has.is)

@@ -1,6 +1,5 @@
 -- What the words ask for, with what was read for it.
 use Rattle.std.specs.Prelude.{ℕ, ◌≡◌, ◌⊎◌, ⊤, List, take}
-use Rattle.netlist_text.specs.declared.netlist.Netlist.{Netlist}
 use Rattle.netlist_text.specs.NetlistText.{IsNetlist}
 use Rattle.netlist_text.specs.Parts.{AreParts}
 use Rattle.plan_ports.specs.Tables.{HasPortNames}

@@ -1,5 +1,5 @@
 // What the words ask for, with what was read for it.
-ghost use Rattle.std.specs.Prelude.{IfOk, IfErr};
+ghost use Rattle.std.specs.Prelude.{◌≡◌, IfOk, IfErr};
 ghost use Rattle.wwroute_tool.specs.Answers.{answer_text, notice_for, report_line, report_of, IsWritableAnswer};
 ghost use Rattle.wwroute_tool.specs.Commands.{HasTextReason, Makes, TellsBeside};
 ghost use Rattle.wwroute_tool.specs.Tasks.{ForTask, IsSoundTask, IsTaskOf, RefusesTask};
@@ -53,7 +53,6 @@ pub fn task_of(alloc: Global, command: Command, text: Bytes) -> Result<Task, Rou
 }
 
 impl Task {
-    ghost use Rattle.std.specs.Prelude.{◌≡◌};
     ghost use Rattle.wwroute_tool.specs.Tasks.{notice_of};
 
     /// Returns what is told before the task is done: a notice, if a netlist is heavy.

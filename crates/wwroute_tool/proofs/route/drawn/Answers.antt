@@ -1,4 +1,9 @@
-use Rattle.wwroute_tool.proofs.Drawings.{lanes_show, lanes_told, named, placed, sound_of, weighed_of}
+use Rattle.std.proofs.Common.{subst, Option}
+use Rattle.std.specs.Prelude.{IfSome}
+use Rattle.route_lines.specs.GateLines.{AreGateLines}
+use Rattle.routed_plans.specs.declared.routes.Routed.{Routed}
+use Rattle.routed_plans.specs.Carried.{IsRoutedFor}
+use Rattle.wwroute_tool.proofs.Drawings.{lanes_show, lanes_told, named, placed, routed_told, sound_of, weighed_of}
 use Rattle.netlist_text.proofs.SoundParts.{small}
 use Rattle.wwroute_tool.proofs.route.drawn.Goals as goal
 
@@ -42,3 +47,11 @@ returns-clause-shows c =
 pub returns-clause-tells : goal.returns-clause-tells
 returns-clause-tells c =
     lanes_told c.args.netlist.now.design c.args.netlist.now.flat _ c.requires.parts c.in_ok-planned.planned.plan c.in_ok-planned.planned.ports c.requires.names c.in_ok-planned.ensures.admissible c.in_ok-planned.ensures.table
+
+pub returns-then-is_no_plan-clause-tells : goal.returns-then-is_no_plan-clause-tells
+returns-then-is_no_plan-clause-tells c =
+    let flat = c.args.netlist.now.flat in
+    routed_told flat c.in-Some.routed
+    (subst (λ (o : Option Routed). IfSome o (IsRoutedFor flat)) c.in-Some.is c.in_ok-routed.ensures.routed)
+    (subst (λ (o : Option Routed). IfSome o (λ routed. AreGateLines routed.lines)) c.in-Some.is c.in_ok-routed.ensures.lines)
+    (c.is_no_plan.ensures c.if-is_no_plan.true)

@@ -1,7 +1,7 @@
-use Rattle.std.proofs.Common.{refl, inl, inr}
+use Rattle.std.proofs.Common.{refl, inl}
 use Rattle.std.proofs.lemmas.Result.{err_from_is_err_and}
 use Rattle.program_runs.specs.Runs.{GaveAll, Reading, reading}
-use Rattle.wwroute_tool.proofs.Endings.{by_read, by_text}
+use Rattle.wwroute_tool.proofs.Endings.{by_text}
 use Rattle.wwroute_tool.proofs.top.begin.Goals as goal
 
 pub returns-in_default-clause-refused : goal.returns-in_default-clause-refused

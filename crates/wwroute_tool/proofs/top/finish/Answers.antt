@@ -1,4 +1,4 @@
-use Rattle.std.proofs.Common.{refl, sym, subst, inl, inr, ℕ, List}
+use Rattle.std.proofs.Common.{refl, sym, subst, inl, inr}
 use Rattle.std.proofs.lemmas.Result.{err_from_is_err_and}
 use Rattle.program_runs.proofs.Given.{kept}
 use Rattle.wwroute_tool.specs.declared.report.Report.{Report}
