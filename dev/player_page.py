@@ -5,30 +5,18 @@ from pathlib import Path
 
 ROOT = Path(__file__).resolve().parent.parent
 SOURCE = ROOT / "dev/player"
-SCRIPTS = [
-    "reading",
-    "streams",
-    "wires",
-    "gates",
-    "machine",
-    "plane",
-    "chart",
-    "page",
-    "signals",
-    "texts",
-    "events",
-]  # in this order
+SCRIPTS = "reading streams wires gates machine plane chart page signals texts events".split()  # in this order
 
 
 @dataclass
 class Example:
-    """A pattern of the page. `made` is a stored pattern's file, or words of a program and a netlist's file: `route`
-    makes a routed circuit, and `compile` one of tiles."""
+    """A pattern of the page: examples/NAME.rle, if it is stored, what `route` makes of the netlist of NAME.small, or
+    what `compile` makes of that of NAME. `made` has another file, or the words of a program and a netlist's file."""
 
     name: str
-    made: str
     title: str
     about: str
+    made: str = ""
     words: str = ""  # the streams, if they are not those of examples/NAME.words
     nets: str = ""  # nets that the chart shows, with commas between them
     unfold: str = ""  # a bus whose bits the chart shows, as "OUT light"
@@ -38,7 +26,6 @@ class Example:
 EXAMPLES = [
     Example(
         "toggle",
-        "compile examples/toggle.blif",
         "Toggle",
         "Each cycle in which en is 1 flips q, a bit that goes round the loop.",
         words="en=10011000",
@@ -46,14 +33,12 @@ EXAMPLES = [
     ),
     Example(
         "or",
-        "examples/or.rle",
         "OR gate",
         "y is 1 if a or b is 1. Two diodes keep electrons from running back.",
         words="a=00110110 b=01011010",
     ),
     Example(
         "toggle.small",
-        "route examples/toggle.blif",
         "Toggle, small",
         "The same netlist as wwroute draws it, with small gates and free wires.",
         words="en=10011000",
@@ -61,101 +46,59 @@ EXAMPLES = [
     ),
     Example(
         "counters.small",
-        "route examples/counters.blif",
         "Counters, small",
         "Three counters of two bits in a row, drawn by wwroute: a whole machine on one screen.",
     ),
     Example(
         "traffic.small",
-        "route examples/traffic.blif",
         "Traffic light with a timer, small",
         "A car that waits ends green early. Point at a gate or at a wire to see what it is.",
     ),
     Example(
         "cpu.small",
-        "route examples/cpu.blif",
         "Processor with an input, small",
         "A toy processor in a box of 518 x 130 cells; compile draws it in 4,577 x 544.",
     ),
     Example(
         "gates",
-        "examples/gates.rle",
         "All gates of small circuits",
         "Each gate is fed by rings, and shows its table again and again. Point at one to see what it is.",
         words="--cycles 40",
     ),
     Example(
-        "ring",
-        "examples/ring.rle",
-        "Ring counter",
-        "Four lights: one of them is on, and in each cycle the next one.",
-        unfold="OUT light",
+        "ring", "Ring counter", "Four lights: one of them is on, and in each cycle the next one.", unfold="OUT light"
     ),
     Example(
-        "lights",
-        "examples/lights.rle",
-        "Traffic light",
-        "Green for three cycles, yellow for one, red for three, red and yellow for one.",
+        "lights", "Traffic light", "Green for three cycles, yellow for one, red for three, red and yellow for one."
     ),
-    Example(
-        "noise",
-        "examples/noise.rle",
-        "Noise",
-        "A shift register with feedback: its bits look random, and come again after 15 cycles.",
-    ),
-    Example(
-        "adder",
-        "compile examples/adder.blif",
-        "Adder",
-        "s = a + b + ci in four bits, with a carry co. New numbers enter every 32 generations.",
-    ),
-    Example(
-        "counters",
-        "compile examples/counters.blif",
-        "Counters",
-        "Three counters of two bits in a row count the cycles in which go is 1.",
-    ),
-    Example(
-        "gray",
-        "compile examples/gray.blif",
-        "Gray counter",
-        "From each code to the next one bit changes.",
-        unfold="OUT code",
-    ),
-    Example(
-        "traffic", "compile examples/traffic.blif", "Traffic light with a timer", "A car that waits ends green early."
-    ),
-    Example("alu", "compile examples/alu.blif", "ALU", "a + b, a - b, a AND b or a XOR b, as f is 0, 1, 2 or 3."),
-    Example(
-        "uart",
-        "compile examples/uart.blif",
-        "Serial transmitter",
-        "Where start is 1 it takes a byte d, and sends it on tx bit by bit.",
-    ),
+    Example("noise", "Noise", "A shift register with feedback: its bits look random, and come again after 15 cycles."),
+    Example("adder", "Adder", "s = a + b + ci in four bits, with a carry co. New numbers enter every 32 generations."),
+    Example("counters", "Counters", "Three counters of two bits in a row count the cycles in which go is 1."),
+    Example("gray", "Gray counter", "From each code to the next one bit changes.", unfold="OUT code"),
+    Example("traffic", "Traffic light with a timer", "A car that waits ends green early."),
+    Example("alu", "ALU", "a + b, a - b, a AND b or a XOR b, as f is 0, 1, 2 or 3."),
+    Example("uart", "Serial transmitter", "Where start is 1 it takes a byte d, and sends it on tx bit by bit."),
     Example(
         "cpu",
-        "compile examples/cpu.blif",
         "Processor with an input",
         "Its program loads, adds and jumps; a is the accumulator, p the place in the program.",
     ),
     Example(
         "fibonacci",
-        "examples/fibonacci.rle",
         "Processor: Fibonacci",
         "A program of eight instructions: the accumulator a shows 1, 1, 2, 3, 5, 8, 13.",
         nets="p",
     ),
     Example(
         "gcd",
-        "examples/computer/gcd.rle",
         "Computer: gcd of 48 and 36",
         "Its lamps show 36, 24, 12.",
+        made="examples/computer/gcd.rle",
         words="--cycles 31",
         nets="step,word",
     ),
     Example(
         "toggle.tape",
-        "examples/toggle.tape.rle",
         "Toggle with a tape",
         "The bits of en lie on the wire in the west, and run in by themselves.",
         words="--cycles 8",
@@ -163,12 +106,21 @@ EXAMPLES = [
     ),
     Example(
         "toggle.contexts",
-        "compile --contexts 2 1:q=1 examples/toggle.blif",
         "Two toggles on the same wires",
         "The second machine runs 32 generations behind the first, with its own bits.",
+        made="compile --contexts 2 1:q=1 examples/toggle.blif",
         words="0:en=11110111 1:en=00111101",
     ),
 ]
+
+
+def made_by(example):
+    """Returns the words of a program, none for a stored pattern, and last the file of a pattern or a netlist."""
+    name = example.name
+    if (ROOT / f"examples/{name}.rle").exists():
+        return [f"examples/{name}.rle"]
+    way = "route" if name.endswith(".small") else "compile"
+    return example.made.split() or [way, f"examples/{name.removesuffix('.small')}.blif"]
 
 
 def words_of(example):
@@ -178,7 +130,7 @@ def words_of(example):
 
 def facts_of(example, printed):
     """Returns what the page knows of an example; `printed(words, file)` is what the program prints of a netlist."""
-    *words, file = example.made.split()
+    *words, file = made_by(example)
     pattern = printed(words, ROOT / file) if words else (ROOT / file).read_bytes()
     nets, unfold = ([it for it in [*names.split(",")] if it] for names in (example.nets, example.unfold))
     facts = {"name": example.name, "title": example.title, "about": example.about, "words": words_of(example)}

@@ -64,7 +64,7 @@ def unescaped(word):
 def reader_cases():
     """Gives of each case of dev/readers/cases the number of its line, its kind, its other words, and what is said of
     them."""
-    for at, line in enumerate(command.read(command.latin(READER_CASES)).split("\n")):
+    for at, line in enumerate(command.read(READER_CASES).split("\n")):
         if line and not line.startswith("#"):
             kind, *words, said = line.split(" | ")
             yield at, kind, list(map(unescaped, words)), said

@@ -21,8 +21,8 @@ def latin(word):
 
 
 def path(word):
-    """Returns the path that a text names."""
-    return Path(os.fsdecode(word.encode("latin-1")))
+    """Returns the path that a text names; a path stands for itself."""
+    return word if isinstance(word, Path) else Path(os.fsdecode(word.encode("latin-1")))
 
 
 def name():

@@ -155,4 +155,4 @@ def read_lines(text, letters="01"):
 
 def words_beside(file):
     """Returns the words of the file beside a netlist."""
-    return words_in(command.read(command.latin(beside(file, ".words"))))
+    return words_in(command.read(beside(file, ".words")))
