@@ -32,7 +32,7 @@ y=0111
 @ gate's pattern
 > route -- a pattern is no netlist
 == 1
-B22 NoModel line 1: -
+B1 NoModelYet line 8: x
 > extract -- the drawing of a plan is no routed circuit
 == 12
 not a circuit: ...
