@@ -149,7 +149,7 @@ EXAMPLES = [
         "gcd",
         "examples/computer/gcd.rle",
         "Computer: gcd of 48 and 36",
-        "Its lamps show 36, 24, 12.",
+        "A processor, drawn by wwroute, whose memory is wire: where show is 1, word_out is 36, then 24, then 12.",
         words="--cycles 31",
         nets="step,word",
     ),
