@@ -130,13 +130,11 @@ def memory_of(program, least, sizes):
     return best
 
 
-def memories_of(programs, least, count):
+def memories_of(programs):
     """Returns the memories of programs that share a netlist: all are as long as the longest. One alone may have further
     words, if that makes its turn shorter."""
-    count = max(count, 2, *(len(it.words) for it in programs))
-    if count > MOST_WORDS:
-        raise Mistake(f"{count} words are asked for, and {MOST_WORDS} are the most")
-    sizes = [count] if programs[1:] else range(count, MOST_WORDS + 1)
+    count = max(2, *(len(it.words) for it in programs))
+    sizes, least = [count] if programs[1:] else range(count, MOST_WORDS + 1), 0
     for _ in range(2):
         memories = [memory_of(it, least, sizes) for it in programs]
         least = max(len(it.steps) for it in memories)
