@@ -32,8 +32,7 @@ LINK_FAULTS = {
     "sped": "1",
 }
 BAD_WORDS = ["a0=01", "en", "en=2x", "en=01 en=11", "en=01 x=", "q=01"]
-LIT = 240000  # a generation at which lamps of the example gcd are lit
-LAMPS = "#C lamp 0 2700 1800 east\n#C lamp 1 2796 1812 down\nx = 3000, y = 2000, rule = WireWorld\n1800$2700.96C$!\n"
+LAMPS = "#C lamp 0 2700 1800 east\n#C lamp 1 2796 1812 down\nx = 3000, y = 2000, rule = WireWorld\n1800$2680.BA114C$!\n"
 # The contrast of two colours #rrggbb, as the Web Content Accessibility Guidelines count it.
 CONTRAST = """(...colours) => {
   const linear = (it) => (it <= 0.04045 ? it / 12.92 : ((it + 0.055) / 1.055) ** 2.4);
@@ -197,7 +196,7 @@ def hands(pattern_of):
         ("do 0", "page.isRunning && page.machine.generation > 100"),
         (
             "do page.was = performance.now(), command('cycle'), page.took = performance.now() - page.was",
-            "page.took < 150 && page.machine.generation === 7808",
+            "page.took < 150 && page.machine.generation === page.machine.pattern.table.period",
         ),
     ]
     yield "a far generation", {"example": "toggle", "gen": "4e8"}, [

@@ -92,7 +92,7 @@ EXAMPLES = [
     Example(
         "gcd",
         "Computer: gcd of 48 and 36",
-        "Its lamps show 36, 24, 12.",
+        "A processor, drawn by wwroute, whose memory is wire: where show is 1, word_out is 36, then 24, then 12.",
         made="examples/computer/gcd.rle",
         words="--cycles 31",
         nets="step,word",

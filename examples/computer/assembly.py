@@ -1,4 +1,4 @@
-"""Reads programs of the computer, and orders their steps and words for the memory."""
+"""Reads programs of the computer, orders their steps and words for the memory, and does their steps."""
 import itertools
 import re
 import sys
@@ -11,7 +11,7 @@ from blifww import blif, command
 STEPS = {"": 0, "take": 1, "sub": 2, "add": 3, "end": 4, "show": 5, "if": 6, "unless": 7}  # the three bits of each step
 WITH_WORD = {"take", "sub", "add", "show"}
 MOST_WORDS, MOST_STEPS = 8, 256  # what a program may have
-LIT = 2  # how many cycles after a `show` its lamps are lit
+WIDTH = 6  # the bits of a word
 
 
 class Mistake(ValueError):
@@ -97,45 +97,46 @@ def read_program(file, width):
     return Reader(file, width).read(text)
 
 
-def placed(steps, order, least):
-    """Returns the steps of a turn if the words come by in this order: each step in the cycle in which its word comes
-    by."""
-    places = {it: i for i, it in enumerate(order)}
+def placed(steps, places, size, least):
+    """Returns the steps of a turn in which the words come by at these places of so many: each step in the cycle in
+    which its word comes by."""
     made = []
     for name, word in steps:
-        while word and len(made) % len(order) != places[word]:
+        while word and len(made) % size != places[word]:
             made.append(("", None))
         made.append((name, word))
     made += [("", None)] * max(0, least - len(made))
-    return made + [("", None)] * (-len(made) % len(order))
+    return made + [("", None)] * (-len(made) % size)
 
 
-def cost(steps):
-    """Returns how many steps there are, and three more if the last lamps of a turn are not lit when it ends."""
-    shows = [i for i, (name, _) in enumerate(steps) if name == "show"]
-    return len(steps) + (3 if shows and (shows[-1] + LIT) % len(steps) else 0)
+def memory_of(program, least, sizes):
+    """Returns the memory of a program, with at least so many steps: of all orders of the words, with as many words as
+    may be, the shortest turn, and of these one that shows a number early."""
+    best, least_rank = None, (1 << 20,)
+    for size in sizes:
+        for order in itertools.permutations(range(size), len(program.words)):
+            places = dict(zip(program.words, order))
+            steps = placed(program.steps, places, size, least)
+            rank = len(steps), [name for name, _ in steps + [("show", None)]].index("show")
+            if rank < least_rank:
+                least_rank = rank
+                names = {at: name for name, at in places.items()}
+                best = Memory(
+                    steps, [(names.get(i, f"({i})"), program.words.get(names.get(i), 0)) for i in range(size)]
+                )
+    if len(best.steps) > MOST_STEPS:
+        taken = f"a turn takes {len(best.steps)} steps, with those that wait for words"
+        raise Mistake(f"{program.file}: {taken}; the most are {MOST_STEPS}")
+    return best
 
 
-def memory_of(program, least, count):
-    """Returns the memory of a program, with at least so many steps and words: of all orders of the words the
-    shortest turn."""
-    names = [*program.words, *(f"({i})" for i in range(max(count, 2) - len(program.words)))]
-    turns = ((placed(program.steps, order, least), order) for order in itertools.permutations(names))
-    best, order = min(turns, key=lambda it: cost(it[0]))
-    if len(best) > MOST_STEPS:
-        raise Mistake(
-            f"{program.file}: a turn takes {len(best)} steps, with those that wait for words; the most are {MOST_STEPS}"
-        )
-    return Memory(best, [(it, program.words.get(it, 0)) for it in order])
-
-
-def memories_of(programs, least, count):
-    """Returns the memories of programs that share the wires: all are as long as the longest."""
-    count = max(count, *(len(it.words) for it in programs))
-    if count > MOST_WORDS:
-        raise Mistake(f"{count} words are asked for, and {MOST_WORDS} are the most")
+def memories_of(programs):
+    """Returns the memories of programs that share a netlist: all are as long as the longest. One alone may have further
+    words, if that makes its turn shorter."""
+    count = max(2, *(len(it.words) for it in programs))
+    sizes, least = [count] if programs[1:] else range(count, MOST_WORDS + 1), 0
     for _ in range(2):
-        memories = [memory_of(it, least, count) for it in programs]
+        memories = [memory_of(it, least, sizes) for it in programs]
         least = max(len(it.steps) for it in memories)
     return memories
 
@@ -175,3 +176,30 @@ def netlist(memory, width, core):
     ]
     model.places = [("computer", {it: it for it in ["clk", "show", *pins]})]
     return f"{model.text()}{core}"
+
+
+@dataclass
+class Machine:
+    """The processor by its description: what a step does to the accumulator, the carry, and the words."""
+
+    words: dict
+    accumulator: int = 0
+    carry: bool = False
+    left_out: bool = False
+
+    def shown_by(self, name, word):
+        """Does a step; returns the number that it shows, or None."""
+        if name == "end":
+            self.left_out = False
+        elif self.left_out:
+            return None
+        elif name in ("if", "unless"):
+            self.left_out = self.carry == (name == "unless")
+        elif name == "take":
+            self.accumulator = self.words[word]
+        elif name == "show":
+            return self.words[word]
+        else:
+            made = self.words[word] + (self.accumulator if name == "add" else -self.accumulator)
+            self.carry, self.words[word] = made not in range(1 << WIDTH), made % (1 << WIDTH)
+        return None

@@ -7,7 +7,6 @@ from . import command
 
 TILE = 32  # a tile's columns; the generations that an electron needs for it
 LANE = 16  # a lane's rows
-LAMP = 96  # the cells along a lamp of the computer
 WIDEST = 70  # letters of a line of cells
 MOST_BYTES, MOST_BOX = 1 << 24, 1 << 28
 STEPS = {
@@ -290,22 +289,3 @@ def box_of_cells(pattern):
         min((it[1] for it in pattern.runs), default=0),
         *(max(it, default=0) for it in ends),
     )
-
-
-def lamps_of(text):
-    """Returns the lamps of a computer's pattern as (x, y, way), by their numbers: its comments tell where each
-    begins."""
-    return [(int(x), int(y), way) for x, y, way in re.findall(r"^#C lamp [0-9]+ ([0-9]+) ([0-9]+) (\w+)", text, re.M)]
-
-
-def box_of_lamps(text):
-    """Returns the box of the lamps of a computer's pattern as left, top, right and bottom."""
-    lamps = lamps_of(text)
-    right = max(x + (LAMP if way == "east" else LAMP // 8) for x, _, way in lamps)
-    bottom = max(y + (LAMP if way == "down" else LAMP // 8) for _, y, way in lamps)
-    return min(x for x, _, _ in lamps), min(y for _, y, _ in lamps), right, bottom
-
-
-def first_lit(text):
-    """Returns the first generation at which the lamps of a computer's pattern are lit."""
-    return int(re.search(r"are lit at generations ([0-9]+)", text)[1])
