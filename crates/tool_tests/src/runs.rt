@@ -5,11 +5,11 @@
 // before wrote. A command alone may have three numbers in brackets: the number of the source's call
 // that fails, counted from 0, and the rooms of the output and of the errors; a case with malformed
 // brackets fails. Other commands that write the same may follow, each after ` & `, and a remark on
-// the case ` -- `. `route` and `extract` are the commands of `wwroute`. Then come the lines of the text that the first command reads; a case without them reads
-// the text that the last line with `@` names. Then come `== ` with the status, and the lines that
-// the last command writes: to the output if the status is 0, and else to the errors, or to the
-// output up to `== err` and to the errors after it. It writes nothing more. In the output, three
-// full stops stand for anything.
+// the case ` -- `. `route` and `extract` are the commands of `wwroute`. Then come the lines of the
+// text that the first command reads; a case without them reads the text that the last line with `@`
+// names. Then come `== ` with the status, and the lines that the last command writes: to the output
+// if the status is 0, and else to the errors, or to the output up to `== err` and to the errors after
+// it. It writes nothing more. In the output, three full stops stand for anything.
 //
 // If a command follows the name after `@`, the cases are changes: the command reads the named text
 // with the lines of the case in place of each line that is the case's first.

@@ -35,7 +35,7 @@ y=0111
 B1 NoModelYet line 8: x
 > extract -- the drawing of a plan is no routed circuit
 == 12
-not a circuit: ...
+not a circuit: Wire 11 13
 @ adder
 > route | simulate --cycles 1 a0=1 a1=1 b0=1 b1=0 ci=0 & route --nets | simulate --cycles 1 a0=1 a1=1 b0=1 b1=0 ci=0
 == 0
