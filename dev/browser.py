@@ -30,7 +30,7 @@ class Browser:
     """One page of one Chromium."""
 
     def __init__(self, program="chromium"):
-        self.folder = tempfile.TemporaryDirectory()
+        self.folder = tempfile.TemporaryDirectory(ignore_cleanup_errors=True)  # some of its processes end later
         to_browser, self.outgoing = pipe()
         self.incoming, from_browser = pipe()
         fill = 'exec 3<&%d 4>&%d; exec "$@"' % (to_browser, from_browser)  # Chromium reads at 3 and writes at 4
