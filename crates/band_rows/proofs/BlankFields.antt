@@ -1,10 +1,8 @@
 -- Fields without cells.
-use Rattle.std.proofs.Common.{ℕ, ◌+◌, ◌*◌, ◌/◌, ◌%◌, ◌<◌, ◌≤◌, ◌≡◌, refl, sym, ap, ap₂, subst, ◌∙◌, inl, inr, List, [], length, get_or, arith}
-use Rattle.std.specs.Prelude.{◌≢◌}
+use Rattle.std.proofs.Common.{ℕ, ◌+◌, ◌≡◌, sym, ap, ap₂, ◌∙◌, List, [], length, get_or, arith}
 use Rattle.std.specs.Int.RustNames.{bit_and}
 use Rattle.std.proofs.lemmas.Nat.{and_comm}
-use Rattle.ww_rule.specs.declared.pattern.State.TheVariants.{Empty}
-use Rattle.lane_kernel.specs.Rows.{is_set, state_of}
+use Rattle.lane_kernel.specs.Rows.{state_of}
 use Rattle.lane_kernel.specs.Spans.{AreZero}
 use Rattle.lane_kernel.specs.Marked.{AreCleared}
 use Rattle.lane_kernel.specs.PlaneRows.{row_in_plane, plane_size, stride_of}

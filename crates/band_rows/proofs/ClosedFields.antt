@@ -1,8 +1,8 @@
 -- Where a field has no cells, and what follows there.
-use Rattle.std.proofs.Common.{ℤ, pos, ◌+ℤ◌, ℕ, ◌+◌, ◌*◌, ◌/◌, ◌%◌, ◌^◌, ◌<◌, ◌≤◌, ◌≡◌, refl, sym, ap, ap₂, subst, ◌∙◌, inl, inr, Bool, true, false, ◌&&◌, ◌||◌, List, [], length, get_or, arith}
+use Rattle.std.proofs.Common.{ℤ, ℕ, ◌+◌, ◌*◌, ◌/◌, ◌%◌, ◌<◌, ◌≤◌, ◌≡◌, refl, sym, ap, ap₂, subst, ◌∙◌, inl, inr, Bool, true, false, ◌&&◌, List, [], get_or, arith}
 use Rattle.std.specs.Prelude.{◌≢◌, ◌⊎◌}
 use Rattle.std.specs.Int.RustNames.{bit_and, bit_or, bit_xor}
-use Rattle.std.proofs.lemmas.Bool.{cases_eq, cases_lt, true≢false}
+use Rattle.std.proofs.lemmas.Bool.{cases_eq, cases_lt}
 use Rattle.std.proofs.lemmas.List.{get_or_past}
 use Rattle.std.proofs.lemmas.Nat.{and_comm, and_le_l}
 use Rattle.std.proofs.Math.Nat.{suc-mul, mul-le-mul_right}
@@ -10,9 +10,8 @@ use Rattle.lists.specs.Bits.{has_bit}
 use Rattle.lists.proofs.WordBits.{and_bit}
 use Rattle.ww_rule.specs.Wireworld.{Plane}
 use Rattle.lane_kernel.specs.Rows.{is_set}
-use Rattle.lane_kernel.specs.Around.{Way, beside, free_of, near_heads, next_word, wires_of, IsInner}
-use Rattle.lane_kernel.specs.Around.Way.{north, south, west, east, north_west, north_east, south_west, south_east}
-use Rattle.lane_kernel.specs.Words.{fires, from_east, from_west, ones_of, twos_of}
+use Rattle.lane_kernel.specs.Around.{beside, free_of, near_heads, next_word}
+use Rattle.lane_kernel.specs.Around.Way.{west}
 use Rattle.lane_kernel.specs.Marked.{AreOn, IsMarked}
 use Rattle.lane_kernel.specs.PlaneRows.{place, row_in_plane, stride_of, HasDarkSides, IsInRow, ShowsHeads}
 use Rattle.lane_kernel.proofs.Bits.{differ, no_bit, xor_bit}
@@ -20,7 +19,7 @@ use Rattle.lane_kernel.proofs.Places.{Fit}
 use Rattle.lane_kernel.proofs.PlaneRows.{row_past, row_word}
 use Rattle.lane_kernel.proofs.UnderWay.{no_tails}
 use Rattle.band_rows.specs.declared.field.Field.{Field}
-use Rattle.band_rows.specs.Fields.{AreOfOneSize, IsClosedField, IsDarkField, IsFieldStepped}
+use Rattle.band_rows.specs.Fields.{IsClosedField, IsDarkField, IsFieldStepped}
 use Rattle.band_rows.proofs.Bands.{words_show}
 use Rattle.band_rows.proofs.HeadPlaced.{same_bits}
 use Rattle.band_rows.proofs.PlaceCells.{same_place}

@@ -1,5 +1,5 @@
 -- A field between rows of heads.
-use Rattle.std.proofs.Common.{ℤ, pos, ◌-ℤ◌, ◌+ℤ◌, ℕ, ◌+◌, ◌-◌, ◌*◌, ◌/◌, ◌%◌, ◌<◌, ◌≤◌, ◌≡◌, refl, sym, ap, ap₂, subst, ◌∙◌, inl, inr, List, [], length, get_or, slice_set, arith}
+use Rattle.std.proofs.Common.{ℤ, pos, ◌-ℤ◌, ◌+ℤ◌, ℕ, ◌+◌, ◌-◌, ◌*◌, ◌/◌, ◌%◌, ◌<◌, ◌≤◌, ◌≡◌, refl, sym, ap, ap₂, subst, ◌∙◌, inl, inr, List, length, get_or, slice_set, arith}
 use Rattle.std.specs.Prelude.{◌≢◌, ◌⊎◌}
 use Rattle.std.specs.Int.RustNames.{bit_and}
 use Rattle.std.proofs.lemmas.Bool.{cases_eq, cases_lt}
@@ -9,14 +9,14 @@ use Rattle.std.proofs.Math.Nat.{suc-mul, mul-le-mul_right}
 use Rattle.lists.specs.Bits.{has_bit}
 use Rattle.ww_rule.specs.Wireworld.{Plane, next_plane}
 use Rattle.lane_kernel.specs.Rows.{row_state, state_of}
-use Rattle.lane_kernel.specs.Around.{Way, beside, free_of, near_heads, IsFramed, IsInner}
+use Rattle.lane_kernel.specs.Around.{beside, free_of, near_heads, IsFramed, IsInner}
 use Rattle.lane_kernel.specs.Marked.{AreMore, AreOn, AreTold, IsMarked, IsTold, opposite}
 use Rattle.lane_kernel.specs.PlaneRows.{place, row_in_plane, HasDarkSides, IsEmptyWest, ShowsHeads}
 use Rattle.lane_kernel.proofs.PlaneRows.{row_past, row_word}
 use Rattle.lane_kernel.proofs.Ways.{there_and_back, back_again}
 use Rattle.band_rows.specs.declared.field.Field.{Field}
 use Rattle.band_rows.specs.RowsPut.{HasRowPut}
-use Rattle.band_rows.specs.Fields.{field_heads, field_state, field_tails, AreOfOneSize, HasForgotten, HasSteppedBetween, HasTaken, IsBesideRows, IsClosedField, IsPlaneField, IsFieldStepped, ShowsField, TailsShow}
+use Rattle.band_rows.specs.Fields.{field_heads, field_state, field_tails, AreOfOneSize, HasForgotten, HasSteppedBetween, HasTaken, IsBesideRows, IsClosedField, IsFieldStepped, ShowsField}
 use Rattle.lane_kernel.proofs.Places.{heads_of_row}
 use Rattle.band_rows.proofs.Bands.{words_show}
 use Rattle.band_rows.proofs.ClosedFields.{dark_margin, dark_sides, same_row_words, stepped_on}

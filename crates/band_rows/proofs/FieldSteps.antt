@@ -1,5 +1,5 @@
 -- A field one generation later.
-use Rattle.std.proofs.Common.{ℤ, pos, ◌-ℤ◌, ◌+ℤ◌, ℕ, suc, ◌+◌, ◌-◌, ◌*◌, ◌^◌, ◌<◌, ◌≤◌, ◌≡◌, refl, sym, ap, ap₂, subst, ◌∙◌, List, length, get_or, arith}
+use Rattle.std.proofs.Common.{ℤ, pos, ◌-ℤ◌, ◌+ℤ◌, ℕ, suc, ◌+◌, ◌-◌, ◌*◌, ◌<◌, ◌≤◌, ◌≡◌, sym, ap, ap₂, subst, ◌∙◌, List, length, get_or, arith}
 use Rattle.std.specs.Prelude.{◌≢◌}
 use Rattle.std.proofs.Math.Nat.{suc-mul, mul-le-mul_right}
 use Rattle.ww_rule.specs.Wireworld.{Plane, next_plane}
@@ -10,7 +10,7 @@ use Rattle.lane_kernel.specs.PlaneRows.{place, row_in_plane, plane_size, stride_
 use Rattle.lane_kernel.proofs.Places.{Fit}
 use Rattle.lane_kernel.proofs.PlaneRows.{is_next_plane}
 use Rattle.band_rows.specs.declared.field.Field.{Field}
-use Rattle.band_rows.specs.Fields.{field_heads, field_state, IsPlaneField, IsFieldStepped, ShowsField}
+use Rattle.band_rows.specs.Fields.{field_heads, IsPlaneField, IsFieldStepped, ShowsField}
 
 -- the words of rows are inner words
 pub inner_place : (columns rows s c k many : ℕ) → s ≡ rows + 2 → c < columns → k < rows → many ≡ (columns + 2) * s + 2 → IsInner s many (place s c (k + 1))

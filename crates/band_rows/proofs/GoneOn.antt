@@ -1,8 +1,8 @@
 -- Generations of a field that stands alone.
-use Rattle.std.proofs.Common.{ℤ, pos, ◌-ℤ◌, ◌+ℤ◌, ℕ, ◌+◌, ◌-◌, ◌<◌, ◌≤◌, ◌≡◌, refl, sym, ap, ap₂, subst, ◌∙◌, List, [], arith}
-use Rattle.std.proofs.Math.Nat.{add-zero, zero-add, add_assoc}
-use Rattle.ww_rule.specs.Wireworld.{Plane, next_plane}
-use Rattle.lane_kernel.specs.PlaneRows.{row_in_plane, IsEmptyWest, ShowsHeads}
+use Rattle.std.proofs.Common.{ℤ, pos, ◌-ℤ◌, ◌+ℤ◌, ℕ, ◌+◌, ◌-◌, ◌<◌, ◌≡◌, sym, ap, ap₂, subst, ◌∙◌, arith}
+use Rattle.std.proofs.Math.Nat.{add-zero}
+use Rattle.ww_rule.specs.Wireworld.{Plane}
+use Rattle.lane_kernel.specs.PlaneRows.{row_in_plane, ShowsHeads}
 use Rattle.lane_kernel.proofs.Places.{Fit, heads_of_row}
 use Rattle.band_rows.specs.declared.field.Field.{Field}
 use Rattle.band_rows.specs.Fields.{AreOfOneSize, GoOnAlone, HasRunAlone, IsClosedField, IsFieldStepped, ShowsField, TailsShow, field_heads, field_tails}

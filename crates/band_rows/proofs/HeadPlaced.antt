@@ -1,5 +1,5 @@
 -- A field in which a cell was made a head.
-use Rattle.std.proofs.Common.{ℕ, ◌+◌, ◌*◌, ◌/◌, ◌%◌, ◌^◌, ◌<◌, ◌≤◌, ◌≡◌, refl, sym, ap, ap₂, subst, ◌∙◌, inl, inr, Bool, true, false, cond, ◌&&◌, ◌||◌, ◌==◌, List, length, get_or, slice_set, arith}
+use Rattle.std.proofs.Common.{ℕ, ◌+◌, ◌*◌, ◌/◌, ◌%◌, ◌^◌, ◌<◌, ◌≡◌, refl, sym, ap, ap₂, subst, ◌∙◌, inl, inr, Bool, true, false, cond, ◌&&◌, ◌||◌, ◌==◌, List, length, get_or, slice_set, arith}
 use Rattle.std.specs.Prelude.{◌≢◌}
 use Rattle.std.specs.Int.{bit_at}
 use Rattle.std.specs.Int.RustNames.{bit_and, bit_or}
@@ -14,7 +14,7 @@ use Rattle.lane_kernel.specs.Marked.{AreCleared, AreListed, AreOn, AreTold, IsMa
 use Rattle.lane_kernel.specs.PlaneRows.{place, row_in_plane, plane_size, stride_of, IsInRow}
 use Rattle.lane_kernel.specs.Rows.{is_set, row_state, state_of}
 use Rattle.band_rows.specs.declared.field.Field.{Field}
-use Rattle.band_rows.specs.Fields.{field_state, AreOfOneSize, IsClosedField, IsPlaneField}
+use Rattle.band_rows.specs.Fields.{field_state, IsClosedField}
 use Rattle.band_rows.proofs.FieldSteps.{inner_place}
 use Rattle.band_rows.proofs.PlaceCells.{head_state, put_bit}
 

@@ -1,11 +1,11 @@
 -- The marks after a cell was made a head.
-use Rattle.std.proofs.Common.{ℕ, ◌+◌, ◌<◌, ◌≤◌, ◌≡◌, sym, ap, subst, ◌∙◌, inl, inr, List, length, get_or, slice_set, arith}
+use Rattle.std.proofs.Common.{ℕ, ◌<◌, ◌≤◌, ◌≡◌, sym, ap, subst, ◌∙◌, inl, inr, List, length, get_or, slice_set, arith}
 use Rattle.std.specs.Prelude.{◌≢◌}
 use Rattle.std.proofs.lemmas.Bool.{cases_eq}
 use Rattle.std.proofs.lemmas.List.{get_or-set_same, get_or-set_other}
 use Rattle.std.proofs.lemmas.Nat.{and_comm}
 use Rattle.std.specs.Int.RustNames.{bit_and}
-use Rattle.lane_kernel.specs.Around.{Way, beside, free_of, near_heads, IsFramed, IsInner}
+use Rattle.lane_kernel.specs.Around.{beside, free_of, near_heads, IsFramed}
 use Rattle.lane_kernel.specs.Marked.{AreMore, AreTold, IsMarked, IsTold, opposite}
 use Rattle.lane_kernel.proofs.Ways.{there_and_back, back_again}
 

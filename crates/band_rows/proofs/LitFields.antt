@@ -1,5 +1,5 @@
 -- Words of a field that are lit.
-use Rattle.std.proofs.Common.{ℕ, zero, suc, ◌+◌, ◌-◌, ◌*◌, ◌/◌, ◌%◌, ◌^◌, ◌<◌, ◌≤◌, ◌≡◌, ◌==◌, refl, sym, ap, ap₂, subst, ◌∙◌, inl, inr, Bool, true, false, ◌&&◌, ◌||◌, List, length, get_or, arith}
+use Rattle.std.proofs.Common.{ℕ, ◌+◌, ◌-◌, ◌*◌, ◌/◌, ◌%◌, ◌<◌, ◌≡◌, refl, sym, ap, ap₂, ◌∙◌, inl, inr, Bool, true, false, ◌||◌, List, length, get_or, arith}
 use Rattle.std.specs.Prelude.{◌≢◌, ◌⊎◌}
 use Rattle.std.specs.Int.RustNames.{bit_or}
 use Rattle.std.proofs.lemmas.Bool.{cases_eq, true≢false}
@@ -11,7 +11,7 @@ use Rattle.lane_kernel.specs.Rows.{is_set, state_of}
 use Rattle.lane_kernel.specs.PlaneRows.{place, row_in_plane, IsInRow}
 use Rattle.lane_kernel.proofs.UnderWay.{no_tails}
 use Rattle.band_rows.specs.declared.field.Field.{Field}
-use Rattle.band_rows.specs.Fields.{field_state, IsClosedField, IsDarkField, IsLitInField}
+use Rattle.band_rows.specs.Fields.{IsClosedField, IsDarkField, IsLitInField}
 use Rattle.band_rows.proofs.ClosedFields.{dark_field}
 use Rattle.band_rows.proofs.FieldSteps.{inner_place}
 use Rattle.band_rows.proofs.PlaceCells.{row_set}

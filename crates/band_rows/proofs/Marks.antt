@@ -1,19 +1,13 @@
 -- Bits of cells, set and cleared.
-use Rattle.std.proofs.Common.{ℕ, ◌+◌, ◌*◌, ◌/◌, ◌%◌, ◌^◌, ◌<◌, ◌≤◌, ◌≡◌, refl, sym, ap, ap₂, ◌∙◌, inl, inr, Bool, true, false, not, cond, ◌==◌, ◌&&◌, ◌||◌, List, length, get_or, slice_set, arith}
+use Rattle.std.proofs.Common.{ℕ, ◌*◌, ◌/◌, ◌%◌, ◌^◌, ◌<◌, ◌≡◌, sym, ap, ◌∙◌, inl, inr, false, ◌==◌, ◌||◌, List, length, get_or, slice_set, arith}
 use Rattle.std.specs.Prelude.{◌≢◌}
-use Rattle.std.proofs.Math.ListN.{replicate}
-use Rattle.std.specs.Int.{bit_not, w64}
-use Rattle.std.specs.Int.RustNames.{bit_and, bit_or}
-use Rattle.std.proofs.lemmas.Bool.{cases_eq, cases_lt, eq-eqb, ne_eqb}
+use Rattle.std.specs.Int.{w64}
+use Rattle.std.specs.Int.RustNames.{bit_or}
+use Rattle.std.proofs.lemmas.Bool.{cases_eq, eq-eqb, ne_eqb}
 use Rattle.std.proofs.lemmas.Grind.{get_or-set_at}
-use Rattle.std.proofs.lemmas.List.{get_or-set_other, get_or_past, get_or-replicate, length-replicate}
-use Rattle.std.proofs.lemmas.Nat.Bits.{bit_at_set_same, bit_at_set_other, bit_at_clear_same, bit_at_clear_other}
-use Rattle.std.proofs.Math.Bool.{or-false, and-true, and-false}
-use Rattle.std.specs.Int.Bits.{or_zero_r}
-use mir.Val.{bool_byte}
-use Rattle.ww_rule.specs.declared.pattern.State.{State}
-use Rattle.ww_rule.specs.declared.pattern.State.TheVariants.{Empty, Head, Tail, Conductor}
-use Rattle.lane_kernel.specs.Rows.{is_set, state_of, row_state, AreDisjoint}
+use Rattle.std.proofs.lemmas.List.{get_or-set_other}
+use Rattle.std.proofs.lemmas.Nat.Bits.{bit_at_set_same, bit_at_set_other}
+use Rattle.lane_kernel.specs.Rows.{is_set}
 use Rattle.lists.specs.Bits.{has_bit}
 use Rattle.lane_kernel.proofs.Bits.{no_bit}
 

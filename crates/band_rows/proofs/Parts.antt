@@ -1,6 +1,6 @@
 -- A list that was parted before and after one of its items.
-use Rattle.std.proofs.Common.{ℕ, ◌+◌, ◌-◌, ◌<◌, ◌≡◌, sym, ap, ◌∙◌, List, ◌++◌, length, get_or, map, slice_set, arith}
-use Rattle.std.proofs.lemmas.List.{set-append_left, set-append_right, length-append, length-map, map-append}
+use Rattle.std.proofs.Common.{ℕ, ◌+◌, ◌-◌, ◌<◌, ◌≡◌, sym, ap, ◌∙◌, List, ◌++◌, length, get_or, slice_set, arith}
+use Rattle.std.proofs.lemmas.List.{set-append_left, set-append_right, length-append}
 use Rattle.std.proofs.Math.ListN.{get_or-append}
 use Rattle.std.proofs.Math.Seq.{get_or-append_right}
 

@@ -1,6 +1,6 @@
 -- Cells of rows by the places of their words in planes.
-use Rattle.std.proofs.Common.{ℕ, ◌+◌, ◌*◌, ◌/◌, ◌%◌, ◌^◌, ◌<◌, ◌≤◌, ◌≡◌, refl, sym, ap, ap₂, subst, ◌∙◌, inl, inr, Bool, true, false, cond, ◌&&◌, ◌||◌, ◌==◌, List, length, get_or, slice_set, arith}
-use Rattle.std.specs.Prelude.{◌≢◌, ◌⊎◌}
+use Rattle.std.proofs.Common.{ℕ, ◌+◌, ◌*◌, ◌/◌, ◌%◌, ◌^◌, ◌<◌, ◌≤◌, ◌≡◌, refl, sym, ap, ap₂, ◌∙◌, inl, inr, Bool, true, false, cond, ◌&&◌, ◌||◌, ◌==◌, List, length, get_or, slice_set, arith}
+use Rattle.std.specs.Prelude.{◌≢◌}
 use Rattle.std.specs.Int.{w64}
 use Rattle.std.specs.Int.RustNames.{bit_or}
 use Rattle.std.proofs.lemmas.Bool.{cases_eq, cases_lt, eq-eqb, ne_eqb}
@@ -8,10 +8,10 @@ use Rattle.std.proofs.lemmas.List.{get_or-set_same, get_or-set_other}
 use Rattle.std.proofs.lemmas.Nat.{div-mul-add}
 use Rattle.std.proofs.lemmas.Nat.Bits.{bit_at_set_same, bit_at_set_other}
 use Rattle.std.proofs.Math.Bool.{and-false}
-use Rattle.std.proofs.Math.Nat.{suc-mul, mul-le-mul_right}
+use Rattle.std.proofs.Math.Nat.{suc-mul}
 use Rattle.ww_rule.specs.declared.pattern.State.TheVariants.{Head}
 use Rattle.lists.specs.Bits.{has_bit}
-use Rattle.lane_kernel.specs.Rows.{is_set, row_state, state_of}
+use Rattle.lane_kernel.specs.Rows.{is_set, state_of}
 use Rattle.lane_kernel.specs.PlaneRows.{place, row_in_plane}
 use Rattle.lane_kernel.proofs.Bits.{no_bit}
 use Rattle.lane_kernel.proofs.PlaneRows.{row_past, row_word}

@@ -7,7 +7,9 @@ use Rattle.lane_kernel.specs.Rows.{is_set, row_state}
 use Rattle.lane_kernel.specs.Around.{next_word}
 use Rattle.lane_kernel.specs.Marked.{AreCleared, AreListed, AreOn, IsMarked}
 use Rattle.lane_kernel.specs.PlaneRows.{place, row_in_plane, plane_size, stride_of, IsInRow, PlanesShow, IsEmptyWest, ShowsHeads}
+use Rattle.lane_kernel.specs.declared.word_marks.Free.{Free}
 use Rattle.band_rows.specs.declared.field.Field.{Field}
+use Rattle.band_rows.specs.declared.field.WordMarks.{WordMarks}
 use Rattle.band_rows.specs.RowsPut.{HasRowPut}
 
 -- The planes and the bytes have their sizes. Cells lie in rows. Unless the list is full, the marks
@@ -27,6 +29,14 @@ pub record IsPlaneField (field : Field) : Type 0 where
       → IsMarked field.stride
       field.heads.items field.tails.items field.cells.items field.marks.bytes.items
   pub cleared : AreCleared field.spare.bytes.items
+
+-- marks of the words of a plane with these heads; unless their list is full, they promise what
+-- `IsMarked` says
+pub record AreMarksOf (free : Free) (heads : List ℕ) (marks : WordMarks) : Type 0 where
+  pub long : length marks.bytes.items ≡ length free.cells.now
+  pub listed : AreListed free.stride marks.bytes.items marks.list.items marks.many
+  pub marked : marks.many < length marks.list.items
+      → IsMarked free.stride heads free.tails.now free.cells.now marks.bytes.items
 
 -- a field without heads of other fields beside it: heads and tails lie on its cells
 pub record IsClosedField (field : Field) : Type 0 where

@@ -5,7 +5,7 @@ ghost use Rattle.ww_rule.specs.Wireworld.{Plane, next_plane};
 ghost use Rattle.std.specs.Int.RustNames.{bit_or};
 ghost use Rattle.ww_rule.specs.declared.pattern.State.TheVariants.{Head};
 ghost use Rattle.lane_kernel.specs.Around.{next_word, IsFramed, IsInner};
-ghost use Rattle.lane_kernel.specs.Marked.{AreCleared, AreListed, AreMore, AreOn, AreTold, IsMarked, beside_mark};
+ghost use Rattle.lane_kernel.specs.Marked.{AreAsLong, AreCleared, AreListed, AreMore, AreOn, AreTold, IsMarked, beside_mark};
 ghost use Rattle.lists.specs.Bits.{has_bit};
 ghost use Rattle.lane_kernel.specs.Rows.{state_of};
 ghost use Rattle.lane_kernel.specs.PlaneRows.{HasDarkSides, IsEmptyWest, ShowsHeads};
@@ -55,41 +55,32 @@ pub fn all_fit(words: &[u64])
 }
 
 /// Steps the marked words of a plane by one generation; the new heads take the tails' place.
-pub fn step_marked(
-    heads: &[u64],
-    tails: &mut [u64],
-    cells: &[u64],
-    stride: usize,
-    now: &mut WordMarks,
-    soon: &mut WordMarks,
-)
-    requires heads { length heads.now ≡ length cells.now }
-    requires tails { length tails.old ≡ length cells.now }
-    requires now { length now.old.bytes.items ≡ length cells.now }
-    requires soon { length soon.old.bytes.items ≡ length cells.now }
-    requires framed { IsFramed stride cells.now }
-    requires on_cells { AreOn cells.now tails.old }
+/// `coming` has the heads as tails, which they are then.
+pub fn step_marked(coming: &Free<'_>, tails: &mut [u64], now: &mut WordMarks, soon: &mut WordMarks)
+    requires long { AreAsLong coming.now.cells.now
+        tails.old now.old.bytes.items soon.old.bytes.items }
+    requires on_cells { AreOn coming.now.cells.now tails.old }
     requires room { now.old.many < length now.old.list.items }
-    requires listed { AreListed stride now.old.bytes.items now.old.list.items now.old.many }
-    requires marked { IsMarked stride heads.now tails.old cells.now now.old.bytes.items }
+    requires listed { AreListed coming.now.stride now.old.bytes.items now.old.list.items
+        now.old.many }
+    requires marked { IsMarked coming.now.stride
+        coming.now.tails.now tails.old coming.now.cells.now now.old.bytes.items }
     requires cleared { AreCleared soon.old.bytes.items }
     ensures long_tails { length tails.new ≡ length tails.old }
     ensures long_now { length now.new.bytes.items ≡ length now.old.bytes.items }
     ensures long_soon { length soon.new.bytes.items ≡ length soon.old.bytes.items }
     ensures next { (i : ℕ)
-        → number_at tails.new i ≡ next_word stride heads.now tails.old cells.now i }
+        → number_at tails.new i
+        ≡ next_word coming.now.stride coming.now.tails.now tails.old coming.now.cells.now i }
     ensures cleared { AreCleared now.new.bytes.items }
-    ensures listed { AreListed stride soon.new.bytes.items soon.new.list.items soon.new.many }
-    ensures marked { IsMarked stride tails.new heads.now cells.now soon.new.bytes.items }
+    ensures listed { AreListed coming.now.stride soon.new.bytes.items soon.new.list.items
+        soon.new.many }
+    ensures marked { IsMarked coming.now.stride
+        tails.new coming.now.tails.now coming.now.cells.now soon.new.bytes.items }
 {
-    let coming = Free {
-        tails: heads,
-        cells,
-        stride,
-    };
     let entries = &now.list[..now.many];
     soon.many = step_listed(
-        &coming,
+        coming,
         tails,
         &mut now.bytes,
         entries,
@@ -132,35 +123,30 @@ pub fn set_bits(heads: &mut [u64], cells: &mut [u64], i: usize, b: usize)
 }
 
 // Marks a word that got a head, and those beside which its heads stand.
-fn mark_head(
-    heads: &[u64],
-    tails: &[u64],
-    cells: &[u64],
-    stride: usize,
-    now: &mut WordMarks,
-    i: usize,
-)
-    requires heads { length heads.now ≡ length cells.now }
-    requires tails { length tails.now ≡ length cells.now }
-    requires now { length now.old.bytes.items ≡ length cells.now }
-    requires framed { IsFramed stride cells.now }
-    requires inner { IsInner stride (length cells.now) i }
-    requires listed { AreListed stride now.old.bytes.items now.old.list.items now.old.many }
+fn mark_head(heads: &[u64], free: &Free<'_>, now: &mut WordMarks, i: usize)
+    requires heads { length heads.now ≡ length free.now.cells.now }
+    requires now { length now.old.bytes.items ≡ length free.now.cells.now }
+    requires inner { IsInner free.now.stride (length free.now.cells.now) i }
+    requires listed { AreListed free.now.stride now.old.bytes.items now.old.list.items
+        now.old.many }
     ensures long { length now.new.bytes.items ≡ length now.old.bytes.items }
     ensures long_list { length now.new.list.items ≡ length now.old.list.items }
-    ensures listed { AreListed stride now.new.bytes.items now.new.list.items now.new.many }
+    ensures listed { AreListed free.now.stride now.new.bytes.items now.new.list.items
+        now.new.many }
     ensures more { AreMore now.old.bytes.items now.new.bytes.items }
     ensures here { beside_mark ≤ number_at now.new.bytes.items i }
-    ensures told { AreTold stride (number_at heads.now i) i tails.now cells.now
-        now.new.bytes.items }
+    ensures told { AreTold free.now.stride (number_at heads.now i) i
+        free.now.tails.now free.now.cells.now now.new.bytes.items }
 {
-    let free = Free {
-        tails,
-        cells,
-        stride,
-    };
-    let many = mark(&mut now.bytes, &mut now.list, now.many, i, BESIDE, stride);
-    now.many = tell_around(&mut now.bytes, &mut now.list, many, i, heads[i], &free);
+    let many = mark(
+        &mut now.bytes,
+        &mut now.list,
+        now.many,
+        i,
+        BESIDE,
+        free.stride,
+    );
+    now.many = tell_around(&mut now.bytes, &mut now.list, many, i, heads[i], free);
 }
 
 // How many words are lit.
@@ -223,24 +209,19 @@ fn lit_anywhere(heads: &[u64], tails: &[u64]) -> Option<usize>
 }
 
 /// Makes the marks of a plane from nothing.
-pub fn mark_again(heads: &[u64], tails: &[u64], cells: &[u64], stride: usize, marks: &mut WordMarks)
-    requires heads { length heads.now ≡ length cells.now }
-    requires tails { length tails.now ≡ length cells.now }
-    requires marks { length marks.old.bytes.items ≡ length cells.now }
-    requires framed { IsFramed stride cells.now }
-    requires size { stride + stride + 2 ≤ length cells.now }
-    requires heads_on_cells { AreOn cells.now heads.now }
-    requires tails_on_cells { AreOn cells.now tails.now }
+pub fn mark_again(heads: &[u64], free: &Free<'_>, marks: &mut WordMarks)
+    requires heads { length heads.now ≡ length free.now.cells.now }
+    requires marks { length marks.old.bytes.items ≡ length free.now.cells.now }
+    requires size { free.now.stride + free.now.stride + 2 ≤ length free.now.cells.now }
+    requires heads_on_cells { AreOn free.now.cells.now heads.now }
+    requires tails_on_cells { AreOn free.now.cells.now free.now.tails.now }
     ensures long { length marks.new.bytes.items ≡ length marks.old.bytes.items }
-    ensures listed { AreListed stride marks.new.bytes.items marks.new.list.items marks.new.many }
-    ensures marked { IsMarked stride heads.now tails.now cells.now marks.new.bytes.items }
+    ensures listed { AreListed free.now.stride marks.new.bytes.items marks.new.list.items
+        marks.new.many }
+    ensures marked { IsMarked free.now.stride
+        heads.now free.now.tails.now free.now.cells.now marks.new.bytes.items }
 {
-    let free = Free {
-        tails,
-        cells,
-        stride,
-    };
-    marks.many = mark_words(&free, heads, &mut marks.bytes, &mut marks.list);
+    marks.many = mark_words(free, heads, &mut marks.bytes, &mut marks.list);
 }
 
 // Whether a bit of a word is set.
@@ -278,14 +259,12 @@ impl Field {
         requires room { self.old.marks.many < length self.old.marks.list.items }
         ensures { IsFieldStepped self.old self.new }
     {
-        step_marked(
-            &self.heads,
-            &mut self.tails,
-            &self.cells,
-            self.stride,
-            &mut self.marks,
-            &mut self.spare,
-        );
+        let coming = Free {
+            tails: &self.heads,
+            cells: &self.cells,
+            stride: self.stride,
+        };
+        step_marked(&coming, &mut self.tails, &mut self.marks, &mut self.spare);
         mem::swap(&mut self.marks, &mut self.spare);
         mem::swap(&mut self.heads, &mut self.tails);
     }
@@ -343,14 +322,12 @@ impl Field {
         if self.marks.many == self.marks.list.len() {
             return;
         }
-        mark_head(
-            &self.heads,
-            &self.tails,
-            &self.cells,
-            self.stride,
-            &mut self.marks,
-            i,
-        );
+        let free = Free {
+            tails: &self.tails,
+            cells: &self.cells,
+            stride: self.stride,
+        };
+        mark_head(&self.heads, &free, &mut self.marks, i);
     }
 
     /// Returns the state of the cell of column x in row k.
@@ -389,13 +366,12 @@ impl Field {
         if lit_words(&self.heads, &self.tails) > self.marks.list.len() / 2 {
             return;
         }
-        mark_again(
-            &self.heads,
-            &self.tails,
-            &self.cells,
-            self.stride,
-            &mut self.marks,
-        );
+        let free = Free {
+            tails: &self.tails,
+            cells: &self.cells,
+            stride: self.stride,
+        };
+        mark_again(&self.heads, &free, &mut self.marks);
     }
 
     /// Returns the place of a word that has a head or a tail, if there is one.

@@ -1,10 +1,11 @@
 // Generations of a field between rows of heads.
 ghost use Rattle.std.specs.Prelude.{◌≡◌, ◌<◌, ◌≤◌, ℕ, length, slice_set};
 ghost use Rattle.lists.specs.Items.{number_at};
-ghost use Rattle.lane_kernel.specs.Around.{IsFramed, IsInner};
-ghost use Rattle.lane_kernel.specs.Marked.{AreListed, AreMore, AreOn, AreTold, IsMarked};
+ghost use Rattle.lane_kernel.specs.Around.{IsInner};
+ghost use Rattle.lane_kernel.specs.Marked.{AreListed, AreMore, AreTold};
 ghost use Rattle.lane_kernel.specs.PlaneRows.{place};
 ghost use Rattle.band_rows.specs.Facing.{words_in};
+ghost use Rattle.band_rows.specs.Fields.{AreMarksOf};
 ghost use Rattle.band_rows.specs.RowsPut.{HasRowPut};
 
 use crate::field::{Field, WordMarks};
@@ -12,107 +13,66 @@ use crate::plane_row::{FacingRows, PlaneRow};
 use lane_kernel::{Free, tell_around};
 
 // Marks the words beside which these heads of word i stand.
-fn tell_word(
-    tails: &[u64],
-    cells: &[u64],
-    stride: usize,
-    marks: &mut WordMarks,
-    i: usize,
-    heads: u64,
-)
-    requires tails { length tails.now ≡ length cells.now }
-    requires marks { length marks.old.bytes.items ≡ length cells.now }
-    requires framed { IsFramed stride cells.now }
-    requires inner { IsInner stride (length cells.now) i }
-    requires listed { AreListed stride marks.old.bytes.items marks.old.list.items marks.old.many }
+fn tell_word(free: &Free<'_>, marks: &mut WordMarks, i: usize, heads: u64)
+    requires marks { length marks.old.bytes.items ≡ length free.now.cells.now }
+    requires inner { IsInner free.now.stride (length free.now.cells.now) i }
+    requires listed { AreListed free.now.stride marks.old.bytes.items marks.old.list.items
+        marks.old.many }
     ensures long { length marks.new.bytes.items ≡ length marks.old.bytes.items }
-    ensures listed { AreListed stride marks.new.bytes.items marks.new.list.items marks.new.many }
+    ensures listed { AreListed free.now.stride marks.new.bytes.items marks.new.list.items
+        marks.new.many }
     ensures more { AreMore marks.old.bytes.items marks.new.bytes.items }
-    ensures told { AreTold stride heads i tails.now cells.now marks.new.bytes.items }
+    ensures told { AreTold free.now.stride heads i
+        free.now.tails.now free.now.cells.now marks.new.bytes.items }
 {
     if heads == 0 {
         return;
     }
-    let free = Free {
-        tails,
-        cells,
-        stride,
-    };
     marks.many = tell_around(
         &mut marks.bytes,
         &mut marks.list,
         marks.many,
         i,
         heads,
-        &free,
+        free,
     );
 }
 
 // Puts heads into a word that has no cells.
-fn take_word(
-    heads: &mut [u64],
-    tails: &[u64],
-    cells: &[u64],
-    stride: usize,
-    marks: &mut WordMarks,
-    i: usize,
-    word: u64,
-)
-    requires heads { length heads.old ≡ length cells.now }
-    requires tails { length tails.now ≡ length cells.now }
-    requires marks { length marks.old.bytes.items ≡ length cells.now }
-    requires framed { IsFramed stride cells.now }
-    requires inner { IsInner stride (length cells.now) i }
-    requires empty { number_at cells.now i ≡ 0 }
-    requires listed { AreListed stride marks.old.bytes.items marks.old.list.items marks.old.many }
-    requires marked { marks.old.many < length marks.old.list.items
-        → IsMarked stride heads.old tails.now cells.now marks.old.bytes.items }
+fn take_word(heads: &mut [u64], free: &Free<'_>, marks: &mut WordMarks, i: usize, word: u64)
+    requires heads { length heads.old ≡ length free.now.cells.now }
+    requires marks { AreMarksOf free.now heads.old marks.old }
+    requires inner { IsInner free.now.stride (length free.now.cells.now) i }
+    requires empty { number_at free.now.cells.now i ≡ 0 }
     ensures heads { heads.new ≡ slice_set heads.old i word }
-    ensures long { length marks.new.bytes.items ≡ length marks.old.bytes.items }
-    ensures listed { AreListed stride marks.new.bytes.items marks.new.list.items marks.new.many }
-    ensures marked { marks.new.many < length marks.new.list.items
-        → IsMarked stride heads.new tails.now cells.now marks.new.bytes.items }
+    ensures marks { AreMarksOf free.now heads.new marks.new }
 {
     heads[i] = word;
     if marks.many == marks.list.len() {
         return;
     }
-    tell_word(tails, cells, stride, marks, i, word);
+    tell_word(free, marks, i, word);
 }
 
 // Puts the words of a row into the r-th words of word columns, which have no cells.
-fn take_row(
-    heads: &mut [u64],
-    tails: &[u64],
-    cells: &[u64],
-    stride: usize,
-    marks: &mut WordMarks,
-    row: &PlaneRow<'_>,
-    r: usize,
-)
-    requires heads { length heads.old ≡ length cells.now }
-    requires tails { length tails.now ≡ length cells.now }
-    requires marks { length marks.old.bytes.items ≡ length cells.now }
-    requires framed { IsFramed stride cells.now }
-    requires low { r < stride }
+fn take_row(heads: &mut [u64], free: &Free<'_>, marks: &mut WordMarks, row: &PlaneRow<'_>, r: usize)
+    requires heads { length heads.old ≡ length free.now.cells.now }
+    requires marks { AreMarksOf free.now heads.old marks.old }
+    requires low { r < free.now.stride }
     requires inner { (c : ℕ)
         → c < row.now.columns
-        → IsInner stride (length cells.now) (place stride c r) }
-    requires empty { (c : ℕ) → c < row.now.columns → number_at cells.now (place stride c r) ≡ 0 }
-    requires listed { AreListed stride marks.old.bytes.items marks.old.list.items marks.old.many }
-    requires marked { marks.old.many < length marks.old.list.items
-        → IsMarked stride heads.old tails.now cells.now marks.old.bytes.items }
+        → IsInner free.now.stride (length free.now.cells.now) (place free.now.stride c r) }
+    requires empty { (c : ℕ)
+        → c < row.now.columns
+        → number_at free.now.cells.now (place free.now.stride c r) ≡ 0 }
     ensures long_heads { length heads.new ≡ length heads.old }
-    ensures heads { HasRowPut stride r row.now.columns (λ c. number_at (words_in row.now) c)
-        heads.old heads.new }
-    ensures long { length marks.new.bytes.items ≡ length marks.old.bytes.items }
-    ensures listed { AreListed stride marks.new.bytes.items marks.new.list.items marks.new.many }
-    ensures marked { marks.new.many < length marks.new.list.items
-        → IsMarked stride heads.new tails.now cells.now marks.new.bytes.items }
+    ensures heads { HasRowPut free.now.stride r row.now.columns
+        (λ c. number_at (words_in row.now) c) heads.old heads.new }
+    ensures marks { AreMarksOf free.now heads.new marks.new }
 {
     for c in 0..row.columns {
-        let i = (c + 1) * stride + 1 + r;
-        take_word(heads, tails, cells, stride, marks, i, row.word(c));
+        let i = (c + 1) * free.stride + 1 + r;
+        take_word(heads, free, marks, i, row.word(c));
     }
 }
 
@@ -139,15 +99,12 @@ impl Field {
         requires beside { IsBesideRows self.old.rows r }
         ensures { HasTaken (words_in row.now) r self.old self.new }
     {
-        take_row(
-            &mut self.heads,
-            &self.tails,
-            &self.cells,
-            self.stride,
-            &mut self.marks,
-            row,
-            r,
-        );
+        let free = Free {
+            tails: &self.tails,
+            cells: &self.cells,
+            stride: self.stride,
+        };
+        take_row(&mut self.heads, &free, &mut self.marks, row, r);
     }
 
     // Removes the tails in the r-th words of so many word columns.

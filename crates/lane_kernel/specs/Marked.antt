@@ -77,6 +77,12 @@ AreMore old new = (i : ℕ) → get_or old i 0 ≤ get_or new i 0
 abbrev pub AreOn : (cells words : List ℕ) → Type 0
 AreOn cells words = (i : ℕ) → bit_and (get_or cells i 0) (get_or words i 0) ≡ get_or words i 0
 
+-- a plane's tails, its marks, and those of the next generation stand for each word of its cells
+pub record AreAsLong (cells tails bytes soon : List ℕ) : Type 0 where
+  pub long_tails : length tails ≡ length cells
+  pub long_bytes : length bytes ≡ length cells
+  pub long_soon : length soon ≡ length cells
+
 -- Within a generation, before an entry of the list. A word whose byte is not 0 still has its old
 -- tails, and stands in the list from there on. In the others the new heads have taken the tails'
 -- place, and `soon` says of them what `IsMarked` says of all words.

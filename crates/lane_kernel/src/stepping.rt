@@ -1,8 +1,8 @@
 // One generation of the marked words of a plane.
-ghost use Rattle.std.specs.Prelude.{◌≡◌, ◌≢◌, ◌⊎◌, ◌+◌, ◌<◌, ◌≤◌, ◌^◌, ℕ, List, length};
+ghost use Rattle.std.specs.Prelude.{◌≡◌, ◌≢◌, ◌+◌, ◌<◌, ◌≤◌, ◌^◌, ℕ, List, length};
 ghost use Rattle.lists.specs.Items.{number_at};
-ghost use Rattle.lane_kernel.specs.Around.{next_word, StepsAlone, IsFramed, IsInner};
-ghost use Rattle.lane_kernel.specs.Marked.{AreCleared, AreListed, AreMore, AreOn, AreTold, IsAmong, IsMarked, IsUnderWay, lit_mark};
+ghost use Rattle.lane_kernel.specs.Around.{next_word, StepsAlone, IsInner};
+ghost use Rattle.lane_kernel.specs.Marked.{AreAsLong, AreCleared, AreListed, AreMore, AreOn, AreTold, IsAmong, IsMarked, IsUnderWay, lit_mark};
 ghost use Rattle.lane_kernel.specs.PlaneRows.{IsNextPlane};
 
 use crate::planes::{heads_alone, next_word, next_words, wires_of};
@@ -84,9 +84,7 @@ fn step_entry(
     requires within { k < length entries.now }
     requires inner { IsInner coming.now.stride (length coming.now.cells.now)
         (number_at entries.now k) }
-    requires tails { length tails.old ≡ length coming.now.cells.now }
-    requires bytes { length bytes.old ≡ length coming.now.cells.now }
-    requires soon { length soon.old ≡ length coming.now.cells.now }
+    requires long { AreAsLong coming.now.cells.now tails.old bytes.old soon.old }
     requires calm { number_at bytes.old (number_at entries.now k) ≡ lit_mark
         → StepsAlone coming.now.stride
         coming.now.tails.now tails.old coming.now.cells.now (number_at entries.now k) }
@@ -124,9 +122,7 @@ pub fn step_listed(
     soon: &mut [u8],
     list: &mut [usize],
 ) -> usize
-    requires tails { length tails.old ≡ length coming.now.cells.now }
-    requires bytes { length bytes.old ≡ length coming.now.cells.now }
-    requires soon { length soon.old ≡ length coming.now.cells.now }
+    requires long { AreAsLong coming.now.cells.now tails.old bytes.old soon.old }
     requires on_cells { AreOn coming.now.cells.now tails.old }
     requires inner { (k : ℕ)
         → k < length entries.now

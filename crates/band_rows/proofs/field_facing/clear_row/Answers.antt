@@ -1,5 +1,4 @@
-use Rattle.std.proofs.Common.{◌+◌, ◌<◌, refl, length, arith}
-use Rattle.lane_kernel.specs.PlaneRows.{place}
+use Rattle.std.proofs.Common.{refl, arith}
 use Rattle.band_rows.proofs.FacedFields.{put_more, put_none}
 use Rattle.band_rows.proofs.field_facing.clear_row.Goals as goal
 

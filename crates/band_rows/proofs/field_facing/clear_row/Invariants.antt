@@ -1,4 +1,3 @@
-use Rattle.std.proofs.Common.{◌≡◌, length}
 use Rattle.band_rows.specs.RowsPut.{HasRowPut}
 use Rattle.band_rows.proofs.field_facing.clear_row.Given as goal
 

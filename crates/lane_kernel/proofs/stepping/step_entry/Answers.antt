@@ -12,8 +12,8 @@ returns-clause-goes_on c old under_way =
     let free = c.args.coming.now in
     let i = get_or c.args.entries.now c.args.k 0 in
     let to = c.requires.inner.to in
-    let lt = c.requires.tails in
-    let lb = c.requires.bytes in
+    let lt = c.requires.long.long_tails in
+    let lb = c.requires.long.long_bytes in
     let in_tails : i < length c.args.tails.now = omega (arith, to, lt) in
     let in_bytes : i < length c.args.bytes.now = omega (arith, to, lb) in
     stepped free.stride free.tails.now old free.cells.now c.args.entries.now c.args.k i c.stepped_word-fired.result c.args.tails.now c.args.bytes.now c.args.soon.now c.mark_lit.new.bytes

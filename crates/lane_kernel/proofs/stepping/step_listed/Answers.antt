@@ -24,6 +24,16 @@ loop-k-init c =
       under_way = begun free.stride free.tails.now c.args.tails.now free.cells.now c.args.entries.now c.args.bytes.now c.args.soon.now c.all_fit.ensures c.all_fit-2.ensures c.requires.on_cells c.requires.marked c.requires.each;
     }
 
+pub step_entry-many-requires-clause-long : goal.step_entry-many-requires-clause-long
+step_entry-many-requires-clause-long c =
+    let v = c.loop-k.invariant in
+    let long = c.requires.long in
+    record {
+      long_tails = v.long_tails ∙ long.long_tails;
+      long_bytes = v.long_bytes ∙ long.long_bytes;
+      long_soon = v.long_soon ∙ long.long_soon;
+    }
+
 pub step_entry-many-requires-clause-calm : goal.step_entry-many-requires-clause-calm
 step_entry-many-requires-clause-calm c one =
     let free = c.args.coming.now in

@@ -1,4 +1,4 @@
-use Rattle.std.proofs.Common.{◌≡◌, ◌+◌, ◌*◌, refl, ap, ◌∙◌, length, arith}
+use Rattle.std.proofs.Common.{◌≡◌, ◌+◌, ◌*◌, refl, ap, ◌∙◌, arith}
 use Rattle.lane_kernel.specs.PlaneRows.{plane_size}
 use Rattle.band_rows.proofs.BlankFields.{blank_field}
 use Rattle.band_rows.proofs.field.Field.blank.Goals as goal

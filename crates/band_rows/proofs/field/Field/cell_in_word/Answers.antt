@@ -1,4 +1,4 @@
-use Rattle.std.proofs.Common.{◌<◌, sym, ap, ap₂, ◌∙◌, refl, length, arith}
+use Rattle.std.proofs.Common.{sym, ap, ap₂, ◌∙◌, refl, arith}
 use Rattle.std.specs.Int.RustNames.{bit_or}
 use Rattle.std.proofs.lemmas.List.{get_or_default}
 use Rattle.lists.specs.Bits.{has_bit}

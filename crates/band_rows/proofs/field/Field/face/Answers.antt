@@ -1,15 +1,14 @@
-use Rattle.std.proofs.Common.{ℕ, ◌+◌, ◌*◌, ◌<◌, ◌≡◌, refl, sym, ap, subst, ◌∙◌, inl, inr, List, length, get_or, arith}
+use Rattle.std.proofs.Common.{◌+◌, ◌*◌, ◌≡◌, refl, sym, ap, subst, ◌∙◌, length, get_or, arith}
 use Rattle.std.specs.Vec.{with_items}
 use Rattle.std.proofs.lemmas.List.{with_items_is}
-use Rattle.lane_kernel.specs.Around.{IsFramed, IsInner}
-use Rattle.lane_kernel.specs.PlaneRows.{place, stride_of, plane_size}
+use Rattle.lane_kernel.specs.Around.{IsInner}
+use Rattle.lane_kernel.specs.PlaneRows.{place}
 use Rattle.lane_kernel.proofs.PlaneRows.{length_row}
 use Rattle.band_rows.specs.Facing.{words_in}
-use Rattle.band_rows.specs.Fields.{IsBesideRows}
 use Rattle.band_rows.specs.RowsPut.{HasRowPut}
 use Rattle.band_rows.proofs.ClosedFields.{empty_margin}
 use Rattle.band_rows.proofs.FacedFields.{beside_low, beside_apart, inner_at}
-use Rattle.band_rows.proofs.FieldSteps.{framed_of, same_marked}
+use Rattle.band_rows.proofs.FieldSteps.{same_marked}
 use Rattle.band_rows.proofs.field.Field.face.Goals as goal
 
 pub take_row-requires : goal.take_row-requires
@@ -24,14 +23,14 @@ take_row-requires c =
     let size : length self.cells.items ≡ (self.columns + 2) * self.stride + 2 = is.long_cells ∙ sym (ap (λ s. (self.columns + 2) * s + 2) is.stride) in
     record {
       heads = ap length heads ∙ is.long_heads ∙ sym is.long_cells ∙ sym (ap length cells);
-      tails = ap length tails ∙ is.long_tails ∙ sym is.long_cells ∙ sym (ap length cells);
-      marks = is.long_marks ∙ sym is.long_cells ∙ sym (ap length cells);
-      framed = subst (IsFramed self.stride) (sym cells) (framed_of self.columns self.rows self.stride self.cells.items is.stride is.long_cells is.cells_in_rows);
+      marks = record {
+        long = is.long_marks ∙ sym is.long_cells ∙ sym (ap length cells);
+        listed = is.listed;
+        marked = λ room. same_marked self.stride heads tails cells refl (is.marked room);
+      };
       low = low;
       inner = λ k lt. subst (λ l. IsInner self.stride (length l) (place self.stride k c.args.r)) (sym cells) (inner_at self.columns self.stride k c.args.r (length self.cells.items) (omega (arith, lt, narrow)) low size);
       empty = λ k lt. ap (λ l. get_or l (place self.stride k c.args.r) 0) cells ∙ empty_margin self.columns self.rows self.stride is.stride self.cells.items is.cells_in_rows k c.args.r low (beside_apart self.rows c.args.r c.requires.beside);
-      listed = is.listed;
-      marked = λ room. same_marked self.stride heads tails cells refl (is.marked room);
     }
 
 pub returns : goal.returns
@@ -48,11 +47,11 @@ returns c =
         long_heads = ap length heads ∙ long ∙ old ∙ is.long_heads;
         long_tails = is.long_tails;
         long_cells = is.long_cells;
-        long_marks = e.long ∙ is.long_marks;
+        long_marks = e.marks.long ∙ ap length c.deref-2.ensures.value ∙ is.long_cells;
         long_spare = is.long_spare;
         cells_in_rows = is.cells_in_rows;
-        listed = e.listed;
-        marked = λ room. same_marked self.stride heads (sym c.deref.ensures.value) (sym c.deref-2.ensures.value) refl (e.marked room);
+        listed = e.marks.listed;
+        marked = λ room. same_marked self.stride heads (sym c.deref.ensures.value) (sym c.deref-2.ensures.value) refl (e.marks.marked room);
         cleared = is.cleared;
       };
       size = record { columns = refl; rows = refl; stride = refl };

@@ -1,4 +1,4 @@
-use Rattle.std.proofs.Common.{◌<◌, length, arith}
+use Rattle.std.proofs.Common.{◌<◌, arith}
 use Rattle.std.proofs.lemmas.Bool.{ltb-true}
 use Rattle.band_rows.proofs.LitFields.{unmarked_dark}
 use Rattle.band_rows.proofs.field.Field.is_dark.Goals as goal

@@ -1,5 +1,4 @@
 use Rattle.std.proofs.Common.{refl}
-use Rattle.band_rows.proofs.ClosedFields.{dark_field}
 use Rattle.band_rows.proofs.LitFields.{unlit_words}
 use Rattle.band_rows.proofs.field.Field.lit_cell.Goals as goal
 

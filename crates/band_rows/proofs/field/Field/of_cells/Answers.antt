@@ -1,4 +1,4 @@
-use Rattle.std.proofs.Common.{◌≡◌, ◌≤◌, ◌<◌, ◌+◌, ◌*◌, refl, sym, ap, subst, ◌∙◌, length, get_or, arith}
+use Rattle.std.proofs.Common.{◌≤◌, ◌<◌, ◌+◌, ◌*◌, sym, ap, subst, ◌∙◌, length, get_or, arith}
 use Rattle.std.specs.Prelude.{All}
 use Rattle.lane_kernel.specs.PlaneRows.{place}
 use Rattle.band_rows.proofs.FacedFields.{same_states}

@@ -1,4 +1,4 @@
-use Rattle.std.proofs.Common.{◌<◌, ◌^◌, subst}
+use Rattle.std.proofs.Common.{subst}
 use Rattle.lane_kernel.proofs.Places.{Fit}
 use Rattle.band_rows.proofs.FieldSteps.{field_shows}
 use Rattle.band_rows.proofs.field.Field.step.Goals as goal

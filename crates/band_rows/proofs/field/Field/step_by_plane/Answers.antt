@@ -1,4 +1,4 @@
-use Rattle.std.proofs.Common.{sym, ap, refl, ◌∙◌, length, get_or, arith}
+use Rattle.std.proofs.Common.{ap, refl, ◌∙◌, length, get_or, arith}
 use Rattle.std.proofs.lemmas.List.{with_items_is}
 use Rattle.band_rows.proofs.FieldSteps.{same_word}
 use Rattle.band_rows.proofs.Same.{same_items}

@@ -1,4 +1,4 @@
-use Rattle.std.proofs.Common.{◌≡◌, ◌≤◌, ◌+◌, ◌-◌, refl, sym, ap, subst, ◌∙◌, inl, inr, arith}
+use Rattle.std.proofs.Common.{◌≡◌, ◌+◌, ◌-◌, refl, sym, subst, ◌∙◌, inl, inr, arith}
 use Rattle.lane_kernel.specs.Marked.{AreOn}
 use Rattle.lane_kernel.proofs.PlaneRows.{length_row}
 use Rattle.band_rows.specs.Facing.{words_in}

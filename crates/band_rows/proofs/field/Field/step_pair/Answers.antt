@@ -1,7 +1,6 @@
-use Rattle.std.proofs.Common.{sym, ap, refl, subst, arith}
+use Rattle.std.proofs.Common.{sym, subst, arith}
 use Rattle.lane_kernel.proofs.Places.{Fit}
-use Rattle.band_rows.specs.Fields.{crossed, HasRunAlone, IsFieldStepped}
-use Rattle.band_rows.proofs.ClosedFields.{stepped_closed}
+use Rattle.band_rows.specs.Fields.{crossed, IsFieldStepped}
 use Rattle.band_rows.proofs.GoneOn.{gone_further, gone_one}
 use Rattle.band_rows.proofs.field.Field.step_pair.Goals as goal
 

@@ -1,5 +1,4 @@
-use Rattle.std.proofs.Common.{◌+◌, ◌*◌, ap, subst, sym, ◌∙◌, ◌<◌, length, arith}
-use Rattle.lane_kernel.specs.PlaneRows.{place}
+use Rattle.std.proofs.Common.{◌+◌, ◌*◌, ap, sym, ◌∙◌, length, arith}
 use Rattle.band_rows.proofs.FieldSteps.{inner_place}
 use Rattle.band_rows.proofs.field.Field.tails_in_row.Goals as goal
 
