@@ -7,7 +7,7 @@ ghost use Rattle.plan_layout.specs.Slots.{slot_of};
 ghost use Rattle.plan_layout.specs.Tape.{drawn_tiling};
 ghost use Rattle.ww_rule.specs.Patterns.{grid_of};
 ghost use Rattle.grid_assembly.specs.PlanDrawing.{start_grid};
-ghost use Rattle.tile_match.specs.Drawn.{IsSpanDrawn, IsBoxDrawn};
+ghost use Rattle.tile_match.specs.Drawn.{IsBlock, IsSpanDrawn, IsBoxDrawn};
 
 use crate::marks::{is_marked, marks_of};
 use crate::slots::slot_in;
@@ -95,10 +95,7 @@ fn is_block_drawn(
     until: u64,
 ) -> bool
     requires admissible { IsAdmissible plan.now }
-    requires slot { slot_of slot ≡ drawn_tiling plan.now column lane }
-    requires begun { 32 * column ≤ until }
-    requires in_block { until ≤ 32 * column + 32 }
-    requires near { lane < 2 ^ 59 }
+    requires block { IsBlock plan.now slot column lane until }
     requires in_rows { All (λ row. until ≤ length row) rows.now }
     requires low { 16 * lane + 16 ≤ length rows.now }
     ensures { IsTrue result

@@ -9,7 +9,7 @@ pub is_span_drawn-requires-clause-slot : goal.is_span_drawn-requires-clause-slot
 is_span_drawn-requires-clause-slot c =
     let column : c.args.column ≡ 32 * c.args.column / 32 = omega arith in
     let lane : c.args.lane ≡ c.loop-y.y / 16 = omega (arith, c.loop-y.auto.y, c.loop-y-test.true) in
-    c.requires.slot ∙ ap₂ (λ q l. drawn_tiling c.args.plan.now q l) column lane
+    c.requires.block.stands ∙ ap₂ (λ q l. drawn_tiling c.args.plan.now q l) column lane
 
 pub loop-y-init : goal.loop-y-init
 loop-y-init c = no_box c.args.plan.now c.args.rows.now (16 * c.args.lane) (16 * c.args.lane) (32 * c.args.column) c.args.until (omega arith)
