@@ -8,9 +8,9 @@ ghost use Rattle.lane_core.specs.Plans.{size_of};
 ghost use Rattle.plan_layout.specs.Tape.{drawn_plane, drawn_tiling};
 ghost use Rattle.plan_layout.specs.Slots.{slot_of};
 ghost use Rattle.grid_assembly.specs.PlanDrawing.{start_row, start_grid};
-ghost use Rattle.grid_assembly.specs.West.{tape_end, IsWest};
+ghost use Rattle.grid_assembly.specs.West.{tape_end};
 ghost use Rattle.pattern_writing.specs.Writer.{item_texts, wrapped};
-ghost use Rattle.rle_write.specs.Blocks.{AreBlocks};
+ghost use Rattle.rle_write.specs.Blocks.{AreBlocks, IsWestUpTo};
 ghost use Rattle.rle_write.specs.Left.{rows_left, text_left};
 ghost use Rattle.ww_base.specs.Pages.{held, column_of};
 ghost use Rattle.ww_base.specs.Progress.{Wrote, Broke};
@@ -53,8 +53,7 @@ fn next_run(
 ) -> (Slot, (State, u64))
     requires admissible { IsAdmissible plan.now }
     requires kept { AreBlocks plan.now (y / 16) blocks.now }
-    requires end { end ≡ tape_end plan.now }
-    requires row { IsWest plan.now y west }
+    requires west { IsWestUpTo plan.now y end west }
     requires before { tape_end plan.now ≤ x → x % 32 ≢ 0 →
         slot_of before ≡ drawn_tiling plan.now (x / 32) (y / 16) }
     requires low { y < 2 ^ 60 }
