@@ -1,13 +1,11 @@
 // The summary of a made netlist.
 ghost use Rattle.std.specs.Prelude.{◌≡◌, ◌<◌, ◌≤◌, ◌^◌, All, length, IfOk, IfErr, OnOk};
-ghost use Rattle.ww_rule.specs.Grid.{AreInBox, plane_of};
-ghost use Rattle.lane_core.specs.Plans.{IsAdmissible};
+ghost use Rattle.ww_rule.specs.Grid.{plane_of};
 ghost use Rattle.grid_assembly.specs.PlanDrawing.{start_grid};
-ghost use Rattle.pattern_reading.specs.Ports.{cells_of};
 ghost use Rattle.netlist_meaning.specs.Places.{main_outputs};
 ghost use Rattle.netlist_text.specs.Parts.{AreParts};
-ghost use Rattle.drive.specs.Driving.{AreFor, greatest_generation, last_generation, shown_bits};
-ghost use Rattle.made_summary.specs.Outputs.{AreOutputsIn, HasTooFarCause, IsQuietUnder, IsToldOf};
+ghost use Rattle.drive.specs.Driving.{greatest_generation, last_generation, shown_bits};
+ghost use Rattle.made_summary.specs.Outputs.{AreOutputsIn, CanBeDriven, HasTooFarCause, IsToldOf};
 ghost use Rattle.made_summary.specs.Summaries.{HasSummaryCause, Summarizes, outputs_by_name};
 ghost use Rattle.made_summary.specs.declared.error.SummaryError.TheVariants.{NoMemory};
 
@@ -111,12 +109,7 @@ fn shown_by(
     planned: &Planned,
     streams: &Streams,
 ) -> Result<List<List<bool>>, SummaryError>
-    requires admissible { IsAdmissible planned.now.plan }
-    requires cycles { 0 < streams.now.cycles }
-    requires streams { AreFor planned.now.ports streams.now }
-    requires in_box { AreInBox (start_grid planned.now.plan).width
-        (start_grid planned.now.plan).height (cells_of planned.now.ports.ins) }
-    requires quiet { IsQuietUnder planned.now streams.now }
+    requires { CanBeDriven planned.now streams.now }
     ensures near { OnOk result (last_generation planned.now.ports streams.now ≤
         greatest_generation) }
     ensures bits { IfOk result (λ bits.
@@ -164,15 +157,10 @@ fn told_by(
     planned: &Planned,
     streams: &Streams,
 ) -> Result<Summary, SummaryError>
-    requires admissible { IsAdmissible planned.now.plan }
-    requires cycles { 0 < streams.now.cycles }
-    requires streams { AreFor planned.now.ports streams.now }
-    requires in_box { AreInBox (start_grid planned.now.plan).width
-        (start_grid planned.now.plan).height (cells_of planned.now.ports.ins) }
+    requires driven { CanBeDriven planned.now streams.now }
     requires parts { AreParts netlist.design netlist.flat netlist.order.nodes }
     requires many { length streams.now.bits ≡ length netlist.flat.ins }
     requires long { All (λ bits. length bits ≡ streams.now.cycles) streams.now.bits }
-    requires quiet { IsQuietUnder planned.now streams.now }
     requires outputs { length (
         shown_bits planned.now.ports streams.now (plane_of (start_grid planned.now.plan).rows)
         )

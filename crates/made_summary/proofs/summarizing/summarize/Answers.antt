@@ -23,19 +23,16 @@ plan_made-requires-clause-few_gates c = c.requires.few_gates
 pub draw_streams-requires : goal.draw_streams-requires
 draw_streams-requires c = c.in_ok-made.ensures.range
 
-pub told_by-requires-clause-admissible : goal.told_by-requires-clause-admissible
-told_by-requires-clause-admissible c = c.in_ok-made.ensures.plan.is_plan.admissible
-
-pub told_by-requires-clause-cycles : goal.told_by-requires-clause-cycles
-told_by-requires-clause-cycles c = subst (λ (s : Streams). 0 < s.cycles) (sym c.in_ok-streams.ensures) c.requires.some_cycle
-
-pub told_by-requires-clause-streams : goal.told_by-requires-clause-streams
-told_by-requires-clause-streams c =
+pub told_by-requires-clause-driven : goal.told_by-requires-clause-driven
+told_by-requires-clause-driven c =
     let are = c.in_ok-streams.ensures ∙ ap (λ (s : ℕ). streams_after s c.args.cycles) c.in_ok-made.ensures.state in
-    streams_fit c.args.seed c.args.size c.args.cycles c.in_ok-made.made.netlist c.in_ok-made.made.planned c.in_ok-streams.streams c.in_ok-made.ensures.plan are
-
-pub told_by-requires-clause-in_box : goal.told_by-requires-clause-in_box
-told_by-requires-clause-in_box c = c.in_ok-made.ensures.plan.reads.inside
+    record {
+      admissible = c.in_ok-made.ensures.plan.is_plan.admissible;
+      cycles = subst (λ (s : Streams). 0 < s.cycles) (sym c.in_ok-streams.ensures) c.requires.some_cycle;
+      fit = streams_fit c.args.seed c.args.size c.args.cycles c.in_ok-made.made.netlist c.in_ok-made.made.planned c.in_ok-streams.streams c.in_ok-made.ensures.plan are;
+      in_box = c.in_ok-made.ensures.plan.reads.inside;
+      quiet = is_quiet one_context_is_quiet c.args.seed c.args.size c.args.cycles c.in_ok-made.made.netlist c.in_ok-made.made.planned c.in_ok-streams.streams c.in_ok-made.ensures.plan are;
+    }
 
 pub told_by-requires-clause-parts : goal.told_by-requires-clause-parts
 told_by-requires-clause-parts c = c.in_ok-made.ensures.plan.parts
@@ -49,11 +46,6 @@ pub told_by-requires-clause-long : goal.told_by-requires-clause-long
 told_by-requires-clause-long c =
     let are = c.in_ok-streams.ensures ∙ ap (λ (s : ℕ). streams_after s c.args.cycles) c.in_ok-made.ensures.state in
     (streams_feed c.args.seed c.args.size c.args.cycles c.in_ok-made.made.netlist c.in_ok-made.made.planned c.in_ok-streams.streams c.in_ok-made.ensures.plan are).1
-
-pub told_by-requires-clause-quiet : goal.told_by-requires-clause-quiet
-told_by-requires-clause-quiet c =
-    let are = c.in_ok-streams.ensures ∙ ap (λ (s : ℕ). streams_after s c.args.cycles) c.in_ok-made.ensures.state in
-    is_quiet one_context_is_quiet c.args.seed c.args.size c.args.cycles c.in_ok-made.made.netlist c.in_ok-made.made.planned c.in_ok-streams.streams c.in_ok-made.ensures.plan are
 
 pub told_by-requires-clause-outputs : goal.told_by-requires-clause-outputs
 told_by-requires-clause-outputs c =

@@ -4,20 +4,8 @@ use Rattle.made_summary.specs.Outputs.{AreOutputsIn}
 use Rattle.made_summary.specs.declared.summarizing.OutputBits.{OutputBits}
 use Rattle.made_summary.proofs.summarizing.told_by.Goals as goal
 
-pub shown_by-requires-clause-admissible : goal.shown_by-requires-clause-admissible
-shown_by-requires-clause-admissible c = c.requires.admissible
-
-pub shown_by-requires-clause-cycles : goal.shown_by-requires-clause-cycles
-shown_by-requires-clause-cycles c = c.requires.cycles
-
-pub shown_by-requires-clause-streams : goal.shown_by-requires-clause-streams
-shown_by-requires-clause-streams c = c.requires.streams
-
-pub shown_by-requires-clause-in_box : goal.shown_by-requires-clause-in_box
-shown_by-requires-clause-in_box c = c.requires.in_box
-
-pub shown_by-requires-clause-quiet : goal.shown_by-requires-clause-quiet
-shown_by-requires-clause-quiet c = c.requires.quiet
+pub shown_by-requires : goal.shown_by-requires
+shown_by-requires c = c.requires.driven
 
 pub outputs_in-requires-clause-parts : goal.outputs_in-requires-clause-parts
 outputs_in-requires-clause-parts c = c.requires.parts
