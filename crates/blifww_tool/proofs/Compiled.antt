@@ -25,14 +25,17 @@ use Rattle.netlist_meaning.specs.FlatOf.{IsFlatOf, at_places, flat_latch}
 use Rattle.netlist_meaning.specs.Valuation.{LatchState, start_state}
 use Rattle.netlist_meaning.specs.FlatValuation.{start_bits}
 use Rattle.flat_designs.specs.Laws.{FlatIsOne, state_in_order}
+use Rattle.flat_designs.proofs.Sound.{flat_is_sound}
 use Rattle.flat_designs.proofs.Valuations.{valuations_are_flat}
 use Rattle.flat_designs.proofs.Weights.{parts_are_few}
+use Rattle.flat_designs.proofs.Whole.{flat_is_named}
 use Rattle.netlist_text.specs.NetlistText.{IsNetlist}
 use Rattle.netlist_text.specs.Parts.{AreParts}
-use Rattle.netlist_text.proofs.SoundParts.{small}
+use Rattle.netlist_text.proofs.SoundParts.{small, sound}
 use Rattle.netlist_text.specs.Causes.{HasNetlistCause}
 use Rattle.netlist_text.specs.declared.error.NetlistError.{NetlistError}
 use Rattle.netlist_text.specs.declared.error.NetlistError.TheVariants as netlist_of
+use Rattle.netlist_plans.specs.Lists.{IsCompilable}
 use Rattle.netlist_plans.specs.Planned.{ComputesCells, HasFewInstrs, HasLanes, HasShortPeriod, IsSmall}
 use Rattle.netlist_plans.specs.NetPlaces.{HasNetPlaces}
 use Rattle.netlist_plans.specs.Contexts.{loop_starting_bits, IsPaddedFor, StartsLoops}
@@ -43,6 +46,7 @@ use Rattle.carries.specs.FlatNets.{CarriesFlat}
 use Rattle.carries.specs.FlatContexts.{CarriesFlatContexts}
 use Rattle.carries.specs.DesignContexts.{CarriesContexts, CarriesNetsInContexts}
 use Rattle.carries.specs.ContextLaws.{OneContextCarries, OneContextCarriesNets}
+use Rattle.plan_carries.proofs.SeenNets.{places_fit}
 use Rattle.plan_carries.specs.Laws.{DesignsAreCarried}
 use Rattle.plan_carries.specs.ContextLaws.{DesignsAreCarriedInContexts}
 use Rattle.plan_ports.specs.Tables.{HasPortNames, HasTablePlaces, IsTableOf}
@@ -57,6 +61,17 @@ use Rattle.command_words.specs.Shapes.{compile}
 use Rattle.blifww_tool.specs.Commands.{HasTextCause}
 use Rattle.blifww_tool.specs.Compilation.{Compiles, HasNoRoom, HasStarts, IsCarriedBy, latch_count, least_room, loop_starts}
 use Rattle.refusals.specs.Refusals.{netlist_error, starts_error}
+
+-- the flat netlist of a netlist whose ports' names can stand in a table
+pub compilable : (design : Design) (flat : Flat) (order : List ℕ) → AreParts design flat order → HasPortNames flat → IsCompilable flat order
+compilable design flat order parts names =
+    record {
+      sound = sound design flat order parts flat_is_sound;
+      ordered = parts.is_order;
+      named = flat_is_named design flat parts.faultless parts.is_flat;
+      names = names;
+      places = places_fit design flat parts.faultless (omega (arith, small design flat order parts, parts.is_flat.weight)) parts.is_flat;
+    }
 
 -- a text that gives no netlist,
 pub compile_refused : (contexts : ℕ) (starts : List (List ℕ)) (text : List ℕ) (e : NetlistError) → HasNetlistCause text e → HasTextCause (compile contexts starts) text (netlist_error e)

@@ -1,10 +1,19 @@
 -- Plans of flat netlists in several contexts.
-use Rattle.std.specs.Prelude.{ℕ, nat_lt, Bool, true, List, [], ◌∷◌, ◌++◌, cond, length}
+use Rattle.std.specs.Prelude.{ℕ, ◌*◌, ◌<◌, ◌≤◌, ◌≡◌, nat_lt, Bool, true, List, [], ◌∷◌, ◌++◌, cond, length, All}
+use Rattle.netlist_core.specs.declared.flat.Flat.{Flat}
 use Rattle.lane_core.specs.declared.plan.Plan.{Plan}
+use Rattle.lane_core.specs.Plans.{period_of}
 use Rattle.latch_loops.specs.Closed.{contexts_size}
 use Rattle.latch_loops.specs.Padded.{IsPaddedPlan}
 use Rattle.plan_layout.specs.Starts.{start_edges}
 use Rattle.plan_waves.specs.Contexts.{StartsContexts}
+
+-- the bits that the latches start with, a list for each context; the plan's period has 32
+-- generations for each
+pub record AreStartsOf (flat : Flat) (plan : Plan) (starts : List (List Bool)) : Type 0 where
+  pub some : 0 < length starts
+  pub fit : 32 * length starts ≤ period_of plan
+  pub long : All (λ start. length start ≡ length flat.latches) starts
 
 -- the bits with which the loops of a plan start when the latches start with these bits; if there is
 -- one more loop, it is that of constant 1

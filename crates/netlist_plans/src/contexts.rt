@@ -1,16 +1,15 @@
 // The plan of a flat netlist in several contexts.
-ghost use Rattle.std.specs.Prelude.{◌≡◌, ◌<◌, ◌≤◌, ◌*◌, ◌^◌, ◌++◌, ℕ, List, true, [], length, map, All, IfOk, OnOk};
+ghost use Rattle.std.specs.Prelude.{◌≡◌, ◌<◌, ◌^◌, ◌++◌, ℕ, List, true, [], length, map, IfOk, OnOk};
 ghost use Rattle.lists.specs.Items.{alone_if};
 ghost use Rattle.carries.specs.FlatContexts.{CarriesFlatContexts};
 ghost use Rattle.grid_assembly.specs.PlanDrawing.{start_grid};
-ghost use Rattle.lane_core.specs.Plans.{IsAdmissible, period_of};
-ghost use Rattle.netlist_meaning.specs.Flat.{IsNamed, IsSound, IsWeighed};
-ghost use Rattle.netlist_meaning.specs.FlatOrder.{IsOrder};
+ghost use Rattle.lane_core.specs.Plans.{IsAdmissible};
+ghost use Rattle.netlist_meaning.specs.Flat.{IsWeighed};
 ghost use Rattle.pattern_writing.specs.WrittenText.{pattern_text};
 ghost use Rattle.plan_layout.specs.Starts.{HasStartEdges};
-ghost use Rattle.plan_ports.specs.Tables.{HasPortNames, HasTablePlaces, IsTableOf};
-ghost use Rattle.netlist_plans.specs.Contexts.{loop_starting_bits, IsPaddedFor, StartsLoops};
-ghost use Rattle.netlist_plans.specs.Lists.{IsPlanned};
+ghost use Rattle.plan_ports.specs.Tables.{IsTableOf};
+ghost use Rattle.netlist_plans.specs.Contexts.{loop_starting_bits, AreStartsOf, IsPaddedFor, StartsLoops};
+ghost use Rattle.netlist_plans.specs.Lists.{IsCompilable, IsPlanned};
 ghost use Rattle.netlist_plans.specs.NetPlaces.{HasNetPlaces};
 
 use crate::{NetlistPlanError, Planned};
@@ -68,17 +67,11 @@ pub fn plan_contexts(
     plan: Plan,
     starts: &[List<bool>],
 ) -> Result<Planned, NetlistPlanError>
-    requires sound { IsSound flat.now }
+    requires compilable { (order : List ℕ) × IsCompilable flat.now order }
     requires weighed { IsWeighed flat.now }
     requires small { flat.now.weight < 2 ^ 16 }
-    requires ordered { (order : List ℕ) × IsOrder flat.now order }
-    requires named { IsNamed flat.now }
-    requires names { HasPortNames flat.now }
-    requires places { HasTablePlaces flat.now }
     requires planned { IsPlanned flat.now plan }
-    requires some { 0 < length starts.now }
-    requires fit { 32 * length starts.now ≤ period_of plan }
-    requires long { All (λ start. length start ≡ length flat.now.latches) starts.now }
+    requires starts { AreStartsOf flat.now plan starts.now }
     ensures admissible { IfOk result (λ p. IsAdmissible p.plan) }
     ensures edges { IfOk result (λ p. HasStartEdges p.plan) }
     ensures bare { IfOk result (λ p. p.plan.tape ≡ []) }

@@ -3,14 +3,14 @@ ghost use Rattle.std.specs.Prelude.{◌≡◌, ◌≤◌, ◌<◌, ◌*◌, ◌^
 ghost use Rattle.grid_assembly.specs.PlanDrawing.{start_grid};
 ghost use Rattle.lane_core.specs.Plans.{IsAdmissible};
 ghost use Rattle.plan_layout.specs.Starts.{HasStartEdges};
-ghost use Rattle.netlist_meaning.specs.Flat.{IsNamed, IsSound, IsWeighed};
+ghost use Rattle.netlist_meaning.specs.Flat.{IsSound, IsWeighed};
 ghost use Rattle.netlist_meaning.specs.FlatOrder.{IsOrder};
 ghost use Rattle.cell_meaning.specs.Needs.{covers_weight};
 ghost use Rattle.plan_carries.specs.Compiled.{ComputesFlat};
-ghost use Rattle.plan_ports.specs.Tables.{HasPortNames, HasTablePlaces, IsTableOf};
+ghost use Rattle.plan_ports.specs.Tables.{IsTableOf};
 ghost use Rattle.pattern_writing.specs.WrittenText.{pattern_text};
 ghost use Rattle.carries.specs.FlatNets.{CarriesFlat};
-ghost use Rattle.netlist_plans.specs.Lists.{IsPlanned, MapsFlat};
+ghost use Rattle.netlist_plans.specs.Lists.{IsCompilable, IsPlanned, MapsFlat};
 ghost use Rattle.netlist_plans.specs.NetPlaces.{HasNetPlaces};
 ghost use Rattle.netlist_plans.specs.Sparing.{SparesOne, HasRoomForComplements, NamesNoOne, ComplementsNameNoOne};
 ghost use Rattle.netlist_plans.specs.Planned.{ComputesCells, HasLanes, HasShortPeriod, IsSmall};
@@ -190,13 +190,9 @@ fn plan_of_cells(alloc: Global, flat: &Flat, order: &Order) -> Result<Plan, Netl
 /// Makes a plan of a sound flat netlist, with its port table. `order` is an order of its covers in
 /// which each cover comes after those that it reads.
 pub fn plan_netlist(alloc: Global, flat: &Flat, order: &Order) -> Result<Planned, NetlistPlanError>
-    requires sound { IsSound flat.now }
+    requires compilable { IsCompilable flat.now order.now.nodes }
     requires weighed { IsWeighed flat.now }
     requires small { flat.now.weight < 2 ^ 16 }
-    requires ordered { IsOrder flat.now order.now.nodes }
-    requires named { IsNamed flat.now }
-    requires names { HasPortNames flat.now }
-    requires places { HasTablePlaces flat.now }
     ensures admissible { IfOk result (λ p. IsAdmissible p.plan) }
     ensures edges { IfOk result (λ p. HasStartEdges p.plan) }
     ensures bare { IfOk result (λ p. p.plan.tape ≡ []) }

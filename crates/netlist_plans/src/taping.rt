@@ -3,13 +3,11 @@ ghost use Rattle.std.specs.Prelude.{◌≡◌, ◌≤◌, ℕ, List, length, All
 ghost use Rattle.carries.specs.ByItself.{RunsByItselfFlat};
 ghost use Rattle.grid_assembly.specs.PlanDrawing.{start_grid};
 ghost use Rattle.lane_core.specs.Plans.{IsAdmissible};
-ghost use Rattle.netlist_meaning.specs.Flat.{IsNamed, IsSound};
-ghost use Rattle.netlist_meaning.specs.FlatOrder.{IsOrder};
 ghost use Rattle.pattern_writing.specs.WrittenText.{pattern_text};
 ghost use Rattle.plan_layout.specs.Starts.{HasStartEdges};
-ghost use Rattle.plan_ports.specs.Tables.{HasPortNames, HasTablePlaces, IsTableOf};
+ghost use Rattle.plan_ports.specs.Tables.{IsTableOf};
 ghost use Rattle.streams.specs.Rows.{rows_of};
-ghost use Rattle.netlist_plans.specs.Lists.{IsPlanned};
+ghost use Rattle.netlist_plans.specs.Lists.{IsCompilable, IsPlanned};
 ghost use Rattle.netlist_plans.specs.Loaded.{IsLoadedWith};
 ghost use Rattle.netlist_plans.specs.Planned.{IsSmall};
 
@@ -29,11 +27,7 @@ pub fn load_netlist(
     plan: Plan,
     streams: &Streams,
 ) -> Result<Planned, NetlistPlanError>
-    requires sound { IsSound flat.now }
-    requires ordered { (order : List ℕ) × IsOrder flat.now order }
-    requires named { IsNamed flat.now }
-    requires names { HasPortNames flat.now }
-    requires places { HasTablePlaces flat.now }
+    requires compilable { (order : List ℕ) × IsCompilable flat.now order }
     requires planned { IsPlanned flat.now plan }
     requires many { length streams.now.bits ≡ length flat.now.ins }
     requires long { All (λ bits. length bits ≡ streams.now.cycles) streams.now.bits }

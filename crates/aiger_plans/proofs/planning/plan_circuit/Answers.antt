@@ -3,14 +3,20 @@ use Rattle.aiger_plans.proofs.Named.{port_names, table_places}
 use Rattle.aiger_plans.proofs.OfFlat.{is_plan}
 use Rattle.aiger_plans.proofs.planning.plan_circuit.Goals as goal
 
+pub plan_netlist-requires-clause-compilable : goal.plan_netlist-requires-clause-compilable
+plan_netlist-requires-clause-compilable c =
+    let flat = c.in_ok-lowered.lowered.flat in
+    let e = c.in_ok-lowered.ensures in
+    record {
+      sound = e.lowered.sound;
+      ordered = e.order;
+      named = e.lowered.named;
+      names = port_names c.args.aig.now flat e.lowered c.requires;
+      places = table_places c.args.aig.now flat e.lowered;
+    }
+
 pub plan_netlist-requires-clause-small : goal.plan_netlist-requires-clause-small
 plan_netlist-requires-clause-small c = omega (arith, c.in_ok-lowered.ensures.lowered.weight, c.in_ok-lowered.ensures.light)
-
-pub plan_netlist-requires-clause-names : goal.plan_netlist-requires-clause-names
-plan_netlist-requires-clause-names c = port_names c.args.aig.now c.in_ok-lowered.lowered.flat c.in_ok-lowered.ensures.lowered c.requires
-
-pub plan_netlist-requires-clause-places : goal.plan_netlist-requires-clause-places
-plan_netlist-requires-clause-places c = table_places c.args.aig.now c.in_ok-lowered.lowered.flat c.in_ok-lowered.ensures.lowered
 
 pub returns-in-Ok-clause-plan : goal.returns-in-Ok-clause-plan
 returns-in-Ok-clause-plan c =

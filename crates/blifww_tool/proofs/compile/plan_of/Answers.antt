@@ -1,17 +1,14 @@
-use Rattle.std.proofs.Common.{arith}
-use Rattle.flat_designs.proofs.Whole.{flat_is_named, flat_is_one}
+use Rattle.flat_designs.proofs.Whole.{flat_is_one}
 use Rattle.netlist_text.proofs.SoundParts.{sound, weighed, small}
 use Rattle.plan_carries.proofs.Designs.{designs_are_carried}
-use Rattle.plan_carries.proofs.SeenNets.{places_fit}
-use Rattle.blifww_tool.proofs.Compiled.{carried_by, drawn}
-use Rattle.flat_designs.proofs.Sound.{flat_is_sound}
+use Rattle.blifww_tool.proofs.Compiled.{carried_by, compilable, drawn}
 use Rattle.flat_designs.proofs.Weights.{flat_is_weighed}
 use Rattle.lift_carries.proofs.Drawings.{compiled_are_drawings}
 use Rattle.lift_carries.proofs.Starts.{one_context_is_circuit}
 use Rattle.blifww_tool.proofs.compile.plan_of.Goals as goal
 
-pub plan_netlist-requires-clause-sound : goal.plan_netlist-requires-clause-sound
-plan_netlist-requires-clause-sound c = sound c.args.netlist.now.design c.args.netlist.now.flat _ c.requires.parts flat_is_sound
+pub plan_netlist-requires-clause-compilable : goal.plan_netlist-requires-clause-compilable
+plan_netlist-requires-clause-compilable c = compilable c.args.netlist.now.design c.args.netlist.now.flat _ c.requires.parts c.requires.names
 
 pub plan_netlist-requires-clause-weighed : goal.plan_netlist-requires-clause-weighed
 plan_netlist-requires-clause-weighed c = weighed c.args.netlist.now.design c.args.netlist.now.flat _ c.requires.parts flat_is_weighed
@@ -19,30 +16,14 @@ plan_netlist-requires-clause-weighed c = weighed c.args.netlist.now.design c.arg
 pub plan_netlist-requires-clause-small : goal.plan_netlist-requires-clause-small
 plan_netlist-requires-clause-small c = small c.args.netlist.now.design c.args.netlist.now.flat _ c.requires.parts
 
-pub plan_netlist-requires-clause-ordered : goal.plan_netlist-requires-clause-ordered
-plan_netlist-requires-clause-ordered c = c.requires.parts.is_order
-
-pub plan_netlist-requires-clause-named : goal.plan_netlist-requires-clause-named
-plan_netlist-requires-clause-named c = flat_is_named c.args.netlist.now.design c.args.netlist.now.flat c.requires.parts.faultless c.requires.parts.is_flat
-
-pub plan_netlist-requires-clause-names : goal.plan_netlist-requires-clause-names
-plan_netlist-requires-clause-names c = c.requires.names
-
-pub plan_netlist-requires-clause-places : goal.plan_netlist-requires-clause-places
-plan_netlist-requires-clause-places c =
-    places_fit c.args.netlist.now.design c.args.netlist.now.flat c.requires.parts.faultless
-    (omega (arith, small c.args.netlist.now.design c.args.netlist.now.flat _ c.requires.parts, c.requires.parts.is_flat.weight)) c.requires.parts.is_flat
-
 pub returns-clause-carried : goal.returns-clause-carried
 returns-clause-carried c =
     let p = c.in_ok-planned.ensures in
+    let k = compilable c.args.netlist.now.design c.args.netlist.now.flat _ c.requires.parts c.requires.names in
     carried_by flat_is_one designs_are_carried c.args.netlist.now.design c.args.netlist.now.flat _ c.in_ok-planned.planned.plan c.in_ok-planned.planned.ports c.requires.parts
     p.admissible p.edges p.table p.cells p.lanes p.places p.carries p.small p.period
     (drawn one_context_is_circuit compiled_are_drawings c.args.netlist.now.flat c.in_ok-planned.planned.plan c.in_ok-planned.planned.ports
-    (sound c.args.netlist.now.design c.args.netlist.now.flat _ c.requires.parts flat_is_sound)
-    (flat_is_named c.args.netlist.now.design c.args.netlist.now.flat c.requires.parts.faultless c.requires.parts.is_flat) c.requires.names
-    (places_fit c.args.netlist.now.design c.args.netlist.now.flat c.requires.parts.faultless
-    (omega (arith, small c.args.netlist.now.design c.args.netlist.now.flat _ c.requires.parts, c.requires.parts.is_flat.weight)) c.requires.parts.is_flat)
+    k.sound k.named k.names k.places
     p.admissible p.bare p.edges _ p.cells.starts p.table)
 
 pub returns-clause-bare : goal.returns-clause-bare

@@ -7,7 +7,7 @@ use Rattle.plan_ports.specs.Tables.{IsTableOf}
 use Rattle.netlist_text.proofs.SoundParts.{sound, weighed, small}
 use Rattle.plan_carries.proofs.Designs.{designs_are_carried_in_contexts}
 use Rattle.plan_carries.proofs.SeenNets.{places_fit}
-use Rattle.blifww_tool.proofs.Compiled.{alone, compiles, compiles_plain, drawn_in_one, long_starts, many_starts, not_alone, room_refused}
+use Rattle.blifww_tool.proofs.Compiled.{alone, compilable, compiles, compiles_plain, drawn_in_one, long_starts, many_starts, not_alone, room_refused}
 use Rattle.flat_designs.proofs.Sound.{flat_is_sound}
 use Rattle.flat_designs.proofs.Weights.{flat_is_weighed}
 use Rattle.carries.proofs.OneContext.{one_context_carries, one_context_carries_nets}
@@ -39,8 +39,9 @@ returns-in_err-started-clause-refused c =
     let p = err_from_is_err_and c.from_residual-in_err-started.result c.from_residual-in_err-started.ensures.1 in
     rw (p.1, p.2) (λ text has. tt)
 
-pub plan_contexts-requires-clause-sound : goal.plan_contexts-requires-clause-sound
-plan_contexts-requires-clause-sound c = sound c.args.netlist.now.design c.args.netlist.now.flat _ c.requires.parts flat_is_sound
+pub plan_contexts-requires-clause-compilable : goal.plan_contexts-requires-clause-compilable
+plan_contexts-requires-clause-compilable c =
+    (c.args.netlist.now.order.nodes, compilable c.args.netlist.now.design c.args.netlist.now.flat _ c.requires.parts c.requires.names)
 
 pub plan_contexts-requires-clause-weighed : goal.plan_contexts-requires-clause-weighed
 plan_contexts-requires-clause-weighed c = weighed c.args.netlist.now.design c.args.netlist.now.flat _ c.requires.parts flat_is_weighed
@@ -48,40 +49,21 @@ plan_contexts-requires-clause-weighed c = weighed c.args.netlist.now.design c.ar
 pub plan_contexts-requires-clause-small : goal.plan_contexts-requires-clause-small
 plan_contexts-requires-clause-small c = small c.args.netlist.now.design c.args.netlist.now.flat _ c.requires.parts
 
-pub plan_contexts-requires-clause-ordered : goal.plan_contexts-requires-clause-ordered
-plan_contexts-requires-clause-ordered c = (c.args.netlist.now.order.nodes, c.requires.parts.is_order)
-
-pub plan_contexts-requires-clause-named : goal.plan_contexts-requires-clause-named
-plan_contexts-requires-clause-named c = flat_is_named c.args.netlist.now.design c.args.netlist.now.flat c.requires.parts.faultless c.requires.parts.is_flat
-
-pub plan_contexts-requires-clause-names : goal.plan_contexts-requires-clause-names
-plan_contexts-requires-clause-names c = c.requires.names
-
-pub plan_contexts-requires-clause-places : goal.plan_contexts-requires-clause-places
-plan_contexts-requires-clause-places c =
-    places_fit c.args.netlist.now.design c.args.netlist.now.flat c.requires.parts.faultless
-    (omega (arith, small c.args.netlist.now.design c.args.netlist.now.flat _ c.requires.parts, c.requires.parts.is_flat.weight)) c.requires.parts.is_flat
-
 pub plan_contexts-requires-clause-planned : goal.plan_contexts-requires-clause-planned
 plan_contexts-requires-clause-planned c = c.requires.planned
 
-pub plan_contexts-requires-clause-some : goal.plan_contexts-requires-clause-some
-plan_contexts-requires-clause-some c =
-    let bits = c.as_slice.ensures ∙ c.in_ok-bits.ensures (map string_bytes c.args.words.now) c.requires.set in
-    let many = many_starts c.args.netlist.now.flat (map string_bytes c.args.words.now) c.args.contexts c.as_slice.result.now bits in
-    omega (arith, many, c.requires.some)
-
-pub plan_contexts-requires-clause-fit : goal.plan_contexts-requires-clause-fit
-plan_contexts-requires-clause-fit c =
-    let bits = c.as_slice.ensures ∙ c.in_ok-bits.ensures (map string_bytes c.args.words.now) c.requires.set in
-    let many = many_starts c.args.netlist.now.flat (map string_bytes c.args.words.now) c.args.contexts c.as_slice.result.now bits in
-    let period = (c.requires.carried.table c.args.netlist.now.flat c.requires.parts.is_flat).period in
-    omega (arith, many, period, c.if-contexts-limit.false)
-
-pub plan_contexts-requires-clause-long : goal.plan_contexts-requires-clause-long
-plan_contexts-requires-clause-long c =
-    let bits = c.as_slice.ensures ∙ c.in_ok-bits.ensures (map string_bytes c.args.words.now) c.requires.set in
-    long_starts c.args.netlist.now.flat (map string_bytes c.args.words.now) c.args.contexts c.as_slice.result.now bits
+pub plan_contexts-requires-clause-starts : goal.plan_contexts-requires-clause-starts
+plan_contexts-requires-clause-starts c =
+    let flat = c.args.netlist.now.flat in
+    let words = map string_bytes c.args.words.now in
+    let bits = c.as_slice.ensures ∙ c.in_ok-bits.ensures words c.requires.set in
+    let many = many_starts flat words c.args.contexts c.as_slice.result.now bits in
+    let period = (c.requires.carried.table flat c.requires.parts.is_flat).period in
+    record {
+      some = omega (arith, many, c.requires.some);
+      fit = omega (arith, many, period, c.if-contexts-limit.false);
+      long = long_starts flat words c.args.contexts c.as_slice.result.now bits;
+    }
 
 pub returns-clause-printed : goal.returns-clause-printed
 returns-clause-printed c = λ text has.

@@ -1,13 +1,11 @@
-use Rattle.std.proofs.Common.{arith, refl, subst}
-use Rattle.flat_designs.proofs.Whole.{flat_is_named, flat_is_one}
+use Rattle.std.proofs.Common.{refl, subst}
+use Rattle.flat_designs.proofs.Whole.{flat_is_one}
 use Rattle.netlist_core.specs.declared.flat.Flat.{Flat}
 use Rattle.rle_write.specs.PlanText.{text_of_plan}
-use Rattle.netlist_text.proofs.SoundParts.{sound, small}
 use Rattle.plan_carries.proofs.Designs.{designs_run_by_themselves}
-use Rattle.plan_carries.proofs.SeenNets.{places_fit}
 use Rattle.plan_ports.specs.Tables.{IsTableOf}
 use Rattle.streams.specs.Rows.{rows_of}
-use Rattle.flat_designs.proofs.Sound.{flat_is_sound}
+use Rattle.blifww_tool.proofs.Compiled.{compilable}
 use Rattle.blifww_tool.proofs.tape.taped.Goals as goal
 
 pub plan_of-requires-clause-parts : goal.plan_of-requires-clause-parts
@@ -16,22 +14,9 @@ plan_of-requires-clause-parts c = c.requires.parts
 pub plan_of-requires-clause-names : goal.plan_of-requires-clause-names
 plan_of-requires-clause-names c = c.requires.names
 
-pub load_netlist-requires-clause-sound : goal.load_netlist-requires-clause-sound
-load_netlist-requires-clause-sound c = sound c.args.netlist.now.design c.args.netlist.now.flat _ c.requires.parts flat_is_sound
-
-pub load_netlist-requires-clause-ordered : goal.load_netlist-requires-clause-ordered
-load_netlist-requires-clause-ordered c = (c.args.netlist.now.order.nodes, c.requires.parts.is_order)
-
-pub load_netlist-requires-clause-named : goal.load_netlist-requires-clause-named
-load_netlist-requires-clause-named c = flat_is_named c.args.netlist.now.design c.args.netlist.now.flat c.requires.parts.faultless c.requires.parts.is_flat
-
-pub load_netlist-requires-clause-names : goal.load_netlist-requires-clause-names
-load_netlist-requires-clause-names c = c.requires.names
-
-pub load_netlist-requires-clause-places : goal.load_netlist-requires-clause-places
-load_netlist-requires-clause-places c =
-    places_fit c.args.netlist.now.design c.args.netlist.now.flat c.requires.parts.faultless
-    (omega (arith, small c.args.netlist.now.design c.args.netlist.now.flat _ c.requires.parts, c.requires.parts.is_flat.weight)) c.requires.parts.is_flat
+pub load_netlist-requires-clause-compilable : goal.load_netlist-requires-clause-compilable
+load_netlist-requires-clause-compilable c =
+    (c.args.netlist.now.order.nodes, compilable c.args.netlist.now.design c.args.netlist.now.flat _ c.requires.parts c.requires.names)
 
 pub load_netlist-requires-clause-planned : goal.load_netlist-requires-clause-planned
 load_netlist-requires-clause-planned c = c.in_ok-planned.ensures.planned

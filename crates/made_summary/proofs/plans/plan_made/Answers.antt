@@ -24,26 +24,21 @@ netlist_in-requires c =
           (are_netlists c.args.seed c.args.size (omega (arith, some)) c.requires.few_gates),
     )
 
-pub plan_netlist-requires-clause-sound : goal.plan_netlist-requires-clause-sound
-plan_netlist-requires-clause-sound c = sound c.in_ok-netlist.netlist.design c.in_ok-netlist.netlist.flat _ c.in_ok-netlist.ensures.parts flat_is_sound
+pub plan_netlist-requires-clause-compilable : goal.plan_netlist-requires-clause-compilable
+plan_netlist-requires-clause-compilable c =
+    record {
+      sound = sound c.in_ok-netlist.netlist.design c.in_ok-netlist.netlist.flat _ c.in_ok-netlist.ensures.parts flat_is_sound;
+      ordered = c.in_ok-netlist.ensures.parts.is_order;
+      named = flat_is_named c.in_ok-netlist.netlist.design c.in_ok-netlist.netlist.flat c.in_ok-netlist.ensures.parts.faultless c.in_ok-netlist.ensures.parts.is_flat;
+      names = texts_have_port_names _ c.in_ok-netlist.netlist.design c.in_ok-netlist.netlist.flat c.in_ok-netlist.ensures.netlist.is.design_of c.in_ok-netlist.ensures.parts.is_flat;
+      places = places_fit c.in_ok-netlist.netlist.design c.in_ok-netlist.netlist.flat c.in_ok-netlist.ensures.parts.faultless (omega (arith, small c.in_ok-netlist.netlist.design c.in_ok-netlist.netlist.flat _ c.in_ok-netlist.ensures.parts, c.in_ok-netlist.ensures.parts.is_flat.weight)) c.in_ok-netlist.ensures.parts.is_flat;
+    }
 
 pub plan_netlist-requires-clause-weighed : goal.plan_netlist-requires-clause-weighed
 plan_netlist-requires-clause-weighed c = weighed c.in_ok-netlist.netlist.design c.in_ok-netlist.netlist.flat _ c.in_ok-netlist.ensures.parts flat_is_weighed
 
 pub plan_netlist-requires-clause-small : goal.plan_netlist-requires-clause-small
 plan_netlist-requires-clause-small c = small c.in_ok-netlist.netlist.design c.in_ok-netlist.netlist.flat _ c.in_ok-netlist.ensures.parts
-
-pub plan_netlist-requires-clause-ordered : goal.plan_netlist-requires-clause-ordered
-plan_netlist-requires-clause-ordered c = c.in_ok-netlist.ensures.parts.is_order
-
-pub plan_netlist-requires-clause-named : goal.plan_netlist-requires-clause-named
-plan_netlist-requires-clause-named c = flat_is_named c.in_ok-netlist.netlist.design c.in_ok-netlist.netlist.flat c.in_ok-netlist.ensures.parts.faultless c.in_ok-netlist.ensures.parts.is_flat
-
-pub plan_netlist-requires-clause-names : goal.plan_netlist-requires-clause-names
-plan_netlist-requires-clause-names c = texts_have_port_names _ c.in_ok-netlist.netlist.design c.in_ok-netlist.netlist.flat c.in_ok-netlist.ensures.netlist.is.design_of c.in_ok-netlist.ensures.parts.is_flat
-
-pub plan_netlist-requires-clause-places : goal.plan_netlist-requires-clause-places
-plan_netlist-requires-clause-places c = places_fit c.in_ok-netlist.netlist.design c.in_ok-netlist.netlist.flat c.in_ok-netlist.ensures.parts.faultless (omega (arith, small c.in_ok-netlist.netlist.design c.in_ok-netlist.netlist.flat _ c.in_ok-netlist.ensures.parts, c.in_ok-netlist.ensures.parts.is_flat.weight)) c.in_ok-netlist.ensures.parts.is_flat
 
 pub returns-clause-plan : goal.returns-clause-plan
 returns-clause-plan c =

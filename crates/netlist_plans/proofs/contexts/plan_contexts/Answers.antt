@@ -15,15 +15,18 @@ use Rattle.netlist_plans.proofs.contexts.plan_contexts.Goals as goal
 pub start_contexts-requires-clause-fit : goal.start_contexts-requires-clause-fit
 start_contexts-requires-clause-fit c =
     let many : length c.deref.result.now ≡ length c.args.starts.now = ap length (c.deref.ensures.value ∙ c.in_ok-loops.ensures) ∙ length-map c.args.starts.now (loop_starting_bits c.args.plan) in
-    omega (arith, many, contexts_fit c.args.plan (length c.args.starts.now) c.requires.fit)
+    omega (arith, many, contexts_fit c.args.plan (length c.args.starts.now) c.requires.starts.fit)
 
 pub start_contexts-requires-clause-long : goal.start_contexts-requires-clause-long
 start_contexts-requires-clause-long c =
     subst (λ (all : List (List Bool)). All (λ bits. length bits ≡ c.args.plan.latches) all) (sym (c.deref.ensures.value ∙ c.in_ok-loops.ensures))
-    (loops_long c.args.flat.now c.args.plan c.requires.weighed c.requires.planned c.args.starts.now c.requires.long)
+    (loops_long c.args.flat.now c.args.plan c.requires.weighed c.requires.planned c.args.starts.now c.requires.starts.long)
 
 pub start_contexts-requires-clause-few : goal.start_contexts-requires-clause-few
 start_contexts-requires-clause-few c more = few_columns c.args.flat.now c.args.plan c.requires.weighed c.requires.small c.requires.planned
+
+pub of_plan-requires-clause-in_range : goal.of_plan-requires-clause-in_range
+of_plan-requires-clause-in_range c = c.requires.compilable.1.sound.in_range
 
 pub of_plan-requires-clause-ports : goal.of_plan-requires-clause-ports
 of_plan-requires-clause-ports c =
@@ -46,24 +49,25 @@ returns-clause-starts c =
 pub returns-clause-carries : goal.returns-clause-carries
 returns-clause-carries c =
     let k = c.requires.planned in
+    let flat = c.requires.compilable.1 in
     let plan = c.in_ok-plan.plan in
-    let is = c.deref.ensures.value ∙ c.in_ok-loops.ensures ∙ loops_are c.args.flat.now c.args.plan c.requires.weighed k c.args.starts.now c.requires.long in
+    let is = c.deref.ensures.value ∙ c.in_ok-loops.ensures ∙ loops_are c.args.flat.now c.args.plan c.requires.weighed k c.args.starts.now c.requires.starts.long in
     let bare : plan.tape ≡ [] = c.in_ok-plan.ensures.padded.tape ∙ k.is.bare in
     subst (λ (grid : Grid). CarriesFlatContexts (pattern_text grid c.in_ok-ports.ports) c.args.flat.now c.args.starts.now) (sym (bare_grid plan bare))
-    (texts_carry_contexts c.args.flat.now k.list plan c.in_ok-ports.ports c.args.starts.now c.requires.some (record {
-      sound = c.requires.sound;
-      order = c.requires.ordered.0;
-      ordered = c.requires.ordered.1;
-      named = c.requires.named;
-      names = c.requires.names;
-      places = c.requires.places;
+    (texts_carry_contexts c.args.flat.now k.list plan c.in_ok-ports.ports c.args.starts.now c.requires.starts.some (record {
+      sound = flat.sound;
+      order = c.requires.compilable.0;
+      ordered = flat.ordered;
+      named = flat.named;
+      names = flat.names;
+      places = flat.places;
       list_computes = k.computes;
       admissible = c.in_ok-plan.ensures.admissible;
       bare = bare;
       plan_computes = padding_keeps_cells k.list _ c.args.plan plan c.in_ok-plan.ensures.padded c.in_ok-plan.ensures.same k.is.computes;
       table = c.in_ok-ports.ensures;
     }) (start_edges plan) (record {
-      long = c.requires.long;
+      long = c.requires.starts.long;
       on_plan = subst (StartsLoops plan) is c.in_ok-plan.ensures.contexts;
     }))
 

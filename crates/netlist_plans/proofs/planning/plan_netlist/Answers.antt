@@ -7,6 +7,9 @@ use Rattle.netlist_plans.proofs.NetPlaces.{net_places}
 use Rattle.netlist_plans.proofs.Sparing.{short}
 use Rattle.netlist_plans.proofs.planning.plan_netlist.Goals as goal
 
+pub of_plan-requires-clause-in_range : goal.of_plan-requires-clause-in_range
+of_plan-requires-clause-in_range c = c.requires.compilable.sound.in_range
+
 pub of_plan-requires-clause-ports : goal.of_plan-requires-clause-ports
 of_plan-requires-clause-ports c =
     let p = c.in_ok-plan.ensures.planned in
@@ -18,13 +21,14 @@ returns-clause-admissible c = c.in_ok-plan.ensures.planned.is.admissible
 pub returns-clause-carries : goal.returns-clause-carries
 returns-clause-carries c =
     let p = c.in_ok-plan.ensures.planned in
+    let k = c.requires.compilable in
     texts_carry_flats c.args.flat.now p.list c.in_ok-plan.plan c.in_ok-ports.ports (record {
-      sound = c.requires.sound;
+      sound = k.sound;
       order = c.args.order.now.nodes;
-      ordered = c.requires.ordered;
-      named = c.requires.named;
-      names = c.requires.names;
-      places = c.requires.places;
+      ordered = k.ordered;
+      named = k.named;
+      names = k.names;
+      places = k.places;
       list_computes = p.computes;
       admissible = p.is.admissible;
       bare = p.is.bare;
@@ -45,7 +49,7 @@ returns-clause-cells c =
 pub returns-clause-lanes : goal.returns-clause-lanes
 returns-clause-lanes c =
     let p = c.in_ok-plan.ensures.planned in
-    has_lanes c.args.flat.now p.list p.computes.mapped c.in_ok-plan.plan p.is.admissible p.is.computes c.requires.sound c.requires.weighed p.is.empty
+    has_lanes c.args.flat.now p.list p.computes.mapped c.in_ok-plan.plan p.is.admissible p.is.computes c.requires.compilable.sound c.requires.weighed p.is.empty
 
 pub returns-clause-places : goal.returns-clause-places
 returns-clause-places c =

@@ -27,6 +27,9 @@ pub load-requires-clause-lists : goal.load-requires-clause-lists
 load-requires-clause-lists c =
     subst AreTapeLists (sym c.as_slice.ensures) (are_lists c.args.streams.now.bits c.args.streams.now.cycles c.requires.some c.requires.few c.requires.long)
 
+pub of_plan-requires-clause-in_range : goal.of_plan-requires-clause-in_range
+of_plan-requires-clause-in_range c = c.requires.compilable.1.sound.in_range
+
 pub of_plan-requires-clause-ports : goal.of_plan-requires-clause-ports
 of_plan-requires-clause-ports c =
     let p = c.requires.planned in
@@ -48,17 +51,18 @@ returns-clause-runs c =
     let plan = c.args.plan in
     let streams = c.args.streams.now in
     let p = c.requires.planned in
+    let k = c.requires.compilable.1 in
     let ports = c.in_ok-ports.ports in
     let is : c.in_ok-plan.plan ≡ with_tape streams.bits plan = c.in_ok-plan.ensures.loaded ∙ ap (λ (bits : List (List Bool)). with_tape bits plan) c.as_slice.ensures in
     let many = plans_have_ports flat p.list plan p.computes p.is.computes in
     let own = a_table flat plan many 1 in
     let compiled : IsCompiled flat p.list plan 1 own.0 = record {
-      sound = c.requires.sound;
-      order = c.requires.ordered.0;
-      ordered = c.requires.ordered.1;
-      named = c.requires.named;
-      names = c.requires.names;
-      places = c.requires.places;
+      sound = k.sound;
+      order = c.requires.compilable.0;
+      ordered = k.ordered;
+      named = k.named;
+      names = k.names;
+      places = k.places;
       list_computes = p.computes;
       admissible = p.is.admissible;
       bare = p.is.bare;

@@ -7,23 +7,18 @@ use Rattle.netlist_plans.proofs.Names.{texts_have_port_names}
 use Rattle.plan_carries.proofs.SeenNets.{places_fit}
 use Rattle.tour_tests.proofs.stages.expect_planned.Goals as goal
 
-pub plan_netlist-requires-clause-sound : goal.plan_netlist-requires-clause-sound
-plan_netlist-requires-clause-sound c = sound c.args.netlist.now.design c.args.netlist.now.flat _ c.requires.parts flat_is_sound
+pub plan_netlist-requires-clause-compilable : goal.plan_netlist-requires-clause-compilable
+plan_netlist-requires-clause-compilable c =
+    record {
+      sound = sound c.args.netlist.now.design c.args.netlist.now.flat _ c.requires.parts flat_is_sound;
+      ordered = c.requires.parts.is_order;
+      named = flat_is_named c.args.netlist.now.design c.args.netlist.now.flat c.requires.parts.faultless c.requires.parts.is_flat;
+      names = texts_have_port_names c.requires.of_text.0 c.args.netlist.now.design c.args.netlist.now.flat c.requires.of_text.1.is.design_of c.requires.parts.is_flat;
+      places = places_fit c.args.netlist.now.design c.args.netlist.now.flat c.requires.parts.faultless (omega (arith, small c.args.netlist.now.design c.args.netlist.now.flat _ c.requires.parts, c.requires.parts.is_flat.weight)) c.requires.parts.is_flat;
+    }
 
 pub plan_netlist-requires-clause-weighed : goal.plan_netlist-requires-clause-weighed
 plan_netlist-requires-clause-weighed c = weighed c.args.netlist.now.design c.args.netlist.now.flat _ c.requires.parts flat_is_weighed
 
 pub plan_netlist-requires-clause-small : goal.plan_netlist-requires-clause-small
 plan_netlist-requires-clause-small c = small c.args.netlist.now.design c.args.netlist.now.flat _ c.requires.parts
-
-pub plan_netlist-requires-clause-ordered : goal.plan_netlist-requires-clause-ordered
-plan_netlist-requires-clause-ordered c = c.requires.parts.is_order
-
-pub plan_netlist-requires-clause-named : goal.plan_netlist-requires-clause-named
-plan_netlist-requires-clause-named c = flat_is_named c.args.netlist.now.design c.args.netlist.now.flat c.requires.parts.faultless c.requires.parts.is_flat
-
-pub plan_netlist-requires-clause-names : goal.plan_netlist-requires-clause-names
-plan_netlist-requires-clause-names c = texts_have_port_names c.requires.of_text.0 c.args.netlist.now.design c.args.netlist.now.flat c.requires.of_text.1.is.design_of c.requires.parts.is_flat
-
-pub plan_netlist-requires-clause-places : goal.plan_netlist-requires-clause-places
-plan_netlist-requires-clause-places c = places_fit c.args.netlist.now.design c.args.netlist.now.flat c.requires.parts.faultless (omega (arith, small c.args.netlist.now.design c.args.netlist.now.flat _ c.requires.parts, c.requires.parts.is_flat.weight)) c.requires.parts.is_flat

@@ -22,23 +22,21 @@ route_netlist-requires-clause-named c = named c.args.netlist.now.design c.args.n
 pub route_netlist-requires-clause-places : goal.route_netlist-requires-clause-places
 route_netlist-requires-clause-places c = placed c.args.netlist.now.design c.args.netlist.now.flat _ c.requires.parts
 
-pub plan_netlist-requires-clause-sound : goal.plan_netlist-requires-clause-sound
-plan_netlist-requires-clause-sound c = sound_of c.args.netlist.now.design c.args.netlist.now.flat _ c.requires.parts
+pub plan_netlist-requires-clause-compilable : goal.plan_netlist-requires-clause-compilable
+plan_netlist-requires-clause-compilable c =
+    record {
+      sound = sound_of c.args.netlist.now.design c.args.netlist.now.flat _ c.requires.parts;
+      ordered = c.requires.parts.is_order;
+      named = named c.args.netlist.now.design c.args.netlist.now.flat _ c.requires.parts;
+      names = c.requires.names;
+      places = placed c.args.netlist.now.design c.args.netlist.now.flat _ c.requires.parts;
+    }
 
 pub plan_netlist-requires-clause-weighed : goal.plan_netlist-requires-clause-weighed
 plan_netlist-requires-clause-weighed c = weighed_of c.args.netlist.now.design c.args.netlist.now.flat _ c.requires.parts
 
 pub plan_netlist-requires-clause-small : goal.plan_netlist-requires-clause-small
 plan_netlist-requires-clause-small c = small c.args.netlist.now.design c.args.netlist.now.flat _ c.requires.parts
-
-pub plan_netlist-requires-clause-ordered : goal.plan_netlist-requires-clause-ordered
-plan_netlist-requires-clause-ordered c = c.requires.parts.is_order
-
-pub plan_netlist-requires-clause-named : goal.plan_netlist-requires-clause-named
-plan_netlist-requires-clause-named c = named c.args.netlist.now.design c.args.netlist.now.flat _ c.requires.parts
-
-pub plan_netlist-requires-clause-places : goal.plan_netlist-requires-clause-places
-plan_netlist-requires-clause-places c = placed c.args.netlist.now.design c.args.netlist.now.flat _ c.requires.parts
 
 pub returns-clause-shows : goal.returns-clause-shows
 returns-clause-shows c =
