@@ -1,10 +1,9 @@
 -- What the plane of a plan's drawing does in time, in every library of tiles that keep the timing
 -- law.
-use Rattle.ww_rule.specs.Wireworld.{Due}
 use Rattle.tile_core.specs.declared.kind.Kind.{Kind}
 use Rattle.tile_core.specs.Drawing.{Drawing}
 use Rattle.tiling.specs.Tiling.{Lit}
-use Rattle.tiling.specs.Steps.{KeepsLaw, StepsByMacro, DrivesEntries, IsDriven}
+use Rattle.tiling.specs.Steps.{KeepsLaw, StepsByMacro}
 use Rattle.lane_core.specs.declared.plan.Plan.{Plan}
 use Rattle.lane_core.specs.Plans.{IsAdmissible}
 use Rattle.plan_layout.specs.Tape.{drawn_tiling}
@@ -15,10 +14,3 @@ abbrev pub PlansStepByMacro : Type 0
 PlansStepByMacro =
     (library : Kind → Drawing) → KeepsLaw library → (plan : Plan) → IsAdmissible plan → (lit : Lit)
     → StepsByMacro library (drawn_tiling plan) lit
-
--- the same if heads are injected at free entries at multiples of 32 generations
-abbrev pub PlansAreDriven : Type 0
-PlansAreDriven =
-    (library : Kind → Drawing) → KeepsLaw library → (plan : Plan) → IsAdmissible plan → (due : Due)
-    → DrivesEntries (drawn_tiling plan) due → (lit : Lit)
-    → IsDriven library (drawn_tiling plan) due lit

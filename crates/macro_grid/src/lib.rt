@@ -11,7 +11,7 @@ mod starts;
 mod step;
 
 pub use edges::Edges;
-pub use laws::{plans_are_driven, plans_step_by_macro};
+pub use laws::plans_step_by_macro;
 // The answer of `Edges::start` when memory runs out.
 pub use lists::OutOfMemory as EdgesError;
 pub use rules::admissible;

@@ -5,7 +5,6 @@
 
 mod gate;
 mod generator;
-pub mod instances;
 pub mod laws;
 mod made;
 

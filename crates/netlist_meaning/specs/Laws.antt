@@ -1,9 +1,7 @@
 -- What is proved of the definitions, for every design.
-use Rattle.std.specs.Prelude.{true, ◌⊎◌, ◌≢◌, ◌<◌, ◌++◌, [], Some, ℕ, ◌&&◌, cond, length, nat_lt, is_some, bytes_eq, count_by, sum_by, ◌≡◌, ◌↔◌, Bool, List, IsTrue}
+use Rattle.std.specs.Prelude.{◌⊎◌, ◌≢◌, ◌<◌, ◌++◌, [], Some, ℕ, ◌&&◌, cond, length, nat_lt, is_some, bytes_eq, count_by, sum_by, ◌≡◌, ◌↔◌, Bool, List, IsTrue}
 use Rattle.std.specs.Cmp.{IsEquivalence}
 use Rattle.netlist_core.specs.declared.model.Design.{Design}
-use Rattle.netlist_core.specs.declared.flat.Flat.{Flat}
-use Rattle.netlist_meaning.specs.Flat.{is_clock_class, IsClockClass}
 use Rattle.netlist_core.specs.declared.model.Model.{Model}
 use Rattle.netlist_core.specs.Names.{Name}
 use Rattle.netlist_meaning.specs.Places.{Place, model_at, IsPlace, IsBefore}
@@ -95,8 +93,3 @@ abbrev pub InNamesAreThere : Type 0
 InNamesAreThere =
     (design : Design) → NamesFormalsOnce design → IsNotRecursive design
     → (names : List Name) × IsInNames design names
-
--- the test of clock classes holds exactly of the clock classes
-abbrev pub ClockClassesAreTested : Type 0
-ClockClassesAreTested =
-    (flat : Flat) (class : ℕ) → (is_clock_class flat class ≡ true) ↔ IsClockClass flat class

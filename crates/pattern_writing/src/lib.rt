@@ -9,18 +9,16 @@
 
 mod tags;
 
-ghost use Rattle.std.specs.Prelude.{◌≡◌, ◌++◌, ℕ, List, [], length};
+ghost use Rattle.std.specs.Prelude.{◌≡◌, ◌++◌, List, [], length};
 ghost use Rattle.ww_rule.specs.Grid.{Grid};
 ghost use Rattle.pattern_reading.specs.declared.ports.Ports.{Ports};
 ghost use Rattle.pattern_reading.specs.Pattern.{ReadsAsPattern};
 ghost use Rattle.pattern_reading.specs.PortLines.{PortForm};
 ghost use Rattle.pattern_reading.specs.PortTable.{ReadsAsPorts};
-ghost use Rattle.pattern_reading.specs.Spelling.{IsPortName};
 ghost use Rattle.pattern_writing.specs.Writer.{writer_text};
 ghost use Rattle.pattern_writing.specs.Laws.{ItemsSpellTags, ItemsAreLongestRuns, WrappingKeepsItems, WrappedIsLines};
 ghost use Rattle.pattern_writing.specs.Samples.{or_grid, or_port_lines, or_net_lines, or_text, or_text_with_nets, bare_grid, bare_lines, bare_text, mixed_grid, mixed_text, empty_grid, empty_text};
 ghost use Rattle.pattern_writing.specs.SamplePorts.{or_ports, bare_ports};
-ghost use Rattle.pattern_writing.specs.NamedGate.{HasNamedGate};
 ghost use Rattle.pattern_writing.specs.WrittenText.{HasWrittenPattern, HasWrittenPorts, HasWrittenText};
 
 pub use tags::tag_of;
@@ -65,12 +63,6 @@ pub fn gate_reads()
     ensures ports { ReadsAsPorts or_text 33 32 (record or_ports { nets = [] }) }
     ensures pattern_with_nets { ReadsAsPattern or_text_with_nets or_grid }
     ensures ports_with_nets { ReadsAsPorts or_text_with_nets 33 32 or_ports }
-{}
-
-/// The text of an OR gate with any names reads as its drawing, and as its ports if the two inputs
-/// have different names.
-pub fn named_gate_reads()
-    ensures { (a b y : List ℕ) → IsPortName a → IsPortName b → IsPortName y → HasNamedGate a b y }
 {}
 
 /// The text of a box without cells and without ports reads as that box and a table without ports.

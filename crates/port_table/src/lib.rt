@@ -5,7 +5,6 @@
 
 mod faults;
 mod forms;
-pub mod laws;
 mod names;
 mod numbers;
 mod ports;
