@@ -1,9 +1,6 @@
 -- The cells of a plan with a tape.
-use Rattle.std.proofs.Common.{◌≡◌, refl, sym, ◌∙◌, ap, pos, ℕ, zero, suc, ◌+◌, ◌-◌, ◌*◌, ◌/◌, ◌%◌, ◌<◌, ◌≤◌, true, inl, length, Option, Some, None, arith}
-use Rattle.std.specs.Prelude.{◌↔◌, ◌==◌, slice_index}
-use Rattle.std.proofs.lemmas.Bool.{cond-true, and_from}
-use Rattle.std.proofs.lemmas.Bool.Decides.{nat_tests}
-use Rattle.std.proofs.lemmas.List.Folds.{list_any_at}
+use Rattle.std.proofs.Common.{◌≡◌, refl, sym, ◌∙◌, ap, pos, ℕ, zero, suc, ◌+◌, ◌*◌, ◌<◌, ◌≤◌, true, inl, length, Option, Some, None, arith}
+use Rattle.std.specs.Prelude.{◌↔◌, slice_index}
 use Rattle.std.specs.Option.{ForSome}
 use Rattle.std.proofs.Math.Path.{fun_ext}
 use Rattle.ww_rule.specs.declared.pattern.State.TheVariants.{Head}
@@ -12,29 +9,20 @@ use Rattle.ww_rule.proofs.Generations.{evolve_add}
 use Rattle.tile_core.specs.declared.kind.Kind.{Kind}
 use Rattle.tile_core.specs.Drawing.{Drawing}
 use Rattle.tiling.specs.Tiling.{Tiling, Edge, Lit, drawn}
-use Rattle.tiling.specs.Tiling.Piece.{Output}
-use Rattle.tiling.specs.Tiling.Slot.{Whole}
 use Rattle.tiling.specs.Tiling.Edge.{Beside}
 use Rattle.tiling.specs.Matched.{IsMatched, is_entered, is_left}
 use Rattle.tiling.specs.MacroStep.{macro_step, slot_answers}
 use Rattle.tiling.specs.Steps.{KeepsLaw, after_steps, driven_edges}
 use Rattle.tiling.proofs.LitPieces.{steps_by_macro}
-use Rattle.tiling.proofs.Shown.{shows_edges}
 use Rattle.lane_core.specs.declared.plan.Plan.{Plan}
 use Rattle.lane_core.specs.Plans.{IsAdmissible, left_of, row_of, latency_of, cell_after, net_place}
-use Rattle.tile_core.specs.declared.kind.Kind.TheVariants as kind
-use Rattle.plan_layout.specs.Layout.{turn_slot, end_of_body, upper_left, in_body, upper_right, tiling_of}
-use Rattle.plan_layout.proofs.Columns.{by_column-right}
-use Rattle.plan_layout.proofs.Matched.{tiling_of-upper}
-use Rattle.plan_layout.proofs.Sides.{in_body_has}
-use Rattle.plan_waves.proofs.Columns.{east_kind}
-use Rattle.plan_waves.proofs.Inputs.{body_entry}
+use Rattle.plan_layout.specs.Layout.{end_of_body, tiling_of}
 use Rattle.plan_layout.specs.Planes.{start_plane}
 use Rattle.plan_layout.specs.Starts.{start_edges, HasStartEdges}
 use Rattle.plan_waves.specs.Waves.{DrivesInputs}
 use Rattle.plan_waves.specs.ShownEdges.{ShowsEachStep, ShowsDrivenEdges}
-use Rattle.plan_waves.proofs.EdgesShown.{plans_show_edges}
-use Rattle.plan_layout.proofs.Parts.{some_columns, body_at}
+use Rattle.plan_waves.proofs.EdgesShown.{entered_at, entry_head, exit_head, left_at, output_at, plans_show_edges}
+use Rattle.plan_layout.proofs.Parts.{some_columns}
 use Rattle.plan_waves.proofs.Passing.{step_east}
 use Rattle.lane_core.specs.Tape.{HasFittingTape, tape_rows, tape_tiles, tape_shift}
 use Rattle.plan_layout.specs.Tape.{taped_tiling, drawn_edges, drawn_plane}
@@ -46,27 +34,6 @@ use Rattle.plan_tapes.proofs.Blocks.{beside_kept}
 use Rattle.plan_tapes.proofs.Begin.{begins}
 use Rattle.plan_tapes.proofs.Rows.{rows_drive, tapes_fit}
 use Rattle.plan_tapes.proofs.RunIn.{runs_in}
-
--- what stands at the cells of ports
-entered_at : (plan : Plan) → IsAdmissible plan → (c l : ℕ) → c < length plan.columns → l < plan.lanes → is_entered (tiling_of plan (plan.latches + c) l) 0 8 ≡ true
-entered_at plan h c l within low =
-    ap (λ s. is_entered s 0 8) (body_at plan (plan.latches + c) l (omega arith) (omega arith) low) ∙ body_entry plan (plan.latches + c) l
-
-left_at : (plan : Plan) → IsAdmissible plan → (c l : ℕ) → c < length plan.columns → l < plan.lanes → is_left (tiling_of plan (plan.latches + c) l) 31 8 ≡ true
-left_at plan h c l within low =
-    ap (λ s. is_left s 31 8) (body_at plan (plan.latches + c) l (omega arith) (omega arith) low)
-    ∙ in_body_has (λ s. is_left s 31 8 ≡ true) plan (plan.latches + c) l refl east_kind
-
-output_at : (plan : Plan) (i : ℕ) → i < length plan.outs → slice_index plan.outs i < plan.lanes → tiling_of plan (end_of_body plan) (slice_index plan.outs i) ≡ Whole Output
-output_at plan i within low =
-    let q = end_of_body plan in
-    let l = slice_index plan.outs i in
-    let same : (l == l) ≡ true = grind (arith, nat_tests) in
-    let here : (q == end_of_body plan) ≡ true = grind (arith, nat_tests) in
-    tiling_of-upper plan q l low
-    ∙ by_column-right plan q (upper_left plan q l) (in_body plan q l) (upper_right plan q l) (omega arith)
-    ∙ cond-true _ (Whole Output) (turn_slot plan.latches (q - end_of_body plan) (plan.lanes - 1 - l) kind.East kind.EastSouth kind.South)
-    (and_from _ _ here (list_any_at (λ out. out == l) plan.outs i 0 within same))
 
 module _ (library : Kind → Drawing) (law : KeepsLaw library) (plan : Plan) (h : IsAdmissible plan) (fits : HasFittingTape plan) (starts : HasStartEdges plan) where
   abbrev shift : ℕ
@@ -108,26 +75,12 @@ module _ (library : Kind → Drawing) (law : KeepsLaw library) (plan : Plan) (h 
   abbrev plane : ℕ → Plane
   plane = λ g. evolve g (drawn_plane library plan)
 
-  entry_head : (q l : ℕ) → is_entered (tiling q l) 0 8 ≡ true → ShowsEachStep plane (32 * q, row_of l) 0 (λ m. edges m (Beside q l))
-  entry_head q l entered g =
-      let shown = (shows_edges library law tiling m_is (edges (g / 32))).entry q l (g % 32) (omega arith) entered in
-      let now : 32 * (g / 32) + g % 32 ≡ g = omega arith in
-      let here = ap (λ n. plane n (pos (32 * q)) (pos (16 * l + 8))) (sym now) ∙ ap (λ p. p (pos (32 * q)) (pos (16 * l + 8))) (at_time (g / 32) (g % 32)) in (
-        λ head. (let found = shown.0 (sym here ∙ head) in (g / 32, omega (arith, found.0), found.1)),
-        λ lit. (let time : lit.0 ≡ g / 32 = omega (arith, lit.1) in
-            here ∙ shown.1 (omega (arith, lit.1), ap (λ m. edges m (Beside q l)) (sym time) ∙ lit.2)),
-      )
+  entry_shows : (q l : ℕ) → is_entered (tiling q l) 0 8 ≡ true → ShowsEachStep plane (32 * q, row_of l) 0 (λ m. edges m (Beside q l))
+  entry_shows = entry_head library law tiling m_is edges plane (λ m r small. at_time m r)
 
-  exit_head : (q l : ℕ) → is_left (tiling q l) 31 8 ≡ true
+  exit_shows : (q l : ℕ) → is_left (tiling q l) 31 8 ≡ true
       → (g : ℕ) → (plane g (pos (32 * q + 31)) (pos (16 * l + 8)) ≡ Head) ↔ ((m : ℕ) × (g ≡ 32 * m + 31) × (slot_answers (edges m) q l (tiling q l) 31 8 ≡ true))
-  exit_head q l left g =
-      let shown = (shows_edges library law tiling m_is (edges (g / 32))).exit q l (g % 32) (omega arith) left in
-      let now : 32 * (g / 32) + g % 32 ≡ g = omega arith in
-      let here = ap (λ n. plane n (pos (32 * q + 31)) (pos (16 * l + 8))) (sym now) ∙ ap (λ p. p (pos (32 * q + 31)) (pos (16 * l + 8))) (at_time (g / 32) (g % 32)) in (
-        λ head. (let found = shown.0 (sym here ∙ head) in (g / 32, omega (arith, found.0), found.1)),
-        λ lit. (let time : lit.0 ≡ g / 32 = omega (arith, lit.1) in
-            here ∙ shown.1 (omega (arith, lit.1), ap (λ m. slot_answers (edges m) q l (tiling q l) 31 8) (sym time) ∙ lit.2)),
-      )
+  exit_shows = exit_head library law tiling m_is edges plane (λ m r small. at_time m r)
 
   -- the plan's own edges, and its blocks
   own_edge : (q l m : ℕ) → plan.latches ≤ q → edges m (Beside (shift + q) l) ≡ own m (Beside q l)
@@ -151,7 +104,7 @@ module _ (library : Kind → Drawing) (law : KeepsLaw library) (plan : Plan) (h 
       → ShowsEachStep (driven due (start_plane library plan)) (x, row_of l) 0 (λ m. own m (Beside q l)) → (late : ℕ) → ShowsWithoutDrive library plan (x, row_of l, late)
   same_entry q l x right entered e driven_shows late g =
       let column : 32 * shift + x ≡ 32 * (shift + q) = omega (arith, e) in
-      let heads = entry_head (shift + q) l (ap (λ s. is_entered s 0 8) (own_block q l right) ∙ entered) g in
+      let heads = entry_shows (shift + q) l (ap (λ s. is_entered s 0 8) (own_block q l right) ∙ entered) g in
       let place = ap (λ n. plane g (pos n) (pos (row_of l))) column in (
         λ head. (let lit = heads.0 (sym place ∙ head) in (driven_shows g).1 (lit.0, lit.1, sym (own_edge q l lit.0 right) ∙ lit.2)),
         λ head. (let lit = (driven_shows g).0 head in place ∙ heads.1 (lit.0, lit.1, own_edge q l lit.0 right ∙ lit.2)),
@@ -163,7 +116,7 @@ module _ (library : Kind → Drawing) (law : KeepsLaw library) (plan : Plan) (h 
       let next : q + 1 ≡ plan.latches + (c + 1) = omega arith in
       let column : 32 * shift + (left_of plan c + 31) ≡ 32 * (shift + q) + 31 = omega arith in
       let left = left_at plan h c l within low in
-      let heads = exit_head (shift + q) l (ap (λ s. is_left s 31 8) (own_block q l (omega arith)) ∙ left) g in
+      let heads = exit_shows (shift + q) l (ap (λ s. is_left s 31 8) (own_block q l (omega arith)) ∙ left) g in
       let answer = λ (m : ℕ). answers_next q l m (omega arith) left ∙ ap (λ n. own (suc m) (Beside n l)) next in
       let place = ap (λ n. plane g (pos n) (pos (row_of l))) column in (
         λ head. (let lit = heads.0 (sym place ∙ head) in (shown.exits c l within low g).1 (lit.0, lit.1, sym (answer lit.0) ∙ lit.2)),

@@ -9,7 +9,7 @@ use Rattle.ww_rule.specs.Wireworld.{Plane, Due, next_plane, evolve, driven}
 use Rattle.tile_core.specs.declared.kind.Kind.{Kind}
 use Rattle.tile_core.specs.declared.kind.Kind.TheVariants as kind
 use Rattle.tile_core.specs.Drawing.{Drawing}
-use Rattle.tiling.specs.Tiling.{Lit, drawn}
+use Rattle.tiling.specs.Tiling.{Tiling, Lit, drawn}
 use Rattle.tiling.specs.Tiling.Piece.{Output}
 use Rattle.tiling.specs.Tiling.Slot.{Whole}
 use Rattle.tiling.specs.Tiling.Edge.{Beside}
@@ -34,16 +34,16 @@ use Rattle.plan_waves.proofs.Columns.{east_kind, not_free}
 use Rattle.plan_layout.proofs.Columns.{by_column-right}
 
 -- what stands at the cells of ports
-entered_at : (plan : Plan) → IsAdmissible plan → (c l : ℕ) → c < length plan.columns → l < plan.lanes → is_entered (tiling_of plan (plan.latches + c) l) 0 8 ≡ true
+pub entered_at : (plan : Plan) → IsAdmissible plan → (c l : ℕ) → c < length plan.columns → l < plan.lanes → is_entered (tiling_of plan (plan.latches + c) l) 0 8 ≡ true
 entered_at plan h c l within low =
     ap (λ s. is_entered s 0 8) (body_at plan (plan.latches + c) l (omega arith) (omega arith) low) ∙ body_entry plan (plan.latches + c) l
 
-left_at : (plan : Plan) → IsAdmissible plan → (c l : ℕ) → c < length plan.columns → l < plan.lanes → is_left (tiling_of plan (plan.latches + c) l) 31 8 ≡ true
+pub left_at : (plan : Plan) → IsAdmissible plan → (c l : ℕ) → c < length plan.columns → l < plan.lanes → is_left (tiling_of plan (plan.latches + c) l) 31 8 ≡ true
 left_at plan h c l within low =
     ap (λ s. is_left s 31 8) (body_at plan (plan.latches + c) l (omega arith) (omega arith) low)
     ∙ in_body_has (λ s. is_left s 31 8 ≡ true) plan (plan.latches + c) l refl east_kind
 
-output_at : (plan : Plan) (i : ℕ) → i < length plan.outs → slice_index plan.outs i < plan.lanes → tiling_of plan (end_of_body plan) (slice_index plan.outs i) ≡ Whole Output
+pub output_at : (plan : Plan) (i : ℕ) → i < length plan.outs → slice_index plan.outs i < plan.lanes → tiling_of plan (end_of_body plan) (slice_index plan.outs i) ≡ Whole Output
 output_at plan i within low =
     let q = end_of_body plan in
     let l = slice_index plan.outs i in
@@ -54,14 +54,41 @@ output_at plan i within low =
     ∙ cond-true _ (Whole Output) (turn_slot plan.latches (q - end_of_body plan) (plan.lanes - 1 - l) kind.East kind.EastSouth kind.South)
     (and_from _ _ here (list_any_at (λ out. out == l) plan.outs i 0 within same))
 
+-- what a plane shows at the edges of its blocks, if it goes on by macro steps with these lit edges
+module _ (library : Kind → Drawing) (law : KeepsLaw library) (tiling : Tiling) (m_is : IsMatched tiling) (edges : ℕ → Lit) (plane : ℕ → Plane)
+    (at_time : (m r : ℕ) → r < 32 → plane (32 * m + r) ≡ evolve r (drawn library tiling (edges m))) where
+  -- an entry is a head exactly at macro times at which its edge is lit
+  pub entry_head : (q l : ℕ) → is_entered (tiling q l) 0 8 ≡ true
+      → ShowsEachStep plane (32 * q, row_of l) 0 (λ m. edges m (Beside q l))
+  entry_head q l entered g =
+      let shown = (shows_edges library law tiling m_is (edges (g / 32))).entry q l (g % 32) (omega arith) entered in
+      let now : 32 * (g / 32) + g % 32 ≡ g = omega arith in
+      let here = ap (λ n. plane n (pos (32 * q)) (pos (16 * l + 8))) (sym now) ∙ ap (λ p. p (pos (32 * q)) (pos (16 * l + 8))) (at_time (g / 32) (g % 32) (omega arith)) in (
+        λ head. (let found = shown.0 (sym here ∙ head) in (g / 32, omega (arith, found.0), found.1)),
+        λ lit. (let time : lit.0 ≡ g / 32 = omega (arith, lit.1) in
+            here ∙ shown.1 (omega (arith, lit.1), ap (λ m. edges m (Beside q l)) (sym time) ∙ lit.2)),
+      )
+
+  -- an exit is a head 31 generations after macro times at which its block answers 1
+  pub exit_head : (q l : ℕ) → is_left (tiling q l) 31 8 ≡ true
+      → (g : ℕ) → (plane g (pos (32 * q + 31)) (pos (16 * l + 8)) ≡ Head) ↔ ((m : ℕ) × (g ≡ 32 * m + 31) × (slot_answers (edges m) q l (tiling q l) 31 8 ≡ true))
+  exit_head q l left g =
+      let shown = (shows_edges library law tiling m_is (edges (g / 32))).exit q l (g % 32) (omega arith) left in
+      let now : 32 * (g / 32) + g % 32 ≡ g = omega arith in
+      let here = ap (λ n. plane n (pos (32 * q + 31)) (pos (16 * l + 8))) (sym now) ∙ ap (λ p. p (pos (32 * q + 31)) (pos (16 * l + 8))) (at_time (g / 32) (g % 32) (omega arith)) in (
+        λ head. (let found = shown.0 (sym here ∙ head) in (g / 32, omega (arith, found.0), found.1)),
+        λ lit. (let time : lit.0 ≡ g / 32 = omega (arith, lit.1) in
+            here ∙ shown.1 (omega (arith, lit.1), ap (λ m. slot_answers (edges m) q l (tiling q l) 31 8) (sym time) ∙ lit.2)),
+      )
+
 -- what is shown of the driven edges, from any lit edges on
 pub plans_show_edges : (library : Kind → Drawing) → KeepsLaw library → (plan : Plan) → IsAdmissible plan → (due : Due) → DrivesInputs plan due → (lit : Lit) → ShowsDrivenEdges library plan due lit
 plans_show_edges library law plan h due d lit = record {
   first_conductors = first_conductors;
   conductors = conductors;
-  entries = λ c l within low. entry_head (plan.latches + c) l (entered_at plan h c l within low);
+  entries = λ c l within low. entry_shows (plan.latches + c) l (entered_at plan h c l within low);
   exits = exit_shows;
-  outs = λ i within. entry_head (end_of_body plan) (slice_index plan.outs i) (ap (λ s. is_entered s 0 8) (output_at plan i within (omega (arith, h.outs.below i 0 within))));
+  outs = λ i within. entry_shows (end_of_body plan) (slice_index plan.outs i) (ap (λ s. is_entered s 0 8) (output_at plan i within (omega (arith, h.outs.below i 0 within))));
 }
   where
     m_is : IsMatched (tiling_of plan)
@@ -90,29 +117,8 @@ plans_show_edges library law plan h due d lit = record {
     at_time : (m r : ℕ) → r < 32 → plane (32 * m + r) ≡ evolve r (drawn library (tiling_of plan) (edges m))
     at_time m r small = runs.whole m r small
 
-    -- an entry is a head exactly at macro times at which its edge is lit
-    entry_head : (q l : ℕ) → is_entered (tiling_of plan q l) 0 8 ≡ true
-        → ShowsEachStep plane (32 * q, row_of l) 0 (λ m. edges m (Beside q l))
-    entry_head q l entered g =
-        let shown = (shows_edges library law (tiling_of plan) m_is (edges (g / 32))).entry q l (g % 32) (omega arith) entered in
-        let now : 32 * (g / 32) + g % 32 ≡ g = omega arith in
-        let here = ap (λ n. plane n (pos (32 * q)) (pos (16 * l + 8))) (sym now) ∙ ap (λ p. p (pos (32 * q)) (pos (16 * l + 8))) (at_time (g / 32) (g % 32) (omega arith)) in (
-          λ head. (let found = shown.0 (sym here ∙ head) in (g / 32, omega (arith, found.0), found.1)),
-          λ lit. (let time : lit.0 ≡ g / 32 = omega (arith, lit.1) in
-              here ∙ shown.1 (omega (arith, lit.1), ap (λ m. edges m (Beside q l)) (sym time) ∙ lit.2)),
-        )
-
-    -- an exit is a head 31 generations after macro times at which its block answers 1
-    exit_head : (q l : ℕ) → is_left (tiling_of plan q l) 31 8 ≡ true
-        → (g : ℕ) → (plane g (pos (32 * q + 31)) (pos (16 * l + 8)) ≡ Head) ↔ ((m : ℕ) × (g ≡ 32 * m + 31) × (slot_answers (edges m) q l (tiling_of plan q l) 31 8 ≡ true))
-    exit_head q l left g =
-        let shown = (shows_edges library law (tiling_of plan) m_is (edges (g / 32))).exit q l (g % 32) (omega arith) left in
-        let now : 32 * (g / 32) + g % 32 ≡ g = omega arith in
-        let here = ap (λ n. plane n (pos (32 * q + 31)) (pos (16 * l + 8))) (sym now) ∙ ap (λ p. p (pos (32 * q + 31)) (pos (16 * l + 8))) (at_time (g / 32) (g % 32) (omega arith)) in (
-          λ head. (let found = shown.0 (sym here ∙ head) in (g / 32, omega (arith, found.0), found.1)),
-          λ lit. (let time : lit.0 ≡ g / 32 = omega (arith, lit.1) in
-              here ∙ shown.1 (omega (arith, lit.1), ap (λ m. slot_answers (edges m) q l (tiling_of plan q l) 31 8) (sym time) ∙ lit.2)),
-        )
+    entry_shows : (q l : ℕ) → is_entered (tiling_of plan q l) 0 8 ≡ true → ShowsEachStep plane (32 * q, row_of l) 0 (λ m. edges m (Beside q l))
+    entry_shows = entry_head library law (tiling_of plan) m_is edges plane at_time
 
     -- the answer of a column is lit after it
     answers_next : (c l m : ℕ) → c < length plan.columns → l < plan.lanes
@@ -124,7 +130,7 @@ plans_show_edges library law plan h due d lit = record {
     exit_shows : (c l : ℕ) → c < length plan.columns → l < plan.lanes
         → ShowsEachStep plane (left_of plan c + 31, row_of l) 31 (λ m. edges (suc m) (Beside (plan.latches + (c + 1)) l))
     exit_shows c l within low g =
-        let head = exit_head (plan.latches + c) l (left_at plan h c l within low) g in (
+        let head = exit_head library law (tiling_of plan) m_is edges plane at_time (plan.latches + c) l (left_at plan h c l within low) g in (
           λ shown. (let lit = head.0 shown in (lit.0, lit.1, sym (answers_next c l lit.0 within low) ∙ lit.2)),
           λ lit. head.1 (lit.0, lit.1, answers_next c l lit.0 within low ∙ lit.2),
         )
