@@ -1,18 +1,18 @@
 -- What a text that carries a circuit shows, cycle by cycle.
-use Rattle.std.proofs.Common.{◌≡◌, ◌≢◌, refl, sym, ◌+◌, ◌*◌, Bool, true, false, length, arith}
+use Rattle.std.proofs.Common.{◌≡◌, ◌≢◌, refl, sym, Bool, true, false, length, arith}
 use Rattle.ww_rule.specs.Wireworld.{driven}
 use Rattle.ww_rule.specs.Grid.{plane_of}
 use Rattle.aiger_meaning.specs.Circuit.{aig_output_bit}
 use Rattle.carries.specs.Cells.{drive}
-use Rattle.carries.proofs.Cycles.{in_cycle, in_time}
+use Rattle.carries.proofs.Cycles.{cycle_bits}
 use Rattle.carries.proofs.Period.{has_period}
 use Rattle.aiger_plans.specs.Laws.{CarriesAigCycles, OneAigRunIsShown}
 
 pub carries_aig_cycles : CarriesAigCycles
 carries_aig_cycles text aig c rows are run is = record {
-  bits = λ output cell e t lt.
-      in_cycle c.ports.l c.ports.p (length rows) t (λ t. aig_output_bit aig (run t) output) (driven (drive c.ports rows) (plane_of c.grid.rows) (c.ports.l + t * c.ports.p)) cell.x cell.y period lt
-      (c.shows.heads rows are run is output cell e (c.ports.l + t * c.ports.p) (in_time c.ports.l c.ports.p (length rows) t period lt));
+  bits = λ output cell e.
+      cycle_bits c.ports.l c.ports.p (length rows) (λ t. aig_output_bit aig (run t) output) (driven (drive c.ports rows) (plane_of c.grid.rows)) cell.x cell.y period
+      (c.shows.heads rows are run is output cell e);
   dark = λ output cell e g lt head.
       let found = (c.shows.heads rows are run is output cell e g (omega arith)).0 head in
       omega (arith, lt, found.2);

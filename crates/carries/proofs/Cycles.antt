@@ -38,11 +38,18 @@ in_cycle first period cycles t bit plane x y some lt shown = (
   λ is. shown.1 (t, lt, refl, is),
 )
 
+-- what a cell shows of each cycle, in planes that show it up to the end of the last cycle
+pub cycle_bits : (first period cycles : ℕ) (bit : ℕ → Bool) (planes : ℕ → Plane) (x y : ℕ) → period ≢ 0
+    → ((g : ℕ) → g < first + cycles * period → ShowsBitsFrom first period cycles bit g (planes g) x y)
+    → (t : ℕ) → t < cycles → (planes (first + t * period) (pos x) (pos y) ≡ Head) ↔ (bit t ≡ true)
+cycle_bits first period cycles bit planes x y some shown t lt =
+    in_cycle first period cycles t bit (planes (first + t * period)) x y some lt (shown (first + t * period) (in_time first period cycles t some lt))
+
 pub carries_cycles : CarriesCycles
 carries_cycles text design c rows are run is = record {
-  bits = λ output cell e t lt.
-      in_cycle c.ports.l c.ports.p (length rows) t (λ t. output_bit design (run t) output) (driven (drive c.ports rows) (plane_of c.grid.rows) (c.ports.l + t * c.ports.p)) cell.x cell.y period lt
-      (c.shows.heads rows are run is output cell e (c.ports.l + t * c.ports.p) (in_time c.ports.l c.ports.p (length rows) t period lt));
+  bits = λ output cell e.
+      cycle_bits c.ports.l c.ports.p (length rows) (λ t. output_bit design (run t) output) (driven (drive c.ports rows) (plane_of c.grid.rows)) cell.x cell.y period
+      (c.shows.heads rows are run is output cell e);
   dark = λ output cell e g lt head.
       let found = (c.shows.heads rows are run is output cell e g (omega arith)).0 head in
       omega (arith, lt, found.2);
@@ -55,8 +62,8 @@ pub carries_net_cycles : CarriesNetCycles
 carries_net_cycles text design c rows are run is number net line is_net is_line t lt =
     let ports = c.carried.ports in
     let period : ports.p ≢ 0 = has_period text c.carried.grid.width c.carried.grid.height ports c.carried.spells.table in
-    in_cycle line.offset ports.p (length rows) t (λ t. run t net.place net.name) (driven (drive ports rows) (plane_of c.carried.grid.rows) (line.offset + t * ports.p)) line.x line.y period lt
-    (c.shows rows are run is number net line is_net is_line (line.offset + t * ports.p) (in_time line.offset ports.p (length rows) t period lt))
+    cycle_bits line.offset ports.p (length rows) (λ t. run t net.place net.name) (driven (drive ports rows) (plane_of c.carried.grid.rows)) line.x line.y period
+    (c.shows rows are run is number net line is_net is_line) t lt
 
 pub carries_onward : CarriesOnward
 carries_onward text design c rows zeros are_zeros are run is output cell e g lt =
