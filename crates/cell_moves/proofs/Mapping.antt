@@ -18,7 +18,7 @@ use Rattle.cell_meaning.specs.Singles.{single_cell, constant_source, are_pair, i
 use Rattle.cell_meaning.specs.Listed.{listed_classes}
 use Rattle.cell_moves.specs.Same.{is_cell, cell_over, Keeps}
 use Rattle.cell_moves.specs.Mapping.{MappedStays, BitsStay}
-use Rattle.cell_moves.proofs.Moves.{∷-parts}
+use Rattle.cell_core.proofs.Following.{∷-parts}
 use Rattle.cell_moves.proofs.Driven.{driven_are_listed}
 
 mapped_twice : {X : Type 0} (f : X → Src) (g : Src → Src) (xs : List X) → map g (map f xs) ≡ map (λ x. g (f x)) xs

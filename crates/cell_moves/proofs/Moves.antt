@@ -1,9 +1,9 @@
 -- Cells that move, one after another.
-use Rattle.std.proofs.Common.{◌≡◌, refl, sym, ◌∙◌, ap, ap₂, ℕ, zero, suc, ◌+◌, ◌<◌, ◌≤◌, Bool, true, false, ◌&&◌, ◌||◌, not, List, [], ◌∷◌, ◌++◌, length, get_or, Option, Some, None, option_map, option_and_then, subst, slice_set, replicate, slice_get, map, ⊎_elim, ◌≢◌, drop, take, arith}
+use Rattle.std.proofs.Common.{◌≡◌, refl, sym, ◌∙◌, ap, ap₂, ℕ, zero, suc, ◌+◌, ◌<◌, ◌≤◌, Bool, true, false, List, [], ◌∷◌, ◌++◌, length, get_or, Some, None, subst, slice_set, replicate, slice_get, map, ⊎_elim, ◌≢◌, take, arith}
 use Rattle.std.specs.Prelude.{Contains}
 use Rattle.std.specs.Option.{unwrap_or}
-use Rattle.std.proofs.lemmas.Bool.{and_parts, and_from, lt-ltb, ltb-true, cases_eq, true≢false}
-use Rattle.std.proofs.lemmas.List.{length_push, get_or-set_same, get_or-set_other, take_more, take_all, map-append, length-map}
+use Rattle.std.proofs.lemmas.Bool.{lt-ltb, cases_eq, true≢false}
+use Rattle.std.proofs.lemmas.List.{length_push, get_or-set_same, get_or-set_other, take_more, take_all}
 use Rattle.std.proofs.lemmas.Option.{slice_get_within, get_or_from_slice_get, none-some, same_Some}
 use Rattle.lists.proofs.Members.{In, in_parts, in_from}
 use Rattle.cell_core.specs.declared.cells.Src.{Src}
@@ -11,25 +11,16 @@ use Rattle.cell_core.specs.declared.cells.Src.TheVariants.{Input, Latch, One, Ze
 use Rattle.cell_core.specs.declared.cells.Cell.{Cell}
 use Rattle.cell_core.specs.declared.cells.Cell.TheVariants.{Or, Xor, AndNot}
 use Rattle.cell_core.specs.declared.list.CellList.{CellList}
-use Rattle.cell_core.specs.Sources.{is_there, reads_there, are_there, are_in_order}
+use Rattle.cell_core.specs.Sources.{is_there, reads_there, are_in_order}
 use Rattle.cell_core.specs.Meaning.{cell_bit, cell_bits, bit_in, bit_of}
 use Rattle.cell_core.proofs.Bits.{appending_keeps_bits, pushed_bit}
-use Rattle.cell_core.proofs.Order.{in_order_push}
+use Rattle.cell_core.proofs.Following.{∷-parts, and_not_follows, both, none_is_some, or_follows, ports_alike, xor_follows, ArePorts, CellFollows, Follows}
+use Rattle.cell_core.proofs.Order.{in_order_push, there_more}
 use Rattle.cell_core.proofs.OwnBits.{cell_in_order, bit_of_cell}
 use Rattle.cell_moves.specs.Same.{is_cell, cell_over, StaysCell, Keeps}
 use Rattle.cell_moves.specs.Moved.{NewSources, new_source, new_cell, goes_to, AreMoved, IsRebuilt}
 
-none_is_some : {A B : Type 0} (f : A → B) (x : A) (xs : List A) → [] ≡ map f (x ∷ xs) → ⊥
-none_is_some f x xs e = let n : 0 ≡ suc (length (map f xs)) = ap length e in omega arith
-
-pub ∷-parts : {A : Type 0} {a b : A} {xs ys : List A} → a ∷ xs ≡ b ∷ ys → (a ≡ b) × (xs ≡ ys)
-∷-parts {A} {a} {b} {xs} {ys} e = (ap (λ l. get_or l 0 a) e, ap (λ l. drop 1 l) e)
-
 -- ---- a source that has moved is there, and has its bit
-pub record Follows (list : CellList) (cells : List Cell) (src new : Src) : Type 0 where
-  pub there : (made : ℕ) → is_there list.inputs (length list.starts) made src ≡ true → is_there list.inputs (length list.starts) (length cells) new ≡ true
-  pub bit : (inputs state : List Bool) → bit_in cells inputs state new ≡ bit_of list inputs state src
-
 pub follows : (list : CellList) (cells : List Cell) (news : NewSources) → AreMoved list cells news → (src new : Src) → new_source news src ≡ Some new → Follows list cells src new
 follows list cells news are (Input i) new e = subst (λ s. Follows list cells (Input i) s) (same_Some _ _ e) (record { there = λ made h. h; bit = λ inputs state. refl })
 follows list cells news are (Latch i) new e = subst (λ s. Follows list cells (Latch i) s) (same_Some _ _ e) (record { there = λ made h. h; bit = λ inputs state. refl })
@@ -38,45 +29,10 @@ follows list cells news are Zero new e = subst (λ s. Follows list cells Zero s)
 follows list cells news are (Made i) new e = record { there = λ made h. are.there i new e; bit = are.bits i new e }
 
 -- ---- a cell that reads new sources
-record CellFollows (list : CellList) (cells : List Cell) (cell new : Cell) : Type 0 where
-  there : (made : ℕ) → reads_there list.inputs (length list.starts) made cell ≡ true → reads_there list.inputs (length list.starts) (length cells) new ≡ true
-  bit : (inputs state : List Bool) → cell_bit inputs state (cell_bits inputs state cells) new ≡ cell_bit inputs state (cell_bits inputs state list.cells) cell
-
--- both of its sources are there
-both : {A : Type 0} (f : Src → Src → A) (a b : Option Src) (new : A) → option_and_then (λ x. option_map (f x) b) a ≡ Some new
-    → (x : Src) × (y : Src) × (a ≡ Some x) × (b ≡ Some y) × (f x y ≡ new)
-both f None b new e = absurd (none-some new e)
-both f (Some x) None new e = absurd (none-some new e)
-both f (Some x) (Some y) new e = (x, y, refl, refl, same_Some _ _ e)
-
 cell_follows : (list : CellList) (cells : List Cell) (news : NewSources) → AreMoved list cells news → (cell new : Cell) → new_cell news cell ≡ Some new → CellFollows list cells cell new
-cell_follows list cells news are (Or a b) new e =
-    let (x, y, at_a, at_b, is) = both Or (new_source news a) (new_source news b) new e in
-    let p : Follows list cells a x = follows list cells news are a x at_a in
-    let q : Follows list cells b y = follows list cells news are b y at_b in
-    subst (λ c. CellFollows list cells (Or a b) c) is
-    (record {
-      there = λ made h. and_from _ _ (p.there made (and_parts _ _ h).0) (q.there made (and_parts _ _ h).1);
-      bit = λ inputs state. ap₂ (λ u v. u || v) (p.bit inputs state) (q.bit inputs state);
-    })
-cell_follows list cells news are (Xor a b) new e =
-    let (x, y, at_a, at_b, is) = both Xor (new_source news a) (new_source news b) new e in
-    let p : Follows list cells a x = follows list cells news are a x at_a in
-    let q : Follows list cells b y = follows list cells news are b y at_b in
-    subst (λ c. CellFollows list cells (Xor a b) c) is
-    (record {
-      there = λ made h. and_from _ _ (p.there made (and_parts _ _ h).0) (q.there made (and_parts _ _ h).1);
-      bit = λ inputs state. ap₂ (λ u v. (u || v) && not (u && v)) (p.bit inputs state) (q.bit inputs state);
-    })
-cell_follows list cells news are (AndNot a b) new e =
-    let (x, y, at_a, at_b, is) = both AndNot (new_source news a) (new_source news b) new e in
-    let p : Follows list cells a x = follows list cells news are a x at_a in
-    let q : Follows list cells b y = follows list cells news are b y at_b in
-    subst (λ c. CellFollows list cells (AndNot a b) c) is
-    (record {
-      there = λ made h. and_from _ _ (p.there made (and_parts _ _ h).0) (q.there made (and_parts _ _ h).1);
-      bit = λ inputs state. ap₂ (λ u v. u && not v) (p.bit inputs state) (q.bit inputs state);
-    })
+cell_follows list cells news are (Or a b) new e = or_follows list cells (new_source news) (follows list cells news are) a b new e
+cell_follows list cells news are (Xor a b) new e = xor_follows list cells (new_source news) (follows list cells news are) a b new e
+cell_follows list cells news are (AndNot a b) new e = and_not_follows list cells (new_source news) (follows list cells news are) a b new e
 
 -- ---- a new source is written down
 -- a list of one thing, throughout and past its end
@@ -114,13 +70,6 @@ put_moved list cells news are number new inside there bit =
     }
 
 -- ---- a cell comes, at the end
-pub still_there : (inputs latches few many : ℕ) (src : Src) → few ≤ many → is_there inputs latches few src ≡ true → is_there inputs latches many src ≡ true
-still_there inputs latches few many (Input i) le h = h
-still_there inputs latches few many (Latch i) le h = h
-still_there inputs latches few many One le h = h
-still_there inputs latches few many Zero le h = h
-still_there inputs latches few many (Made i) le h = lt-ltb i many (let lt : i < few = ltb-true i few h in omega (arith, lt, le))
-
 pub moved_more : (list : CellList) (cells : List Cell) (news : NewSources) → AreMoved list cells news → (i : ℕ) (cell new : Cell) → slice_get list.cells i ≡ Some cell
     → new_cell news cell ≡ Some new → AreMoved list (cells ++ new ∷ []) news
 moved_more list cells news are i cell new at is =
@@ -132,7 +81,7 @@ moved_more list cells news are i cell new at is =
     let more : length (cells ++ new ∷ []) ≡ length cells + 1 = length_push cells new in
     record {
       in_order = in_order_push list.inputs (length list.starts) cells new are.in_order (f.there (0 + i) reads);
-      there = λ k src e. still_there list.inputs (length list.starts) (length cells) (length (cells ++ new ∷ [])) src (omega (arith, more)) (are.there k src e);
+      there = λ k src e. there_more list.inputs (length list.starts) (length cells) (length (cells ++ new ∷ [])) src (omega (arith, more)) (are.there k src e);
       bits = λ k src e inputs state. appending_keeps_bits cells (new ∷ []) inputs state (length list.starts) list.inputs src (are.there k src e) ∙ are.bits k src e inputs state;
     }
 
@@ -148,49 +97,6 @@ come_moved list cells news are i cell new at is place last inside =
     (λ inputs state. pushed_bit inputs state cells new place (sym last) ∙ f.bit inputs state
     ∙ ap (cell_bit inputs state (cell_bits inputs state list.cells)) (sym (get_or_from_slice_get list.cells i cell cell at))
     ∙ sym (bit_of_cell list i cell inputs state within))
-
--- ---- sources
-pub sources_more : (news : NewSources) (sources found : List Src) (i : ℕ) (d new : Src) → i < length sources → map (new_source news) (take i sources) ≡ map (λ s. Some s) found
-    → new_source news (get_or sources i d) ≡ Some new → map (new_source news) (take (i + 1) sources) ≡ map (λ s. Some s) (found ++ new ∷ [])
-sources_more news sources found i d new within so e =
-    ap (map (new_source news)) (take_more sources i d within) ∙ map-append (new_source news) (take i sources) (get_or sources i d ∷ [])
-    ∙ ap₂ (λ (l : List (Option Src)) (o : Option Src). l ++ o ∷ []) so e ∙ sym (map-append (λ s. Some s) found (new ∷ []))
-
-pub bits_follow : (list : CellList) (cells : List Cell) (news : NewSources) → AreMoved list cells news → (sources found : List Src) → map (new_source news) sources ≡ map Some found
-    → (inputs state : List Bool) → map (bit_in cells inputs state) found ≡ map (bit_of list inputs state) sources
-bits_follow list cells news are [] [] e inputs state = refl
-bits_follow list cells news are [] (new ∷ found) e inputs state = absurd (none_is_some (λ s. Some s) new found e)
-bits_follow list cells news are (src ∷ sources) [] e inputs state = absurd (none_is_some (new_source news) src sources (sym e))
-bits_follow list cells news are (src ∷ sources) (new ∷ found) e inputs state =
-    let parts : (new_source news src ≡ Some new) × (map (new_source news) sources ≡ map Some found) = ∷-parts e in
-    ap₂ (λ (b : Bool) (bs : List Bool). b ∷ bs) ((follows list cells news are src new parts.0).bit inputs state) (bits_follow list cells news are sources found parts.1 inputs state)
-
-pub there_follow : (list : CellList) (cells : List Cell) (news : NewSources) → AreMoved list cells news → (sources found : List Src) → map (new_source news) sources ≡ map Some found
-    → are_there list.inputs (length list.starts) (length list.cells) sources ≡ true → are_there list.inputs (length list.starts) (length cells) found ≡ true
-there_follow list cells news are [] [] e there = refl
-there_follow list cells news are [] (new ∷ found) e there = absurd (none_is_some (λ s. Some s) new found e)
-there_follow list cells news are (src ∷ sources) [] e there = absurd (none_is_some (new_source news) src sources (sym e))
-there_follow list cells news are (src ∷ sources) (new ∷ found) e there =
-    let parts : (new_source news src ≡ Some new) × (map (new_source news) sources ≡ map Some found) = ∷-parts e in
-    and_from _ _ ((follows list cells news are src new parts.0).there (length list.cells) (and_parts _ _ there).0)
-    (there_follow list cells news are sources found parts.1 (and_parts _ _ there).1)
-
--- ---- the list of the cells that have come
-pub in_order_again : (list : CellList) (cells new : List Cell) (news : NewSources) (starts : List Bool) → AreMoved list cells news → new ≡ cells → starts ≡ list.starts
-    → are_in_order list.inputs (length starts) 0 new ≡ true
-in_order_again list cells new news starts are same_cells same_starts =
-    ap₂ (λ (s : List Bool) (c : List Cell). are_in_order list.inputs (length s) 0 c) same_starts same_cells ∙ are.in_order
-
-pub there_again : (list : CellList) (cells new : List Cell) (news : NewSources) (starts : List Bool) (sources found found' : List Src) → AreMoved list cells news → new ≡ cells → starts ≡ list.starts
-    → map (new_source news) sources ≡ map (λ s. Some s) found → found' ≡ found → are_there list.inputs (length list.starts) (length list.cells) sources ≡ true
-    → are_there list.inputs (length starts) (length new) found' ≡ true
-there_again list cells new news starts sources found found' are same_cells same_starts e same_found there =
-    ap₂ (λ (s : List Bool) (c : List Cell). are_there list.inputs (length s) (length c) found') same_starts same_cells
-    ∙ ap (are_there list.inputs (length list.starts) (length cells)) same_found
-    ∙ there_follow list cells news are sources found e there
-
-pub as_many : (news : NewSources) (sources found : List Src) → map (new_source news) sources ≡ map (λ s. Some s) found → length sources ≡ length found
-as_many news sources found e = sym (length-map sources (new_source news)) ∙ ap length e ∙ length-map found (λ s. Some s)
 
 -- ---- where sources go
 stays : (news : NewSources) (src : Src) → is_cell src ≡ false → goes_to news src ≡ src
@@ -208,19 +114,9 @@ sources_are news (src ∷ sources) (new ∷ found) e =
     let parts : (new_source news src ≡ Some new) × (map (new_source news) sources ≡ map Some found) = ∷-parts e in
     ap₂ (λ (s : Src) (l : List Src). s ∷ l) (sym (ap (λ o. unwrap_or o src) parts.0)) (sources_are news sources found parts.1)
 
--- what the sources of a port list become
-pub record ArePorts (news : NewSources) (sources found new : List Src) : Type 0 where
-  pub follow : map (new_source news) sources ≡ map (λ s. Some s) found
-  pub is : new ≡ found
-
-ports_alike : (list : CellList) (cells new : List Cell) (news : NewSources) (sources found found' : List Src) → AreMoved list cells news → new ≡ cells → ArePorts news sources found found'
-    → (inputs state : List Bool) → map (bit_in new inputs state) found' ≡ map (bit_of list inputs state) sources
-ports_alike list cells new news sources found found' are same_cells ports inputs state =
-    ap₂ (λ (c : List Cell) (l : List Src). map (bit_in c inputs state) l) same_cells ports.is ∙ bits_follow list cells news are sources found ports.follow inputs state
-
 pub is_rebuilt : (list new : CellList) (cells : List Cell) (news : NewSources) (outs latches nets : List Src) → AreMoved list cells news
     → new.inputs ≡ list.inputs → new.starts ≡ list.starts → new.cells ≡ cells
-    → ArePorts news list.outs outs new.outs → ArePorts news list.latches latches new.latches → ArePorts news list.nets nets new.nets → IsRebuilt list news new
+    → ArePorts (new_source news) list.outs outs new.outs → ArePorts (new_source news) list.latches latches new.latches → ArePorts (new_source news) list.nets nets new.nets → IsRebuilt list news new
 is_rebuilt list new cells news outs latches nets are inputs starts same_cells out latch net =
     record {
       moves = record {
@@ -230,9 +126,9 @@ is_rebuilt list new cells news outs latches nets are inputs starts same_cells ou
         outs_go = out.is ∙ sources_are news list.outs outs out.follow;
         latches_go = latch.is ∙ sources_are news list.latches latches latch.follow;
         nets_go = net.is ∙ sources_are news list.nets nets net.follow;
-        outs = ports_alike list cells new.cells news list.outs outs new.outs are same_cells out;
-        latches = ports_alike list cells new.cells news list.latches latches new.latches are same_cells latch;
-        nets = ports_alike list cells new.cells news list.nets nets new.nets are same_cells net;
+        outs = ports_alike list cells (new_source news) (follows list cells news are) new.cells list.outs outs new.outs same_cells out;
+        latches = ports_alike list cells (new_source news) (follows list cells news are) new.cells list.latches latches new.latches same_cells latch;
+        nets = ports_alike list cells (new_source news) (follows list cells news are) new.cells list.nets nets new.nets same_cells net;
       };
       are = subst (λ (c : List Cell). AreMoved list c news) (sym same_cells) are;
     }

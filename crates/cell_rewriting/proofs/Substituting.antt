@@ -11,7 +11,9 @@ use Rattle.cell_core.specs.Meaning.{bit_in}
 use Rattle.cell_core.specs.Sources.{is_there}
 use Rattle.cell_core.proofs.Bits.{appending_keeps_bits}
 use Rattle.cell_moves.specs.Moved.{NewSources, new_source, AreMoved}
-use Rattle.cell_moves.proofs.Moves.{Follows, follows, put_moved, all_the_same, still_there}
+use Rattle.cell_core.proofs.Following.{Follows}
+use Rattle.cell_core.proofs.Order.{there_more}
+use Rattle.cell_moves.proofs.Moves.{follows, put_moved, all_the_same}
 use Rattle.cell_rewriting.specs.Substitution.{AreEqual, AreEquivalent, Extends}
 
 -- ---- cells are added
@@ -38,7 +40,7 @@ there_then : (old new : CellList) → Extends old new → (src : Src) → is_the
 there_then old new (more, adds) src there =
     ap (λ (n : ℕ). is_there n (length new.starts) (length new.cells) src) adds.inputs
     ∙ ap (λ (l : List Bool). is_there old.inputs (length l) (length new.cells) src) adds.starts
-    ∙ still_there old.inputs (length old.starts) (length old.cells) (length new.cells) src (longer old.cells more new.cells adds.cells) there
+    ∙ there_more old.inputs (length old.starts) (length old.cells) (length new.cells) src (longer old.cells more new.cells adds.cells) there
 
 bit_then : (old new : CellList) → Extends old new → (src : Src) → is_there old.inputs (length old.starts) (length old.cells) src ≡ true → (inputs state : List Bool)
     → bit_in new.cells inputs state src ≡ bit_in old.cells inputs state src
