@@ -9,7 +9,8 @@ use Rattle.std.proofs.Math.Nat.{suc-mul, mul-le-mul_right}
 use Rattle.lists.specs.Bits.{has_bit}
 use Rattle.ww_rule.specs.Wireworld.{Plane, next_plane}
 use Rattle.lane_kernel.specs.Rows.{row_state, state_of}
-use Rattle.lane_kernel.specs.Around.{beside, free_of, near_heads, IsFramed, IsInner}
+use Rattle.lane_kernel.specs.declared.free_cells.Free.{Free}
+use Rattle.lane_kernel.specs.Around.{beside, free_of, near_heads, IsInner}
 use Rattle.lane_kernel.specs.Marked.{AreMore, AreOn, AreTold, IsMarked, IsTold, opposite}
 use Rattle.lane_kernel.specs.PlaneRows.{place, row_in_plane, HasDarkSides, IsEmptyWest, ShowsHeads}
 use Rattle.lane_kernel.proofs.PlaneRows.{row_past, row_word}
@@ -65,9 +66,18 @@ beside_apart rows r beside k low same = elim beside [ inl e ↦ omega (arith, e,
 
 -- ---- the marks after heads were put into a word without cells
 
-module _ (stride : ℕ) (heads tails cells bytes : List ℕ) (i h : ℕ) (new : List ℕ) (within : i < length heads)
-    (framed : IsFramed stride cells) (none : get_or cells i 0 ≡ 0) (was : IsMarked stride heads tails cells bytes) (more : AreMore bytes new)
-    (told : AreTold stride h i tails cells new) where
+module _ (free : Free) (heads bytes : List ℕ) (i h : ℕ) (new : List ℕ) (within : i < length heads)
+    (none : get_or free.cells.now i 0 ≡ 0) (was : IsMarked free.stride heads free.tails.now free.cells.now bytes) (more : AreMore bytes new)
+    (told : AreTold free h i new) where
+  abbrev stride : ℕ
+  stride = free.stride
+
+  abbrev tails : List ℕ
+  tails = free.tails.now
+
+  abbrev cells : List ℕ
+  cells = free.cells.now
+
   abbrev H : List ℕ
   H = slice_set heads i h
 
@@ -96,7 +106,7 @@ module _ (stride : ℕ) (heads tails cells bytes : List ℕ) (i h : ℕ) (new : 
                   elim (cases_eq (get_or cells j 0) 0) [
                     | inl empty ↦ ap (λ w. bit_and (near_heads way (get_or H s 0)) (free_of w t)) empty ∙ and_comm _ 0
                     | inr some ↦
-                        let back : beside stride (opposite way) i ≡ j = sym (ap (beside stride (opposite way)) e) ∙ there_and_back stride (length cells) way j (framed j some) in
+                        let back : beside stride (opposite way) i ≡ j = sym (ap (beside stride (opposite way)) e) ∙ there_and_back stride (length cells) way j (free.framed j some) in
                         let at : IsTold (near_heads (opposite (opposite way)) h) tails cells new j = subst (IsTold (near_heads (opposite (opposite way)) h) tails cells new) back (told (opposite way)) in
                         elim at [
                           | inl two ↦ absurd (omega (arith, low, two))

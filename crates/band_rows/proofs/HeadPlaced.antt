@@ -10,7 +10,7 @@ use Rattle.ww_rule.specs.declared.pattern.State.TheVariants.{Head}
 use Rattle.lists.specs.Bits.{has_bit}
 use Rattle.lists.proofs.WordBits.{by_digits, and_bit, or_bit}
 use Rattle.lane_kernel.specs.Around.{IsInner}
-use Rattle.lane_kernel.specs.Marked.{AreCleared, AreListed, AreOn, AreTold, IsMarked}
+use Rattle.lane_kernel.specs.Marked.{AreCleared, AreListed, AreOn, IsMarked}
 use Rattle.lane_kernel.specs.PlaneRows.{place, row_in_plane, plane_size, stride_of, IsInRow}
 use Rattle.lane_kernel.specs.Rows.{is_set, row_state, state_of}
 use Rattle.band_rows.specs.declared.field.Field.{Field}
@@ -162,7 +162,3 @@ module _ (old : Field) (x k : ℕ) (closed : IsClosedField old) (west : x / 64 <
       ∙ ap (f old.columns old.stride (with_bit old.heads.items at bit) old.tails.items) has.cells
       ∙ ap₂ (λ p q. state_of p t q) h c
       ∙ head_state (u == x && j == k) (is_set (row_in_plane old.columns old.stride old.heads.items (j + 1)) u) t (is_set (row_in_plane old.columns old.stride old.cells.items (j + 1)) u)
-
-pub told_same : (s : ℕ) {a a' : ℕ} (i : ℕ) {t t' c c' : List ℕ} (new : List ℕ) → a ≡ a' → t ≡ t' → c ≡ c' → AreTold s a i t c new → AreTold s a' i t' c' new
-told_same s {a} {a'} i {t} {t'} {c} {c'} new p q r told =
-    subst (λ c. AreTold s a' i t' c new) r (subst (λ t. AreTold s a' i t c new) q (subst (λ a. AreTold s a i t c new) p told))

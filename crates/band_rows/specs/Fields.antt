@@ -7,7 +7,7 @@ use Rattle.lane_kernel.specs.Rows.{is_set, row_state}
 use Rattle.lane_kernel.specs.Around.{next_word}
 use Rattle.lane_kernel.specs.Marked.{AreCleared, AreListed, AreOn, IsMarked}
 use Rattle.lane_kernel.specs.PlaneRows.{place, row_in_plane, plane_size, stride_of, IsInRow, PlanesShow, IsEmptyWest, ShowsHeads}
-use Rattle.lane_kernel.specs.declared.word_marks.Free.{Free}
+use Rattle.lane_kernel.specs.declared.free_cells.Free.{Free}
 use Rattle.band_rows.specs.declared.field.Field.{Field}
 use Rattle.band_rows.specs.declared.field.WordMarks.{WordMarks}
 use Rattle.band_rows.specs.RowsPut.{HasRowPut}

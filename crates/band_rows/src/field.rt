@@ -135,8 +135,7 @@ fn mark_head(heads: &[u64], free: &Free<'_>, now: &mut WordMarks, i: usize)
         now.new.many }
     ensures more { AreMore now.old.bytes.items now.new.bytes.items }
     ensures here { beside_mark ≤ number_at now.new.bytes.items i }
-    ensures told { AreTold free.now.stride (number_at heads.now i) i
-        free.now.tails.now free.now.cells.now now.new.bytes.items }
+    ensures told { AreTold free.now (number_at heads.now i) i now.new.bytes.items }
 {
     let many = mark(
         &mut now.bytes,

@@ -22,8 +22,7 @@ fn tell_word(free: &Free<'_>, marks: &mut WordMarks, i: usize, heads: u64)
     ensures listed { AreListed free.now.stride marks.new.bytes.items marks.new.list.items
         marks.new.many }
     ensures more { AreMore marks.old.bytes.items marks.new.bytes.items }
-    ensures told { AreTold free.now.stride heads i
-        free.now.tails.now free.now.cells.now marks.new.bytes.items }
+    ensures told { AreTold free.now heads i marks.new.bytes.items }
 {
     if heads == 0 {
         return;

@@ -5,12 +5,13 @@ use Rattle.std.proofs.lemmas.Bool.{cases_eq}
 use Rattle.std.proofs.lemmas.List.{get_or-set_same, get_or-set_other}
 use Rattle.std.proofs.lemmas.Nat.{and_comm}
 use Rattle.std.specs.Int.RustNames.{bit_and}
-use Rattle.lane_kernel.specs.Around.{Way, beside, near_heads, free_of, wires_of, heads_alone, next_word, StepsAlone, IsFramed}
+use Rattle.lane_kernel.specs.declared.free_cells.Free.{Free}
+use Rattle.lane_kernel.specs.Around.{Way, beside, near_heads, free_of, wires_of, heads_alone, next_word, StepsAlone}
 use Rattle.lane_kernel.specs.Around.Way.{north, south, west, east, north_west, north_east, south_west, south_east}
 use Rattle.lane_kernel.specs.Words.{new_heads_of}
 use Rattle.lane_kernel.proofs.Calm.{alone, same_next}
 use Rattle.lane_kernel.proofs.Places.{Fit}
-use Rattle.lane_kernel.specs.Marked.{AreCleared, AreMore, AreOn, AreTold, IsAmong, IsMarked, IsTold, IsUnderWay, opposite}
+use Rattle.lane_kernel.specs.Marked.{coming_word, AreCleared, AreMore, AreOn, AreTold, IsAmong, IsMarked, IsTold, IsUnderWay, opposite}
 use Rattle.lane_kernel.proofs.Listing.{still_told}
 use Rattle.lane_kernel.proofs.Ways.{there_and_back, back_again, near_none}
 
@@ -30,20 +31,31 @@ pub no_tails : (cells tails : List ℕ) (i : ℕ) → AreOn cells tails → get_
 no_tails cells tails i on none = sym (on i) ∙ ap (λ c. bit_and c (get_or tails i 0)) none
 
 -- a word without heads tells nothing
-pub none_told : (stride heads i : ℕ) (tails cells bytes : List ℕ) → heads ≡ 0 → AreTold stride heads i tails cells bytes
-none_told stride heads i tails cells bytes none way =
-    inr (ap (λ h. bit_and (near_heads (opposite way) h) (free_of (get_or cells (beside stride way i) 0) (get_or tails (beside stride way i) 0))) none
-    ∙ ap (λ n. bit_and n (free_of (get_or cells (beside stride way i) 0) (get_or tails (beside stride way i) 0))) (near_none (opposite way)))
+pub none_told : (free : Free) (heads i : ℕ) (bytes : List ℕ) → heads ≡ 0 → AreTold free heads i bytes
+none_told free heads i bytes none way =
+    let cells = get_or free.cells.now (beside free.stride way i) 0 in
+    let tails = get_or free.tails.now (beside free.stride way i) 0 in
+    inr (ap (λ h. bit_and (near_heads (opposite way) h) (free_of cells tails)) none
+    ∙ ap (λ n. bit_and n (free_of cells tails)) (near_none (opposite way)))
 
-pub same_told : (stride h h' i : ℕ) (tails cells bytes : List ℕ) → h ≡ h' → AreTold stride h i tails cells bytes → AreTold stride h' i tails cells bytes
-same_told stride h h' i tails cells bytes e told = subst (λ h. AreTold stride h i tails cells bytes) e told
+pub same_told : (free : Free) (h h' i : ℕ) (bytes : List ℕ) → h ≡ h' → AreTold free h i bytes → AreTold free h' i bytes
+same_told free h h' i bytes e told = subst (λ h. AreTold free h i bytes) e told
 
-module _ (stride : ℕ) (heads old cells entries : List ℕ) where
+module _ (coming : Free) (old entries : List ℕ) where
+  abbrev stride : ℕ
+  stride = coming.stride
+
+  abbrev heads : List ℕ
+  heads = coming.tails.now
+
+  abbrev cells : List ℕ
+  cells = coming.cells.now
+
   abbrev N : ℕ → ℕ
-  N i = next_word stride heads old cells i
+  N i = coming_word coming old i
 
   -- before the first entry
-  pub begun : (bytes soon : List ℕ) → Fit heads → Fit cells → AreOn cells old → IsMarked stride heads old cells bytes → ((i : ℕ) → get_or bytes i 0 ≢ 0 → IsAmong entries 0 (length entries) i) → IsUnderWay stride heads old cells entries 0 old bytes soon
+  pub begun : (bytes soon : List ℕ) → Fit heads → Fit cells → AreOn cells old → IsMarked stride heads old cells bytes → ((i : ℕ) → get_or bytes i 0 ≢ 0 → IsAmong entries 0 (length entries) i) → IsUnderWay coming old entries 0 old bytes soon
   begun bytes soon fh fc on marked each =
       let none : (i : ℕ) → get_or bytes i 0 ≡ 0 → N i ≡ 0 = λ i zero.
       elim (marked.dark i zero) [
@@ -64,11 +76,11 @@ module _ (stride : ℕ) (heads old cells entries : List ℕ) where
               | inl empty ↦ inl empty
               | inr dark ↦ inr (none i zero, dark.0)
             ];
-        told = λ i zero. none_told stride (N i) i heads cells soon (none i zero);
+        told = λ i zero. none_told coming (N i) i soon (none i zero);
       }
 
   -- an entry whose word has no mark
-  pub passed : (k : ℕ) (tails bytes soon : List ℕ) → get_or bytes (get_or entries k 0) 0 ≡ 0 → IsUnderWay stride heads old cells entries k tails bytes soon → IsUnderWay stride heads old cells entries (k + 1) tails bytes soon
+  pub passed : (k : ℕ) (tails bytes soon : List ℕ) → get_or bytes (get_or entries k 0) 0 ≡ 0 → IsUnderWay coming old entries k tails bytes soon → IsUnderWay coming old entries (k + 1) tails bytes soon
   passed k tails bytes soon none u =
       record {
         old = u.old;
@@ -94,9 +106,9 @@ module _ (stride : ℕ) (heads old cells entries : List ℕ) where
   -- an entry whose word has stepped
   pub stepped : (k i v : ℕ) (tails bytes soon soon' : List ℕ) → i ≡ get_or entries k 0 → i < length tails → i < length bytes → get_or bytes i 0 ≢ 0
       → v ≡ next_word stride heads tails cells i → AreMore soon soon'
-      → (get_or soon' i 0 ≡ 0 → (v ≡ 0) × (get_or heads i 0 ≡ 0)) → AreTold stride v i heads cells soon'
-      → IsUnderWay stride heads old cells entries k tails bytes soon
-      → IsUnderWay stride heads old cells entries (k + 1) (slice_set tails i v) (slice_set bytes i 0) soon'
+      → (get_or soon' i 0 ≡ 0 → (v ≡ 0) × (get_or heads i 0 ≡ 0)) → AreTold coming v i soon'
+      → IsUnderWay coming old entries k tails bytes soon
+      → IsUnderWay coming old entries (k + 1) (slice_set tails i v) (slice_set bytes i 0) soon'
   stepped k i v tails bytes soon soon' at in_tails in_bytes some is more dark told u =
       let new : v ≡ N i = is ∙ same_next stride heads tails old cells i (u.old i some) in
       let gone : get_or (slice_set bytes i 0) i 0 ≡ 0 = get_or-set_same bytes i 0 0 in_bytes in
@@ -137,21 +149,21 @@ module _ (stride : ℕ) (heads old cells entries : List ℕ) where
             ];
         told = λ j zero.
             elim (cases_eq j i) [
-              | inl e ↦ subst (λ j. AreTold stride (N j) j heads cells soon') (sym e) (same_told stride v (N i) i heads cells soon' new told)
+              | inl e ↦ subst (λ j. AreTold coming (N j) j soon') (sym e) (same_told coming v (N i) i soon' new told)
               | inr ne ↦ λ way. still_told (near_heads (opposite way) (N j)) heads cells soon soon' (beside stride way j) more (u.told j (sym (unmarked j ne) ∙ zero) way)
             ];
       }
 
   -- after the last entry
-  pub none_left : (tails bytes soon : List ℕ) → IsUnderWay stride heads old cells entries (length entries) tails bytes soon → AreCleared bytes
+  pub none_left : (tails bytes soon : List ℕ) → IsUnderWay coming old entries (length entries) tails bytes soon → AreCleared bytes
   none_left tails bytes soon u i =
       elim (cases_eq (get_or bytes i 0) 0) [
         | inl e ↦ e
         | inr ne ↦ let a = u.left i ne in let first = a.first in let last = a.last in absurd (omega (arith, first, last))
       ]
 
-  pub ended : (tails bytes soon : List ℕ) → IsFramed stride cells → IsUnderWay stride heads old cells entries (length entries) tails bytes soon → IsMarked stride tails heads cells soon
-  ended tails bytes soon framed u =
+  pub ended : (tails bytes soon : List ℕ) → IsUnderWay coming old entries (length entries) tails bytes soon → IsMarked stride tails heads cells soon
+  ended tails bytes soon u =
       let clear = none_left tails bytes soon u in
       record {
         dark = λ i zero.
@@ -164,7 +176,7 @@ module _ (stride : ℕ) (heads old cells entries : List ℕ) where
               | inl empty ↦ ap (λ c. bit_and (near_heads way (get_or tails (beside stride way i) 0)) (free_of c (get_or heads i 0))) empty ∙ and_comm _ 0
               | inr some ↦
                   let j = beside stride way i in
-                  let back : beside stride (opposite way) j ≡ i = there_and_back stride (length cells) way i (framed i some) in
+                  let back : beside stride (opposite way) j ≡ i = there_and_back stride (length cells) way i (coming.framed i some) in
                   let told = u.told j (clear j) (opposite way) in
                   let here : IsTold (near_heads (opposite (opposite way)) (N j)) heads cells soon i = subst (IsTold (near_heads (opposite (opposite way)) (N j)) heads cells soon) back told in
                   elim here [

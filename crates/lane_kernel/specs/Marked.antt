@@ -1,6 +1,7 @@
 -- Marks of the words of a plane that may change: a byte for each word, and a list of the marked words.
 use Rattle.std.specs.Prelude.{ℕ, ◌<◌, ◌≤◌, ◌≡◌, ◌≢◌, ◌⊎◌, Bool, true, false, List, length, get_or}
 use Rattle.std.specs.Int.RustNames.{bit_and}
+use Rattle.lane_kernel.specs.declared.free_cells.Free.{Free}
 use Rattle.lane_kernel.specs.Around.{Way, beside, near_heads, free_of, next_word, StepsAlone, IsInner}
 use Rattle.lane_kernel.specs.Around.Way.{north, south, west, east, north_west, north_east, south_west, south_east}
 
@@ -55,19 +56,21 @@ IsTold near tails cells bytes i =
     ⊎ (bit_and near (free_of (get_or cells i 0) (get_or tails i 0)) ≡ 0)
 
 -- the words beside word i, by these heads of word i; and below, those to the west and to the east
-abbrev pub AreTold : (stride : ℕ) (heads i : ℕ) (tails cells bytes : List ℕ) → Type 0
-AreTold stride heads i tails cells bytes =
-    (way : Way) → IsTold (near_heads (opposite way) heads) tails cells bytes (beside stride way i)
+abbrev pub AreTold : (free : Free) (heads i : ℕ) (bytes : List ℕ) → Type 0
+AreTold free heads i bytes =
+    (way : Way) → IsTold (near_heads (opposite way) heads) free.tails.now free.cells.now bytes
+    (beside free.stride way i)
 
 abbrev pub is_across : Way → Bool
 is_across north = false
 is_across south = false
 is_across way = true
 
-abbrev pub AreToldAcross : (stride : ℕ) (heads i : ℕ) (tails cells bytes : List ℕ) → Type 0
-AreToldAcross stride heads i tails cells bytes =
+abbrev pub AreToldAcross : (free : Free) (heads i : ℕ) (bytes : List ℕ) → Type 0
+AreToldAcross free heads i bytes =
     (way : Way) → is_across way ≡ true
-    → IsTold (near_heads (opposite way) heads) tails cells bytes (beside stride way i)
+    → IsTold (near_heads (opposite way) heads) free.tails.now free.cells.now bytes
+    (beside free.stride way i)
 
 -- marks are only added
 abbrev pub AreMore : (old new : List ℕ) → Type 0
@@ -77,24 +80,29 @@ AreMore old new = (i : ℕ) → get_or old i 0 ≤ get_or new i 0
 abbrev pub AreOn : (cells words : List ℕ) → Type 0
 AreOn cells words = (i : ℕ) → bit_and (get_or cells i 0) (get_or words i 0) ≡ get_or words i 0
 
--- a plane's tails, its marks, and those of the next generation stand for each word of its cells
+-- a plane has as many words of tails, and as many marks of each generation, as words of cells
 pub record AreAsLong (cells tails bytes soon : List ℕ) : Type 0 where
   pub long_tails : length tails ≡ length cells
   pub long_bytes : length bytes ≡ length cells
   pub long_soon : length soon ≡ length cells
 
+-- the heads of word i one generation later, where `coming` has the heads as tails
+abbrev pub coming_word : (coming : Free) (old_tails : List ℕ) → ℕ → ℕ
+coming_word coming old_tails i =
+    next_word coming.stride coming.tails.now old_tails coming.cells.now i
+
 -- Within a generation, before an entry of the list. A word whose byte is not 0 still has its old
 -- tails, and stands in the list from there on. In the others the new heads have taken the tails'
 -- place, and `soon` says of them what `IsMarked` says of all words.
-pub record IsUnderWay (stride : ℕ) (heads old_tails cells entries : List ℕ) (entry : ℕ)
+pub record IsUnderWay (coming : Free) (old_tails entries : List ℕ) (entry : ℕ)
     (tails bytes soon : List ℕ) : Type 0 where
   pub old : (i : ℕ) → get_or bytes i 0 ≢ 0 → get_or tails i 0 ≡ get_or old_tails i 0
-  pub calm : (i : ℕ) → get_or bytes i 0 ≡ lit_mark → StepsAlone stride heads old_tails cells i
+  pub calm : (i : ℕ) → get_or bytes i 0 ≡ lit_mark
+      → StepsAlone coming.stride coming.tails.now old_tails coming.cells.now i
   pub left : (i : ℕ) → get_or bytes i 0 ≢ 0 → IsAmong entries entry (length entries) i
-  pub done : (i : ℕ) → get_or bytes i 0 ≡ 0
-      → get_or tails i 0 ≡ next_word stride heads old_tails cells i
+  pub done : (i : ℕ) → get_or bytes i 0 ≡ 0 → get_or tails i 0 ≡ coming_word coming old_tails i
   pub dark : (i : ℕ) → get_or bytes i 0 ≡ 0 → get_or soon i 0 ≡ 0
-      → (get_or cells i 0 ≡ 0)
-      ⊎ ((next_word stride heads old_tails cells i ≡ 0) × (get_or heads i 0 ≡ 0))
+      → (get_or coming.cells.now i 0 ≡ 0)
+      ⊎ ((coming_word coming old_tails i ≡ 0) × (get_or coming.tails.now i 0 ≡ 0))
   pub told : (i : ℕ) → get_or bytes i 0 ≡ 0
-      → AreTold stride (next_word stride heads old_tails cells i) i heads cells soon
+      → AreTold coming (coming_word coming old_tails i) i soon

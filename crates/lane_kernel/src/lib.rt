@@ -4,6 +4,7 @@
 //! Theorem: `step_rows` (`heads`, `wires`, `cells`), `step_listed` (`shows`, `marked`).
 #![tactic(auto)]
 
+mod free_cells;
 mod lanes;
 mod planes;
 mod rows;
@@ -11,6 +12,7 @@ mod stepping;
 mod word_marks;
 mod words;
 
+pub use free_cells::Free;
 pub use rows::step_rows;
 pub use stepping::{mark_words, step_all, step_listed};
-pub use word_marks::{BESIDE, Free, mark, tell_around};
+pub use word_marks::{BESIDE, mark, tell_around};

@@ -5,8 +5,9 @@ ghost use Rattle.lane_kernel.specs.Around.{next_word, StepsAlone, IsInner};
 ghost use Rattle.lane_kernel.specs.Marked.{AreAsLong, AreCleared, AreListed, AreMore, AreOn, AreTold, IsAmong, IsMarked, IsUnderWay, lit_mark};
 ghost use Rattle.lane_kernel.specs.PlaneRows.{IsNextPlane};
 
+use crate::free_cells::Free;
 use crate::planes::{heads_alone, next_word, next_words, wires_of};
-use crate::word_marks::{Free, LIT, mark, tell_around};
+use crate::word_marks::{LIT, mark, tell_around};
 
 // Words of a slice are below 2 ^ 64.
 fn all_fit(words: &[u64])
@@ -56,7 +57,7 @@ fn mark_lit(
     ensures more { AreMore bytes.old bytes.new }
     ensures dark { number_at bytes.new i ≡ 0
         → (heads ≡ 0) × (number_at free.now.tails.now i ≡ 0) }
-    ensures told { AreTold free.now.stride heads i free.now.tails.now free.now.cells.now bytes.new }
+    ensures told { AreTold free.now heads i bytes.new }
 {
     let lit = heads | free.tails[i];
     if lit == 0 {
@@ -94,11 +95,8 @@ fn step_entry(
     ensures soon { length soon.new ≡ length soon.old }
     ensures listed { AreListed coming.now.stride soon.new list.new result }
     ensures goes_on { (old : List ℕ)
-        → IsUnderWay coming.now.stride
-        coming.now.tails.now old coming.now.cells.now entries.now k tails.old bytes.old soon.old
-        → IsUnderWay coming.now.stride
-        coming.now.tails.now old coming.now.cells.now entries.now (k + 1) tails.new bytes.new
-        soon.new }
+        → IsUnderWay coming.now old entries.now k tails.old bytes.old soon.old
+        → IsUnderWay coming.now old entries.now (k + 1) tails.new bytes.new soon.new }
 {
     let i = entries[k];
     let byte = bytes[i];

@@ -1,10 +1,10 @@
 // Marks of words that may change.
-ghost use Rattle.std.specs.Prelude.{◌≡◌, ◌≢◌, ◌+◌, ◌-◌, ◌<◌, ◌≤◌, ◌*◌, ◌/◌, ◌%◌, ◌^◌, ℕ, length};
+ghost use Rattle.std.specs.Prelude.{◌≡◌, ◌+◌, ◌-◌, ◌<◌, ◌≤◌, length};
 ghost use Rattle.lists.specs.Items.{number_at};
-ghost use Rattle.lane_kernel.specs.Around.{IsFramed, IsInner};
-ghost use Rattle.lane_kernel.specs.Words.{spread_of};
+ghost use Rattle.lane_kernel.specs.Around.{IsInner};
 ghost use Rattle.lane_kernel.specs.Marked.{AreListed, AreMore, AreTold, AreToldAcross, IsTold};
 
+use crate::free_cells::Free;
 use crate::planes::free_of;
 use crate::words::{alone, spread};
 
@@ -13,18 +13,6 @@ pub const LIT: u8 = 1;
 
 /// The mark of a word whose next heads need the words around it.
 pub const BESIDE: u8 = 2;
-
-/// The cells of a plane and its tails, the cells that are not free. Where the words of the next
-/// generation are marked, `tails` has the heads, which are its tails. A word column has `stride`
-/// words.
-#[derive(Clone, Copy)]
-pub struct Free<'a> {
-    pub tails: &'a [u64],
-    pub cells: &'a [u64],
-    pub stride: usize,
-    pub ghost long: { length tails.now ≡ length cells.now },
-    pub ghost framed: { IsFramed stride cells.now },
-}
 
 /// Marks a word, unless it has this mark or a higher one, and lists it if it had none and there is
 /// room. Returns how many words are listed.
@@ -129,8 +117,7 @@ fn tell_across(
     ensures long_list { length list.new ≡ length list.old }
     ensures listed { AreListed free.now.stride bytes.new list.new result }
     ensures more { AreMore bytes.old bytes.new }
-    ensures told { AreToldAcross free.now.stride heads i free.now.tails.now free.now.cells.now
-        bytes.new }
+    ensures told { AreToldAcross free.now heads i bytes.new }
 {
     let many = tell_three(bytes, list, many, i - free.stride, heads << 63, free);
     tell_three(bytes, list, many, i + free.stride, heads >> 63, free)
@@ -153,7 +140,7 @@ pub fn tell_around(
     ensures long_list { length list.new ≡ length list.old }
     ensures listed { AreListed free.now.stride bytes.new list.new result }
     ensures more { AreMore bytes.old bytes.new }
-    ensures told { AreTold free.now.stride heads i free.now.tails.now free.now.cells.now bytes.new }
+    ensures told { AreTold free.now heads i bytes.new }
 {
     let near = spread(alone(heads));
     let many = tell(bytes, list, many, i - 1, near, free);

@@ -30,6 +30,6 @@ returns-clause-marks c =
       long = e.long ∙ m.long;
       listed = e.listed;
       marked = λ room.
-          taken_marked free.stride a.heads.now free.tails.now free.cells.now a.marks.now.bytes.items a.i a.word c.tell_word.new.marks.bytes.items
-          (omega (arith, to, long)) free.framed q.empty (m.marked (omega (arith, not_full, n, le))) e.more e.told;
+          taken_marked free a.heads.now a.marks.now.bytes.items a.i a.word c.tell_word.new.marks.bytes.items
+          (omega (arith, to, long)) q.empty (m.marked (omega (arith, not_full, n, le))) e.more e.told;
     }

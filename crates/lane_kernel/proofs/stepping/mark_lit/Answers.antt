@@ -19,7 +19,7 @@ returns-then-lit-eq0-clause-dark c unmarked =
 pub returns-then-lit-eq0-clause-told : goal.returns-then-lit-eq0-clause-told
 returns-then-lit-eq0-clause-told c =
     let free = c.args.free.now in
-    none_told free.stride c.args.heads c.args.i free.tails.now free.cells.now c.args.bytes.now (left_zero c.args.heads (get_or free.tails.now c.args.i 0) c.if-lit-eq0.true)
+    none_told free c.args.heads c.args.i c.args.bytes.now (left_zero c.args.heads (get_or free.tails.now c.args.i 0) c.if-lit-eq0.true)
 
 pub returns-then-heads-eq0-clause-dark : goal.returns-then-heads-eq0-clause-dark
 returns-then-heads-eq0-clause-dark c unmarked = let here = c.mark-many.ensures.here in absurd (omega (arith, here, unmarked))
@@ -27,7 +27,7 @@ returns-then-heads-eq0-clause-dark c unmarked = let here = c.mark-many.ensures.h
 pub returns-then-heads-eq0-clause-told : goal.returns-then-heads-eq0-clause-told
 returns-then-heads-eq0-clause-told c =
     let free = c.args.free.now in
-    none_told free.stride c.args.heads c.args.i free.tails.now free.cells.now c.mark-many.new.bytes c.if-heads-eq0.true
+    none_told free c.args.heads c.args.i c.mark-many.new.bytes c.if-heads-eq0.true
 
 pub returns-clause-more : goal.returns-clause-more
 returns-clause-more c = more_more c.args.bytes.now c.mark-many.new.bytes c.tell_around.new.bytes c.mark-many.ensures.more c.tell_around.ensures.more

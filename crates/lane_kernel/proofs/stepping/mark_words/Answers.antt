@@ -26,7 +26,7 @@ loop-i-preserved c =
           ];
       told = λ j from lt.
           elim (cases_eq j i) [
-            | inl q ↦ subst (λ j. AreTold free.stride (get_or heads j 0) j free.tails.now free.cells.now new) (sym q) e.told
+            | inl q ↦ subst (λ j. AreTold free (get_or heads j 0) j new) (sym q) e.told
             | inr ne ↦ λ way. still_told (near_heads (opposite way) (get_or heads j 0)) free.tails.now free.cells.now c.loop-i.bytes new (beside free.stride way j) e.more (v.told j from (omega (arith, lt, ne)) way)
           ];
     }
@@ -38,6 +38,6 @@ returns-clause-marked c =
     let heads = c.args.heads.now in
     let lh = c.requires.heads in
     let past = c.loop-i-test.false in
-    all_marked free.stride heads free.tails.now free.cells.now c.loop-i.bytes free.framed c.requires.heads_on_cells
+    all_marked free heads c.loop-i.bytes c.requires.heads_on_cells
     (λ j inner zero. let to = inner.to in v.dark j inner.from (omega (arith, to, lh, past)) zero)
     (λ j inner. let to = inner.to in v.told j inner.from (omega (arith, to, lh, past)))

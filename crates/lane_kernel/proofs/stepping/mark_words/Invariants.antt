@@ -8,5 +8,5 @@ invariant-loop-i l =
       long : length l.bytes ≡ length l.fn.bytes;
       listed : AreListed l.free.stride l.bytes l.list l.many;
       dark : (j : ℕ) → l.free.stride + 1 ≤ j → j < l.i → get_or l.bytes j 0 ≡ 0 → (get_or l.heads j 0 ≡ 0) × (get_or l.free.tails.now j 0 ≡ 0);
-      told : (j : ℕ) → l.free.stride + 1 ≤ j → j < l.i → AreTold l.free.stride (get_or l.heads j 0) j l.free.tails.now l.free.cells.now l.bytes;
+      told : (j : ℕ) → l.free.stride + 1 ≤ j → j < l.i → AreTold l.free (get_or l.heads j 0) j l.bytes;
     }

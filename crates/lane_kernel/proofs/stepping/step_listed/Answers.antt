@@ -21,7 +21,7 @@ loop-k-init c =
         inner = λ k lt. absurd (omega (arith, lt));
         each = λ room i some. absurd (some (c.requires.cleared i));
       };
-      under_way = begun free.stride free.tails.now c.args.tails.now free.cells.now c.args.entries.now c.args.bytes.now c.args.soon.now c.all_fit.ensures c.all_fit-2.ensures c.requires.on_cells c.requires.marked c.requires.each;
+      under_way = begun free c.args.tails.now c.args.entries.now c.args.bytes.now c.args.soon.now c.all_fit.ensures c.all_fit-2.ensures c.requires.on_cells c.requires.marked c.requires.each;
     }
 
 pub step_entry-many-requires-clause-long : goal.step_entry-many-requires-clause-long
@@ -58,8 +58,8 @@ returns-clause-next c i =
     let free = c.args.coming.now in
     let l = c.loop-k in
     let end : l.k ≡ length c.args.entries.now = omega (arith, c.loop-k-test.false, l.auto.k-end) in
-    let u = subst (λ k. IsUnderWay free.stride free.tails.now c.args.tails.now free.cells.now c.args.entries.now k l.tails l.bytes l.soon) end l.invariant.under_way in
-    u.done i (none_left free.stride free.tails.now c.args.tails.now free.cells.now c.args.entries.now l.tails l.bytes l.soon u i)
+    let u = subst (λ k. IsUnderWay free c.args.tails.now c.args.entries.now k l.tails l.bytes l.soon) end l.invariant.under_way in
+    u.done i (none_left free c.args.tails.now c.args.entries.now l.tails l.bytes l.soon u i)
 
 pub returns-clause-shows : goal.returns-clause-shows
 returns-clause-shows c =
@@ -71,13 +71,13 @@ returns-clause-cleared c =
     let free = c.args.coming.now in
     let l = c.loop-k in
     let end : l.k ≡ length c.args.entries.now = omega (arith, c.loop-k-test.false, l.auto.k-end) in
-    none_left free.stride free.tails.now c.args.tails.now free.cells.now c.args.entries.now l.tails l.bytes l.soon
-    (subst (λ k. IsUnderWay free.stride free.tails.now c.args.tails.now free.cells.now c.args.entries.now k l.tails l.bytes l.soon) end l.invariant.under_way)
+    none_left free c.args.tails.now c.args.entries.now l.tails l.bytes l.soon
+    (subst (λ k. IsUnderWay free c.args.tails.now c.args.entries.now k l.tails l.bytes l.soon) end l.invariant.under_way)
 
 pub returns-clause-marked : goal.returns-clause-marked
 returns-clause-marked c =
     let free = c.args.coming.now in
     let l = c.loop-k in
     let end : l.k ≡ length c.args.entries.now = omega (arith, c.loop-k-test.false, l.auto.k-end) in
-    ended free.stride free.tails.now c.args.tails.now free.cells.now c.args.entries.now l.tails l.bytes l.soon free.framed
-    (subst (λ k. IsUnderWay free.stride free.tails.now c.args.tails.now free.cells.now c.args.entries.now k l.tails l.bytes l.soon) end l.invariant.under_way)
+    ended free c.args.tails.now c.args.entries.now l.tails l.bytes l.soon
+    (subst (λ k. IsUnderWay free c.args.tails.now c.args.entries.now k l.tails l.bytes l.soon) end l.invariant.under_way)

@@ -9,5 +9,5 @@ invariant-loop-k l =
       long_bytes : length l.bytes ≡ length l.fn.bytes;
       long_soon : length l.soon ≡ length l.fn.soon;
       listed : AreListed l.coming.stride l.soon l.list l.many;
-      under_way : IsUnderWay l.coming.stride l.coming.tails.now l.fn.tails l.coming.cells.now l.entries l.k l.tails l.bytes l.soon;
+      under_way : IsUnderWay l.coming l.fn.tails l.entries l.k l.tails l.bytes l.soon;
     }

@@ -6,8 +6,8 @@ use Rattle.lane_kernel.specs.Around.{IsFramed, IsInner}
 use Rattle.lane_kernel.specs.PlaneRows.{place, plane_size}
 use Rattle.band_rows.specs.declared.field.Field.{Field}
 use Rattle.band_rows.proofs.FieldSteps.{framed_of, same_marked}
-use Rattle.band_rows.proofs.HeadPut.{head_marked}
-use Rattle.band_rows.proofs.HeadPlaced.{with_bit, head_cells, head_closed, in_rows, inner, told_same, within}
+use Rattle.band_rows.proofs.HeadPut.{head_marked, told_of}
+use Rattle.band_rows.proofs.HeadPlaced.{with_bit, head_cells, head_closed, in_rows, inner, within}
 use Rattle.band_rows.proofs.field.Field.make_head.Goals as goal
 use Rattle.band_rows.proofs.field.Field.make_head.Goals.{After-set_bits}
 
@@ -90,7 +90,7 @@ returns-clause-closed c =
     (λ room. same_marked self.stride (heads k) refl (cells k) refl
     (head_marked self.stride self.heads.items self.tails.items self.cells.items self.marks.bytes.items (at k) head (bit_or (get_or self.cells.items (at k) 0) (bit k)) c.mark_head.new.now.bytes.items
     in_heads in_cells (framed k) (is.marked (omega (arith, not_full, n, le))) e.more e.here
-    (told_same self.stride (at k) c.mark_head.new.now.bytes.items word c.deref.ensures.value (c.deref-2.ensures.value ∙ cells k) e.told)))
+    (told_of _ (at k) c.mark_head.new.now.bytes.items word c.deref.ensures.value (c.deref-2.ensures.value ∙ cells k) e.told)))
 
 pub returns-clause-cells : goal.returns-clause-cells
 returns-clause-cells c =
