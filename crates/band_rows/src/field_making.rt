@@ -7,6 +7,7 @@ ghost use Rattle.lane_kernel.specs.Spans.{AreZero};
 
 use crate::cell_bits::{CellBits, any_filled, cells_of_word};
 use crate::field::{Field, WAIT, WordMarks, mark_again};
+use lane_kernel::Free;
 use std::alloc::{AllocError, Global};
 use ww_rule::{CellRows, State};
 
@@ -163,13 +164,12 @@ impl Field {
     {
         self.marks.list = list;
         self.spare.list = spare;
-        mark_again(
-            &self.heads,
-            &self.tails,
-            &self.cells,
-            self.stride,
-            &mut self.marks,
-        );
+        let free = Free {
+            tails: &self.tails,
+            cells: &self.cells,
+            stride: self.stride,
+        };
+        mark_again(&self.heads, &free, &mut self.marks);
     }
 
     /// Makes a field of `rows` rows of cells from row y on, each in so many word columns.

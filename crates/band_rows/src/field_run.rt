@@ -3,6 +3,7 @@ ghost use Rattle.std.specs.Prelude.{◌≡◌, ◌*◌, ◌<◌, ◌≤◌, leng
 ghost use Rattle.lane_kernel.specs.Marked.{AreOn};
 
 use crate::field::{Field, all_fit, step_marked};
+use lane_kernel::Free;
 use std::mem;
 
 impl Field {
@@ -16,14 +17,12 @@ impl Field {
         requires room { self.old.marks.many < length self.old.marks.list.items }
         ensures { IsFieldStepped self.old (crossed self.new) }
     {
-        step_marked(
-            &self.heads,
-            &mut self.tails,
-            &self.cells,
-            self.stride,
-            &mut self.marks,
-            &mut self.spare,
-        );
+        let coming = Free {
+            tails: &self.heads,
+            cells: &self.cells,
+            stride: self.stride,
+        };
+        step_marked(&coming, &mut self.tails, &mut self.marks, &mut self.spare);
     }
 
     // Steps the marked words of a field that has stepped over.
@@ -33,14 +32,12 @@ impl Field {
         requires room { self.old.spare.many < length self.old.spare.list.items }
         ensures { IsFieldStepped (crossed self.old) self.new }
     {
-        step_marked(
-            &self.tails,
-            &mut self.heads,
-            &self.cells,
-            self.stride,
-            &mut self.spare,
-            &mut self.marks,
-        );
+        let coming = Free {
+            tails: &self.tails,
+            cells: &self.cells,
+            stride: self.stride,
+        };
+        step_marked(&coming, &mut self.heads, &mut self.spare, &mut self.marks);
     }
 
     // Exchanges heads and tails, and the marks.
