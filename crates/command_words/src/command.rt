@@ -17,7 +17,7 @@ use std::alloc::{AllocError, Global};
 
 /// A part of the plane at a generation: `height` rows of `width` cells, of which the first is the
 /// cell at column `x` and row `y`.
-#[derive(Clone, Copy, PartialEq, Eq)]
+#[derive(Clone, Copy)]
 pub struct View {
     pub generation: u64,
     pub x: u64,

@@ -5,7 +5,7 @@ use lists::List;
 use ww_rule::State;
 
 /// How an output's bit follows from those of the inputs, which are given by their numbers from 0.
-#[derive(Clone, Copy, Debug, PartialEq, Eq)]
+#[derive(Clone, Copy)]
 pub enum Answer {
     Copy(u32),
     Or(u32, u32),
@@ -15,7 +15,7 @@ pub enum Answer {
 }
 
 /// When a gate's inputs may be lit.
-#[derive(Clone, Copy, Debug, PartialEq, Eq)]
+#[derive(Clone, Copy)]
 pub enum Timing {
     /// Each at its own generation of a use.
     Together,

@@ -8,7 +8,7 @@ use lists::List;
 
 /// The place where the bit of a net is found: a lane, at the start (`None`) or after the
 /// instruction (of a program) or the column (of a plan) of this number.
-#[derive(Clone, Copy, Debug, PartialEq, Eq)]
+#[derive(Clone, Copy)]
 pub struct NetPlace {
     pub lane: u32,
     pub after: Option<u64>,

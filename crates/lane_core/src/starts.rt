@@ -7,7 +7,7 @@ use lists::List;
 /// An edge between tiles that is lit at generation 0, named by a cell beside it: the one in which a
 /// tile is entered there, or else the one in which a tile is left. A name further north comes
 /// first, and of one row the one further west.
-#[derive(Clone, Copy, Debug, PartialEq, Eq, PartialOrd, Ord)]
+#[derive(Clone, Copy, PartialEq, Eq, PartialOrd, Ord)]
 pub struct Start {
     pub y: u64,
     pub x: u64,

@@ -48,7 +48,7 @@ impl Frame {
 }
 
 /// The side of a circuit around which wires lead.
-#[derive(Clone, Copy, Debug, PartialEq, Eq)]
+#[derive(Clone, Copy)]
 pub enum Side {
     North,
     South,

@@ -10,7 +10,7 @@ use ww_rule::{Pattern, State};
 const MOST_CELLS: u64 = 67108864;
 
 /// What a cell belongs to.
-#[derive(Clone, Copy, Debug, PartialEq, Eq)]
+#[derive(Clone, Copy, PartialEq)]
 pub enum Owner {
     /// The cell is empty.
     Nobody,
@@ -24,7 +24,7 @@ pub enum Owner {
 
 /// The end of a wire that is followed: the cell of a gate, or the wire's last cell, after which no
 /// single cell is next.
-#[derive(Clone, Copy, Debug, PartialEq, Eq)]
+#[derive(Clone, Copy)]
 pub enum Traced {
     To((u32, u32)),
     Lost((u32, u32)),

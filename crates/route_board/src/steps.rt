@@ -1,7 +1,7 @@
 // The steps from a cell to those beside it.
 
 /// A step from a cell to one of the eight beside it.
-#[derive(Clone, Copy, Debug, PartialEq, Eq)]
+#[derive(Clone, Copy)]
 pub enum Step {
     North,
     NorthEast,

@@ -19,7 +19,7 @@ pub struct Link {
 }
 
 /// The direction of a wire.
-#[derive(Clone, Copy, Debug, PartialEq, Eq)]
+#[derive(Clone, Copy)]
 pub enum Way {
     Unknown,
     /// From the first port to the second.

@@ -6,7 +6,7 @@ use lists::OutOfMemory;
 use std::alloc::{AllocError, AllocFailed};
 
 /// What is at fault at a cell.
-#[derive(Clone, Copy, Debug, PartialEq, Eq)]
+#[derive(Clone, Copy, Debug)]
 pub enum DrawingFault {
     /// A gate's cell is missing, or a cell is beside a gate that does not belong there.
     Gate,
@@ -17,7 +17,7 @@ pub enum DrawingFault {
 }
 
 /// The reason why `find` has found no drawing.
-#[derive(Clone, Copy, Debug, PartialEq, Eq)]
+#[derive(Clone, Copy)]
 pub enum FindError {
     /// The cell in column x and row y is at fault.
     Fault { kind: DrawingFault, x: u32, y: u32 },

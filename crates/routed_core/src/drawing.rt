@@ -7,7 +7,7 @@ use lists::List;
 /// corner. Its uses begin at generations `first`, `first` + period, .. The second input of a gate
 /// whose signals come apart (`Shape::Cross` and its kin) is lit `later` generations after the
 /// first; elsewhere `later` is 0.
-#[derive(Clone, Copy, Debug, PartialEq, Eq)]
+#[derive(Clone, Copy)]
 pub struct DrawnGate {
     pub kind: GateKind,
     pub x: u32,
@@ -17,14 +17,14 @@ pub struct DrawnGate {
 }
 
 /// A port of a gate: one of its inputs or one of its outputs, by its number from 0.
-#[derive(Clone, Copy, Debug, PartialEq, Eq)]
+#[derive(Clone, Copy, PartialEq)]
 pub enum GatePort {
     In(u32),
     Out(u32),
 }
 
 /// A port of the gate with this number.
-#[derive(Clone, Copy, Debug, PartialEq, Eq)]
+#[derive(Clone, Copy, PartialEq)]
 pub struct DrawnPort {
     pub gate: u32,
     pub port: GatePort,
@@ -35,7 +35,7 @@ pub struct DrawnPort {
 /// long: so many latches in a row, whose start bits are those of the drawing's `starts` from place
 /// `latch` on. The first of these is the latch that reads the wire's source, and the last is the one
 /// that the input reads.
-#[derive(Clone, Copy, Debug, PartialEq, Eq)]
+#[derive(Clone, Copy)]
 pub struct DrawnWire {
     pub from: DrawnPort,
     pub gate: u32,

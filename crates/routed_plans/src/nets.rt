@@ -3,7 +3,7 @@
 use routed_core::DrawnPort;
 
 /// The nets for which a table has lines.
-#[derive(Clone, Copy, Debug, PartialEq, Eq)]
+#[derive(Clone, Copy)]
 pub enum ShownNets {
     /// Those that are drawn.
     Drawn,

@@ -1,7 +1,7 @@
 // Circuits of strands.
 
 /// What meets in a tile: its upper and its lower strand, or one strand alone.
-#[derive(Clone, Copy, Debug, PartialEq, Eq)]
+#[derive(Clone, Copy, PartialEq)]
 pub enum TileKind {
     /// Two strands change places.
     Cross,
@@ -19,7 +19,7 @@ pub enum TileKind {
 
 /// A tile with its strands by their numbers: the upper one and the lower one on either side. Where
 /// there is one alone, it is the upper one.
-#[derive(Clone, Copy, Debug, PartialEq, Eq)]
+#[derive(Clone, Copy)]
 pub struct Tile {
     pub kind: TileKind,
     pub ins: [Option<u32>; 2],
@@ -29,7 +29,7 @@ pub struct Tile {
 /// A strand: a signal that runs east from where it is made to where it is used. `maker` and `user` are tiles by
 /// their numbers; a strand without a maker comes in at the west, and one without a user goes out at the east.
 /// A signal is `late` generations later than its column.
-#[derive(Clone, Copy, Debug, PartialEq, Eq)]
+#[derive(Clone, Copy)]
 pub struct Strand {
     pub maker: Option<u32>,
     pub user: Option<u32>,
@@ -38,7 +38,7 @@ pub struct Strand {
 
 /// What a strand brings that comes in at the west: an input, by its number, or the last latch of a register, by
 /// the register's number; or constant 0, which is the data of a register; or constant 1, where no register brings it.
-#[derive(Clone, Copy, Debug, PartialEq, Eq)]
+#[derive(Clone, Copy)]
 pub enum West {
     Input(u32),
     Register(u32),
@@ -47,7 +47,7 @@ pub enum West {
 }
 
 /// What a strand that goes out at the east is: an output, by its number, or the data of a register.
-#[derive(Clone, Copy, Debug, PartialEq, Eq)]
+#[derive(Clone, Copy)]
 pub enum East {
     Output(u32),
     Register(u32),
@@ -55,7 +55,7 @@ pub enum East {
 
 /// A strand that comes in or goes out, and what it is there. An input that nothing reads has no strand, and neither
 /// has an output that is constant 0.
-#[derive(Clone, Copy, Debug, PartialEq, Eq)]
+#[derive(Clone, Copy)]
 pub struct End<T> {
     pub strand: Option<u32>,
     pub is: T,

@@ -1,7 +1,7 @@
 // How much work a search does.
 
 /// How much work a search does: all of it, or a small part, which is enough to compare circuits.
-#[derive(Clone, Copy, Debug, PartialEq, Eq)]
+#[derive(Clone, Copy)]
 pub enum Effort {
     Brief,
     Whole,

@@ -2,7 +2,7 @@
 use crate::cell_rows::CellRows;
 
 /// The state of a cell, by Silverman's rule.
-#[derive(Clone, Copy, Debug, PartialEq, Eq)]
+#[derive(Clone, Copy, PartialEq, Eq)]
 pub enum State {
     Empty,
     Head,

@@ -5,7 +5,7 @@ ghost use Rattle.wwroute_tool.specs.Words.{AsksFor, AsksForNone};
 use routed_plans::ShownNets;
 
 /// A command of the program.
-#[derive(Clone, Copy, Debug, PartialEq, Eq)]
+#[derive(Clone, Copy)]
 pub enum Command {
     /// The netlist of a routed circuit.
     Extract,
