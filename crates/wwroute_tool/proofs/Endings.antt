@@ -30,7 +30,8 @@ use Rattle.wwroute_tool.specs.declared.top.Stop.{Stop}
 use Rattle.wwroute_tool.specs.declared.top.Stop.TheVariants.{Refused}
 use Rattle.wwroute_tool.specs.Words.{AsksFor}
 use Rattle.wwroute_tool.specs.Commands.{HasTextReason}
-use Rattle.wwroute_tool.specs.Refusing.{HasNoRoutedCircuit, HasNoPatternOf, NeedsNoReason, IsPatternText, box_limit, route_line, route_status}
+use Rattle.route_tables.specs.Limit.{box_limit}
+use Rattle.wwroute_tool.specs.Refusing.{HasNoRoutedCircuit, HasNoPatternOf, NeedsNoReason, IsPatternText, route_line, route_status}
 use Rattle.wwroute_tool.specs.Runs.{CutsNotice, AnswersAll, IsCut, RouteEnds, HasCommandReason, HasRouteReason, HasBrokenOff, HasEarlyEnd}
 
 -- ---- reasons
