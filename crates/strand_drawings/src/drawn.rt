@@ -10,7 +10,7 @@ use lists::{List, OutOfMemory};
 use register_ways::{Circuit, Loop, Ways, ways_around};
 use routed_core::{Drawing, DrawnPort};
 use std::alloc::{AllocError, Global};
-use strand_core::{Layout, StrandCircuit};
+use strand_core::{East, Layout, StrandCircuit};
 
 // How often other ways are looked for until all crossings accept their period.
 const ROUNDS: u32 = 8;
@@ -67,6 +67,21 @@ fn round_ways(
     Ok(())
 }
 
+// How many registers stand north of the outputs at the east, if the outputs stand together.
+fn gap_of(circuit: &StrandCircuit) -> Option<usize> {
+    let (mut registers, mut gap) = (0usize, None);
+    for end in &circuit.east {
+        match (end.strand, end.is, gap) {
+            (None, _, _) => {}
+            (_, East::Register(_), _) => registers = registers.saturating_add(1),
+            (_, East::Output(_), None) => gap = Some(registers),
+            (_, East::Output(_), Some(before)) if before == registers => {}
+            (_, East::Output(_), Some(_)) => return None,
+        }
+    }
+    gap
+}
+
 // Ways of all registers. Without registers the period is the least one, else a multiple of 32 if that costs little.
 fn ways_of(
     alloc: Global,
@@ -77,6 +92,7 @@ fn ways_of(
     let size = Circuit {
         width: layout.width,
         height: layout.height,
+        gap: gap_of(circuit),
     };
     let least = least_period(circuit, layout, loops);
     let loops = loops.loops.as_slice();
