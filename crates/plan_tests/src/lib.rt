@@ -9,8 +9,6 @@ mod chains;
 #[cfg(test)]
 mod choosing;
 #[cfg(test)]
-mod circuits;
-#[cfg(test)]
 mod climbing;
 #[cfg(test)]
 mod drawing;
@@ -20,8 +18,6 @@ mod flats;
 mod lifting;
 #[cfg(test)]
 mod lowering;
-#[cfg(test)]
-mod netlists;
 #[cfg(test)]
 mod page;
 #[cfg(test)]
@@ -34,8 +30,6 @@ mod rows;
 mod running;
 #[cfg(test)]
 mod stages;
-#[cfg(test)]
-mod texts;
 #[cfg(test)]
 mod writing;
 #[cfg(test)]

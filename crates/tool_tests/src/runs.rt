@@ -319,6 +319,8 @@ fn text_named(name: &str) -> Option<&'static str> {
         "gate's lines" => Some(lifts::GATE_LINES),
         "ring's lines" => Some(lifts::RING_LINES),
         "wire" => Some(contexts::WIRE),
+        "latch" => Some(simulating::LATCH),
+        "latches" => Some(contexts::LATCHES),
         _ => None,
     }
 }

@@ -38,7 +38,7 @@ B14 Undriven line 2: q
 #C BLIFWW 2 P 640 L ...
 > compile --contexts 20
 == 0
-#C BLIFWW 2 P 640 L ...
+#C BLIFWW 2 P ...
 > compile --contexts 21
 == 4
 too large: contexts 21 limit 20
@@ -89,6 +89,58 @@ $enddefinitions $end
 0#
 1$
 #2
+@ latches
+> compile --contexts 1 | simulate --cycles 1 -- the bits with which two latches start, one of a placed model
+== 0
+q1=1
+> compile --contexts 1 | probe --net q0 --cycles 1
+== 0
+q0=0
+> compile --contexts 3 2:q0=1 0:q1=0 | simulate --cycles 1
+== 0
+0:q1=0
+1:q1=1
+2:q1=1
+> compile --contexts 3 2:q0=1 0:q1=0 | probe --net q0 --cycles 1
+== 0
+0:q0=0
+1:q0=0
+2:q0=1
+> compile --contexts 2 1:q0=1 0:q0=1 1:q1=0 | simulate --cycles 1
+== 0
+0:q1=1
+1:q1=0
+> compile --contexts 2 1:q0=1 0:q0=1 1:q1=0 | probe --net q0 --cycles 1
+== 0
+0:q0=1
+1:q0=1
+> compile --contexts 2 q0
+== 9
+stream: NoEquals q0
+> compile --contexts 2 q0=1
+== 9
+stream: BadContext q0=1
+> compile --contexts 2 2:q0=1
+== 9
+stream: BadContext 2:q0=1
+> compile --contexts 2 01:q0=1
+== 9
+stream: BadContext 01:q0=1
+> compile --contexts 2 1:n=1
+== 9
+stream: NoSuchLatch 1:n=1
+> compile --contexts 2 1:q=1
+== 9
+stream: NoSuchLatch 1:q=1
+> compile --contexts 2 1:q0=1 0:q0=0 1:q0=1
+== 9
+stream: TwiceLatch 1:q0=1
+> compile --contexts 2 1:q0=
+== 9
+stream: BadBit 1:q0=
+> compile --contexts 2 1:q0=10 1:q0
+== 9
+stream: BadBit 1:q0=10
 @ wire
 > simulate --cycles 2 1:a=10 0:a=01 -- a wire in two contexts is driven
 == 0
@@ -118,3 +170,23 @@ stream: MissingInput 1:a
 /// The pattern of a wire of three cells in two contexts.
 pub const WIRE: &str =
     "#C BLIFWW 1 P 64 L 2 C 2\n#C BLIFWW IN 0 0 a\n#C BLIFWW OUT 2 0 y\n#C BLIFWW NET 1 0 1 m -\nx = 3, y = 1, rule = WireWorld\n3C!\n";
+
+/// The netlist of two latches: q1 of the main model starts with 1, and the one of model `l` with 0.
+/// The main model connects its net q0 to the output of `l`, and drives n by a cover.
+pub const LATCHES: &str = "\
+.model k
+.outputs q1
+.subckt l d=n q=q0
+.latch m q1 1
+.names q0 n
+0 1
+.names q0 q1 m
+10 1
+01 1
+.end
+.model l
+.inputs d
+.outputs q
+.latch d q 0
+.end
+";

@@ -134,6 +134,17 @@ too large: weight 18446744073709551615 limit 8192
 .end
 == 0
 y=01
+> 95 vcd --cycles 1 a=1 [999 2176 99] -- of the nets of a dump the last id of one digit, and the first of two
+#C BLIFWW 1 P 4 L 2
+#C BLIFWW IN 0 0 a{
+#C BLIFWW NET 0 0 0 n% -}
+x = 3, y = 1, rule = WireWorld
+3C!
+== 6
+...$var wire 1 ~ n93 $end
+$var wire 1 !\" n94 $end
+== err
+write fault
 > 1048576 compile -- a text of 16,777,216 bytes, and one that is a byte longer
 {################}== 1
 B22 NoModel line 1: -
