@@ -1,7 +1,7 @@
 use Rattle.flat_designs.proofs.Sound.{flat_is_sound}
 use Rattle.flat_designs.proofs.Weights.{flat_is_weighed}
 use Rattle.netlist_text.proofs.SoundParts.{sound, weighed}
-use Rattle.tour_tests.proofs.stages.expect_cells.Goals as goal
+use Rattle.plan_tests.proofs.stages.expect_cells.Goals as goal
 
 pub map-requires-clause-sound : goal.map-requires-clause-sound
 map-requires-clause-sound c = sound c.args.netlist.now.design c.args.netlist.now.flat _ c.requires.parts flat_is_sound

@@ -5,7 +5,7 @@ use Rattle.flat_designs.proofs.Whole.{flat_is_named}
 use Rattle.netlist_text.proofs.SoundParts.{sound, weighed, small}
 use Rattle.netlist_plans.proofs.Names.{texts_have_port_names}
 use Rattle.plan_carries.proofs.SeenNets.{places_fit}
-use Rattle.tour_tests.proofs.stages.expect_planned.Goals as goal
+use Rattle.plan_tests.proofs.stages.expect_planned.Goals as goal
 
 pub plan_netlist-requires-clause-compilable : goal.plan_netlist-requires-clause-compilable
 plan_netlist-requires-clause-compilable c =

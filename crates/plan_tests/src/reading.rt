@@ -1,5 +1,5 @@
 // Texts of circuits, and texts with faults.
-use crate::texts::{circuit_shown, cut, fault_shown};
+use crate::aiger_texts::{circuit_shown, cut, fault_shown};
 use aiger_reader::{AigReadError, read};
 use std::alloc::{AllocError, Global};
 use std::test::Fail;
