@@ -2,8 +2,6 @@
 #![tactic(auto)]
 
 #[cfg(test)]
-mod checks;
-#[cfg(test)]
 mod circles;
 #[cfg(test)]
 mod complements;
@@ -11,8 +9,6 @@ mod complements;
 mod cover_values;
 #[cfg(test)]
 mod covers;
-#[cfg(test)]
-mod latch_starts;
 #[cfg(test)]
 mod logical_lines;
 #[cfg(test)]
@@ -23,8 +19,6 @@ mod models;
 mod pages;
 #[cfg(test)]
 mod rewriting;
-#[cfg(test)]
-mod rule_names;
 #[cfg(test)]
 mod texts;
 #[cfg(test)]

@@ -1,25 +1,36 @@
-//! Tests of the public calls that make plans of lists of cells and of AIGER circuits, and write these as texts.
+//! Tests of the public calls that read and lower AIGER circuits and make plans of these and of lists of cells, and write
+//! plans as texts. Also compares the stages of docs/TOUR.md with what the crates make.
 #![tactic(auto)]
 
 #[cfg(test)]
-mod choosing;
+mod aiger_texts;
 #[cfg(test)]
-mod circuits;
+mod chains;
+#[cfg(test)]
+mod choosing;
 #[cfg(test)]
 mod climbing;
 #[cfg(test)]
 mod drawing;
 #[cfg(test)]
+mod flats;
+#[cfg(test)]
 mod lifting;
 #[cfg(test)]
-mod netlists;
+mod lowering;
+#[cfg(test)]
+mod page;
 #[cfg(test)]
 mod plans;
+#[cfg(test)]
+mod reading;
 #[cfg(test)]
 mod rows;
 #[cfg(test)]
 mod running;
 #[cfg(test)]
-mod texts;
+mod stages;
+#[cfg(test)]
+mod writing;
 #[cfg(test)]
 mod written;

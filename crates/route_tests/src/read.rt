@@ -10,7 +10,7 @@ use strand_core::{Effort, StrandCircuit};
 use strand_drawings::{Drawn, drawn_circuit, pattern_of};
 use strand_graphs::strand_circuit;
 use strand_rows::laid_out;
-use strand_times::timed;
+use strand_times::set_times;
 use ww_rule::{Pattern, State};
 
 // Two gates, and wires from three inputs to one output, with the lines that name them.
@@ -90,10 +90,11 @@ fn drawn_of(alloc: Global, circuit: &StrandCircuit) -> Result<Drawn, Fail> {
 
 fn timed_circuit(alloc: Global) -> Result<StrandCircuit, Fail> {
     let list = list_of(alloc)?;
-    match strand_circuit(alloc, &list, 1, Effort::Whole)? {
-        Some(woven) => Ok(timed(alloc, &woven, Effort::Whole)?),
-        None => Err(Fail::new("no strands")),
-    }
+    let Some(mut circuit) = strand_circuit(alloc, &list, 1, Effort::Whole)? else {
+        return Err(Fail::new("no strands"));
+    };
+    set_times(alloc, &mut circuit, Effort::Whole)?;
+    Ok(circuit)
 }
 
 fn letter(state: State) -> u8 {
