@@ -12,4 +12,5 @@ mod Newlines
 mod Lines
 mod Words
 mod Tables
+pub mod Compiled
 mod Tapes

@@ -10,6 +10,10 @@ use Rattle.cell_meaning.specs.Computes.{ComputesByPlan}
 use Rattle.cell_plans.specs.Counts.{instr_count}
 use Rattle.cell_plans.specs.Exits.{AreAtExits}
 use Rattle.pattern_reading.specs.declared.ports.Ports.{Ports}
+use Rattle.pattern_writing.specs.WrittenText.{pattern_text}
+use Rattle.carries.specs.FlatNets.{CarriesFlat}
+use Rattle.grid_assembly.specs.PlanDrawing.{start_grid}
+use Rattle.plan_ports.specs.Tables.{IsTableOf}
 use Rattle.row_placer.specs.Entries.{AreAtEntries}
 use Rattle.cell_meaning.specs.Mapped.{IsMapped}
 use Rattle.cell_meaning.specs.Needs.{any_needs_one}
@@ -41,6 +45,12 @@ pub record ComputesCells (flat : Flat) (plan : Plan) : Type 0 where
   pub exits : AreAtExits list plan.columns plan.nets
   pub loops : plan.latches ≡ length flat.latches + cond (names_one list) 1 0
   pub starts : StartsLoops plan (loop_state list (start_bits flat) ∷ [])
+
+-- with each table of the plan, the text that is written of both carries the netlist
+abbrev pub CarriesByTables : Flat → Plan → Type 0
+CarriesByTables flat plan =
+    (ports : Ports) → IsTableOf flat plan 1 ports
+    → CarriesFlat (pattern_text (start_grid plan) ports) flat
 
 -- If all nets are clock nets, there is no lane and no column. If nets are listed, there is at least
 -- one of each.

@@ -57,7 +57,7 @@ fn all_loop_bits(
     Ok(all)
 }
 
-/// Makes the plan of `plan_netlist` start several contexts. `starts` has a list for each context,
+/// Makes the plan of `plan_flat` start several contexts. `starts` has a list for each context,
 /// with the bit that each latch starts with, in order. There are at most as many contexts as the
 /// plan's period has macro steps of 32 generations. If the starts of all contexts have no room on
 /// the ways back of the plan's loops, the plan gets columns without instructions.

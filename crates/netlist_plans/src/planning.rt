@@ -1,19 +1,19 @@
 // The plan of a flat netlist, by its list of cells.
-ghost use Rattle.std.specs.Prelude.{◌≡◌, ◌≤◌, ◌<◌, ◌*◌, ◌^◌, ◌↔◌, min, [], true, length, All, IfOk, IfSome};
+ghost use Rattle.std.specs.Prelude.{◌≡◌, ◌≤◌, ◌<◌, ◌*◌, ◌^◌, ◌↔◌, min, [], true, false, length, All, IfOk, IfSome};
 ghost use Rattle.grid_assembly.specs.PlanDrawing.{start_grid};
-ghost use Rattle.lane_core.specs.Plans.{IsAdmissible};
+ghost use Rattle.lane_core.specs.Plans.{IsAdmissible, period_of};
 ghost use Rattle.plan_layout.specs.Starts.{HasStartEdges};
 ghost use Rattle.netlist_meaning.specs.Flat.{IsSound, IsWeighed};
 ghost use Rattle.netlist_meaning.specs.FlatOrder.{IsOrder};
-ghost use Rattle.cell_meaning.specs.Needs.{covers_weight};
+ghost use Rattle.cell_meaning.specs.Needs.{any_needs_one, covers_weight};
 ghost use Rattle.plan_carries.specs.Compiled.{ComputesFlat};
-ghost use Rattle.plan_ports.specs.Tables.{IsTableOf};
+ghost use Rattle.plan_ports.specs.Tables.{HasPortsOf, IsTableOf};
 ghost use Rattle.pattern_writing.specs.WrittenText.{pattern_text};
 ghost use Rattle.carries.specs.FlatNets.{CarriesFlat};
 ghost use Rattle.netlist_plans.specs.Lists.{IsCompilable, IsPlanned, MapsFlat};
 ghost use Rattle.netlist_plans.specs.NetPlaces.{HasNetPlaces};
 ghost use Rattle.netlist_plans.specs.Sparing.{SparesOne, HasRoomForComplements, NamesNoOne, ComplementsNameNoOne};
-ghost use Rattle.netlist_plans.specs.Planned.{ComputesCells, HasLanes, HasShortPeriod, IsSmall};
+ghost use Rattle.netlist_plans.specs.Planned.{CarriesByTables, ComputesCells, HasLanes, HasShortPeriod, IsSmall};
 
 use crate::NetlistPlanError;
 use cell_core::{CellList, Src};
@@ -187,6 +187,28 @@ fn plan_of_cells(alloc: Global, flat: &Flat, order: &Order) -> Result<Plan, Netl
     Ok(chosen.plan)
 }
 
+/// Makes a plan of a sound flat netlist, without a port table. `order` is an order of its covers in
+/// which each cover comes after those that it reads. With each table of the plan, the text of both
+/// carries the netlist.
+pub fn plan_flat(alloc: Global, flat: &Flat, order: &Order) -> Result<Plan, NetlistPlanError>
+    requires compilable { IsCompilable flat.now order.now.nodes }
+    requires weighed { IsWeighed flat.now }
+    requires small { flat.now.weight < 2 ^ 16 }
+    ensures planned { IfOk result (IsPlanned flat.now) }
+    ensures ports { IfOk result (HasPortsOf flat.now) }
+    ensures carries { IfOk result (CarriesByTables flat.now) }
+    ensures small { IfOk result (IsSmall flat.now) }
+    ensures cells { IfOk result (ComputesCells flat.now) }
+    ensures lanes { IfOk result (HasLanes flat.now) }
+    ensures places { IfOk result (HasNetPlaces flat.now) }
+    ensures period { IfOk result (λ plan.
+        length flat.now.latches ≡ 0 → any_needs_one flat.now ≡ false → period_of plan ≡ 32) }
+    ensures at_zero { IfOk result (λ plan. SparesOne flat.now → period_of plan ≡ 32) }
+{
+    let plan = plan_of_cells(alloc, flat, order)?;
+    Ok(plan)
+}
+
 /// Makes a plan of a sound flat netlist, with its port table. `order` is an order of its covers in
 /// which each cover comes after those that it reads.
 pub fn plan_netlist(alloc: Global, flat: &Flat, order: &Order) -> Result<Planned, NetlistPlanError>
@@ -207,7 +229,7 @@ pub fn plan_netlist(alloc: Global, flat: &Flat, order: &Order) -> Result<Planned
     ensures period { IfOk result (λ p. HasShortPeriod flat.now p.ports) }
     ensures at_zero { IfOk result (λ p. SparesOne flat.now → p.ports.p ≡ 32) }
 {
-    let plan = plan_of_cells(alloc, flat, order)?;
+    let plan = plan_flat(alloc, flat, order)?;
     let ports = plan_ports::of_plan(alloc, flat, &plan, 1)?;
     Ok(Planned { plan, ports })
 }

@@ -17,7 +17,7 @@ use netlist_core::Flat;
 use std::alloc::Global;
 use streams::Streams;
 
-/// Puts streams of the inputs on the tape of the plan that `plan_netlist` makes, and returns that
+/// Puts streams of the inputs on the tape of the plan that `plan_flat` makes, and returns that
 /// plan with its table, which names no input. The text of both runs by itself: nothing drives it,
 /// and it shows the run whose input bits are those of the streams, and 0 from then on. The streams
 /// are those of one context, of 1 to 4,096 cycles.

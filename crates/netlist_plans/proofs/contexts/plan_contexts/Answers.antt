@@ -9,6 +9,7 @@ use Rattle.carries.specs.FlatContexts.{CarriesFlatContexts}
 use Rattle.plan_carries.proofs.Bare.{bare_grid}
 use Rattle.plan_carries.proofs.Written.{plans_have_ports, texts_carry_contexts}
 use Rattle.netlist_plans.specs.Contexts.{loop_starting_bits, IsPaddedFor, StartsLoops}
+use Rattle.netlist_plans.proofs.Compiled.{compiled}
 use Rattle.netlist_plans.proofs.Several.{loops_are, loops_long, contexts_fit, few_columns, padded_places}
 use Rattle.netlist_plans.proofs.contexts.plan_contexts.Goals as goal
 
@@ -49,24 +50,14 @@ returns-clause-starts c =
 pub returns-clause-carries : goal.returns-clause-carries
 returns-clause-carries c =
     let k = c.requires.planned in
-    let flat = c.requires.compilable.1 in
     let plan = c.in_ok-plan.plan in
     let is = c.deref.ensures.value ∙ c.in_ok-loops.ensures ∙ loops_are c.args.flat.now c.args.plan c.requires.weighed k c.args.starts.now c.requires.starts.long in
     let bare : plan.tape ≡ [] = c.in_ok-plan.ensures.padded.tape ∙ k.is.bare in
     subst (λ (grid : Grid). CarriesFlatContexts (pattern_text grid c.in_ok-ports.ports) c.args.flat.now c.args.starts.now) (sym (bare_grid plan bare))
-    (texts_carry_contexts c.args.flat.now k.list plan c.in_ok-ports.ports c.args.starts.now c.requires.starts.some (record {
-      sound = flat.sound;
-      order = c.requires.compilable.0;
-      ordered = flat.ordered;
-      named = flat.named;
-      names = flat.names;
-      places = flat.places;
-      list_computes = k.computes;
-      admissible = c.in_ok-plan.ensures.admissible;
-      bare = bare;
-      plan_computes = padding_keeps_cells k.list _ c.args.plan plan c.in_ok-plan.ensures.padded c.in_ok-plan.ensures.same k.is.computes;
-      table = c.in_ok-ports.ensures;
-    }) (start_edges plan) (record {
+    (texts_carry_contexts c.args.flat.now k.list plan c.in_ok-ports.ports c.args.starts.now c.requires.starts.some
+    (compiled c.args.flat.now c.requires.compilable.0 k.list plan (length c.args.starts.now) c.in_ok-ports.ports c.requires.compilable.1 k.computes c.in_ok-plan.ensures.admissible bare
+    (padding_keeps_cells k.list _ c.args.plan plan c.in_ok-plan.ensures.padded c.in_ok-plan.ensures.same k.is.computes) c.in_ok-ports.ensures)
+    (start_edges plan) (record {
       long = c.requires.starts.long;
       on_plan = subst (StartsLoops plan) is c.in_ok-plan.ensures.contexts;
     }))

@@ -1,66 +1,32 @@
 use Rattle.std.proofs.Common.{◌∙◌}
-use Rattle.plan_carries.proofs.Carried.{starts_as_flat}
-use Rattle.plan_carries.proofs.Written.{plans_have_ports, texts_carry_flats}
-use Rattle.netlist_plans.proofs.Bounds.{is_small, computes_cells, loops_many, short_period}
-use Rattle.netlist_plans.proofs.Lanes.{has_lanes}
-use Rattle.netlist_plans.proofs.NetPlaces.{net_places}
-use Rattle.netlist_plans.proofs.Sparing.{short}
 use Rattle.netlist_plans.proofs.planning.plan_netlist.Goals as goal
 
 pub of_plan-requires-clause-in_range : goal.of_plan-requires-clause-in_range
 of_plan-requires-clause-in_range c = c.requires.compilable.sound.in_range
 
 pub of_plan-requires-clause-ports : goal.of_plan-requires-clause-ports
-of_plan-requires-clause-ports c =
-    let p = c.in_ok-plan.ensures.planned in
-    plans_have_ports c.args.flat.now p.list c.in_ok-plan.plan p.computes p.is.computes
+of_plan-requires-clause-ports c = c.in_ok-plan.ensures.ports
 
 pub returns-clause-admissible : goal.returns-clause-admissible
 returns-clause-admissible c = c.in_ok-plan.ensures.planned.is.admissible
 
 pub returns-clause-carries : goal.returns-clause-carries
-returns-clause-carries c =
-    let p = c.in_ok-plan.ensures.planned in
-    let k = c.requires.compilable in
-    texts_carry_flats c.args.flat.now p.list c.in_ok-plan.plan c.in_ok-ports.ports (record {
-      sound = k.sound;
-      order = c.args.order.now.nodes;
-      ordered = k.ordered;
-      named = k.named;
-      names = k.names;
-      places = k.places;
-      list_computes = p.computes;
-      admissible = p.is.admissible;
-      bare = p.is.bare;
-      plan_computes = p.is.computes;
-      table = c.in_ok-ports.ensures;
-    }) (starts_as_flat c.args.flat.now p.list c.in_ok-plan.plan p.computes p.is.starts)
+returns-clause-carries c = c.in_ok-plan.ensures.carries c.in_ok-ports.ports c.in_ok-ports.ensures
 
 pub returns-clause-small : goal.returns-clause-small
-returns-clause-small c =
-    let p = c.in_ok-plan.ensures.planned in
-    is_small c.args.flat.now p.list p.computes.mapped c.requires.weighed c.in_ok-plan.plan p.is.admissible p.is.computes p.is.lanes p.is.columns p.is.instrs
+returns-clause-small c = c.in_ok-plan.ensures.small
 
 pub returns-clause-cells : goal.returns-clause-cells
-returns-clause-cells c =
-    let p = c.in_ok-plan.ensures.planned in
-    computes_cells c.args.flat.now p.list p.computes.mapped c.requires.weighed c.in_ok-plan.plan p.is.admissible p.is.computes p.is.starts p.is.entries p.is.exits
+returns-clause-cells c = c.in_ok-plan.ensures.cells
 
 pub returns-clause-lanes : goal.returns-clause-lanes
-returns-clause-lanes c =
-    let p = c.in_ok-plan.ensures.planned in
-    has_lanes c.args.flat.now p.list p.computes.mapped c.in_ok-plan.plan p.is.admissible p.is.computes c.requires.compilable.sound c.requires.weighed p.is.empty
+returns-clause-lanes c = c.in_ok-plan.ensures.lanes
 
 pub returns-clause-places : goal.returns-clause-places
-returns-clause-places c =
-    let p = c.in_ok-plan.ensures.planned in
-    net_places c.args.flat.now p.list p.computes.mapped c.in_ok-plan.plan (loops_many c.args.flat.now p.list p.computes.mapped c.requires.weighed c.in_ok-plan.plan p.is.admissible p.is.computes)
-    p.is.entries p.is.exits
+returns-clause-places c = c.in_ok-plan.ensures.places
 
 pub returns-clause-period : goal.returns-clause-period
-returns-clause-period c none e =
-    let p = c.in_ok-plan.ensures.planned in
-    c.in_ok-ports.ensures.period ∙ short_period c.args.flat.now p.list p.computes.mapped c.requires.weighed c.in_ok-plan.plan p.is.admissible p.is.computes none e
+returns-clause-period c none e = c.in_ok-ports.ensures.period ∙ c.in_ok-plan.ensures.period none e
 
 pub returns-clause-at_zero : goal.returns-clause-at_zero
-returns-clause-at_zero c spares = c.in_ok-ports.ensures.period ∙ short c.in_ok-plan.plan (c.in_ok-plan.ensures.spares spares)
+returns-clause-at_zero c spares = c.in_ok-ports.ensures.period ∙ c.in_ok-plan.ensures.at_zero spares

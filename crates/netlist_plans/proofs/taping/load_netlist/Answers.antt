@@ -9,19 +9,16 @@ use Rattle.plan_layout.specs.Starts.{HasStartEdges}
 use Rattle.streams.specs.Rows.{rows_of}
 use Rattle.plan_ports.specs.Tables.{HasPortsOf, IsTableOf}
 use Rattle.plan_tapes.specs.Loaded.{with_tape}
-use Rattle.plan_carries.specs.Compiled.{IsCompiled}
 use Rattle.plan_carries.proofs.Carried.{starts_as_flat}
 use Rattle.plan_carries.proofs.Tapes.{tapes_run_by_themselves}
-use Rattle.plan_carries.proofs.Written.{plans_have_ports}
 use Rattle.netlist_plans.specs.Planned.{IsSmall}
-use Rattle.netlist_plans.proofs.Tables.{a_table}
+use Rattle.netlist_plans.proofs.Compiled.{planned_compiled, planned_ports, planned_table}
 use Rattle.netlist_plans.proofs.Tapes.{are_lists, runs_on_streams, small_with_tape, ports_with_tape}
 use Rattle.netlist_plans.proofs.taping.load_netlist.Goals as goal
 
 pub load-requires-clause-each_input : goal.load-requires-clause-each_input
 load-requires-clause-each_input c =
-    let p = c.requires.planned in
-    ap length c.as_slice.ensures ∙ c.requires.many ∙ sym (plans_have_ports c.args.flat.now p.list c.args.plan p.computes p.is.computes).ins
+    ap length c.as_slice.ensures ∙ c.requires.many ∙ sym (planned_ports c.args.flat.now c.args.plan c.requires.planned).ins
 
 pub load-requires-clause-lists : goal.load-requires-clause-lists
 load-requires-clause-lists c =
@@ -32,9 +29,8 @@ of_plan-requires-clause-in_range c = c.requires.compilable.1.sound.in_range
 
 pub of_plan-requires-clause-ports : goal.of_plan-requires-clause-ports
 of_plan-requires-clause-ports c =
-    let p = c.requires.planned in
     subst (HasPortsOf c.args.flat.now) (sym c.in_ok-plan.ensures.loaded)
-    (ports_with_tape c.args.flat.now c.args.plan c.as_slice.result.now (plans_have_ports c.args.flat.now p.list c.args.plan p.computes p.is.computes))
+    (ports_with_tape c.args.flat.now c.args.plan c.as_slice.result.now (planned_ports c.args.flat.now c.args.plan c.requires.planned))
 
 pub returns-clause-edges : goal.returns-clause-edges
 returns-clause-edges c = subst HasStartEdges (sym c.in_ok-plan.ensures.loaded) c.requires.planned.is.edges
@@ -51,26 +47,12 @@ returns-clause-runs c =
     let plan = c.args.plan in
     let streams = c.args.streams.now in
     let p = c.requires.planned in
-    let k = c.requires.compilable.1 in
     let ports = c.in_ok-ports.ports in
     let is : c.in_ok-plan.plan ≡ with_tape streams.bits plan = c.in_ok-plan.ensures.loaded ∙ ap (λ (bits : List (List Bool)). with_tape bits plan) c.as_slice.ensures in
-    let many = plans_have_ports flat p.list plan p.computes p.is.computes in
-    let own = a_table flat plan many 1 in
-    let compiled : IsCompiled flat p.list plan 1 own.0 = record {
-      sound = k.sound;
-      order = c.requires.compilable.0;
-      ordered = k.ordered;
-      named = k.named;
-      names = k.names;
-      places = k.places;
-      list_computes = p.computes;
-      admissible = p.is.admissible;
-      bare = p.is.bare;
-      plan_computes = p.is.computes;
-      table = own.1;
-    } in
+    let many = planned_ports flat plan p in
+    let own = planned_table flat plan p in
     subst (λ (loaded : Plan). RunsByItselfFlat (pattern_text (start_grid loaded) ports) flat (rows_of streams)) (sym is)
     (runs_on_streams (pattern_text (start_grid (with_tape streams.bits plan)) ports) flat plan streams zeros_change_nothing c.requires.many c.requires.long
-    (tapes_run_by_themselves flat p.list plan own.0 compiled (starts_as_flat flat p.list plan p.computes p.is.starts) p.is.edges streams.bits
+    (tapes_run_by_themselves flat p.list plan own.0 (planned_compiled flat c.requires.compilable.0 plan own.0 c.requires.compilable.1 p own.1) (starts_as_flat flat p.list plan p.computes p.is.starts) p.is.edges streams.bits
     (c.requires.many ∙ sym many.ins) (are_lists streams.bits streams.cycles c.requires.some c.requires.few c.requires.long)
     ports (subst (λ (loaded : Plan). IsTableOf flat loaded 1 ports) is c.in_ok-ports.ensures)))
