@@ -1,11 +1,12 @@
 -- Plans without a loop.
-use Rattle.std.proofs.Common.{◌≡◌, refl, sym, ◌∙◌, ap, ap₂, ℕ, zero, suc, ◌+◌, ◌*◌, ◌≤◌, ◌==◌, Bool, true, false, cond, ◌&&◌, ◌||◌, not, List, [], ◌∷◌, ◌++◌, map, flat_map, length, replicate, get_or, arith}
+use Rattle.std.proofs.Common.{◌≡◌, refl, sym, ◌∙◌, ap, ap₂, ℕ, zero, ◌+◌, ◌*◌, ◌≤◌, ◌==◌, Bool, true, false, cond, ◌&&◌, ◌||◌, not, List, [], ◌∷◌, ◌++◌, map, flat_map, length, replicate, get_or, arith}
 use Rattle.std.specs.Prelude.{All}
 use Rattle.std.specs.List.{list_any}
 use Rattle.std.proofs.lemmas.Bool.{or_parts, eqb-true}
 use Rattle.std.proofs.lemmas.List.{append-nil, nil_from_length}
 use Rattle.std.proofs.lemmas.List.Elements.{All-get_or}
 use Rattle.std.proofs.lemmas.Simd.{map-map}
+use Rattle.lists.proofs.Fills.{same_throughout}
 use Rattle.lane_core.specs.declared.plan.Plan.{Plan}
 use Rattle.lane_core.specs.Plans.{period_of}
 use Rattle.netlist_core.specs.declared.flat.FlatLatch.{FlatLatch}
@@ -34,13 +35,8 @@ use Rattle.netlist_plans.specs.Sparing.{SparesOne, HasRoomForComplements, NamesN
 use Rattle.netlist_plans.proofs.Bounds.{starts_many}
 
 -- ---- inputs that are 0 are as none
-zeros_there : (n i : ℕ) → get_or (replicate n false) i false ≡ false
-zeros_there zero i = nothing_there i
-zeros_there (suc n) zero = refl
-zeros_there (suc n) (suc i) = zeros_there n i
-
 source_alike : (n : ℕ) (made : List Bool) (src : Src) → source_bit (replicate n false) [] made src ≡ source_bit [] [] made src
-source_alike n made (Input i) = zeros_there n i ∙ sym (nothing_there i)
+source_alike n made (Input i) = same_throughout n i false ∙ sym (nothing_there i)
 source_alike n made (Latch i) = refl
 source_alike n made One = refl
 source_alike n made Zero = refl
