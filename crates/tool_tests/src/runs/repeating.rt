@@ -57,6 +57,65 @@ stream: MissingInput i0
 .end
 == 4
 too large: weight 8193 limit 8192
+> 300 eval --cycles 1 -- a full adder weighs 32, each place of a model 1, and a clock beside its inputs 1
+.model m
+.inputs x
+{.subckt fa a=x b=x c=x
+}.end
+.model fa
+.inputs a b c
+.outputs s co
+.names a b c s
+100 1
+010 1
+001 1
+111 1
+.names a b c co
+11- 1
+1-1 1
+-11 1
+== 4
+too large: weight 9901 limit 8192
+> 300 eval --cycles 1
+.model m
+.inputs x
+{.subckt fa a=x b=x c=x
+}.end
+.model fa
+.inputs a b c
+.outputs s co
+.names a b c s
+100 1
+010 1
+001 1
+111 1
+.names a b c co
+11- 1
+1-1 1
+-11 1
+.clock a
+== 4
+too large: weight 9901 limit 8192
+> 300 eval --cycles 1
+.model m
+.inputs x
+{.subckt fa a=x b=x c=x clk=x
+}.end
+.model fa
+.inputs a b c
+.outputs s co
+.names a b c s
+100 1
+010 1
+001 1
+111 1
+.names a b c co
+11- 1
+1-1 1
+-11 1
+.clock a clk
+== 4
+too large: weight 10201 limit 8192
 > 2048 aiger -- each output of a circuit weighs 4, and every circuit 2 more
 aag 0 0 0 2048 0
 {0
