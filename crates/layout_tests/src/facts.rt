@@ -116,6 +116,18 @@ fn has_rows(plan: &Plan, rows: &str) -> bool
     true
 }
 
+fn are_places(found: &[NetPlace], wanted: &[NetPlace]) -> bool {
+    if found.len() != wanted.len() {
+        return false;
+    }
+    for (a, b) in found.iter().zip(wanted) {
+        if a.lane != b.lane || a.after != b.after {
+            return false;
+        }
+    }
+    true
+}
+
 fn has(alloc: Global, plan: &Plan, fact: &Fact) -> Result<bool, Fail>
     requires admissible { IsAdmissible plan.now }
     requires starts { HasStartEdges plan.now }
@@ -127,7 +139,7 @@ fn has(alloc: Global, plan: &Plan, fact: &Fact) -> Result<bool, Fail>
         Fact::Columns(count) => Ok(plan.columns.len() == *count),
         Fact::Latches(count) => Ok(plan.latches == *count),
         Fact::Starts(starts) => Ok(plan.starts.list.as_slice() == *starts),
-        Fact::Nets(places) => Ok(plan.nets.as_slice() == *places),
+        Fact::Nets(places) => Ok(are_places(plan.nets.as_slice(), places)),
         Fact::InCells(cells) => Ok(has_in_cells(plan, cells)),
         Fact::OutCells(cells) => Ok(has_out_cells(plan, cells)),
         Fact::NetCells(cells) => Ok(has_net_cells(plan, cells)),

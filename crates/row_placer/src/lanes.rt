@@ -11,9 +11,12 @@ ghost use Rattle.row_placer.specs.Settling.{AreOnLanes, came_from};
 ghost use Rattle.row_placer.specs.declared.job.CellKind.TheVariants.{AndNot};
 ghost use Rattle.channel_router.specs.Routes.{swapped, brought, distance};
 
-use crate::{CellKind, Job, NumberedCell, PlaceError, Role, Tag, settles, settling_swaps};
+use crate::{CellKind, Job, NumberedCell, PlaceError, Role, Tag, Travel, settles, settling_swaps};
 use lane_core::{Instr, NetPlace};
 use std::alloc::Global;
+
+// If two lanes share the way, each passes one of so many lanes between them.
+const SHARE: u32 = 32;
 
 /// Lanes with the instructions so far. After these every tag tells the bit on its lane, and every
 /// place of a gate has the gate's value.
@@ -269,6 +272,19 @@ impl<'a> Lanes<'a> {
         (i, time_i.max(time_j).saturating_add(1))
     }
 
+    /// Returns where two lanes come side by side by the job's way of travelling, as the upper of the
+    /// two lanes to which they come.
+    fn joining(&self, upper: u32, lower: u32) -> u32
+        requires order { upper < lower }
+        requires within { lower < length self.now.tags.items }
+        ensures low { upper ≤ result }
+        ensures high { result < lower }
+    {
+        let first = self.meeting(upper, lower).0;
+        let share = share_of(self.job.travel, lower - upper - 1);
+        first.max(upper + share).min(lower - 1 - share)
+    }
+
     /// Brings two lanes side by side, the upper one to `at`.
     fn meet(&mut self, upper: u32, lower: u32, at: u32) -> Result<(), PlaceError>
         requires low { upper ≤ at }
@@ -368,12 +384,12 @@ impl<'a> Lanes<'a> {
     {
         let free = self.choose_free(lane);
         if lane < free {
-            let at = self.meeting(lane, free).0;
+            let at = self.joining(lane, free);
             self.meet(lane, free, at)?;
             self.fork(at)?;
             Ok(at)
         } else {
-            let at = self.meeting(free, lane).0;
+            let at = self.joining(free, lane);
             self.meet(free, lane, at)?;
             self.swap(at)?;
             self.fork(at)?;
@@ -475,12 +491,12 @@ impl<'a> Lanes<'a> {
         let x = self.find(gate.first, Role::First);
         let y = self.find(gate.second, Role::Second);
         if x < y {
-            let at = self.meeting(x, y).0;
+            let at = self.joining(x, y);
             self.meet(x, y, at)?;
             self.make(at, gate, false)?;
             Ok(())
         } else {
-            let at = self.meeting(y, x).0;
+            let at = self.joining(y, x);
             self.meet(y, x, at)?;
             if is_and_not(gate.kind) {
                 self.swap(at)?;
@@ -674,6 +690,16 @@ impl<'a> Lanes<'a> {
             port += 1;
         }
         Ok(outs)
+    }
+}
+
+// How many of the lanes between two lanes each of them passes at least.
+fn share_of(travel: Travel, between: u32) -> u32
+    ensures { 2 * result ≤ between }
+{
+    match travel {
+        Travel::Soonest => 0,
+        Travel::Shared => between / SHARE,
     }
 }
 

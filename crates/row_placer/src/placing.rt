@@ -8,9 +8,9 @@ ghost use Rattle.row_placer.specs.Ready.{HoldAllPorts};
 ghost use Rattle.cell_core.specs.declared.cells.Src.TheVariants.{One};
 
 use crate::counting::{count_idle, count_uses};
-use crate::reading::{count_loops, gates_of, names_zero, places_of, push_numbers};
-use crate::start::{homes_for, start_tags};
-use crate::{Job, Lanes, PlaceError};
+use crate::reading::{count_loops, gates_of, names_zero, places_of, push_numbers, reads_zero};
+use crate::start::{homes_for, lanes_by_reader, start_tags};
+use crate::{Job, Lanes, PlaceError, Travel};
 use cell_core::CellList;
 use lane_core::{NetPlace, Program};
 use lists::List;
@@ -64,6 +64,7 @@ pub fn prepare(
     loops: u32,
     spare: u32,
     wanted: &[u32],
+    travel: Travel,
 ) -> Result<Prepared, PlaceError>
     requires loops { loops ≡ loop_count list.now }
     requires spare { spare < 2 ^ 20 }
@@ -88,6 +89,7 @@ pub fn prepare(
         base: inner + 1,
         ports: List::of(ports),
         start: List::of(start),
+        travel,
     };
     Ok(Prepared { job, left, homes })
 }
@@ -130,6 +132,11 @@ pub struct Placed {
 }
 
 impl Placed {
+    // Whether it is long.
+    fn is_long(&self) -> bool {
+        self.program.instrs.len() > LONG
+    }
+
     // The size of its drawing, in tiles.
     fn area(&self) -> u64 {
         let loops = self.program.latches.len() as u64;
@@ -234,21 +241,22 @@ fn place_job(
     Ok(Placed { program, columns })
 }
 
-// A program that computes the list, with so many spare lanes, and with inputs on the wanted lanes
-// if these will do.
+// A program that computes the list, with so many spare lanes, with inputs on the wanted lanes if
+// these will do, and with lanes that come side by side in this way.
 fn place_with(
     alloc: Global,
     list: &CellList,
     loops: u32,
     spare: u32,
     wanted: &[u32],
+    travel: Travel,
 ) -> Result<Placed, PlaceError>
     requires loops { loops ≡ loop_count list.now }
     requires small { IsPlaceable list.now }
     requires spare { spare < 2 ^ 20 }
     ensures { IfOk result (λ r. IsPlacedWithin list.now spare r.program) }
 {
-    let Prepared { job, left, homes } = prepare(alloc, list, loops, spare, wanted)?;
+    let Prepared { job, left, homes } = prepare(alloc, list, loops, spare, wanted, travel)?;
     let mut left = left;
     place_job(alloc, list, loops, &job, left.as_mut_slice(), homes)
 }
@@ -264,24 +272,75 @@ fn most_spare(list: &CellList) -> u32
 // How many more numbers of spare lanes are tried if the first program is this one: none if it is
 // long.
 fn more_tries(first: &Placed) -> u32 {
-    if first.program.instrs.len() > LONG {
-        0
+    if first.is_long() { 0 } else { 4 }
+}
+
+// The second program if it has less than half as many instructions as the first, and else the first.
+fn much_shorter(first: Placed, second: Placed) -> Placed
+    ensures { (result ≡ first) ⊎ (result ≡ second) }
+{
+    if second.program.instrs.len() < first.program.instrs.len() / 2 {
+        second
     } else {
-        4
+        first
     }
 }
 
+// The program of a list whose first program is long, on as many lanes: lanes share the way, and the
+// inputs stand in the order in which cells read them.
+fn placed_again(
+    alloc: Global,
+    list: &CellList,
+    loops: u32,
+    spare: u32,
+    first: &Placed,
+) -> Result<Placed, PlaceError>
+    requires loops { loops ≡ loop_count list.now }
+    requires small { IsPlaceable list.now }
+    requires spare { spare < 2 ^ 20 }
+    ensures { IfOk result (λ r. IsPlacedWithin list.now spare r.program) }
+{
+    let above = first.program.lanes.saturating_sub(loops);
+    let wanted = lanes_by_reader(alloc, list, above, reads_zero(list))?;
+    place_with(alloc, list, loops, spare, &wanted, Travel::Shared)
+}
+
+// The first program, or, if it is long, the one that `placed_again` makes if that is much shorter:
+// its drawing may be the larger one, but its text is not.
+fn shortened(
+    alloc: Global,
+    list: &CellList,
+    loops: u32,
+    spare: u32,
+    first: Placed,
+) -> Result<Placed, PlaceError>
+    requires loops { loops ≡ loop_count list.now }
+    requires small { IsPlaceable list.now }
+    requires spare { spare < 2 ^ 20 }
+    requires first { IsPlacedWithin list.now spare first.program }
+    ensures { IfOk result (λ r. IsPlacedWithin list.now spare r.program) }
+{
+    if !first.is_long() {
+        return Ok(first);
+    }
+    let second = placed_again(alloc, list, loops, spare, &first)?;
+    Ok(much_shorter(first, second))
+}
+
 /// Places a list on lanes: returns a program that computes it. It tries 0 to 4 spare lanes, but no
-/// more than there are inputs or outputs, whichever are more, and 0 alone if that program is long.
-/// The contract leaves open which of the programs is kept.
+/// more than there are inputs or outputs, whichever are more. If the program on 0 is long, it tries
+/// no others, but places the list once more, so that lanes share the way. The contract leaves open
+/// which of the programs is kept.
 pub fn place(alloc: Global, list: &CellList) -> Result<Program, PlaceError>
     requires small { IsPlaceable list.now }
     ensures { IfOk result (IsPlacedWithin list.now (max list.now.inputs (length list.now.outs))) }
 {
     let loops = count_loops(list);
-    let mut best = place_with(alloc, list, loops, 0, &[])?;
-    for spare in 0..most_spare(list).min(more_tries(&best)) {
-        let next = place_with(alloc, list, loops, spare + 1, &[])?;
+    let first = place_with(alloc, list, loops, 0, &[], Travel::Soonest)?;
+    let tries = more_tries(&first);
+    let mut best = shortened(alloc, list, loops, 0, first)?;
+    for spare in 0..most_spare(list).min(tries) {
+        let next = place_with(alloc, list, loops, spare + 1, &[], Travel::Soonest)?;
         best = smaller(best, next);
     }
     Ok(best.program)
@@ -302,7 +361,8 @@ pub fn place_at(
 {
     let loops = count_loops(list);
     let spare = spare.min(most_spare(list));
-    let placed = place_with(alloc, list, loops, spare, wanted)?;
+    let first = place_with(alloc, list, loops, spare, wanted, Travel::Soonest)?;
+    let placed = shortened(alloc, list, loops, spare, first)?;
     Ok(placed.program)
 }
 

@@ -106,6 +106,31 @@ pub fn names_zero(srcs: &[Src]) -> bool
     false
 }
 
+// Whether a cell reads constant 0.
+fn cell_reads_zero(cell: Cell) -> bool {
+    match cell {
+        Cell::Or(a, b) | Cell::Xor(a, b) | Cell::AndNot(a, b) => is_zero(a) || is_zero(b),
+    }
+}
+
+// Whether one of the cells reads constant 0.
+fn cells_read_zero(cells: &[Cell]) -> bool {
+    for cell in cells {
+        if cell_reads_zero(*cell) {
+            return true;
+        }
+    }
+    false
+}
+
+/// Returns whether constant 0 is read by a cell, or named by a port or a net.
+pub fn reads_zero(list: &CellList) -> bool {
+    names_zero(list.outs.as_slice())
+        || names_zero(list.latches.as_slice())
+        || names_zero(list.nets.as_slice())
+        || cells_read_zero(list.cells.as_slice())
+}
+
 fn is_zero(src: Src) -> bool
     ensures { src ≡ Zero → result ≡ true }
 {

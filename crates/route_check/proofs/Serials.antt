@@ -11,7 +11,7 @@ use Rattle.ww_rule.specs.declared.pattern.State.TheVariants.{Empty}
 use Rattle.wire_laws.specs.Wires.{IsNear}
 use Rattle.tile_timing.specs.Window.{shown}
 use Rattle.tile_timing.proofs.Windows.{beside, at_place}
-use Rattle.route_tables.specs.Serials.{label_at, listed_cell, HasSerial, IsListedAt, MayTouch, TouchesWell, AreLabelled}
+use Rattle.route_tables.specs.Serials.{serial_at, listed_cell, HasSerial, IsListedAt, MayTouch, TouchesWell, AreSerials}
 
 -- a number beside another
 pub near_index : (x : ℕ) (u : ℤ) → (pos x -ℤ pos 1) ≤ℤ u → u ≤ℤ (pos x +ℤ pos 1) → (i : ℕ) × (i < 3) × (u ≡ pos (x + i) -ℤ pos 1)
@@ -29,8 +29,8 @@ near_index x u low high =
     ]
 
 module _ (cells : List (ℕ × ℕ)) (states : List State) (serials : List ℕ) (width : ℕ) (same : length states ≡ length serials) (numbers : (n : ℕ) → n < length cells → HasSerial cells serials width n) (places : (k : ℕ) → k < length serials → IsListedAt cells states serials width k) where
-  label : ℤ × ℤ → ℕ
-  label c = label_at serials width c.0 c.1
+  serial : ℤ × ℤ → ℕ
+  serial c = serial_at serials width c.0 c.1
 
   -- a place of the table
   none_at : (x y : ℕ) → x < width → get_or serials (y * width + x) 0 ≡ 0 → shown states width (pos x) (pos y) ≡ Empty
@@ -59,22 +59,22 @@ module _ (cells : List (ℕ × ℕ)) (states : List State) (serials : List ℕ) 
             ap (λ k. get_or cells k (0, 0)) (sym number) ∙ at ∙ ap₂ (λ a b. (a, b)) (mod-mul-add y width x low) (div-mul-add y width x low),
           )
 
-  none : (c : ℤ × ℤ) → label_at serials width c.0 c.1 ≡ 0 → shown states width c.0 c.1 ≡ Empty
+  none : (c : ℤ × ℤ) → serial_at serials width c.0 c.1 ≡ 0 → shown states width c.0 c.1 ≡ Empty
   none (pos x, pos y) e =
       elim (cases_lt x width) [
         | inr off ↦ beside states width x y off
-        | inl low ↦ none_at x y low (sym (at_label x y low) ∙ e)
+        | inl low ↦ none_at x y low (sym (at_serial x y low) ∙ e)
       ]
     where
-      at_label : (x y : ℕ) → x < width → label_at serials width (pos x) (pos y) ≡ get_or serials (y * width + x) 0
-      at_label x y low = ap (λ b. cond b (get_or serials (y * width + x) 0) 0) (lt-ltb x width low)
+      at_serial : (x y : ℕ) → x < width → serial_at serials width (pos x) (pos y) ≡ get_or serials (y * width + x) 0
+      at_serial x y low = ap (λ b. cond b (get_or serials (y * width + x) 0) 0) (lt-ltb x width low)
   none (pos x, negsuc y) e = refl
   none (negsuc x, y) e = refl
 
-  some : (c : ℤ × ℤ) (n : ℕ) → label_at serials width c.0 c.1 ≡ suc n → (n < length cells) × (c ≡ listed_cell cells n)
+  some : (c : ℤ × ℤ) (n : ℕ) → serial_at serials width c.0 c.1 ≡ suc n → (n < length cells) × (c ≡ listed_cell cells n)
   some (pos x, pos y) n e =
       elim (cases_lt x width) [
-        | inr off ↦ let dark : label_at serials width (pos x) (pos y) ≡ 0 = ap (λ b. cond b (get_or serials (y * width + x) 0) 0) (le-ltb x width off) in absurd (omega (arith, dark, e))
+        | inr off ↦ let dark : serial_at serials width (pos x) (pos y) ≡ 0 = ap (λ b. cond b (get_or serials (y * width + x) 0) 0) (le-ltb x width off) in absurd (omega (arith, dark, e))
         | inl low ↦
             let found = some_at x y n low (sym (ap (λ b. cond b (get_or serials (y * width + x) 0) 0) (lt-ltb x width low)) ∙ e) in
             (found.0, ap (λ (cell : ℕ × ℕ). (pos cell.0, pos cell.1)) (sym found.1))
@@ -83,19 +83,19 @@ module _ (cells : List (ℕ × ℕ)) (states : List State) (serials : List ℕ) 
   some (negsuc x, y) n e = absurd (omega (arith, e))
 
   module _ (groups : List ℕ) (limit : ℕ) (touch : (n : ℕ) → n < length cells → get_or groups n 0 < limit → TouchesWell cells serials width groups limit n) where
-    apart : (n m : ℕ) (d : ℤ × ℤ) → n < length cells → get_or groups n 0 < limit → IsNear d (listed_cell cells n) → label_at serials width d.0 d.1 ≡ suc m → (get_or groups m 0 ≡ get_or groups n 0) ⊎ (limit ≤ get_or groups m 0)
+    apart : (n m : ℕ) (d : ℤ × ℤ) → n < length cells → get_or groups n 0 < limit → IsNear d (listed_cell cells n) → serial_at serials width d.0 d.1 ≡ suc m → (get_or groups m 0 ≡ get_or groups n 0) ⊎ (limit ≤ get_or groups m 0)
     apart n m d low below near is =
         let (i, few, x) = near_index (get_or cells n (0, 0)).0 d.0 near.west near.east in
         let (j, few', y) = near_index (get_or cells n (0, 0)).1 d.1 near.north near.south in
-        of_label (label_at serials width (pos ((get_or cells n (0, 0)).0 + i) -ℤ pos 1) (pos ((get_or cells n (0, 0)).1 + j) -ℤ pos 1)) (sym (ap₂ (label_at serials width) x y) ∙ is) (touch n low below j few' i few)
+        of_serial (serial_at serials width (pos ((get_or cells n (0, 0)).0 + i) -ℤ pos 1) (pos ((get_or cells n (0, 0)).1 + j) -ℤ pos 1)) (sym (ap₂ (serial_at serials width) x y) ∙ is) (touch n low below j few' i few)
       where
-        of_label : (k : ℕ) → k ≡ suc m → MayTouch groups limit n k → (get_or groups m 0 ≡ get_or groups n 0) ⊎ (limit ≤ get_or groups m 0)
-        of_label k e (inl none) = absurd (omega (arith, e, none))
-        of_label k e (inr (inl group)) = let one : k - 1 ≡ m = omega (arith, e) in inl (ap (λ i. get_or groups i 0) (sym one) ∙ group)
-        of_label k e (inr (inr far)) = let one : k - 1 ≡ m = omega (arith, e) in inr (subst (λ i. limit ≤ get_or groups i 0) one far)
+        of_serial : (k : ℕ) → k ≡ suc m → MayTouch groups limit n k → (get_or groups m 0 ≡ get_or groups n 0) ⊎ (limit ≤ get_or groups m 0)
+        of_serial k e (inl none) = absurd (omega (arith, e, none))
+        of_serial k e (inr (inl group)) = let one : k - 1 ≡ m = omega (arith, e) in inl (ap (λ i. get_or groups i 0) (sym one) ∙ group)
+        of_serial k e (inr (inr far)) = let one : k - 1 ≡ m = omega (arith, e) in inr (subst (λ i. limit ≤ get_or groups i 0) one far)
 
-    pub labelled : AreLabelled cells states serials width groups limit
-    labelled = record {
+    pub are_serials : AreSerials cells states serials width groups limit
+    are_serials = record {
       none = none;
       some = some;
       number = λ n low. (let one : n + 1 ≡ suc n = omega arith in numbers n low ∙ one);
