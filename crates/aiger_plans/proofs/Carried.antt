@@ -3,7 +3,7 @@ use Rattle.std.proofs.Common.{◌≡◌, refl, sym, ◌∙◌, ap, subst, ℕ, z
 use Rattle.std.specs.Prelude.{Some, slice_get, All}
 use Rattle.std.proofs.lemmas.List.{length-map, length-replicate}
 use Rattle.std.proofs.lemmas.Option.{slice_get-get_or, slice_get_within}
-use Rattle.ww_rule.specs.Wireworld.{Plane, driven}
+use Rattle.ww_rule.specs.Wireworld.{driven}
 use Rattle.ww_rule.specs.Grid.{plane_of}
 use Rattle.pattern_reading.specs.declared.ports.NetLine.{NetLine}
 use Rattle.place_paths.specs.Paths.{name_and_path, names_and_paths}
@@ -14,19 +14,12 @@ use Rattle.netlist_meaning.specs.FlatValuation.{IsFlatValuation, IsFlatRun, AreF
 use Rattle.aiger_text.specs.declared.aig.Aig.{Aig}
 use Rattle.aiger_meaning.specs.Circuit.{IsAigValuation, IsAigRun, AreAigRows, aig_state_in, aig_output_bit}
 use Rattle.aiger_meaning.specs.Lowered.{IsLowered, AreSameCycle}
-use Rattle.carries.specs.Cells.{ShowsBitsFrom, drive}
+use Rattle.carries.specs.Cells.{drive}
 use Rattle.carries.specs.FlatNets.{CarriesFlat}
+use Rattle.carries.proofs.Cycles.{same_from}
 use Rattle.aiger_plans.specs.CarriesAig.{ShowsAigRuns}
 use Rattle.aiger_plans.specs.Laws.{AigsAreCarried}
 use Rattle.aiger_plans.proofs.SameRuns.{other_run, each_cycle}
-
--- what shows bits shows those that are the same in each of the cycles
-same_shown : (first period cycles : ℕ) (bit other : ℕ → Bool) (g : ℕ) (plane : Plane) (x y : ℕ) → ((t : ℕ) → t < cycles → bit t ≡ other t)
-    → ShowsBitsFrom first period cycles bit g plane x y → ShowsBitsFrom first period cycles other g plane x y
-same_shown first period cycles bit other g plane x y same shown = (
-  λ head. (let found = shown.0 head in (found.0, found.1, found.2, sym (same found.0 found.1) ∙ found.3)),
-  λ at. shown.1 (at.0, at.1, at.2, same at.0 at.1 ∙ at.3),
-)
 
 module _ (text : List ℕ) (aig : Aig) (flat : Flat) (c : CarriesFlat text flat) (l : IsLowered aig flat) where
   -- no net is listed, and so the table has no line for one
@@ -100,7 +93,7 @@ module _ (text : List ℕ) (aig : Aig) (flat : Flat) (c : CarriesFlat text flat)
     conductors = λ rows are. c.shows.conductors rows (flat_rows rows are);
     runs = λ rows are. (let found = c.shows.runs rows (flat_rows rows are) in (aig_run rows found.0 found.1, is_aig_run rows found.0 found.1));
     heads = λ rows are run is output cell e g early.
-        same_shown c.ports.l c.ports.p (length rows) (λ t. flat_output_bit flat (flat_run rows run is t) output) (λ t. aig_output_bit aig (run t) output) g (driven (drive c.ports rows) (plane_of c.grid.rows) g) cell.x cell.y
+        same_from c.ports.l c.ports.p (length rows) (λ t. flat_output_bit flat (flat_run rows run is t) output) (λ t. aig_output_bit aig (run t) output) g (driven (drive c.ports rows) (plane_of c.grid.rows) g) cell.x cell.y
         (λ t lt. same_output rows run is output t lt)
         (c.shows.heads rows (flat_rows rows are) (flat_run rows run is) (is_flat_run rows run is) output cell e g early);
   }

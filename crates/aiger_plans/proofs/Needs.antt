@@ -13,7 +13,8 @@ use Rattle.aiger_text.specs.declared.aig.AigLatch.{AigLatch}
 use Rattle.aiger_text.specs.declared.aig.AigAnd.{AigAnd}
 use Rattle.aiger_text.specs.declared.aig.Aig.{Aig}
 use Rattle.aiger_text.specs.SoundAig.{sides_of}
-use Rattle.aiger_meaning.specs.FlatOf.{net_id, net_of_literal, node_of, nodes_from, node_reads, first_gate, buffer, row_character, latches_from}
+use Rattle.aiger_meaning.specs.FlatOf.{net_id, net_of_literal, node_of, nodes_from, node_reads, first_gate, buffer, row_character}
+use Rattle.aiger_meaning.proofs.View.{many_latches}
 use Rattle.netlist_plans.proofs.Sparing.{any_of}
 use Rattle.aiger_plans.specs.Zero.{is_odd}
 use Rattle.aiger_plans.specs.Needs.{aig_needs_one, FlatsOfAigsAskAlike}
@@ -61,12 +62,8 @@ reads_need aig =
     list_any-append all_odd (map sides_of aig.ands) (map buffer lits)
     ∙ ap₂ (λ a b. a || b) (any_of all_odd (λ (gate : AigAnd). is_odd gate.rhs0 && is_odd gate.rhs1) sides_of gate_needs aig.ands) (any_of all_odd is_odd buffer buffer_needs lits)
 
-latches_many : (input output : ℕ) (latches : List AigLatch) → length (latches_from input output latches) ≡ length latches
-latches_many input output [] = refl
-latches_many input output (latch ∷ latches) = ap suc (latches_many (suc input) (suc output) latches)
-
 pub flats_of_aigs_ask_alike : FlatsOfAigsAskAlike
 flats_of_aigs_ask_alike aig flat h = record {
   one = ap (λ (nodes : List Node). list_any needs_one nodes) h.nodes ∙ nodes_need aig (first_gate aig) (node_reads aig) ∙ reads_need aig;
-  latches = ap (λ (latches : List FlatLatch). length latches) h.latches ∙ latches_many _ _ aig.latches;
+  latches = ap (λ (latches : List FlatLatch). length latches) h.latches ∙ many_latches _ _ aig.latches;
 }

@@ -47,6 +47,11 @@ pub record IsCarriedBy (design : Design) (plan : Plan) (ports : Ports) : Type 0 
   pub period : (flat : Flat) → IsFlatOf design flat → HasShortPeriod flat ports
   pub drawing : IsWrittenDrawing plan ports
 
+-- with each table of the plan, the text that is written of both carries the design
+abbrev pub IsCarriedByTables : Design → Flat → Plan → Type 0
+IsCarriedByTables design flat plan =
+    (ports : Ports) → IsTableOf flat plan 1 ports → IsCarriedBy design plan ports
+
 -- the text is the netlist of this design, in which the words give starts for so many contexts
 pub record HasStarts (contexts : ℕ) (starts : List (List ℕ)) (text : List ℕ)
     (design : Design) : Type 0 where

@@ -8,25 +8,28 @@ ghost use Rattle.start_words.specs.Flats.{AreBitsSet, flat_latches};
 ghost use Rattle.command_words.specs.Shapes.{compile};
 ghost use Rattle.blifww_tool.specs.Answer.{output_text, IsWritableOutput};
 ghost use Rattle.blifww_tool.specs.Commands.{Prints, HasTextCause};
-ghost use Rattle.blifww_tool.specs.Compilation.{Compiles, HasStarts, IsCarriedBy};
+ghost use Rattle.blifww_tool.specs.Compilation.{Compiles, HasStarts, IsCarriedByTables};
 
 use crate::output::Output;
-use netlist_plans::{NetlistPlanError, Planned, plan_contexts, plan_netlist};
+use lane_core::{Plan, period};
+use netlist_plans::{NetlistPlanError, Planned, plan_contexts, plan_flat};
 use netlist_text::{Netlist, netlist_of};
+use plan_ports::of_plan;
 use refusals::{Cause, TextError};
 use start_words::Starts;
 use std::alloc::Global;
 
-/// Makes the plan of a netlist, for one context and without a tape.
-pub fn plan_of(alloc: Global, netlist: &Netlist) -> Result<Planned, NetlistPlanError>
+/// Makes the plan of a netlist, for one context and without a tape. With each table of the plan, the
+/// text of both carries the netlist.
+pub fn plan_of(alloc: Global, netlist: &Netlist) -> Result<Plan, NetlistPlanError>
     requires parts { AreParts netlist.now.design netlist.now.flat netlist.now.order.nodes }
     requires names { HasPortNames netlist.now.flat }
-    ensures carried { IfOk result (λ p. IsCarriedBy netlist.now.design p.plan p.ports) }
-    ensures planned { IfOk result (λ p. IsPlanned netlist.now.flat p.plan) }
-    ensures bare { IfOk result (λ p. p.plan.tape ≡ []) }
+    ensures carried { IfOk result (IsCarriedByTables netlist.now.design netlist.now.flat) }
+    ensures planned { IfOk result (IsPlanned netlist.now.flat) }
+    ensures bare { IfOk result (λ plan. plan.tape ≡ []) }
 {
-    let planned = plan_netlist(alloc, &netlist.flat, &netlist.order)?;
-    Ok(planned)
+    let plan = plan_flat(alloc, &netlist.flat, &netlist.order)?;
+    Ok(plan)
 }
 
 // Whether one context is asked for, without words.
@@ -40,15 +43,15 @@ fn is_alone(contexts: u64, words: &[String]) -> bool
 fn started(
     alloc: Global,
     netlist: &Netlist,
-    planned: Planned,
+    plan: Plan,
     contexts: u64,
     words: &[String],
     starts: &Starts,
 ) -> Result<Output, TextError>
     requires parts { AreParts netlist.now.design netlist.now.flat netlist.now.order.nodes }
     requires names { HasPortNames netlist.now.flat }
-    requires carried { IsCarriedBy netlist.now.design planned.plan planned.ports }
-    requires planned { IsPlanned netlist.now.flat planned.plan }
+    requires carried { IsCarriedByTables netlist.now.design netlist.now.flat plan }
+    requires planned { IsPlanned netlist.now.flat plan }
     requires some { 0 < contexts }
     requires set { AreBitsSet (flat_latches netlist.now.flat) starts.now.bits
         (map string_bytes words.now) }
@@ -60,15 +63,16 @@ fn started(
         → HasStarts contexts (map string_bytes words.now) text netlist.now.design
         → HasTextCause (compile contexts (map string_bytes words.now)) text e) }
 {
-    let limit = planned.ports.p / 32;
+    let limit = period(&plan) / 32;
     if contexts > limit {
         return Err(TextError::Refused(Cause::TooManyContexts { contexts, limit }));
     }
     if is_alone(contexts, words) {
-        return Ok(Output::Drawing(planned));
+        let ports = of_plan(alloc, &netlist.flat, &plan, 1)?;
+        return Ok(Output::Drawing(Planned { plan, ports }));
     }
     let bits = starts.in_contexts(alloc, &netlist.flat, contexts)?;
-    let started = plan_contexts(alloc, &netlist.flat, planned.plan, bits.as_slice())?;
+    let started = plan_contexts(alloc, &netlist.flat, plan, bits.as_slice())?;
     Ok(Output::Drawing(started))
 }
 
@@ -89,8 +93,8 @@ fn compiled(
         → HasTextCause (compile contexts (map string_bytes words.now)) text e) }
 {
     let starts = Starts::read(alloc, &netlist.flat, words, contexts)?;
-    let planned = plan_of(alloc, netlist)?;
-    started(alloc, netlist, planned, contexts, words, &starts)
+    let plan = plan_of(alloc, netlist)?;
+    started(alloc, netlist, plan, contexts, words, &starts)
 }
 
 /// Makes the pattern of the netlist whose text this is, in so many contexts, with the lines that

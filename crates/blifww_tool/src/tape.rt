@@ -31,8 +31,8 @@ fn taped(alloc: Global, netlist: &Netlist, streams: &Streams) -> Result<Output, 
     ensures writable { IfOk result IsWritableOutput }
     ensures refused { IfErr result (λ e. e ≡ NoMemory) }
 {
-    let planned = plan_of(alloc, netlist)?;
-    let loaded = load_netlist(alloc, &netlist.flat, planned.plan, streams)?;
+    let plan = plan_of(alloc, netlist)?;
+    let loaded = load_netlist(alloc, &netlist.flat, plan, streams)?;
     Ok(Output::Drawing(loaded))
 }
 

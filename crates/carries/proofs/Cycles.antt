@@ -1,5 +1,5 @@
 -- What a text that carries a design shows, cycle by cycle.
-use Rattle.std.proofs.Common.{All, pos, ℕ, Bool, true, ◌+◌, ◌*◌, ◌<◌, ◌≡◌, ◌≢◌, ◌↔◌, refl, ap, ◌∙◌, subst, inl, inr, ◌++◌, length, arith}
+use Rattle.std.proofs.Common.{All, pos, ℕ, Bool, true, ◌+◌, ◌*◌, ◌<◌, ◌≡◌, ◌≢◌, ◌↔◌, refl, sym, ap, ◌∙◌, subst, inl, inr, ◌++◌, length, arith}
 use Rattle.std.proofs.lemmas.Bool.{cases_lt}
 use Rattle.std.proofs.lemmas.List.{length-map}
 use Rattle.std.proofs.Math.Nat.{mul-lt-mul_of_pos_right}
@@ -36,6 +36,14 @@ pub in_cycle : (first period cycles t : ℕ) (bit : ℕ → Bool) (plane : Plane
 in_cycle first period cycles t bit plane x y some lt shown = (
   λ head. (let found = shown.0 head in ap bit (one_cycle first period t found.0 some found.2) ∙ found.3),
   λ is. shown.1 (t, lt, refl, is),
+)
+
+-- what shows bits shows those that are the same in each of the cycles
+pub same_from : (first period cycles : ℕ) (bit other : ℕ → Bool) (g : ℕ) (plane : Plane) (x y : ℕ) → ((t : ℕ) → t < cycles → bit t ≡ other t)
+    → ShowsBitsFrom first period cycles bit g plane x y → ShowsBitsFrom first period cycles other g plane x y
+same_from first period cycles bit other g plane x y same shown = (
+  λ head. (let found = shown.0 head in (found.0, found.1, found.2, sym (same found.0 found.1) ∙ found.3)),
+  λ at. shown.1 (at.0, at.1, at.2, same at.0 at.1 ∙ at.3),
 )
 
 -- what a cell shows of each cycle, in planes that show it up to the end of the last cycle

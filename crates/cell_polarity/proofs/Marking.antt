@@ -6,13 +6,13 @@ use Rattle.std.proofs.lemmas.Bool.{cases_eq, cases_lt, lt-ltb}
 use Rattle.std.proofs.lemmas.List.{length-set, get_or-set_same, get_or-set_other, get_or_past, take_more, take_all, length-replicate, append-nil}
 use Rattle.std.proofs.lemmas.List.Sums.{sum_by-append, sum_by-set}
 use Rattle.lists.proofs.Members.{In, in_from, contains_from, in_left, in_right, in_parts}
+use Rattle.lists.proofs.Fills.{same_throughout}
 use Rattle.cell_core.specs.declared.cells.Src.{Src}
 use Rattle.cell_core.specs.declared.cells.Src.TheVariants.{Input, Latch, One, Zero, Cell as Made}
 use Rattle.cell_core.specs.declared.cells.Cell.{Cell}
 use Rattle.cell_polarity.specs.Needed.{cell_operands, with_operands}
 use Rattle.cell_polarity.specs.Low.{zero_in}
 use Rattle.cell_polarity.specs.Marks.{marks_with, AreMarked}
-use Rattle.cell_polarity.proofs.Zeros.{nothing_there}
 
 -- a flag that is set is one of the flags
 within : (flags : List Bool) (i : ℕ) → get_or flags i false ≡ true → i < length flags
@@ -110,11 +110,6 @@ marks_more flags sources i d marks new lt are is =
     (subst (λ (l : List Src). AreMarked flags l (cond (zero_in flags (get_or sources i d)) (marks_with marks (get_or sources i d)) marks)) (sym (take_more sources i d lt))
     (one_mark flags (take i sources) marks (get_or sources i d) (zero_in flags (get_or sources i d)) refl are))
 
-none_set : (n i : ℕ) → get_or (replicate n false) i false ≡ false
-none_set zero i = nothing_there i
-none_set (suc n) zero = refl
-none_set (suc n) (suc i) = none_set n i
-
 none_counted : (n : ℕ) → count_by (λ (mark : Bool). mark) (replicate n false) ≡ 0
 none_counted zero = refl
 none_counted (suc n) = none_counted n
@@ -124,7 +119,7 @@ no_marks flags sources marks n is many =
     record {
       long = ap length is ∙ length-replicate n false ∙ many;
       onto = λ i among flag. absurd (in_from [] (Made i) among);
-      from = λ i mark. absurd (true≢false (sym mark ∙ ap (λ (m : List Bool). get_or m i false) is ∙ none_set n i));
+      from = λ i mark. absurd (true≢false (sym mark ∙ ap (λ (m : List Bool). get_or m i false) is ∙ same_throughout n i false));
       few = let e : count_by (λ (mark : Bool). mark) marks ≡ 0 = ap (count_by (λ (mark : Bool). mark)) is ∙ none_counted n in omega (arith, e);
     }
 

@@ -1,7 +1,7 @@
 -- The sources on lanes have the lanes' bits.
-use Rattle.std.proofs.Common.{◌≡◌, refl, sym, ◌∙◌, ap, ap₂, ℕ, zero, suc, ◌+◌, ◌<◌, ◌≤◌, Bool, true, false, ◌||◌, List, [], ◌∷◌, ◌++◌, map, fold, length, set, arith, true≢false}
+use Rattle.std.proofs.Common.{◌≡◌, refl, sym, ◌∙◌, ap, ap₂, ℕ, zero, suc, ◌+◌, ◌<◌, ◌≤◌, Bool, true, false, ◌||◌, List, [], ◌∷◌, ◌++◌, map, fold, length, set, arith}
 use Rattle.std.specs.List.{list_any}
-use Rattle.std.proofs.lemmas.Bool.{and_parts, and_from, lt-ltb}
+use Rattle.std.proofs.lemmas.Bool.{and_parts, and_from, lt-ltb, or_parts}
 use Rattle.std.proofs.lemmas.List.{map-set, length-set, length_push, append-nil}
 use Rattle.lane_core.specs.declared.instr.Instr.{Instr}
 use Rattle.lane_core.specs.declared.instr.Instr.TheVariants.{Swap, Fork, Xor, Or, AndNot}
@@ -36,11 +36,6 @@ there_set inputs latches made [] lane s h new = refl
 there_set inputs latches made (x ∷ sources) zero s h new = and_from _ _ new (and_parts _ _ h).1
 there_set inputs latches made (x ∷ sources) (suc lane) s h new = and_from _ _ (and_parts _ _ h).0 (there_set inputs latches made sources lane s (and_parts _ _ h).1 new)
 
-pub neither : (a b : Bool) → (a || b) ≡ false → (a ≡ false) × (b ≡ false)
-neither false false e = (refl, refl)
-neither false true e = absurd (true≢false e)
-neither true b e = absurd (true≢false e)
-
 pub both_false : (a b : Bool) → a ≡ false → b ≡ false → (a || b) ≡ false
 both_false false false e f = refl
 both_false false true e f = f
@@ -48,14 +43,14 @@ both_false true b e f = e
 
 pub plain_at : (sources : List Src) (lane : ℕ) → list_any is_one sources ≡ false → is_one (source_on sources lane) ≡ false
 plain_at [] lane h = refl
-plain_at (s ∷ sources) zero h = (neither (is_one s) (list_any is_one sources) h).0
-plain_at (s ∷ sources) (suc lane) h = plain_at sources lane (neither (is_one s) (list_any is_one sources) h).1
+plain_at (s ∷ sources) zero h = (or_parts (is_one s) (list_any is_one sources) h).0
+plain_at (s ∷ sources) (suc lane) h = plain_at sources lane (or_parts (is_one s) (list_any is_one sources) h).1
 
 pub plain_set : (sources : List Src) (lane : ℕ) (s : Src) → list_any is_one sources ≡ false → is_one s ≡ false → list_any is_one (set sources lane s) ≡ false
 plain_set [] lane s h new = refl
-plain_set (x ∷ sources) zero s h new = both_false (is_one s) (list_any is_one sources) new (neither (is_one x) (list_any is_one sources) h).1
+plain_set (x ∷ sources) zero s h new = both_false (is_one s) (list_any is_one sources) new (or_parts (is_one x) (list_any is_one sources) h).1
 plain_set (x ∷ sources) (suc lane) s h new =
-    both_false (is_one x) (list_any is_one (set sources lane s)) (neither (is_one x) (list_any is_one sources) h).0 (plain_set sources lane s (neither (is_one x) (list_any is_one sources) h).1 new)
+    both_false (is_one x) (list_any is_one (set sources lane s)) (or_parts (is_one x) (list_any is_one sources) h).0 (plain_set sources lane s (or_parts (is_one x) (list_any is_one sources) h).1 new)
 
 -- bits of sources that are there, where a cell comes
 bits_kept : (inputs latches : ℕ) (cells more : List Cell) (sources : List Src) (row state : List Bool) → are_there inputs latches (length cells) sources ≡ true
@@ -83,7 +78,7 @@ pub record IsStep (inputs latches : ℕ) (cells : List Cell) (a b : Src) (instr 
 
 plain_push : (cells : List Cell) (c : Cell) → read_one cells ≡ false → read_one (c ∷ []) ≡ false → read_one (cells ++ c ∷ []) ≡ false
 plain_push [] c h new = new
-plain_push (x ∷ cells) c h new = both_false _ _ (neither _ _ h).0 (plain_push cells c (neither _ _ h).1 new)
+plain_push (x ∷ cells) c h new = both_false _ _ (or_parts _ _ h).0 (plain_push cells c (or_parts _ _ h).1 new)
 
 module _ (inputs latches : ℕ) (cells : List Cell) (a b : Src) (order : are_in_order inputs latches 0 cells ≡ true) (a_there : is_there inputs latches (length cells) a ≡ true)
     (b_there : is_there inputs latches (length cells) b ≡ true) (plain : read_one cells ≡ false) (a_plain : is_one a ≡ false) (b_plain : is_one b ≡ false) where

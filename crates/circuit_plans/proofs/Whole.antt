@@ -1,7 +1,7 @@
 -- The cells that a plan's columns make compute what the plan computes.
 use Rattle.std.proofs.Common.{◌≡◌, refl, sym, ◌∙◌, ap, ap₂, ℕ, zero, suc, ◌+◌, ◌-◌, ◌<◌, ◌≤◌, Bool, true, false, ◌||◌, cond, List, [], ◌∷◌, ◌++◌, map, length, get_or, set, drop, reverse, replicate, arith}
 use Rattle.std.specs.List.{range_with_len, list_any}
-use Rattle.std.proofs.lemmas.Bool.{and_parts, and_from, lt-ltb}
+use Rattle.std.proofs.lemmas.Bool.{and_parts, and_from, lt-ltb, or_parts}
 use Rattle.std.proofs.lemmas.List.{ext_get_or, length-map, length-drop, length-reverse, get_or-reverse, get_or-drop, append-nil}
 use Rattle.std.proofs.lemmas.List.FromFn.{length-map-range_with_len, get_or-map-range_with_len}
 use Rattle.std.proofs.lemmas.Simd.{map-map}
@@ -21,7 +21,7 @@ use Rattle.cell_meaning.specs.Computes.{ComputesByPlan}
 use Rattle.circuit_plans.specs.Circuits.{starts_with_one, first_bits, without_nets}
 use Rattle.circuit_plans.specs.Lifted.{Lanes, source_on, sources_with_inputs, entry_sources, entry_lanes, lift_columns, sources_on, sources_leaving}
 use Rattle.circuit_plans.specs.Lists.{IsListOf}
-use Rattle.circuit_plans.proofs.Steps.{IsSound, IsLifted, columns_lifted, there_at, there_set, plain_at, plain_set, both_false, neither, lift_length}
+use Rattle.circuit_plans.proofs.Steps.{IsSound, IsLifted, columns_lifted, there_at, there_set, plain_at, plain_set, both_false, lift_length}
 use Rattle.circuit_plans.proofs.EntryBits.{entry_is, length-entry_sources}
 
 -- the entry is sound
@@ -58,7 +58,7 @@ there_append inputs latches (x ∷ xs) ys h k = and_from _ _ (and_parts _ _ h).0
 
 plain_append : (xs ys : List Src) → list_any is_one xs ≡ false → list_any is_one ys ≡ false → list_any is_one (xs ++ ys) ≡ false
 plain_append [] ys h k = k
-plain_append (x ∷ xs) ys h k = both_false _ _ (neither _ _ h).0 (plain_append xs ys (neither _ _ h).1 k)
+plain_append (x ∷ xs) ys h k = both_false _ _ (or_parts _ _ h).0 (plain_append xs ys (or_parts _ _ h).1 k)
 
 entry_sound : (plan : Plan) → IsSound (length plan.ins) plan.latches (entry_lanes plan)
 entry_sound plan =

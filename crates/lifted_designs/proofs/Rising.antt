@@ -1,7 +1,7 @@
 -- Each gate reads gates before its own, and nobody reads an output, so no covers read each other in a circle.
 use Rattle.std.proofs.Common.{◌≡◌, ◌≢◌, refl, sym, ◌∙◌, ap, subst, ⊎_elim, ℕ, ◌+◌, ◌<◌, ◌≤◌, ◌^◌, true, false, inl, inr, ◌⊎◌, List, [], ◌∷◌, ◌++◌, length, get_or, arith, true≢false}
 use Rattle.std.specs.Prelude.{decimal}
-use Rattle.std.proofs.lemmas.Bool.{ltb-true, cases_eq}
+use Rattle.std.proofs.lemmas.Bool.{ltb-true, cases_eq, or_parts}
 use Rattle.lists.proofs.Members.{In, in_from, in_parts}
 use Rattle.netlist_core.specs.declared.model.Cover.{Cover}
 use Rattle.netlist_core.specs.declared.model.Model.{Model}
@@ -20,7 +20,7 @@ use Rattle.lifted_designs.specs.Names.{mark, gate_name, source_name}
 use Rattle.lifted_designs.specs.Lifted.{first_of, second_of, cell_covers, line_past_cells, output_covers, lifted_model, lifted_design}
 use Rattle.lifted_designs.specs.Runs.{ArePortNames}
 use Rattle.lifted_designs.specs.NoLoop.{LiftedHaveNoLoop}
-use Rattle.lifted_designs.proofs.Lifted.{neither, plain_source, reads_parts, plain_parts, is_flat}
+use Rattle.lifted_designs.proofs.Lifted.{plain_source, reads_parts, plain_parts, is_flat}
 use Rattle.lifted_designs.proofs.Apart.{gates_apart, loop_gate, zero_gate}
 use Rattle.lifted_designs.proofs.Runs.{IsCellCover, cell_cover_is, IsOutputCover, output_cover_is, plain_at, there_at, in_other, out_other}
 
@@ -78,7 +78,7 @@ module _ (list : CellList) (ins outs : List Name) (long : length ins ≡ list.in
   cell_writes c i =
       let order = cell_in_order list.inputs (length list.starts) 0 list.cells i.k (Or Zero Zero) i.within list.in_order in
       let parts = reads_parts list.inputs (length list.starts) (0 + i.k) (get_or list.cells i.k (Or Zero Zero)) order in
-      let own' = plain_parts (get_or list.cells i.k (Or Zero Zero)) (plain_source list (neither _ _ (neither _ _ (neither _ _ plain).0).0).0 i.k (Or Zero Zero) i.within) in
+      let own' = plain_parts (get_or list.cells i.k (Or Zero Zero)) (plain_source list (or_parts _ _ (or_parts _ _ (or_parts _ _ plain).0).0).0 i.k (Or Zero Zero) i.within) in
       let le : 0 + i.k ≤ length list.cells = omega (arith, i.within) in
       let first = source_read (0 + i.k) (first_of (get_or list.cells i.k (Or Zero Zero))) le parts.0 own'.0 in
       let second = source_read (0 + i.k) (second_of (get_or list.cells i.k (Or Zero Zero))) le parts.1 own'.1 in
@@ -92,7 +92,7 @@ module _ (list : CellList) (ins outs : List Name) (long : length ins ≡ list.in
   output_writes : (c : Cover) → IsOutputCover (mark (ins ++ outs)) ins outs list.outs c → IsWriter c
   output_writes c i =
       let there = there_at list.inputs (length list.starts) (length list.cells) list.outs i.k list.outs_there in
-      let own' = plain_at list.outs i.k (neither _ _ (neither _ _ (neither _ _ plain).0).0).1 in
+      let own' = plain_at list.outs i.k (or_parts _ _ (or_parts _ _ (or_parts _ _ plain).0).0).1 in
       let read = source_read (length list.cells) (get_or list.outs i.k Zero) (omega arith) there own' in
       subst IsWriter (sym i.is) (record { end = length list.cells; reads = one read; writes = inr (i.k, i.within, refl) })
     where

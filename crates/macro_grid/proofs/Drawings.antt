@@ -1,8 +1,8 @@
 -- The drawing of a plan: its tiles fit together, nothing stands beyond it, and no edge is lit there.
-use Rattle.std.proofs.Common.{◌≡◌, refl, sym, ◌∙◌, ap, ℕ, ◌+◌, ◌-◌, ◌/◌, ◌%◌, ◌<◌, ◌≤◌, Bool, true, false, ◌&&◌, ◌||◌, ⊎_elim, inl, inr, List, [], ◌∷◌, arith}
+use Rattle.std.proofs.Common.{◌≡◌, refl, sym, ◌∙◌, ap, ℕ, ◌+◌, ◌-◌, ◌/◌, ◌%◌, ◌<◌, ◌≤◌, Bool, true, false, ◌&&◌, ⊎_elim, inl, inr, List, [], ◌∷◌, arith}
 use Rattle.std.specs.Prelude.{◌==◌, nat_le}
 use Rattle.std.specs.List.{list_any}
-use Rattle.std.proofs.lemmas.Bool.{true≢false, cases_lt, and_left, and_right, or_from}
+use Rattle.std.proofs.lemmas.Bool.{cases_lt, and_left, and_right, or_from, or_parts}
 use Rattle.std.proofs.lemmas.Bool.Decides.{nat_tests}
 use Rattle.tiling.specs.Tiling.{Edge}
 use Rattle.tiling.specs.Tiling.Edge.{Beside, Above}
@@ -29,13 +29,8 @@ pub no_input : (ins : List ℕ) (row : List Bool) (lane : ℕ) → list_any (λ 
 no_input [] row lane none = refl
 no_input (first ∷ ins) [] lane none = refl
 no_input (first ∷ ins) (bit ∷ row) lane none =
-    let parts = or_none (first == lane) (list_any (λ input. input == lane) ins) none in
+    let parts = or_parts (first == lane) (list_any (λ input. input == lane) ins) none in
     or_from (first == lane && bit) (lane_bit ins row lane) (and_left (first == lane) bit parts.0) (no_input ins row lane parts.1)
-  where
-    or_none : (a b : Bool) → (a || b) ≡ false → (a ≡ false) × (b ≡ false)
-    or_none false false e = (refl, refl)
-    or_none false true e = absurd (true≢false e)
-    or_none true b e = absurd (true≢false e)
 
 module _ (plan : Plan) (h : IsAdmissible plan) where
   pub drawing_fits : IsMatched (drawn_tiling plan)

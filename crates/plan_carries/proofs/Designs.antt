@@ -23,13 +23,13 @@ use Rattle.flat_designs.proofs.Valuations.{valuations_are_flat}
 use Rattle.flat_designs.proofs.Whole.{ports_are_flat}
 use Rattle.pattern_reading.specs.declared.ports.Ports.{Ports}
 use Rattle.carries.specs.Carries.{NamesPorts}
-use Rattle.carries.specs.Cells.{ShowsBitsFrom}
 use Rattle.carries.specs.ByItself.{ShowsRunsByItself, ShowsFlatRunsByItself}
 use Rattle.carries.specs.FlatNets.{NamesFlat}
 use Rattle.carries.specs.Contexts.{AreRunsFrom, context_drive, ShowsBitsInContexts}
 use Rattle.carries.specs.FlatContexts.{AreFlatContexts, ShowsFlatContexts, CarriesFlatContexts}
 use Rattle.carries.specs.DesignContexts.{AreInputContexts, ShowsContexts, ShowsNetsInContexts}
 use Rattle.carries.proofs.OneContext.{one_context_carries_nets, one_context_carries_flat}
+use Rattle.carries.proofs.Cycles.{same_from}
 use Rattle.plan_carries.specs.Laws.{DesignsAreCarried}
 use Rattle.plan_carries.specs.ContextLaws.{DesignsAreCarriedInContexts}
 use Rattle.plan_carries.specs.TapeLaws.{DesignsRunByThemselves}
@@ -42,13 +42,6 @@ same_shown : (first period count cycles : ℕ) (bit other : ℕ → ℕ → Bool
 same_shown first period count cycles bit other g plane x y same shown = (
   λ head. (let found = shown.0 head in (found.0, found.1, found.2, found.3, found.4, sym (same found.0 found.1 found.2 found.3) ∙ found.5)),
   λ at. shown.1 (at.0, at.1, at.2, at.3, at.4, same at.0 at.1 at.2 at.3 ∙ at.5),
-)
-
-same_from : (first period cycles : ℕ) (bit other : ℕ → Bool) (g : ℕ) (plane : Plane) (x y : ℕ) → ((t : ℕ) → t < cycles → bit t ≡ other t)
-    → ShowsBitsFrom first period cycles bit g plane x y → ShowsBitsFrom first period cycles other g plane x y
-same_from first period cycles bit other g plane x y same shown = (
-  λ head. (let found = shown.0 head in (found.0, found.1, found.2, sym (same found.0 found.1) ∙ found.3)),
-  λ at. shown.1 (at.0, at.1, at.2, same at.0 at.1 ∙ at.3),
 )
 
 module _ (design : Design) (flat : Flat) (faultless : AreFaultless design.models) (clean : HasNoClockFault design) (h : IsFlatOf design flat) where

@@ -1,6 +1,6 @@
 pub mod Alike
 pub mod SeenNets
-mod Runs
+pub mod Runs
 pub mod Designs
 pub mod Bare
 pub mod Carried

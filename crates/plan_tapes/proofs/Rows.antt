@@ -16,6 +16,7 @@ use Rattle.lane_core.specs.declared.plan.Plan.{Plan}
 use Rattle.lane_core.specs.Plans.{IsAdmissible, left_of, row_of, period_of, input_cells}
 use Rattle.lane_core.specs.Entering.{lane_bit}
 use Rattle.plan_waves.specs.Waves.{DrivesInputs}
+use Rattle.plan_waves.proofs.ContextRows.{cells_long}
 use Rattle.plan_waves.proofs.CycleTiles.{tiles_with_loops, tiles_without, cycle_time}
 use Rattle.plan_waves.proofs.InputCells.{lane_of_input, input_of_lane, input_cell}
 use Rattle.lane_core.specs.Tape.{HasFittingTape, tape_cycles, tape_row, tape_rows, cycle_tiles, tape_tiles, tape_shift, tape_bit}
@@ -32,9 +33,6 @@ record DueBit (plan : Plan) (rows : List (List Bool)) (g : ℕ) (x y : ℤ) : Ty
   pub one : get_or (get_or rows cycle []) input false ≡ true
   pub column : x ≡ pos (left_of plan 0)
   pub line : y ≡ pos (row_of (get_or plan.ins input 0))
-
-cells_long : (plan : Plan) → length (input_cells plan) ≡ length plan.ins
-cells_long plan = length-map {B = ℕ × ℕ} plan.ins (λ lane. (left_of plan 0, row_of lane))
 
 due_bit : (plan : Plan) (rows : List (List Bool)) (g : ℕ) (x y : ℤ) → drive_of_rows plan rows g x y ≡ true → DueBit plan rows g x y
 due_bit plan rows g x y e =

@@ -25,7 +25,7 @@ use Rattle.plan_waves.proofs.InputCells.{lane_of_input, input_of_lane, input_cel
 use Rattle.plan_waves.proofs.ShownContexts.{plans_show_contexts}
 use Rattle.plan_waves.proofs.IsolatedContexts.{contexts_apart}
 
-cells_long : (plan : Plan) → length (input_cells plan) ≡ length plan.ins
+pub cells_long : (plan : Plan) → length (input_cells plan) ≡ length plan.ins
 cells_long plan = length-map {B = ℕ × ℕ} plan.ins (λ lane. (left_of plan 0, row_of lane))
 
 -- the input of an injection

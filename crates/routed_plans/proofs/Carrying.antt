@@ -1,8 +1,7 @@
 -- The text of a plane that shows the runs of a flat netlist's list carries the netlist's designs.
-use Rattle.std.proofs.Common.{◌≡◌, refl, sym, ap, ap₂, ◌∙◌, subst, ⊎_elim, ℕ, zero, suc, ◌<◌, ◌≤◌, Bool, false, List, [], ◌∷◌, length, map, replicate, get_or, arith, ◌==◌}
+use Rattle.std.proofs.Common.{◌≡◌, refl, sym, ap, ap₂, ◌∙◌, subst, ℕ, zero, suc, ◌<◌, ◌≤◌, Bool, false, List, [], ◌∷◌, length, map, get_or, arith, ◌==◌}
 use Rattle.std.specs.Prelude.{Option, Some, slice_get, Contains}
-use Rattle.std.proofs.lemmas.Bool.{cases_lt}
-use Rattle.std.proofs.lemmas.List.{get_or-map, get_or_past, length-map, length-replicate}
+use Rattle.std.proofs.lemmas.List.{get_or-map, length-map}
 use Rattle.std.proofs.lemmas.Option.{none-some, slice_get-get_or, slice_get_within, get_or_from_slice_get}
 use Rattle.std.proofs.lemmas.Simd.{map-map}
 use Rattle.ww_rule.specs.Wireworld.{Plane, driven}
@@ -17,12 +16,11 @@ use Rattle.netlist_meaning.specs.Nets.{IsInNames}
 use Rattle.netlist_meaning.specs.Flat.{IsSound, class_of, listed_nets}
 use Rattle.netlist_meaning.specs.FlatOf.{IsFlatOf, flat_net}
 use Rattle.netlist_meaning.specs.FlatOrder.{IsOrder}
-use Rattle.netlist_meaning.specs.FlatValuation.{IsFlatValuation, IsFlatRun, flat_output_bit, flat_state_after, flat_state_in, start_bits}
+use Rattle.netlist_meaning.specs.FlatValuation.{IsFlatRun, flat_output_bit, flat_state_in, start_bits}
 use Rattle.netlist_meaning.specs.Valuation.{start_state}
 use Rattle.netlist_rules.specs.ModelFaults.{AreFaultless}
 use Rattle.netlist_rules.specs.Clocks.{HasNoClockFault}
 use Rattle.lists.proofs.Members.{contains_from}
-use Rattle.netlist_eval.proofs.Valuations.{one_valuation}
 use Rattle.flat_designs.proofs.Lists.{all_of}
 use Rattle.flat_designs.proofs.Valuations.{valuations_are_flat}
 use Rattle.flat_designs.proofs.Whole.{ports_are_flat}
@@ -41,6 +39,7 @@ use Rattle.carries.specs.FlatNets.{ShowsFlatRuns}
 use Rattle.carries.proofs.OneContext.{flat_to_contexts, from_contexts}
 use Rattle.plan_carries.specs.Compiled.{ComputesFlat}
 use Rattle.plan_carries.proofs.Designs.{shows_contexts}
+use Rattle.plan_carries.proofs.Runs.{has_run}
 use Rattle.plan_carries.proofs.SeenNets.{seen_nets, are_seen, seen_are_flat}
 use Rattle.routed_lists.specs.Runs.{src_at, list_state, list_bit}
 use Rattle.routed_texts.specs.Tables.{ShowsListRuns}
@@ -60,35 +59,7 @@ use Rattle.routed_plans.proofs.DesignNets.{ShowsDrawnNets, design_nets_shown, dr
 -- a sound flat netlist with an order has a run on all rows of input bits
 flat_runs : (flat : Flat) → IsSound flat → (order : List ℕ) → IsOrder flat order → HasFlatRuns flat
 flat_runs flat sound order ordered rows are =
-    (run, λ t given e. subst (λ r. IsFlatValuation flat r (flat_state_in flat (start_bits flat) run t) (run t)) (get_or_from_slice_get rows t given none e) (solves t))
-  where
-    none : List Bool
-    none = replicate (length flat.ins) false
-
-    row : ℕ → List Bool
-    row t = get_or rows t none
-
-    row_long : (t : ℕ) → length (row t) ≡ length flat.ins
-    row_long t =
-        ⊎_elim (λ (lt : t < length rows). are t none lt)
-        (λ (ge : length rows ≤ t). ap (λ (bits : List Bool). length bits) (get_or_past rows t none ge) ∙ length-replicate (length flat.ins) false) (cases_lt t (length rows))
-
-    value : (state : List Bool) → length state ≡ length flat.latches → (t : ℕ) → (bits : ℕ → Bool) × IsFlatValuation flat (row t) state bits
-    value state fits t = let (bits, is, alone) = one_valuation flat sound order ordered (row t) state (row_long t) fits in (bits, is)
-
-    start_long : length (start_bits flat) ≡ length flat.latches
-    start_long = length-map flat.latches (λ (latch : FlatLatch). latch.init == 1)
-
-    after_long : (bits : ℕ → Bool) → length (flat_state_after flat bits) ≡ length flat.latches
-    after_long bits = length-map flat.latches (λ (latch : FlatLatch). bits (class_of flat latch.input))
-
-    run : ℕ → ℕ → Bool
-    run zero = (value (start_bits flat) start_long zero).0
-    run (suc t) = (value (flat_state_after flat (run t)) (after_long (run t)) (suc t)).0
-
-    solves : (t : ℕ) → IsFlatValuation flat (row t) (flat_state_in flat (start_bits flat) run t) (run t)
-    solves zero = (value (start_bits flat) start_long zero).1
-    solves (suc t) = (value (flat_state_after flat (run t)) (after_long (run t)) (suc t)).1
+    has_run flat sound order ordered (start_bits flat) (length-map flat.latches (λ (latch : FlatLatch). latch.init == 1)) rows are
 
 -- ---- the runs of a wanted list are those of the flat netlist that the list computes
 module _ (flat : Flat) (shown : List (Option SeenPort)) (list wanted : CellList) (is : IsWanted shown wanted list) (computes : ComputesFlat flat list) (rows : List (List Bool)) (run : ℕ → ℕ → Bool) (runs : IsFlatRun flat (start_bits flat) rows run) where

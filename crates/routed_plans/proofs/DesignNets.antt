@@ -21,9 +21,10 @@ use Rattle.lists.proofs.Members.{contains_from, in_got, got_from}
 use Rattle.place_paths.specs.Paths.{name_and_path}
 use Rattle.plan_ports.specs.Tables.{named_paths}
 use Rattle.pattern_reading.specs.declared.ports.Ports.{Ports}
-use Rattle.carries.specs.Cells.{ShowsBitsFrom, ShowsNetLines, drive}
+use Rattle.carries.specs.Cells.{ShowsNetLines, drive}
 use Rattle.carries.specs.Carries.{Carries}
 use Rattle.carries.specs.Nets.{ShowsNets, CarriesNets}
+use Rattle.carries.proofs.Cycles.{same_from}
 use Rattle.plan_carries.proofs.Alike.{latches_alike}
 use Rattle.plan_carries.proofs.SeenNets.{seen_nets, seen_are_flat, seen_has_bit}
 use Rattle.routed_plans.specs.declared.nets.SeenPort.{SeenPort}
@@ -56,13 +57,6 @@ abbrev pub ShowsDrawnNets : Plane → Ports → Flat → List (Option SeenPort) 
 ShowsDrawnNets plane ports flat shown =
     (rows : List (List Bool)) (run : ℕ → ℕ → Bool) → IsFlatRun flat (start_bits flat) rows run
     → ShowsNetLines plane ports rows (items_drawn shown (listed_nets flat)) (λ t net. run t net.class)
-
-same_from : (first period cycles : ℕ) (bit other : ℕ → Bool) (g : ℕ) (plane : Plane) (x y : ℕ) → ((t : ℕ) → t < cycles → bit t ≡ other t)
-    → ShowsBitsFrom first period cycles bit g plane x y → ShowsBitsFrom first period cycles other g plane x y
-same_from first period cycles bit other g plane x y same shown = (
-  λ head. (let found = shown.0 head in (found.0, found.1, found.2, sym (same found.0 found.1) ∙ found.3)),
-  λ at. shown.1 (at.0, at.1, at.2, same at.0 at.1 ∙ at.3),
-)
 
 -- the design has those nets that are drawn
 drawn_are_flat : (design : Design) (flat : Flat) → IsFlatOf design flat → (shown : List (Option SeenPort)) → items_drawn shown (listed_nets flat) ≡ map (flat_net design) (items_drawn shown (seen_nets design flat))

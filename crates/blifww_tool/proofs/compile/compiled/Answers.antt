@@ -20,9 +20,9 @@ plan_of-requires-clause-parts c = c.requires.parts
 pub plan_of-requires-clause-names : goal.plan_of-requires-clause-names
 plan_of-requires-clause-names c = c.requires.names
 
-pub returns-in_err-planned-clause-refused : goal.returns-in_err-planned-clause-refused
-returns-in_err-planned-clause-refused c =
-    let p = err_from_is_err_and c.from_residual-in_err-planned.result c.from_residual-in_err-planned.ensures.1 in
+pub returns-in_err-plan-clause-refused : goal.returns-in_err-plan-clause-refused
+returns-in_err-plan-clause-refused c =
+    let p = err_from_is_err_and c.from_residual-in_err-plan.result c.from_residual-in_err-plan.ensures.1 in
     rw (p.1, p.2) (λ text is. tt)
 
 pub started-requires-clause-parts : goal.started-requires-clause-parts

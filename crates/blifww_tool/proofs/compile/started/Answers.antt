@@ -2,6 +2,8 @@ use Rattle.std.proofs.Common.{◌≡◌, ◌∙◌, ◌≤◌, ◌/◌, refl, su
 use Rattle.std.proofs.lemmas.List.{length-map}
 use Rattle.std.proofs.lemmas.Result.{err_from_is_err_and}
 use Rattle.netlist_plans.specs.Contexts.{loop_starting_bits, IsPaddedFor}
+use Rattle.netlist_plans.proofs.Compiled.{planned_ports, planned_table}
+use Rattle.blifww_tool.specs.Compilation.{HasNoRoom}
 use Rattle.flat_designs.proofs.Whole.{flat_is_named, flat_is_one}
 use Rattle.plan_ports.specs.Tables.{IsTableOf}
 use Rattle.netlist_text.proofs.SoundParts.{sound, weighed, small}
@@ -16,18 +18,41 @@ use Rattle.lift_carries.proofs.Drawings.{compiled_are_drawings}
 use Rattle.lift_carries.proofs.Starts.{one_context_is_circuit}
 use Rattle.blifww_tool.proofs.compile.started.Goals as goal
 
-pub returns-then-contexts-limit-clause-refused : goal.returns-then-contexts-limit-clause-refused
-returns-then-contexts-limit-clause-refused c = λ text has. (
-  refl,
-  room_refused c.args.contexts (map string_bytes c.args.words.now) text c.args.netlist.now.design c.args.netlist.now.flat c.args.planned.plan c.args.planned.ports has
-      c.requires.parts.is_flat c.requires.carried c.if-contexts-limit.true,
-)
+pub period-requires : goal.period-requires
+period-requires c = c.requires.planned.is.admissible
 
-pub returns-then-is_alone-clause-printed : goal.returns-then-is_alone-clause-printed
-returns-then-is_alone-clause-printed c = λ text has.
-    let room : c.args.contexts ≤ c.args.planned.ports.p / 32 = omega (arith, c.if-contexts-limit.false) in
+pub returns-then-contexts-limit-clause-refused : goal.returns-then-contexts-limit-clause-refused
+returns-then-contexts-limit-clause-refused c = λ text has.
+    let words = map string_bytes c.args.words.now in
+    let flat = c.args.netlist.now.flat in
+    let own = planned_table flat c.args.plan c.requires.planned in
+    let is : own.0.p ≡ c.period.result = own.1.period ∙ sym c.period.ensures in (
+      refl,
+      subst (λ (p : ℕ). HasNoRoom c.args.contexts words text (p / 32)) is
+          (room_refused c.args.contexts words text c.args.netlist.now.design flat c.args.plan own.0 has c.requires.parts.is_flat (c.requires.carried own.0 own.1) (omega (arith, is, c.if-contexts-limit.true))),
+    )
+
+pub of_plan-requires-clause-in_range : goal.of_plan-requires-clause-in_range
+of_plan-requires-clause-in_range c = (sound c.args.netlist.now.design c.args.netlist.now.flat _ c.requires.parts flat_is_sound).in_range
+
+pub of_plan-requires-clause-admissible : goal.of_plan-requires-clause-admissible
+of_plan-requires-clause-admissible c = c.requires.planned.is.admissible
+
+pub of_plan-requires-clause-ports : goal.of_plan-requires-clause-ports
+of_plan-requires-clause-ports c = planned_ports c.args.netlist.now.flat c.args.plan c.requires.planned
+
+pub returns-in_err-ports-clause-refused : goal.returns-in_err-ports-clause-refused
+returns-in_err-ports-clause-refused c =
+    let p = err_from_is_err_and c.from_residual.result c.from_residual.ensures.1 in
+    rw (p.1, p.2) (λ text has. tt)
+
+pub returns-in_ok-ports-clause-printed : goal.returns-in_ok-ports-clause-printed
+returns-in_ok-ports-clause-printed c = λ text has.
+    let ports = c.in_ok-ports.ports in
+    let table = c.in_ok-ports.ensures in
+    let room : c.args.contexts ≤ ports.p / 32 = omega (arith, table.period, c.period.ensures, c.if-contexts-limit.false) in
     compiles_plain one_context_carries one_context_carries_nets no_words_mean_start c.args.contexts (map string_bytes c.args.words.now)
-    (alone string_bytes c.args.contexts c.args.words.now (sym c.is_alone.ensures ∙ c.if-is_alone.true)) text c.args.netlist.now.design c.args.netlist.now.flat _ c.args.planned.plan c.args.planned.ports has c.requires.parts c.requires.carried room
+    (alone string_bytes c.args.contexts c.args.words.now (sym c.is_alone.ensures ∙ c.if-is_alone.true)) text c.args.netlist.now.design c.args.netlist.now.flat _ c.args.plan ports has c.requires.parts (c.requires.carried ports table) room
 
 pub returns-in_err-bits-clause-refused : goal.returns-in_err-bits-clause-refused
 returns-in_err-bits-clause-refused c =
@@ -58,10 +83,9 @@ plan_contexts-requires-clause-starts c =
     let words = map string_bytes c.args.words.now in
     let bits = c.as_slice.ensures ∙ c.in_ok-bits.ensures words c.requires.set in
     let many = many_starts flat words c.args.contexts c.as_slice.result.now bits in
-    let period = (c.requires.carried.table flat c.requires.parts.is_flat).period in
     record {
       some = omega (arith, many, c.requires.some);
-      fit = omega (arith, many, period, c.if-contexts-limit.false);
+      fit = omega (arith, many, c.period.ensures, c.if-contexts-limit.false);
       long = long_starts flat words c.args.contexts c.as_slice.result.now bits;
     }
 
@@ -70,15 +94,16 @@ returns-clause-printed c = λ text has.
     let words = map string_bytes c.args.words.now in
     let flat = c.args.netlist.now.flat in
     let contexts = c.args.contexts in
-    let base = c.args.planned.plan in
+    let base = c.args.plan in
+    let own = planned_table flat base c.requires.planned in
     let plan = c.in_ok-started.started.plan in
     let ports = c.in_ok-started.started.ports in
     let p = c.in_ok-started.ensures in
-    let room : contexts ≤ c.args.planned.ports.p / 32 = omega (arith, c.if-contexts-limit.false) in
+    let room : contexts ≤ own.0.p / 32 = omega (arith, own.1.period, c.period.ensures, c.if-contexts-limit.false) in
     let bits = c.as_slice.ensures ∙ c.in_ok-bits.ensures words c.requires.set in
     let many : length c.as_slice.result.now ≡ contexts = many_starts flat words contexts c.as_slice.result.now bits in
-    compiles flat_is_one designs_are_carried_in_contexts starts_are_flat contexts words text c.args.netlist.now.design flat _ base c.args.planned.ports plan ports c.as_slice.result.now has
-    c.requires.parts c.requires.carried room (not_alone string_bytes contexts c.args.words.now (sym c.is_alone.ensures ∙ c.if-is_alone.false)) p.admissible p.edges
+    compiles flat_is_one designs_are_carried_in_contexts starts_are_flat contexts words text c.args.netlist.now.design flat _ base own.0 plan ports c.as_slice.result.now has
+    c.requires.parts (c.requires.carried own.0 own.1) room (not_alone string_bytes contexts c.args.words.now (sym c.is_alone.ensures ∙ c.if-is_alone.false)) p.admissible p.edges
     (subst (λ (n : ℕ). IsPaddedFor n base plan) many p.padded) bits p.starts
     (subst (λ (n : ℕ). IsTableOf flat plan n ports) many p.table) p.places
     p.carries

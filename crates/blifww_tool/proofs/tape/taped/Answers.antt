@@ -2,6 +2,7 @@ use Rattle.std.proofs.Common.{refl, subst}
 use Rattle.flat_designs.proofs.Whole.{flat_is_one}
 use Rattle.netlist_core.specs.declared.flat.Flat.{Flat}
 use Rattle.rle_write.specs.PlanText.{text_of_plan}
+use Rattle.netlist_plans.proofs.Compiled.{planned_table}
 use Rattle.plan_carries.proofs.Designs.{designs_run_by_themselves}
 use Rattle.plan_ports.specs.Tables.{IsTableOf}
 use Rattle.streams.specs.Rows.{rows_of}
@@ -19,7 +20,7 @@ load_netlist-requires-clause-compilable c =
     (c.args.netlist.now.order.nodes, compilable c.args.netlist.now.design c.args.netlist.now.flat _ c.requires.parts c.requires.names)
 
 pub load_netlist-requires-clause-planned : goal.load_netlist-requires-clause-planned
-load_netlist-requires-clause-planned c = c.in_ok-planned.ensures.planned
+load_netlist-requires-clause-planned c = c.in_ok-plan.ensures.planned
 
 pub load_netlist-requires-clause-many : goal.load_netlist-requires-clause-many
 load_netlist-requires-clause-many c = c.requires.many
@@ -38,13 +39,13 @@ returns-clause-taped c =
     let design = c.args.netlist.now.design in
     let flat = c.args.netlist.now.flat in
     let parts = c.requires.parts in
-    let machine = c.in_ok-planned.planned in
+    let own = planned_table flat c.in_ok-plan.plan c.in_ok-plan.ensures.planned in
     let loaded = c.in_ok-loaded.loaded in
     record {
-      machine = machine.plan;
-      machine_ports = machine.ports;
-      is_carried = c.in_ok-planned.ensures.carried;
-      bare = c.in_ok-planned.ensures.bare;
+      machine = c.in_ok-plan.plan;
+      machine_ports = own.0;
+      is_carried = c.in_ok-plan.ensures.carried own.0 own.1;
+      bare = c.in_ok-plan.ensures.bare;
       plan = loaded.plan;
       ports = loaded.ports;
       loaded = c.in_ok-loaded.ensures.loaded;
