@@ -5,21 +5,20 @@ use Rattle.std.proofs.lemmas.Bool.{cases_eq}
 use Rattle.std.proofs.lemmas.List.{get_or-set_same, get_or-set_other}
 use Rattle.std.proofs.lemmas.Nat.{and_comm}
 use Rattle.std.specs.Int.RustNames.{bit_and}
-use Rattle.lane_kernel.specs.declared.free_cells.Free.{Free}
 use Rattle.lane_kernel.specs.Around.{Way, beside, free_of, near_heads, IsFramed}
-use Rattle.lane_kernel.specs.Marked.{AreMore, AreTold, IsMarked, IsTold, opposite}
+use Rattle.lane_kernel.specs.Marked.{AreMore, IsMarked, IsTold, opposite}
 use Rattle.lane_kernel.proofs.Ways.{there_and_back, back_again}
 
 -- the words beside word i, by these heads of it, in a plane with these tails and cells
 abbrev pub AreToldOf : (stride h i : ℕ) (tails cells bytes : List ℕ) → Type 0
 AreToldOf stride h i tails cells bytes = (way : Way) → IsTold (near_heads (opposite way) h) tails cells bytes (beside stride way i)
 
-pub told_of : (free : Free) {h h' : ℕ} (i : ℕ) {tails cells : List ℕ} (new : List ℕ) → h ≡ h' → free.tails.now ≡ tails → free.cells.now ≡ cells
-    → AreTold free h i new → AreToldOf free.stride h' i tails cells new
-told_of free {h} {h'} i {tails} {cells} new p q r told =
-    subst (λ c. AreToldOf free.stride h' i tails c new) r
-    (subst (λ t. AreToldOf free.stride h' i t free.cells.now new) q
-    (subst (λ h. AreToldOf free.stride h i free.tails.now free.cells.now new) p told))
+pub told_of : (stride : ℕ) {h h' : ℕ} (i : ℕ) {tails tails' cells cells' : List ℕ} (new : List ℕ) → h ≡ h' → tails ≡ tails' → cells ≡ cells'
+    → AreToldOf stride h i tails cells new → AreToldOf stride h' i tails' cells' new
+told_of stride {h} {h'} i {tails} {tails'} {cells} {cells'} new p q r told =
+    subst (λ c. AreToldOf stride h' i tails' c new) r
+    (subst (λ t. AreToldOf stride h' i t cells new) q
+    (subst (λ h. AreToldOf stride h i tails cells new) p told))
 
 module _ (stride : ℕ) (heads tails cells bytes : List ℕ) (i h c : ℕ) (new : List ℕ) (in_heads : i < length heads) (in_cells : i < length cells)
     (framed : IsFramed stride (slice_set cells i c)) (was : IsMarked stride heads tails cells bytes) (more : AreMore bytes new) (here : 2 ≤ get_or new i 0)

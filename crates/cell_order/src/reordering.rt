@@ -11,7 +11,6 @@ use std::alloc::Global;
 
 // The list with the cells that have come, if these are as many as before and have all that its
 // ports and nets read.
-#[tactic(auto, using(crate::proofs::Moves::bits_follow, crate::proofs::Moves::there_follow))]
 fn with_moved(
     alloc: Global,
     list: &CellList,

@@ -20,7 +20,6 @@ pub struct KeptList {
 }
 
 // The list of the cells that have moved, if all that its outputs, latches and nets read have moved.
-#[tactic(auto, using(cell_moves::proofs::Moves::bits_follow, cell_moves::proofs::Moves::there_follow))]
 fn list_of(
     alloc: Global,
     list: &CellList,

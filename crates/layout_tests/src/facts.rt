@@ -116,6 +116,15 @@ fn has_rows(plan: &Plan, rows: &str) -> bool
     true
 }
 
+fn are_places(places: &[NetPlace], want: &[NetPlace]) -> bool {
+    for (i, place) in places.iter().enumerate() {
+        if i >= want.len() || place.lane != want[i].lane || place.after != want[i].after {
+            return false;
+        }
+    }
+    places.len() == want.len()
+}
+
 fn has(alloc: Global, plan: &Plan, fact: &Fact) -> Result<bool, Fail>
     requires admissible { IsAdmissible plan.now }
     requires starts { HasStartEdges plan.now }
@@ -127,7 +136,7 @@ fn has(alloc: Global, plan: &Plan, fact: &Fact) -> Result<bool, Fail>
         Fact::Columns(count) => Ok(plan.columns.len() == *count),
         Fact::Latches(count) => Ok(plan.latches == *count),
         Fact::Starts(starts) => Ok(plan.starts.list.as_slice() == *starts),
-        Fact::Nets(places) => Ok(plan.nets.as_slice() == *places),
+        Fact::Nets(places) => Ok(are_places(plan.nets.as_slice(), places)),
         Fact::InCells(cells) => Ok(has_in_cells(plan, cells)),
         Fact::OutCells(cells) => Ok(has_out_cells(plan, cells)),
         Fact::NetCells(cells) => Ok(has_net_cells(plan, cells)),

@@ -1,8 +1,6 @@
-//! Tests of the public calls that read, weigh and map netlists.
+//! Tests of the public calls that read, map and make netlists.
 #![tactic(auto)]
 
-#[cfg(test)]
-mod checks;
 #[cfg(test)]
 mod circles;
 #[cfg(test)]
@@ -11,8 +9,6 @@ mod complements;
 mod cover_values;
 #[cfg(test)]
 mod covers;
-#[cfg(test)]
-mod latch_starts;
 #[cfg(test)]
 mod logical_lines;
 #[cfg(test)]
@@ -24,8 +20,4 @@ mod pages;
 #[cfg(test)]
 mod rewriting;
 #[cfg(test)]
-mod rule_names;
-#[cfg(test)]
 mod texts;
-#[cfg(test)]
-mod weights;

@@ -199,50 +199,24 @@ AA.$.C.!
 > 2, advance 0
 x = 3, y = 2, rule = WireWorld
 AA.$.C.!
-== moved, BB..A.";
+== moved, BB..A.
+> 4294967295, advance 0 -- bands of the greatest height: none without cells, and one of three cells
+x = 18446744073709551615, y = 0, rule = WireWorld
+!
+== no band,\x20
+> 4294967295, advance 0
+x = 0, y = 18446744073709551615, rule = WireWorld
+!
+== no band,\x20
+> 4294967295, advance 1, advance 0
+x = 1, y = 3, rule = WireWorld
+A$C$C!
+== no band, moved, BAC";
 
 #[test]
 fn bands_move_in_any_order(rt: HostRuntime) -> Result<(), Fail> {
     for case in ORDERS.split("\n>") {
         expect_case(rt.alloc(), case)?;
-    }
-    Ok(())
-}
-
-// Patterns, and how many bands of the greatest height they have.
-const COUNTS: &str = "\
-no rows
-x = 18446744073709551615, y = 0, rule = WireWorld
-!
-== 0
-> no columns
-x = 0, y = 18446744073709551615, rule = WireWorld
-!
-== 0
-> three cells
-x = 1, y = 3, rule = WireWorld
-A$C$C!
-== 1";
-
-fn count_of(alloc: Global, text: &[u8]) -> Result<usize, Fail> {
-    let pattern = read(alloc, text)?;
-    let bands = Bands::new(alloc, pattern, Vec::new(alloc), u32::MAX)?;
-    Ok(bands.bands())
-}
-
-fn expect_count(alloc: Global, case: &str) -> Result<(), Fail> {
-    let (head, text, want) = cut(case);
-    if want.parse::<usize>().unwrap_or(usize::MAX) == count_of(alloc, text.as_bytes())? {
-        Ok(())
-    } else {
-        Err(Fail::new(head))
-    }
-}
-
-#[test]
-fn a_pattern_without_cells_has_no_band(rt: HostRuntime) -> Result<(), Fail> {
-    for case in COUNTS.split("\n>") {
-        expect_count(rt.alloc(), case)?;
     }
     Ok(())
 }

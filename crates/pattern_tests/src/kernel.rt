@@ -3,7 +3,7 @@
 use lane_kernel::step_rows;
 
 #[test]
-fn a_head_crosses_the_border_of_words(rt: HostRuntime) {
+fn a_head_crosses_the_border_of_words_and_three_light_nothing(rt: HostRuntime) {
     let mut heads = [0u64; 2];
     let mut wires = [0u64; 2];
     step_rows(
@@ -19,10 +19,6 @@ fn a_head_crosses_the_border_of_words(rt: HostRuntime) {
         heads == [1 << 63, 0] && wires == [2, 0],
         "a row of two words"
     );
-}
-
-#[test]
-fn three_heads_light_nothing(rt: HostRuntime) {
     let mut heads = [0u64; 1];
     let mut wires = [0u64; 1];
     step_rows(&[7], &[0], &[0], &[0], &[10], &mut heads, &mut wires);

@@ -20,13 +20,6 @@ fn is_cut(text: &[u8], bytes: &[u8], is_ended: bool, after: &[u8]) -> bool {
     line.number == 7 && line.bytes == bytes && line.is_ended == is_ended && rest == after
 }
 
-#[test]
-fn lines_by_their_texts(rt: HostRuntime) {
-    for (text, bytes, is_ended, after) in LINES {
-        assert!(rt; is_cut(text, bytes, *is_ended, after), "another line");
-    }
-}
-
 // Texts, and the numbers that they spell in digits.
 const NUMBERS: &[(&[u8], Option<u64>)] = &[
     (b"0", Some(0)),
@@ -43,7 +36,10 @@ const NUMBERS: &[(&[u8], Option<u64>)] = &[
 ];
 
 #[test]
-fn numbers_by_their_digits(rt: HostRuntime) {
+fn lines_and_numbers_by_their_texts(rt: HostRuntime) {
+    for (text, bytes, is_ended, after) in LINES {
+        assert!(rt; is_cut(text, bytes, *is_ended, after), "another line");
+    }
     for (digits, number) in NUMBERS {
         assert!(rt; number_in(digits) == *number, "another number");
     }

@@ -1,10 +1,11 @@
-//! Tests of the public calls that make plans of lists of cells and of AIGER circuits, and write these as texts.
+//! Tests of the public calls that read AIGER circuits, make plans of lists of cells, and lift lists of cells from plans.
+//! Also compares the stages of docs/TOUR.md with what the crates make.
 #![tactic(auto)]
 
 #[cfg(test)]
-mod choosing;
+mod aiger_texts;
 #[cfg(test)]
-mod circuits;
+mod choosing;
 #[cfg(test)]
 mod climbing;
 #[cfg(test)]
@@ -12,14 +13,18 @@ mod drawing;
 #[cfg(test)]
 mod lifting;
 #[cfg(test)]
-mod netlists;
+mod page;
 #[cfg(test)]
 mod plans;
+#[cfg(test)]
+mod reading;
 #[cfg(test)]
 mod rows;
 #[cfg(test)]
 mod running;
 #[cfg(test)]
-mod texts;
+mod stages;
+#[cfg(test)]
+mod writing;
 #[cfg(test)]
 mod written;

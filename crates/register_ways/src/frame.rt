@@ -3,11 +3,12 @@
 /// Rows or columns from a wire to the next one.
 pub const APART: u32 = 2;
 
-/// A circuit of `width` x `height` cells.
+/// A circuit of `width` x `height` cells. If its outputs stand together, `gap` wires leave it north of them.
 #[derive(Clone, Copy)]
 pub struct Circuit {
     pub width: u32,
     pub height: u32,
+    pub gap: Option<usize>,
 }
 
 /// A register's wire: the row in which it leaves the circuit's last column, and the one in which it comes back to column

@@ -13,6 +13,9 @@ const HEIGHTS: u32 = 160;
 // How many ways of parting the wires are tried at most.
 const PARTS: usize = 32;
 
+// So many wires are parted where the outputs stand, if these stand together.
+const MANY: usize = 16;
+
 /// A plan for wires around a circuit: the first `parted` ones go around its north. The bumps are so high at either side,
 /// and the wires take so many rows there.
 #[derive(Clone, Copy)]
@@ -186,9 +189,8 @@ fn parted_plan(loops: &[Loop], circuit: Circuit, parted: usize, period: u32) -> 
     settled_plan(loops, plan)
 }
 
-/// Returns the cheapest plan for wires around a circuit whose period is at least this one. Nothing if there is no room for
-/// the wires.
-pub fn plan_of(loops: &[Loop], circuit: Circuit, period: u32) -> Option<Plan> {
+// The cheapest plan whose period is at least this one.
+fn cheapest_plan(loops: &[Loop], circuit: Circuit, period: u32) -> Option<Plan> {
     let step = loops.len() / PARTS;
     let mut best = None;
     let mut parted = 0usize;
@@ -200,4 +202,25 @@ pub fn plan_of(loops: &[Loop], circuit: Circuit, period: u32) -> Option<Plan> {
         parted = parted.saturating_add(step).saturating_add(1);
     }
     best
+}
+
+// The second one of two plans, if it does not cost much more than the first one; else the first one.
+fn preferred(best: Option<Plan>, other: Option<Plan>) -> Option<Plan> {
+    match (best, other) {
+        (Some(a), Some(b)) if a.cost() < b.cost() / 4 * 3 => best,
+        (_, Some(_)) => other,
+        (_, None) => best,
+    }
+}
+
+/// Returns the cheapest plan for wires around a circuit whose period is at least this one. If there are many and the
+/// outputs stand together, they part there, unless that costs much more. Nothing if there is no room for the wires.
+pub fn plan_of(loops: &[Loop], circuit: Circuit, period: u32) -> Option<Plan> {
+    let best = cheapest_plan(loops, circuit, period);
+    match circuit.gap {
+        Some(gap) if loops.len() >= MANY => {
+            preferred(best, parted_plan(loops, circuit, gap, period))
+        }
+        _ => best,
+    }
 }

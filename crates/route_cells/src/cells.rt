@@ -14,19 +14,16 @@ use cell_core::CellList;
 use pattern_reading::Ports;
 use route_check::test_cells;
 use route_filling::tables_of;
-use route_tables::{CellFault, FaultWord, Tables};
+use route_tables::{BOX_LIMIT, CellFault, FaultWord, Tables};
 use routed_core::Drawing;
 use std::alloc::Global;
 use ww_rule::{Pattern, State};
-
-// The greatest number of cells of a box that is looked at.
-const MOST_CELLS: u64 = 1 << 26;
 
 // The columns and the cells of the box, if these are not too many.
 fn size_of(pattern: &Pattern) -> Option<(u32, usize)> {
     let cells = pattern.width.checked_mul(pattern.height)?;
     match u32::try_from(pattern.width) {
-        Ok(width) if cells <= MOST_CELLS => Some((width, cells as usize)),
+        Ok(width) if cells <= BOX_LIMIT => Some((width, cells as usize)),
         _ => None,
     }
 }
@@ -96,7 +93,7 @@ fn list_of(
 /// routed circuit of this drawing: gates of the library that stand apart, joined by wires. The
 /// drawing is a hint; what it says is tested against the pattern. The list has an input for each IN
 /// line, an output for each OUT line and a net for each NET line, in order. A box of more than
-/// 67,108,864 cells is too large.
+/// `BOX_LIMIT` cells is too large.
 pub fn cells_of(
     alloc: Global,
     pattern: &Pattern,
@@ -113,7 +110,7 @@ pub fn cells_of(
         });
     };
     if ports.p < 3 || ports.c != 1 {
-        return Err(at_header(FaultWord::Kind));
+        return Err(at_header(FaultWord::Port));
     }
     let tables = tables_of(alloc, drawing, width, size)?;
     let cells = flat_cells(alloc, pattern)?;

@@ -24,7 +24,7 @@ use Rattle.route_tables.specs.declared.tables.GateInput.{GateInput}
 use Rattle.route_tables.specs.declared.tables.Tables.{Tables}
 use Rattle.route_tables.specs.Serials.{listed_cell}
 use Rattle.route_tables.specs.Owners.{owner_at, owner_by}
-use Rattle.route_tables.specs.Tables.{no_gate, no_wire, no_input, no_port, table_gate, table_wire, gate_drawing, sourced_gate, sourced_wire, sourced_wires, placed_gates, dark_wire, driven_points, wire_path, HasPort, IsPort, gate_point, point_at, input_port, input_point, box_plane, label, own}
+use Rattle.route_tables.specs.Tables.{no_gate, no_wire, no_input, no_port, table_gate, table_wire, gate_drawing, sourced_gate, sourced_wire, sourced_wires, placed_gates, dark_wire, driven_points, wire_path, HasPort, IsPort, gate_point, point_at, input_port, input_point, box_plane, serial, own}
 use Rattle.route_tables.specs.Cells.{IsFed, IsWireEnd, FeedsInput}
 use Rattle.route_tables.specs.Checked.{HasItsCells, ComputesItsList}
 use Rattle.route_check.specs.Labelled.{IsRoutedBox, CheckedAreLabelled}
@@ -68,7 +68,7 @@ module _ (t : Tables) (states : List State) (period : ℕ) (h : HasItsCells t st
 
   both : AreLabels (placed_gates t) wires (box_plane t states) owner
       × ((g l : ℕ) (c d : ℤ × ℤ) → owner c ≡ OfGate g → IsNear d c → owner d ≡ OfGate l → l ≡ g)
-  both = tables_are_labels (placed_gates t) wires t.cells states t.serials t.width t.groups (length t.gates) (own t) h.labelled (listing t states h)
+  both = tables_are_labels (placed_gates t) wires t.cells states t.serials t.width t.groups (length t.gates) (own t) h.serials (listing t states h)
 
   labels : AreLabels (placed_gates t) wires (box_plane t states) owner
   labels = both.0
@@ -82,14 +82,14 @@ module _ (t : Tables) (states : List State) (period : ℕ) (h : HasItsCells t st
   path_or_nobody w i cell low short near =
       elim (h.alone w low i short cell near) [
         | inl none ↦ inl (ap (owner_by (own t)) none)
-        | inr (j, few, same) ↦ by_label j few same (label t cell) refl
+        | inr (j, few, same) ↦ by_serial j few same (serial t cell) refl
       ]
     where
-      by_label : (j : ℕ) → j < 3 → label t cell ≡ label t (wire_path t (table_wire t w) (i + j)) → (n : ℕ) → label t cell ≡ n → (owner cell ≡ Nobody) ⊎ ((j : ℕ) × (i ≤ j) × (j ≤ i + 2) × (cell ≡ wire_path t (table_wire t w) j))
-      by_label j few same zero none = inl (ap (owner_by (own t)) none)
-      by_label j few same (suc n) some =
-          let here = h.labelled.some cell n some in
-          let there = h.labelled.some (wire_path t (table_wire t w) (i + j)) n (sym same ∙ some) in
+      by_serial : (j : ℕ) → j < 3 → serial t cell ≡ serial t (wire_path t (table_wire t w) (i + j)) → (n : ℕ) → serial t cell ≡ n → (owner cell ≡ Nobody) ⊎ ((j : ℕ) × (i ≤ j) × (j ≤ i + 2) × (cell ≡ wire_path t (table_wire t w) j))
+      by_serial j few same zero none = inl (ap (owner_by (own t)) none)
+      by_serial j few same (suc n) some =
+          let here = h.serials.some cell n some in
+          let there = h.serials.some (wire_path t (table_wire t w) (i + j)) n (sym same ∙ some) in
           inr (i + j, omega arith, omega (arith, few), here.1 ∙ sym there.1)
 
   apart : OwnersStandApart wires owner

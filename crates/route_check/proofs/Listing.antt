@@ -136,7 +136,7 @@ module _ (t : Tables) (states : List State) (h : HasItsCells t states) where
 
   listed_in_gate : (k : ℕ) → k < length t.gates → (c : ℤ × ℤ) → IsCellOfGate t states k c → IsListedCell (OfGate k) c
   listed_in_gate k low c is =
-      let there = h.labelled.some c is.number is.listed in
+      let there = h.serials.some c is.number is.listed in
       record { number = is.number; low = there.0; whose = own_gate is.number k is.grouped low; here = there.1 }
 
   pub number_of_gate : (k : ℕ) (c : ℤ × ℤ) → IsGateCell (placed_gates t) k c → (k < length t.gates) × (cell_state (gate_plane (placed k)) c ≢ Empty)

@@ -7,7 +7,7 @@ use Rattle.wire_laws.specs.Signals.{cell_state}
 use Rattle.wire_laws.specs.Wires.{Wire, IsNear}
 use Rattle.routed_planes.specs.Routed.{PlacedGate}
 use Rattle.routed_planes.specs.Labels.{Owner, Nobody, OfGate, OfWire, IsGateCell, IsWireCell, AreLabels}
-use Rattle.route_tables.specs.Serials.{label_at, listed_cell, AreLabelled}
+use Rattle.route_tables.specs.Serials.{serial_at, listed_cell, AreSerials}
 use Rattle.route_tables.specs.Owners.{IsListing, owner_by, owner_at, TablesAreLabels}
 
 abbrev is_somebody : Owner → Bool
@@ -20,33 +20,33 @@ gate_number Nobody = 0
 gate_number (OfGate k) = k
 gate_number (OfWire w i) = 0
 
-module _ (gates : List PlacedGate) (wires : List Wire) (cells : List (ℕ × ℕ)) (states : List State) (serials : List ℕ) (width : ℕ) (groups : List ℕ) (limit : ℕ) (own : ℕ → Owner) (h : AreLabelled cells states serials width groups limit) (is : IsListing gates wires cells groups limit own) where
-  abbrev label : ℤ × ℤ → ℕ
-  label c = label_at serials width c.0 c.1
+module _ (gates : List PlacedGate) (wires : List Wire) (cells : List (ℕ × ℕ)) (states : List State) (serials : List ℕ) (width : ℕ) (groups : List ℕ) (limit : ℕ) (own : ℕ → Owner) (h : AreSerials cells states serials width groups limit) (is : IsListing gates wires cells groups limit own) where
+  abbrev serial : ℤ × ℤ → ℕ
+  serial c = serial_at serials width c.0 c.1
 
   abbrev owner : ℤ × ℤ → Owner
   owner = owner_at own serials width
 
   -- a listed cell is its own
   listed : (n : ℕ) (c : ℤ × ℤ) → n < length cells → c ≡ listed_cell cells n → owner c ≡ own n
-  listed n c low e = ap (owner_by own) (ap label e ∙ h.number n low)
+  listed n c low e = ap (owner_by own) (ap serial e ∙ h.number n low)
 
   -- what is somebody's is a listed cell
   record Found (c : ℤ × ℤ) : Type 0 where
     number : ℕ
-    is_label : label c ≡ suc number
+    is_serial : serial c ≡ suc number
     low : number < length cells
     cell : c ≡ listed_cell cells number
     whose : owner c ≡ own number
 
   found : (c : ℤ × ℤ) → is_somebody (owner c) ≡ true → Found c
-  found c somebody = at (label c) refl
+  found c somebody = at (serial c) refl
     where
-      at : (k : ℕ) → label c ≡ k → Found c
+      at : (k : ℕ) → serial c ≡ k → Found c
       at zero e = absurd (true≢false (sym somebody ∙ ap (λ k. is_somebody (owner_by own k)) e))
       at (suc n) e =
           let there = h.some c n e in
-          record { number = n; is_label = e; low = there.0; cell = there.1; whose = ap (owner_by own) e }
+          record { number = n; is_serial = e; low = there.0; cell = there.1; whose = ap (owner_by own) e }
 
   of_gate : (k : ℕ) (c : ℤ × ℤ) → owner c ≡ OfGate k → IsGateCell gates k c
   of_gate k c e =
@@ -59,9 +59,9 @@ module _ (gates : List PlacedGate) (wires : List Wire) (cells : List (ℕ × ℕ
       subst (IsWireCell wires w i) (sym f.cell) (is.of_wires f.number w i f.low (sym f.whose ∙ e))
 
   of_nobody : (c : ℤ × ℤ) → owner c ≡ Nobody → cell_state (shown states width) c ≡ Empty
-  of_nobody c e = at (label c) refl
+  of_nobody c e = at (serial c) refl
     where
-      at : (k : ℕ) → label c ≡ k → cell_state (shown states width) c ≡ Empty
+      at : (k : ℕ) → serial c ≡ k → cell_state (shown states width) c ≡ Empty
       at zero none = h.none c none
       at (suc n) some = absurd (is.somebody n (h.some c n some).0 (sym (ap (owner_by own) some) ∙ e))
 
@@ -81,7 +81,7 @@ module _ (gates : List PlacedGate) (wires : List Wire) (cells : List (ℕ × ℕ
       let here = is.gate_group one.number k (sym one.whose ∙ e) in
       let there = is.gate_group two.number l (sym two.whose ∙ f) in
       let below : get_or groups one.number 0 < limit = subst (λ g. g < limit) (sym here.0) here.1 in
-      elim (h.apart one.number two.number d one.low below (subst (IsNear d) one.cell near) two.is_label) [
+      elim (h.apart one.number two.number d one.low below (subst (IsNear d) one.cell near) two.is_serial) [
         | inl same ↦ sym there.0 ∙ same ∙ here.0
         | inr far ↦ let low : l < limit = there.1 in let group : get_or groups two.number 0 ≡ l = there.0 in absurd (omega (arith, far, low, group))
       ]

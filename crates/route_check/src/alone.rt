@@ -1,63 +1,63 @@
 // Whether nothing stands beside wires but their paths.
 ghost use Rattle.std.specs.Prelude.{◌≡◌, ◌⊎◌, ◌<◌, ◌≤◌, ◌+◌, ◌-ℤ◌, suc, pos, ℕ, length, IsTrue, IfOk, IfSome};
-ghost use Rattle.route_tables.specs.Tables.{table_wire, wire_path, label};
+ghost use Rattle.route_tables.specs.Tables.{table_wire, wire_path, serial};
 ghost use Rattle.route_tables.specs.Cells.{IsAlone};
-ghost use Rattle.route_check.specs.Around.{IsOneOf, ArePathLabels};
+ghost use Rattle.route_check.specs.Around.{IsOneOf, ArePathSerials};
 
 use route_tables::{CellFault, FaultWord, TableWire, Tables};
 
-/// The labels of three cells of a path, one after the other, and the cell between the others.
+/// The serials of three cells of a path, one after the other, and the cell between the others.
 #[derive(Clone, Copy)]
-struct PathLabels {
+struct PathSerials {
     cell: (u32, u32),
     before: u32,
     here: u32,
     after: u32,
 }
 
-// The labels of three cells of a wire's path, from a place on.
-fn path_labels(tables: &Tables, wire: TableWire, i: usize) -> Option<PathLabels>
+// The serials of three cells of a wire's path, from a place on.
+fn path_serials(tables: &Tables, wire: TableWire, i: usize) -> Option<PathSerials>
     requires short { i < wire.size }
-    ensures { IfSome result (ArePathLabels tables.now wire i) }
+    ensures { IfSome result (ArePathSerials tables.now wire i) }
 {
     let before = tables.path_cell(wire, i)?;
     let here = tables.path_cell(wire, i + 1)?;
     let after = tables.path_cell(wire, i + 2)?;
-    Some(PathLabels {
+    Some(PathSerials {
         cell: here,
-        before: tables.label(before),
-        here: tables.label(here),
-        after: tables.label(after),
+        before: tables.serial(before),
+        here: tables.serial(here),
+        after: tables.serial(after),
     })
 }
 
-fn is_one_of(labels: PathLabels, label: u32) -> bool
-    ensures { IsTrue result → IsOneOf labels label }
+fn is_one_of(serials: PathSerials, serial: u32) -> bool
+    ensures { IsTrue result → IsOneOf serials serial }
 {
-    label == 0 || label == labels.before || label == labels.here || label == labels.after
+    serial == 0 || serial == serials.before || serial == serials.here || serial == serials.after
 }
 
-fn is_row_alone(tables: &Tables, labels: PathLabels, j: usize) -> bool
+fn is_row_alone(tables: &Tables, serials: PathSerials, j: usize) -> bool
     requires near { j < 3 }
-    ensures { IsTrue result → ((i : ℕ) → i < 3 → IsOneOf labels
-        (label tables.now (pos (labels.cell.0 + i) -ℤ pos 1, pos (labels.cell.1 + j) -ℤ pos 1))) }
+    ensures { IsTrue result → ((i : ℕ) → i < 3 → IsOneOf serials
+        (serial tables.now (pos (serials.cell.0 + i) -ℤ pos 1, pos (serials.cell.1 + j) -ℤ pos 1))) }
 {
     for i in 0..3 {
-        let (x, y) = labels.cell;
-        let label = tables.label_before(x as usize + i, y as usize + j);
-        if !is_one_of(labels, label) {
+        let (x, y) = serials.cell;
+        let serial = tables.serial_before(x as usize + i, y as usize + j);
+        if !is_one_of(serials, serial) {
             return false;
         }
     }
     true
 }
 
-fn is_cell_alone(tables: &Tables, labels: PathLabels) -> bool
-    ensures { IsTrue result → ((j : ℕ) → j < 3 → (i : ℕ) → i < 3 → IsOneOf labels
-        (label tables.now (pos (labels.cell.0 + i) -ℤ pos 1, pos (labels.cell.1 + j) -ℤ pos 1))) }
+fn is_cell_alone(tables: &Tables, serials: PathSerials) -> bool
+    ensures { IsTrue result → ((j : ℕ) → j < 3 → (i : ℕ) → i < 3 → IsOneOf serials
+        (serial tables.now (pos (serials.cell.0 + i) -ℤ pos 1, pos (serials.cell.1 + j) -ℤ pos 1))) }
 {
     for j in 0..3 {
-        if !is_row_alone(tables, labels, j) {
+        if !is_row_alone(tables, serials, j) {
             return false;
         }
     }
@@ -68,8 +68,8 @@ fn is_alone(tables: &Tables, wire: TableWire, i: usize) -> bool
     requires short { i < wire.size }
     ensures { IsTrue result → IsAlone tables.now wire i }
 {
-    match path_labels(tables, wire, i) {
-        Some(labels) => is_cell_alone(tables, labels),
+    match path_serials(tables, wire, i) {
+        Some(serials) => is_cell_alone(tables, serials),
         None => false,
     }
 }

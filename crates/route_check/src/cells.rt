@@ -5,7 +5,7 @@ ghost use Rattle.route_tables.specs.Checked.{HasItsCells};
 use crate::alone::are_alone;
 use crate::feeds::{are_drives_fed, are_ends_fed, are_gates_fed};
 use crate::gates::{are_gates_there, are_in_gates};
-use crate::serials::are_labelled;
+use crate::serials::are_serials;
 use crate::wires::{are_on_wires, are_wires_there};
 use route_tables::{CellFault, Tables};
 use ww_rule::State;
@@ -19,7 +19,7 @@ pub fn test_cells(tables: &Tables, states: &[State]) -> Result<(), CellFault>
     are_in_gates(tables)?;
     are_wires_there(tables)?;
     are_on_wires(tables)?;
-    are_labelled(tables, states)?;
+    are_serials(tables, states)?;
     are_alone(tables)?;
     are_ends_fed(tables)?;
     are_drives_fed(tables)?;

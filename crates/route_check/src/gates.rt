@@ -5,7 +5,7 @@ ghost use Rattle.tile_timing.specs.Window.{shown};
 ghost use Rattle.wire_laws.specs.Signals.{cell_state};
 ghost use Rattle.routed_planes.specs.Routed.{gate_plane};
 ghost use Rattle.route_tables.specs.Serials.{listed_cell};
-ghost use Rattle.route_tables.specs.Tables.{sourced_by, table_gate, gate_drawing, IsPort, input_port, input_point, box_plane, label, group};
+ghost use Rattle.route_tables.specs.Tables.{sourced_by, table_gate, gate_drawing, IsPort, input_port, input_point, box_plane, serial, group};
 ghost use Rattle.route_tables.specs.Cells.{place_cell, IsFed, IsWireEnd, IsCellOfGate, HasCellsOfGate, IsGateThere, IsDrawnInGate};
 ghost use Rattle.route_tables.specs.declared.tables.Feed.TheVariants.{Wire};
 
@@ -95,11 +95,11 @@ fn is_calm_or_end(tables: &Tables, states: &[State], k: u32, cell: (u32, u32)) -
 fn is_cell_of_gate(tables: &Tables, states: &[State], k: u32, cell: (u32, u32)) -> bool
     ensures { IsTrue result → IsCellOfGate tables.now states.now k (pos cell.0, pos cell.1) }
 {
-    let label = tables.label(cell);
-    if label == 0 {
+    let serial = tables.serial(cell);
+    if serial == 0 {
         return false;
     }
-    if tables.group(label as usize - 1) != k {
+    if tables.group(serial as usize - 1) != k {
         return false;
     }
     is_calm_or_end(tables, states, k, cell)

@@ -1,6 +1,6 @@
 // Whether each cell of the box is one listed cell, or empty, and gates stand apart.
 ghost use Rattle.std.specs.Prelude.{◌≡◌, ◌<◌, ◌≤◌, ◌+◌, ◌^◌, ◌-ℤ◌, pos, ℕ, length, get_or, IsTrue, IfOk, IfNone};
-ghost use Rattle.route_tables.specs.Serials.{label_at, HasSerial, IsListedAt, MayTouch, TouchesWell, AreLabelled};
+ghost use Rattle.route_tables.specs.Serials.{serial_at, HasSerial, IsListedAt, MayTouch, TouchesWell, AreSerials};
 
 use route_tables::{CellFault, FaultWord, Tables};
 use ww_rule::State;
@@ -8,8 +8,8 @@ use ww_rule::State;
 fn has_serial(tables: &Tables, n: usize) -> bool
     ensures { IsTrue result → HasSerial tables.now.cells tables.now.serials tables.now.width n }
 {
-    let label = tables.label(tables.cell(n)) as usize;
-    label != 0 && label - 1 == n
+    let serial = tables.serial(tables.cell(n)) as usize;
+    serial != 0 && serial - 1 == n
 }
 
 fn have_serials(tables: &Tables) -> Result<(), CellFault>
@@ -52,14 +52,14 @@ fn is_listed_at(
     requires same { length states.now ≡ length serials.now }
     ensures { IsTrue result → IsListedAt cells.now states.now serials.now width k }
 {
-    let label = serials[k] as usize;
-    if label == 0 {
+    let serial = serials[k] as usize;
+    if serial == 0 {
         return is_empty(states[k]);
     }
-    if label > cells.len() {
+    if serial > cells.len() {
         return false;
     }
-    is_cell(cells[label - 1], k % width, k / width)
+    is_cell(cells[serial - 1], k % width, k / width)
 }
 
 // The first place of a window that is not listed as it should be.
@@ -112,13 +112,13 @@ fn are_places(tables: &Tables, states: &[State]) -> Result<(), CellFault>
     }
 }
 
-fn may_touch(tables: &Tables, n: usize, label: u32) -> bool
-    ensures { IsTrue result → MayTouch tables.now.groups (length tables.now.gates) n label }
+fn may_touch(tables: &Tables, n: usize, serial: u32) -> bool
+    ensures { IsTrue result → MayTouch tables.now.groups (length tables.now.gates) n serial }
 {
-    if label == 0 {
+    if serial == 0 {
         return true;
     }
-    let group = tables.group(label as usize - 1);
+    let group = tables.group(serial as usize - 1);
     group == tables.group(n) || tables.gates.len() <= group as usize
 }
 
@@ -126,12 +126,12 @@ fn row_touches_well(tables: &Tables, n: usize, cell: (u32, u32), j: usize) -> bo
     requires near { j < 3 }
     ensures { IsTrue result → ((i : ℕ) → i < 3 →
         MayTouch tables.now.groups (length tables.now.gates) n
-        (label_at tables.now.serials tables.now.width (pos (cell.0 + i) -ℤ pos 1)
+        (serial_at tables.now.serials tables.now.width (pos (cell.0 + i) -ℤ pos 1)
         (pos (cell.1 + j) -ℤ pos 1))) }
 {
     for i in 0..3 {
-        let label = tables.label_before(cell.0 as usize + i, cell.1 as usize + j);
-        if !may_touch(tables, n, label) {
+        let serial = tables.serial_before(cell.0 as usize + i, cell.1 as usize + j);
+        if !may_touch(tables, n, serial) {
             return false;
         }
     }
@@ -179,8 +179,8 @@ fn are_gates_apart(tables: &Tables) -> Result<(), CellFault>
 
 /// Tests that each cell of the box is one listed cell, as the tables say, or is empty, and that
 /// gates stand two cells apart.
-pub fn are_labelled(tables: &Tables, states: &[State]) -> Result<(), CellFault>
-    ensures { IfOk result (λ _. AreLabelled tables.now.cells states.now tables.now.serials
+pub fn are_serials(tables: &Tables, states: &[State]) -> Result<(), CellFault>
+    ensures { IfOk result (λ _. AreSerials tables.now.cells states.now tables.now.serials
         tables.now.width tables.now.groups (length tables.now.gates)) }
 {
     have_serials(tables)?;

@@ -122,19 +122,19 @@ pub fn serials_of(
 ) -> Result<Vec<u32>, FillError> {
     let mut serials = vec![in alloc; 0u32; size]?;
     for (n, cell) in cells.iter().enumerate() {
-        let label = number(n.saturating_add(1))?;
+        let serial = number(n.saturating_add(1))?;
         let at = (cell.1 as usize)
             .saturating_mul(width as usize)
             .saturating_add(cell.0 as usize);
         if cell.0 < width {
-            put(&mut serials, at, label);
+            put(&mut serials, at, serial);
         }
     }
     Ok(serials)
 }
 
-fn put(serials: &mut [u32], at: usize, label: u32) {
+fn put(serials: &mut [u32], at: usize, serial: u32) {
     if let Some(place) = serials.get_mut(at) {
-        *place = label;
+        *place = serial;
     }
 }

@@ -73,6 +73,44 @@ impl Periods {
         }
         Ok(())
     }
+
+    // The outputs and nets of the table are lit at their generations.
+    fn begin_at_table(
+        &mut self,
+        found: &Found,
+        times: &Times,
+        ports: &Ports,
+    ) -> Result<(), AllocError> {
+        for line in ports.outs.as_slice() {
+            if let Some(port) = found.port_at(table_cell(line.x, line.y)) {
+                self.begin(found, times, port, ports.l)?;
+            }
+        }
+        for line in ports.nets.as_slice() {
+            if let Some(port) = found.port_at(table_cell(line.x, line.y)) {
+                self.begin(found, times, port, line.offset)?;
+            }
+        }
+        Ok(())
+    }
+
+    // No wire is less than 0 periods long.
+    fn spread_all(
+        &mut self,
+        found: &Found,
+        times: &Times,
+        links: &Groups,
+    ) -> Result<(), AllocError> {
+        for _ in 0..times.known.len().saturating_add(found.links.len()) {
+            let Some((count, node)) = self.todo.pop() else {
+                break;
+            };
+            if self.counts.get(node as usize).copied() == Some(count) {
+                self.spread(found, times, links.group(node), node)?;
+            }
+        }
+        Ok(())
+    }
 }
 
 fn links_by_ends(alloc: Global, found: &Found) -> Result<Groups, AllocError> {
@@ -91,28 +129,12 @@ pub fn periods_of(
     times: &Times,
     ports: &Ports,
 ) -> Result<Periods, AllocError> {
+    let links = links_by_ends(alloc, found)?;
     let mut periods = Periods {
         counts: vec![in alloc; 0; times.known.len()]?,
         todo: BinaryHeap::new(alloc),
     };
-    for line in ports.outs.as_slice() {
-        if let Some(port) = found.port_at(table_cell(line.x, line.y)) {
-            periods.begin(found, times, port, ports.l)?;
-        }
-    }
-    for line in ports.nets.as_slice() {
-        if let Some(port) = found.port_at(table_cell(line.x, line.y)) {
-            periods.begin(found, times, port, line.offset)?;
-        }
-    }
-    let links = links_by_ends(alloc, found)?;
-    for _ in 0..times.known.len().saturating_add(found.links.len()) {
-        let Some((count, node)) = periods.todo.pop() else {
-            break;
-        };
-        if periods.counts.get(node as usize).copied() == Some(count) {
-            periods.spread(found, times, links.group(node), node)?;
-        }
-    }
+    periods.begin_at_table(found, times, ports)?;
+    periods.spread_all(found, times, &links)?;
     Ok(periods)
 }

@@ -14,7 +14,7 @@ use Rattle.route_tables.specs.declared.tables.TableGate.{TableGate}
 use Rattle.route_tables.specs.declared.tables.TableWire.{TableWire}
 use Rattle.route_tables.specs.declared.tables.Tables.{Tables}
 use Rattle.route_tables.specs.Serials.{listed_cell}
-use Rattle.route_tables.specs.Tables.{table_gate, table_wire, gate_drawing, sourced_gate, IsPort, input_port, point_at, input_point, wire_path, box_plane, label, group, wire_number}
+use Rattle.route_tables.specs.Tables.{table_gate, table_wire, gate_drawing, sourced_gate, IsPort, input_port, point_at, input_point, wire_path, box_plane, serial, group, wire_number}
 
 -- an input of a gate is fed so
 abbrev pub IsFed : Tables → GateInput → Feed → Type 0
@@ -35,7 +35,7 @@ pub record IsWireEnd (t : Tables) (k : ℕ) (cell : ℤ × ℤ) : Type 0 where
 -- The cell is listed, in the gate's group. It is a conductor, or an input that a wire feeds.
 pub record IsCellOfGate (t : Tables) (states : List State) (k : ℕ) (cell : ℤ × ℤ) : Type 0 where
   pub number : ℕ
-  pub listed : label t cell ≡ suc number
+  pub listed : serial t cell ≡ suc number
   pub grouped : group t number ≡ k
   pub state : (cell_state (box_plane t states) cell ≡ Conductor) ⊎ IsWireEnd t k cell
 
@@ -79,8 +79,8 @@ IsOnWire t n =
 abbrev pub IsAlone : Tables → TableWire → (i : ℕ) → Type 0
 IsAlone t wire i =
     (cell : ℤ × ℤ) → IsNear cell (wire_path t wire (suc i))
-    → (label t cell ≡ 0)
-    ⊎ ((j : ℕ) × (j < 3) × (label t cell ≡ label t (wire_path t wire (i + j))))
+    → (serial t cell ≡ 0)
+    ⊎ ((j : ℕ) × (j < 3) × (serial t cell ≡ serial t (wire_path t wire (i + j))))
 
 -- the input at the end of a wire is fed by this wire, and a driven one by its drive
 abbrev pub FeedsItsEnd : Tables → (w : ℕ) → Type 0

@@ -7,7 +7,7 @@ use Rattle.pattern_reading.specs.declared.ports.NetLine.{NetLine}
 use Rattle.routed_lists.specs.Runs.{src_at}
 use Rattle.route_tables.specs.declared.tables.GateInput.{GateInput}
 use Rattle.route_tables.specs.declared.tables.Tables.{Tables}
-use Rattle.route_tables.specs.Serials.{AreLabelled}
+use Rattle.route_tables.specs.Serials.{AreSerials}
 use Rattle.route_tables.specs.Tables.{table_gate, table_wire, sourced_gate}
 use Rattle.route_tables.specs.Cells.{IsGateThere, IsDrawnInGate, IsWireThere, IsOnWire, IsAlone, FeedsItsEnd, IsDrivenInput, IsFedRightly}
 use Rattle.route_tables.specs.Runs.{ShowsStarts, FitsItsPeriod, IsDelayedByWire, HasPortSources, IsInput, IsDark, ShowsAt}
@@ -15,7 +15,7 @@ use Rattle.route_tables.specs.Runs.{ShowsStarts, FitsItsPeriod, IsDelayedByWire,
 -- Each cell is of one gate or wire, and these stand where the tables say, apart from each other.
 -- Each input is fed by one wire, or is driven.
 pub record HasItsCells (t : Tables) (states : List State) : Type 0 where
-  pub labelled : AreLabelled t.cells states t.serials t.width t.groups (length t.gates)
+  pub serials : AreSerials t.cells states t.serials t.width t.groups (length t.gates)
   pub gates : (k : ℕ) → k < length t.gates → IsGateThere t states k
   pub in_gates : (n : ℕ) → n < length t.cells → IsDrawnInGate t n
   pub wires : (w : ℕ) → w < length t.wires → IsWireThere t w (table_wire t w)

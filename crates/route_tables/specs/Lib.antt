@@ -1,3 +1,4 @@
+pub mod Limit
 pub mod Serials
 pub mod Owners
 pub mod Tables

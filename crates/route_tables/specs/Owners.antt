@@ -5,7 +5,7 @@ use Rattle.tile_timing.specs.Window.{shown}
 use Rattle.wire_laws.specs.Wires.{Wire, IsNear}
 use Rattle.routed_planes.specs.Routed.{PlacedGate}
 use Rattle.routed_planes.specs.Labels.{Owner, Nobody, OfGate, OfWire, IsGateCell, IsWireCell, AreLabels}
-use Rattle.route_tables.specs.Serials.{label_at, listed_cell, AreLabelled}
+use Rattle.route_tables.specs.Serials.{serial_at, listed_cell, AreSerials}
 
 -- The listed cells are those of the gates and of the wires, and no others: `own` says whose each is.
 -- A gate's number is the group of its cells, below the limit; wires have groups that are not.
@@ -29,14 +29,14 @@ owner_by own zero = Nobody
 owner_by own (suc n) = own n
 
 abbrev pub owner_at : (own : ℕ → Owner) → List ℕ → (width : ℕ) → ℤ × ℤ → Owner
-owner_at own serials width c = owner_by own (label_at serials width c.0 c.1)
+owner_at own serials width c = owner_by own (serial_at serials width c.0 c.1)
 
--- the tests of the table give labels, and gates that stand apart
+-- the tests of the serials give labels, and gates that stand apart
 abbrev pub TablesAreLabels : Type 0
 TablesAreLabels =
     (gates : List PlacedGate) (wires : List Wire) (cells : List (ℕ × ℕ)) (states : List State)
     (serials : List ℕ) (width : ℕ) (groups : List ℕ) (limit : ℕ) (own : ℕ → Owner)
-    → AreLabelled cells states serials width groups limit
+    → AreSerials cells states serials width groups limit
     → IsListing gates wires cells groups limit own
     → AreLabels gates wires (shown states width) (owner_at own serials width)
     × ((k l : ℕ) (c d : ℤ × ℤ) → owner_at own serials width c ≡ OfGate k → IsNear d c

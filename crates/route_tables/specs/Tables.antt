@@ -19,7 +19,7 @@ use Rattle.route_tables.specs.declared.tables.GateInput.{GateInput}
 use Rattle.route_tables.specs.declared.tables.TableGate.{TableGate}
 use Rattle.route_tables.specs.declared.tables.TableWire.{TableWire}
 use Rattle.route_tables.specs.declared.tables.Tables.{Tables}
-use Rattle.route_tables.specs.Serials.{label_at, listed_cell}
+use Rattle.route_tables.specs.Serials.{serial_at, listed_cell}
 
 -- what stands for an item that is not there
 abbrev pub no_drawing : GateDrawing
@@ -139,9 +139,9 @@ driven_points t = map (input_point t) t.driven
 abbrev pub box_plane : Tables → List State → Plane
 box_plane t states = shown states t.width
 
--- the label of a cell: the number of the listed cell that is there, from 1, or 0
-abbrev pub label : Tables → ℤ × ℤ → ℕ
-label t cell = label_at t.serials t.width cell.0 cell.1
+-- the serial of the listed cell at a place, or 0
+abbrev pub serial : Tables → ℤ × ℤ → ℕ
+serial t cell = serial_at t.serials t.width cell.0 cell.1
 
 -- Whose a listed cell is: a gate's, if its group is below the number of gates; else a wire's.
 abbrev pub group : Tables → ℕ → ℕ

@@ -5,8 +5,7 @@ use crate::Tables;
 /// What is wrong with a drawing that is no routed circuit.
 #[derive(Clone, Copy)]
 pub enum FaultWord {
-    /// A gate's drawing keeps no law, or cannot be used at the period; or the table has several
-    /// contexts or a period below 3, or the circuit is too large for a search.
+    /// A gate's drawing keeps no law, or cannot be used at the period.
     Kind,
     /// A cell of a gate is missing, or has an electron.
     Gate,
@@ -22,7 +21,9 @@ pub enum FaultWord {
     Fed,
     /// The gates have no order, or an output's source is not the answer.
     Order,
-    /// An input or an output of the table stands at no port of its time, or has a bad name.
+    /// An input or an output of the table stands at no port of its time, or has a bad name; or no routed
+    /// circuit has this table: it has several contexts, a period below 3, or a period or a latency that
+    /// is too great for a search.
     Port,
     /// A net of the table stands at no port of its time.
     Net,

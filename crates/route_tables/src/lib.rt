@@ -2,9 +2,11 @@
 #![tactic(auto)]
 
 mod fault;
+mod limit;
 mod reading;
 mod tables;
 
 pub use fault::{CellFault, FaultWord};
+pub use limit::BOX_LIMIT;
 pub use reading::{input_port, state_at};
 pub use tables::{Feed, GateInput, TableGate, TableWire, Tables};

@@ -3,8 +3,8 @@ ghost use Rattle.std.specs.Prelude.{◌≡◌, ◌+◌, ◌<◌, ◌≤◌, ◌^
 ghost use Rattle.tile_timing.specs.Window.{shown};
 ghost use Rattle.routed_lists.specs.Runs.{src_at};
 ghost use Rattle.lawful_gates.specs.Lawful.{port_in_cell};
-ghost use Rattle.route_tables.specs.Serials.{label_at};
-ghost use Rattle.route_tables.specs.Tables.{sourced_by, gate_drawing, table_gate, table_wire, IsPort, input_port, point_at, wire_path, group, label};
+ghost use Rattle.route_tables.specs.Serials.{serial_at};
+ghost use Rattle.route_tables.specs.Tables.{sourced_by, gate_drawing, table_gate, table_wire, IsPort, input_port, point_at, wire_path, group, serial};
 ghost use Rattle.route_tables.specs.Reading.{placed_at, IsGatePortAt, IsPortAt};
 
 use crate::{Feed, GateInput, TableGate, TableWire, Tables};
@@ -37,16 +37,16 @@ pub fn state_at(states: &[State], width: u32, x: u32, y: u32) -> State
 }
 
 // The number in the table before column x and row y, which are counted from 1.
-fn label_before(serials: &[u32], width: u32, x: usize, y: usize) -> u32
+fn serial_before(serials: &[u32], width: u32, x: usize, y: usize) -> u32
     requires low { y ≤ 2 ^ 32 + 1 }
-    ensures { result ≡ label_at serials.now width (pos x -ℤ pos 1) (pos y -ℤ pos 1) }
+    ensures { result ≡ serial_at serials.now width (pos x -ℤ pos 1) (pos y -ℤ pos 1) }
 {
     let width = width as usize;
     if x == 0 || y == 0 || x > width {
         return 0;
     }
     match serials.get((y - 1) * width + (x - 1)) {
-        Some(label) => *label,
+        Some(serial) => *serial,
         None => 0,
     }
 }
@@ -196,19 +196,19 @@ impl Tables {
         }
     }
 
-    /// Returns the label of the cell before column x and row y, which are counted from 1.
-    pub fn label_before(&self, x: usize, y: usize) -> u32
+    /// Returns the serial at the column and the row before x and y, which are counted from 1.
+    pub fn serial_before(&self, x: usize, y: usize) -> u32
         requires low { y ≤ 2 ^ 32 + 1 }
-        ensures { result ≡ label self.now (pos x -ℤ pos 1, pos y -ℤ pos 1) }
+        ensures { result ≡ serial self.now (pos x -ℤ pos 1, pos y -ℤ pos 1) }
     {
-        label_before(self.serials.as_slice(), self.width, x, y)
+        serial_before(self.serials.as_slice(), self.width, x, y)
     }
 
-    /// Returns the label of a cell.
-    pub fn label(&self, cell: (u32, u32)) -> u32
-        ensures { result ≡ label self.now (pos cell.0, pos cell.1) }
+    /// Returns the serial of the listed cell at a column and a row, or 0.
+    pub fn serial(&self, cell: (u32, u32)) -> u32
+        ensures { result ≡ serial self.now (pos cell.0, pos cell.1) }
     {
-        self.label_before(cell.0 as usize + 1, cell.1 as usize + 1)
+        self.serial_before(cell.0 as usize + 1, cell.1 as usize + 1)
     }
 
     // The cell of a port, if it is there and has a source.

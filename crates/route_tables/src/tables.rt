@@ -50,8 +50,8 @@ pub struct TableWire {
 /// wire feeds: first that of each input of the circuit, in order, then those that stay dark.
 /// `cells` lists all cells of gates and wires by column and row. `groups` says whose each of them
 /// is: below the number of gates this is the gate's number, and from there on the wire's is added.
-/// `serials` has for each cell of the box, row by row, the number from 1 of the listed cell that is
-/// there, or 0. `list` is the list of cells that the circuit computes, and `outs` and `nets` are the
+/// `serials` has for each cell of the box, row by row, the serial of the listed cell that is there: its
+/// number, counted from 1, or 0 where none is. `list` is the list of cells that the circuit computes, and `outs` and `nets` are the
 /// ports of its outputs and nets.
 #[derive(Drop)]
 pub struct Tables {

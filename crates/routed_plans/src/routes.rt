@@ -1,10 +1,9 @@
 // The routed circuit of a flat netlist.
 ghost use Rattle.std.specs.Prelude.{◌≡◌, ℕ, List, length, IfOk, IfSome, IsTrue};
 ghost use Rattle.ww_rule.specs.Grid.{plane_of};
-ghost use Rattle.netlist_meaning.specs.Flat.{IsInRange, IsNamed, IsSound, IsWeighed};
-ghost use Rattle.netlist_meaning.specs.FlatOrder.{IsOrder};
+ghost use Rattle.netlist_meaning.specs.Flat.{IsInRange, IsWeighed};
 ghost use Rattle.plan_carries.specs.Compiled.{ComputesFlat};
-ghost use Rattle.plan_ports.specs.Tables.{HasPortNames, HasTablePlaces};
+ghost use Rattle.netlist_plans.specs.Lists.{IsCompilable};
 ghost use Rattle.route_lines.specs.GateLines.{AreGateLines};
 ghost use Rattle.routed_texts.specs.Tables.{ShowsListRuns};
 ghost use Rattle.routed_plans.specs.Carried.{IsRoutedFor, text_of_routed};
@@ -145,11 +144,7 @@ fn checked(
     drawn: &Drawn,
     seen: &[Option<SeenPort>],
 ) -> Result<Option<Routed>, RoutedPlanError>
-    requires sound { IsSound flat.now }
-    requires ordered { (order : List ℕ) × IsOrder flat.now order }
-    requires named { IsNamed flat.now }
-    requires names { HasPortNames flat.now }
-    requires places { HasTablePlaces flat.now }
+    requires compilable { (order : List ℕ) × IsCompilable flat.now order }
     requires computes { ComputesFlat flat.now list.now }
     ensures routed { IfOk result (λ o. IfSome o (IsRoutedFor flat.now)) }
     ensures nets { IfOk result (λ o. IfSome o (λ routed.
@@ -186,12 +181,8 @@ pub fn route_netlist(
     order: &Order,
     nets: ShownNets,
 ) -> Result<Option<Routed>, RoutedPlanError>
-    requires sound { IsSound flat.now }
+    requires compilable { IsCompilable flat.now order.now.nodes }
     requires weighed { IsWeighed flat.now }
-    requires ordered { IsOrder flat.now order.now.nodes }
-    requires named { IsNamed flat.now }
-    requires names { HasPortNames flat.now }
-    requires places { HasTablePlaces flat.now }
     ensures routed { IfOk result (λ o. IfSome o (IsRoutedFor flat.now)) }
     ensures nets { IfOk result (λ o. IfSome o (λ routed.
         ShowsNetsOf nets (text_of_routed routed) flat.now)) }

@@ -7,7 +7,7 @@ use strand_core::{Effort, StrandCircuit};
 use strand_drawings::{Drawn, drawn_circuit};
 use strand_graphs::strand_circuit;
 use strand_rows::laid_out;
-use strand_times::timed;
+use strand_times::set_times;
 
 // The seed of the search's draws: a text gives the same circuit everywhere.
 const SEED: u64 = 1;
@@ -21,10 +21,11 @@ fn timed_circuit(
     list: &CellList,
     effort: Effort,
 ) -> Result<Option<StrandCircuit>, OutOfMemory> {
-    match strand_circuit(alloc, list, SEED, effort)? {
-        Some(woven) => Ok(Some(timed(alloc, &woven, effort)?)),
-        None => Ok(None),
-    }
+    let Some(mut circuit) = strand_circuit(alloc, list, SEED, effort)? else {
+        return Ok(None);
+    };
+    set_times(alloc, &mut circuit, effort)?;
+    Ok(Some(circuit))
 }
 
 // The drawing of the circuit of a list, if it is not too large.

@@ -5,14 +5,11 @@ use cell_core::{CellList, Src};
 use list_matching::{stand_in, stand_ins};
 use lists::{List, OutOfMemory};
 use route_filling::{FillError, tables_of};
-use route_tables::Tables;
+use route_tables::{BOX_LIMIT, Tables};
 use routed_core::{Drawing, DrawnPort, GatePort};
 use std::alloc::Global;
 use std::collections::BTreeMap;
 use strand_drawings::Drawn;
-
-// The greatest number of cells of a box that is looked at.
-const MOST_CELLS: u64 = 1 << 26;
 
 /// A drawing of a list of cells, and a port for each net of the list, or none for a net that is drawn
 /// nowhere.
@@ -124,7 +121,7 @@ fn ports_of(
 // The tables of a drawing, if they can be filled.
 fn filled(alloc: Global, drawing: &Drawing) -> Result<Option<Tables>, OutOfMemory> {
     let cells = u64::from(drawing.width).saturating_mul(u64::from(drawing.height));
-    if cells > MOST_CELLS {
+    if cells > BOX_LIMIT {
         return Ok(None);
     }
     match tables_of(alloc, drawing, drawing.width, cells as usize) {

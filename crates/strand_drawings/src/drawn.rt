@@ -1,16 +1,16 @@
 // Drawings of circuits of strands.
 
-use crate::gates::{Corner, Gates, Ports, gates_of, ports_of, set_source};
-use crate::loops::{Loops, loops_of};
+use crate::gates::{Corner, Gates, Ports, set_source};
+use crate::loops::Loops;
 use crate::periods::{accepted_period, accepts, least_period, round_period};
 use crate::rings::{Ring, ring_of};
-use crate::wires::{Scene, Wires, wires_of};
+use crate::wires::{Scene, Wires};
 use cell_core::Src;
 use lists::{List, OutOfMemory};
 use register_ways::{Circuit, Loop, Ways, ways_around};
 use routed_core::{Drawing, DrawnPort};
 use std::alloc::{AllocError, Global};
-use strand_core::{Layout, StrandCircuit};
+use strand_core::{East, Layout, StrandCircuit};
 
 // How often other ways are looked for until all crossings accept their period.
 const ROUNDS: u32 = 8;
@@ -37,30 +37,49 @@ fn accepted_ways(
         let Some(period) = accepted_period(circuit, least) else {
             return Ok(None);
         };
-        match ways_around(alloc, loops, size, period)? {
-            Some(ways) if accepts(circuit, ways.period) => return Ok(Some(ways)),
-            Some(ways) => least = ways.period.saturating_add(1),
-            None => return Ok(None),
+        let Some(ways) = ways_around(alloc, loops, size, period)? else {
+            return Ok(None);
+        };
+        if accepts(circuit, ways.period) {
+            return Ok(Some(ways));
         }
+        least = ways.period.saturating_add(1);
     }
     Ok(None)
 }
 
-// Ways in place of these at a multiple of 32, if that costs at most a twentieth of the period.
-fn rounded_ways(
+// Puts ways at a multiple of 32 in place of these, if that costs at most a twentieth of the period.
+fn round_ways(
     alloc: Global,
     circuit: &StrandCircuit,
     loops: &[Loop],
     size: Circuit,
-    ways: Ways,
-) -> Result<Ways, OutOfMemory> {
+    ways: &mut Ways,
+) -> Result<(), OutOfMemory> {
     let Some(period) = round_period(circuit, ways.period) else {
-        return Ok(ways);
+        return Ok(());
     };
-    match ways_around(alloc, loops, size, period)? {
-        Some(round) if round.period == period => Ok(round),
-        _ => Ok(ways),
+    if let Some(round) = ways_around(alloc, loops, size, period)? {
+        if round.period == period {
+            *ways = round;
+        }
     }
+    Ok(())
+}
+
+// How many registers stand north of the outputs at the east, if the outputs stand together.
+fn gap_of(circuit: &StrandCircuit) -> Option<usize> {
+    let (mut registers, mut gap) = (0usize, None);
+    for end in &circuit.east {
+        match (end.strand, end.is, gap) {
+            (None, _, _) => {}
+            (_, East::Register(_), _) => registers = registers.saturating_add(1),
+            (_, East::Output(_), None) => gap = Some(registers),
+            (_, East::Output(_), Some(before)) if before == registers => {}
+            (_, East::Output(_), Some(_)) => return None,
+        }
+    }
+    gap
 }
 
 // Ways of all registers. Without registers the period is the least one, else a multiple of 32 if that costs little.
@@ -73,75 +92,95 @@ fn ways_of(
     let size = Circuit {
         width: layout.width,
         height: layout.height,
+        gap: gap_of(circuit),
     };
     let least = least_period(circuit, layout, loops);
     let loops = loops.loops.as_slice();
-    match accepted_ways(alloc, circuit, loops, size, least)? {
-        Some(ways) if !loops.is_empty() => {
-            Ok(Some(rounded_ways(alloc, circuit, loops, size, ways)?))
-        }
-        ways => Ok(ways),
+    let Some(mut ways) = accepted_ways(alloc, circuit, loops, size, least)? else {
+        return Ok(None);
+    };
+    if !loops.is_empty() {
+        round_ways(alloc, circuit, loops, size, &mut ways)?;
     }
+    Ok(Some(ways))
 }
 
-// Gives each port that is none yet a lone cell that is lit at a generation first, if it is ever: in every other column of a
-// row, from a cell on. Returns the next cell.
-fn add_lone_ports(
+// What a drawing in a box of this size is made of.
+#[derive(Drop)]
+struct Sketch {
+    size: (u32, u32),
+    gates: Gates,
+    ports: Ports,
+    ins: Vec<DrawnPort>,
+    outs: Vec<DrawnPort>,
+    wires: Wires,
+}
+
+// Adds ports. One that is none yet becomes a lone cell that is lit at a generation first, if it is ever: in every other
+// column of a row, from a cell on. Returns the next cell.
+fn add_ports(
+    all: &mut Vec<DrawnPort>,
     gates: &mut Gates,
-    ports: &mut [Option<DrawnPort>],
+    ports: &[Option<DrawnPort>],
     first: u32,
     from: (u32, u32),
 ) -> Result<(u32, u32), AllocError> {
     let mut cell = from;
     for port in ports {
-        if port.is_none() {
-            *port = Some(gates.add_lone(cell, first)?);
+        if let Some(port) = port {
+            all.push(*port)?;
+        } else {
+            all.push(gates.add_lone(cell, first)?)?;
             cell = (cell.0.saturating_add(2), cell.1);
         }
     }
     Ok(cell)
 }
 
-// Places lone cells below all others for the inputs that nothing reads, and for the outputs that are always 0. Returns the
-// size of the box.
-fn place_lone_ports(
-    ways: &Ways,
-    gates: &mut Gates,
-    ports: &mut Ports,
-) -> Result<(u32, u32), AllocError> {
-    let row = ways.height.saturating_add(1);
-    let next = add_lone_ports(gates, ports.ins.as_mut_slice(), 0, (0, row))?;
-    let latency = ports.latency;
-    let (x, _) = add_lone_ports(gates, ports.outs.as_mut_slice(), latency, next)?;
-    if x == 0 {
-        Ok((ways.width, ways.height))
-    } else {
-        Ok((ways.width.max(x.saturating_sub(1)), row.saturating_add(1)))
+impl Sketch {
+    // Adds all ports, with lone cells below all others for the inputs that nothing reads, and for the outputs that are
+    // always 0. Sets the size of the box.
+    fn add_ports(&mut self, ways: &Ways) -> Result<(), AllocError> {
+        let row = ways.height.saturating_add(1);
+        let ins = self.ports.ins.as_slice();
+        let next = add_ports(&mut self.ins, &mut self.gates, ins, 0, (0, row))?;
+        let (outs, latency) = (self.ports.outs.as_slice(), self.ports.latency);
+        let (x, _) = add_ports(&mut self.outs, &mut self.gates, outs, latency, next)?;
+        self.size = if x == 0 {
+            (ways.width, ways.height)
+        } else {
+            (ways.width.max(x.saturating_sub(1)), row.saturating_add(1))
+        };
+        Ok(())
     }
-}
 
-// The ports of a list of which all are there.
-fn all_ports(alloc: Global, ports: &[Option<DrawnPort>]) -> Result<List<DrawnPort>, AllocError> {
-    let mut all = Vec::new(alloc);
-    for port in ports {
-        if let Some(port) = port {
-            all.push(*port)?;
+    // Draws a scene. Returns whether all wires lead to inputs.
+    fn draw(&mut self, scene: Scene) -> Result<bool, AllocError> {
+        let (circuit, layout, corner) = (scene.circuit, scene.layout, scene.corner);
+        self.gates.add_tiles(circuit, layout, corner)?;
+        let lower = add_fork(&mut self.gates, scene.ring, corner.north)?;
+        self.ports.find(&mut self.gates, circuit, layout, corner)?;
+        if let (Some(ring), Some(from)) = (scene.ring, lower) {
+            self.wires.add_ring(scene, ring, from)?;
         }
+        if !self.wires.add_all(scene, &self.gates)? {
+            return Ok(false);
+        }
+        self.add_ports(scene.ways)?;
+        Ok(true)
     }
-    Ok(List::of(all))
 }
 
-// The drawing of gates and wires in a box of this size.
-fn assembled(
-    alloc: Global,
-    ways: &Ways,
-    size: (u32, u32),
-    gates: Gates,
-    ports: &Ports,
-    wires: Wires,
-) -> Result<Drawn, OutOfMemory> {
-    let ins = all_ports(alloc, ports.ins.as_slice())?;
-    let outs = all_ports(alloc, ports.outs.as_slice())?;
+// The drawing of what was sketched.
+fn assembled(alloc: Global, period: u32, sketch: Sketch) -> Drawn {
+    let Sketch {
+        size,
+        gates,
+        ports,
+        ins,
+        outs,
+        wires,
+    } = sketch;
     let Gates { gates, .. } = gates;
     let Wires {
         wires,
@@ -149,21 +188,47 @@ fn assembled(
         starts,
         latches,
     } = wires;
-    Ok(Drawn {
+    Drawn {
         drawing: Drawing {
             width: size.0,
             height: size.1,
-            period: ways.period,
+            period,
             latency: ports.latency,
             gates: List::of(gates),
             wires: List::of(wires),
             path: List::of(path),
             starts: List::of(starts),
-            ins,
-            outs,
+            ins: List::of(ins),
+            outs: List::of(outs),
             nets: List::of(Vec::new(alloc)),
         },
         latches,
+    }
+}
+
+// The sketch in which nothing is drawn, with so many inputs and outputs.
+fn empty_sketch(alloc: Global, inputs: u32, outputs: u32) -> Result<Sketch, AllocError> {
+    let ports = Ports {
+        ins: vec![in alloc; None; inputs as usize]?,
+        outs: vec![in alloc; None; outputs as usize]?,
+        latency: 0,
+    };
+    Ok(Sketch {
+        size: (0, 0),
+        gates: Gates {
+            gates: Vec::new(alloc),
+            sources: Vec::new(alloc),
+            goals: Vec::new(alloc),
+        },
+        ports,
+        ins: Vec::new(alloc),
+        outs: Vec::new(alloc),
+        wires: Wires {
+            wires: Vec::new(alloc),
+            path: Vec::new(alloc),
+            starts: Vec::new(alloc),
+            latches: Vec::new(alloc),
+        },
     })
 }
 
@@ -195,6 +260,21 @@ fn add_fork(
     Ok(Some(lower))
 }
 
+// Draws a scene with so many inputs and outputs, if all wires lead to inputs.
+fn drawn_scene(
+    alloc: Global,
+    scene: Scene,
+    inputs: u32,
+    outputs: u32,
+) -> Result<Option<Drawn>, OutOfMemory> {
+    let mut sketch = empty_sketch(alloc, inputs, outputs)?;
+    if sketch.draw(scene)? {
+        Ok(Some(assembled(alloc, scene.ways.period, sketch)))
+    } else {
+        Ok(None)
+    }
+}
+
 /// Draws a circuit of strands: gates and wires, with the registers led around the north and the south. Without registers
 /// constant 1 comes from a ring. Inputs that nothing reads, and outputs that are constant 0, are lone cells that stand
 /// apart. Nothing if the registers are in another order at the west than at the east, there is no room for them, or a
@@ -206,28 +286,21 @@ pub fn drawn_circuit(
     inputs: u32,
     outputs: u32,
 ) -> Result<Option<Drawn>, OutOfMemory> {
-    let Some(loops) = loops_of(alloc, circuit, layout)? else {
+    let mut loops = Loops::new(alloc);
+    if !loops.find(circuit, layout)? {
         return Ok(None);
-    };
+    }
     let Some(mut ways) = ways_of(alloc, circuit, layout, &loops)? else {
         return Ok(None);
     };
     let ring = ring_of(circuit, layout, ways.period);
-    let corner = corner_of(&mut ways, ring);
-    let mut gates = gates_of(alloc, circuit, layout, corner)?;
-    let lower = add_fork(&mut gates, ring, corner.north)?;
-    let mut ports = ports_of(alloc, &mut gates, circuit, layout, corner, inputs, outputs)?;
     let scene = Scene {
         circuit,
         layout,
         loops: &loops,
+        corner: corner_of(&mut ways, ring),
         ways: &ways,
-        corner,
         ring,
     };
-    let Some(wires) = wires_of(alloc, scene, &gates, lower)? else {
-        return Ok(None);
-    };
-    let size = place_lone_ports(&ways, &mut gates, &mut ports)?;
-    Ok(Some(assembled(alloc, &ways, size, gates, &ports, wires)?))
+    drawn_scene(alloc, scene, inputs, outputs)
 }

@@ -1,9 +1,8 @@
 // The gates of a circuit's tiles, and the lone cells of its inputs and outputs.
 
 use crate::loops::{cells_of, late_of};
-use lists::OutOfMemory;
 use routed_core::{DrawnGate, DrawnPort, GateKind, GatePort, Shape, Turn};
-use std::alloc::{AllocError, Global};
+use std::alloc::AllocError;
 use strand_core::{East, Layout, StrandCircuit, Tile, TileKind, West};
 
 /// Where a strand leads: to an input of a gate, into a bump, into a register, or nowhere.
@@ -167,13 +166,16 @@ impl Gates {
         Ok(())
     }
 
-    // Adds the gates of all tiles.
-    fn add_tiles(
+    /// Adds the gates of all tiles to no gates.
+    pub fn add_tiles(
         &mut self,
         circuit: &StrandCircuit,
         layout: &Layout,
         corner: Corner,
     ) -> Result<(), AllocError> {
+        let strands = circuit.strands.len();
+        self.sources.resize(strands, None)?;
+        self.goals.resize(strands, Goal::Nowhere)?;
         let mut number = 0u32;
         for cell in &layout.tiles {
             self.add_tile(circuit, number, *cell, corner)?;
@@ -275,39 +277,17 @@ fn add_outputs(
     Ok(latency)
 }
 
-/// Makes the gates of all tiles and of the inputs and outputs that have strands.
-pub fn gates_of(
-    alloc: Global,
-    circuit: &StrandCircuit,
-    layout: &Layout,
-    corner: Corner,
-) -> Result<Gates, OutOfMemory> {
-    let strands = circuit.strands.len();
-    let mut gates = Gates {
-        gates: Vec::new(alloc),
-        sources: vec![in alloc; None; strands]?,
-        goals: vec![in alloc; Goal::Nowhere; strands]?,
-    };
-    gates.add_tiles(circuit, layout, corner)?;
-    Ok(gates)
-}
-
-/// Adds the lone cells of the inputs and outputs that have strands, and returns their ports.
-pub fn ports_of(
-    alloc: Global,
-    gates: &mut Gates,
-    circuit: &StrandCircuit,
-    layout: &Layout,
-    corner: Corner,
-    inputs: u32,
-    outputs: u32,
-) -> Result<Ports, OutOfMemory> {
-    let mut ports = Ports {
-        ins: vec![in alloc; None; inputs as usize]?,
-        outs: vec![in alloc; None; outputs as usize]?,
-        latency: 0,
-    };
-    add_inputs(gates, ports.ins.as_mut_slice(), circuit, layout, corner)?;
-    ports.latency = add_outputs(gates, ports.outs.as_mut_slice(), circuit, layout, corner)?;
-    Ok(ports)
+impl Ports {
+    /// Adds the lone cells of the inputs and outputs that have strands, and notes their ports.
+    pub fn find(
+        &mut self,
+        gates: &mut Gates,
+        circuit: &StrandCircuit,
+        layout: &Layout,
+        corner: Corner,
+    ) -> Result<(), AllocError> {
+        add_inputs(gates, self.ins.as_mut_slice(), circuit, layout, corner)?;
+        self.latency = add_outputs(gates, self.outs.as_mut_slice(), circuit, layout, corner)?;
+        Ok(())
+    }
 }

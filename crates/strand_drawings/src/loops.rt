@@ -133,22 +133,28 @@ fn are_in_order(loops: &[Loop]) -> bool {
     true
 }
 
-/// Returns the loops of a circuit, or nothing if a register has no entry or no exit, or they are in another order at the west
-/// than at the east.
-pub fn loops_of(
-    alloc: Global,
-    circuit: &StrandCircuit,
-    layout: &Layout,
-) -> Result<Option<Loops>, OutOfMemory> {
-    let registers = circuit.registers.len();
-    let mut found = Loops {
-        loops: Vec::new(alloc),
-        numbers: vec![in alloc; None; registers]?,
-        entries: vec![in alloc; None; registers]?,
-    };
-    note_entries(found.entries.as_mut_slice(), circuit);
-    let is_whole = add_loops(&mut found, circuit, layout)?
-        && are_closed(found.entries.as_slice(), found.numbers.as_slice())
-        && are_in_order(found.loops.as_slice());
-    if is_whole { Ok(Some(found)) } else { Ok(None) }
+impl Loops {
+    /// Returns no loops.
+    pub fn new(alloc: Global) -> Loops {
+        Loops {
+            loops: Vec::new(alloc),
+            numbers: Vec::new(alloc),
+            entries: Vec::new(alloc),
+        }
+    }
+
+    /// Finds the loops of a circuit. Returns whether each register has an entry and an exit, and they are in the same order
+    /// at both sides.
+    pub fn find(&mut self, circuit: &StrandCircuit, layout: &Layout) -> Result<bool, OutOfMemory> {
+        let registers = circuit.registers.len();
+        self.numbers.resize(registers, None)?;
+        self.entries.resize(registers, None)?;
+        note_entries(self.entries.as_mut_slice(), circuit);
+        let is_whole = add_loops(self, circuit, layout)?;
+        Ok(
+            is_whole
+                && are_closed(self.entries.as_slice(), self.numbers.as_slice())
+                && are_in_order(self.loops.as_slice()),
+        )
+    }
 }

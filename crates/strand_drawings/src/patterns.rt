@@ -75,8 +75,8 @@ fn put_electrons(board: &mut Board, drawing: &Drawing, library: &GateLibrary, wi
 
 // The cells of a drawing, with the electrons of its start bits.
 fn board_of(alloc: Global, drawing: &Drawing) -> Result<Board, OutOfMemory> {
-    let library = GateLibrary::new(alloc)?;
     let mut board = Board::new(alloc, drawing.width, drawing.height)?;
+    let library = GateLibrary::new(alloc)?;
     board.add_gates(&library, drawing.gates.as_slice());
     board.add_path(drawing.path.as_slice());
     for wire in drawing.wires.as_slice() {

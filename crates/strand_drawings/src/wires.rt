@@ -4,10 +4,9 @@ use crate::gates::{Corner, Gates, Goal};
 use crate::loops::{Loops, cells_of, number_at};
 use crate::rings::Ring;
 use cell_core::Src;
-use lists::OutOfMemory;
 use register_ways::Ways;
 use routed_core::{DrawnPort, DrawnWire};
-use std::alloc::{AllocError, Global};
+use std::alloc::AllocError;
 use strand_core::{Layout, StrandCircuit, TileKind};
 
 /// What wires are made of: a circuit with its cells, the ways of its registers around it, and its ring.
@@ -138,8 +137,13 @@ impl Wires {
         }
     }
 
-    // Adds a ring, from a port of its fork to the fork.
-    fn add_ring(&mut self, scene: Scene, ring: Ring, from: DrawnPort) -> Result<(), AllocError> {
+    /// Adds a ring, from a port of its fork to the fork.
+    pub fn add_ring(
+        &mut self,
+        scene: Scene,
+        ring: Ring,
+        from: DrawnPort,
+    ) -> Result<(), AllocError> {
         let (start, latch) = (count(self.path.len()), count(self.starts.len()));
         ring.add_ring(&mut self.path, scene.corner.north)?;
         self.add_ones(ring.cycles)?;
@@ -204,41 +208,18 @@ impl Wires {
         })?;
         Ok(true)
     }
-}
 
-// Adds the wires of all strands that begin at ports. Answers whether all lead to inputs.
-fn add_wires(wires: &mut Wires, scene: Scene, gates: &Gates) -> Result<bool, AllocError> {
-    let mut strand = 0u32;
-    for source in &gates.sources {
-        if let Some(from) = source {
-            if !wires.add(scene, gates.goals.as_slice(), *from, strand)? {
-                return Ok(false);
+    /// Adds the wires of all strands that begin at ports. Returns whether all lead to inputs.
+    pub fn add_all(&mut self, scene: Scene, gates: &Gates) -> Result<bool, AllocError> {
+        let mut strand = 0u32;
+        for source in &gates.sources {
+            if let Some(from) = source {
+                if !self.add(scene, gates.goals.as_slice(), *from, strand)? {
+                    return Ok(false);
+                }
             }
+            strand = strand.saturating_add(1);
         }
-        strand = strand.saturating_add(1);
-    }
-    Ok(true)
-}
-
-/// Makes all wires, with the ring from a port of its fork, or nothing if one leads nowhere.
-pub fn wires_of(
-    alloc: Global,
-    scene: Scene,
-    gates: &Gates,
-    lower: Option<DrawnPort>,
-) -> Result<Option<Wires>, OutOfMemory> {
-    let mut wires = Wires {
-        wires: Vec::new(alloc),
-        path: Vec::new(alloc),
-        starts: Vec::new(alloc),
-        latches: Vec::new(alloc),
-    };
-    if let (Some(ring), Some(from)) = (scene.ring, lower) {
-        wires.add_ring(scene, ring, from)?;
-    }
-    if add_wires(&mut wires, scene, gates)? {
-        Ok(Some(wires))
-    } else {
-        Ok(None)
+        Ok(true)
     }
 }

@@ -9,7 +9,7 @@ use crate::weaving::{Running, Weaver};
 use cell_core::{CellList, Src};
 use lists::OutOfMemory;
 use std::alloc::{AllocError, Global};
-use strand_core::{East, Effort, End, StrandCircuit, West};
+use strand_core::{East, Effort, End, Register, StrandCircuit, West};
 use strand_orders::{Layered, Ordered, few_crossings, small};
 
 // How often the forks' trees are made anew, for the layers in which their readers then stand.
@@ -50,18 +50,31 @@ fn add_dark_outs(
     Ok(())
 }
 
-// The graph of a list, with forks as late as may be.
-fn graph_of(
+// Makes a graph that of a list, with forks as late as may be.
+fn settle_forks(
     alloc: Global,
+    graph: &mut Graph,
     list: &CellList,
     values: &Values,
     registers: &Registers,
-) -> Result<Graph, AllocError> {
+) -> Result<(), AllocError> {
     let mut readers = Readers::of(alloc, list, values, registers)?;
-    for _ in 1..ROUNDS {
-        let _graph = Graph::of(alloc, list, values, registers, &mut readers)?;
+    for _ in 0..ROUNDS {
+        graph.grow(list, values, registers, &mut readers)?;
     }
-    Graph::of(alloc, list, values, registers, &mut readers)
+    Ok(())
+}
+
+// Makes a graph that of a list. Returns the list's registers.
+fn grown(
+    alloc: Global,
+    graph: &mut Graph,
+    list: &CellList,
+    values: &Values,
+) -> Result<Vec<Register>, AllocError> {
+    let registers = Registers::of(alloc, list, values)?;
+    settle_forks(alloc, graph, list, values, &registers)?;
+    Ok(registers.registers)
 }
 
 // The layers of a graph in an order with few crossings, if it is not too large.
@@ -98,7 +111,7 @@ fn add_east(east: &mut Vec<End<East>>, graph: &Graph, state: &[Running]) -> Resu
 }
 
 // Puts what is woven of a graph in this order into a circuit.
-fn weave(
+fn put_woven(
     alloc: Global,
     circuit: &mut StrandCircuit,
     graph: &Graph,
@@ -113,6 +126,23 @@ fn weave(
     Ok(())
 }
 
+// Weaves a graph, if its circuit is not too large. Returns whether that is done.
+fn weave(
+    alloc: Global,
+    circuit: &mut StrandCircuit,
+    graph: &Graph,
+    seed: u64,
+    effort: Effort,
+) -> Result<bool, AllocError> {
+    match ordered(alloc, graph, circuit.registers.len(), seed, effort)? {
+        Some(found) => {
+            put_woven(alloc, circuit, graph, &found)?;
+            Ok(true)
+        }
+        None => Ok(false),
+    }
+}
+
 // Adds the ends that have no strand.
 fn add_ends(
     circuit: &mut StrandCircuit,
@@ -123,22 +153,21 @@ fn add_ends(
     add_dark_outs(&mut circuit.east, values, list.outs.as_slice())
 }
 
-// Weaves the strands and tiles of a circuit. Returns whether that is done, because it is not too large.
+// Makes a circuit that of a list, if it is not too large. Returns whether that is done.
 fn fill(
     alloc: Global,
     circuit: &mut StrandCircuit,
     list: &CellList,
-    values: &Values,
-    registers: &Registers,
     seed: u64,
     effort: Effort,
 ) -> Result<bool, AllocError> {
-    let graph = graph_of(alloc, list, values, registers)?;
-    let Some(found) = ordered(alloc, &graph, registers.registers.len(), seed, effort)? else {
+    let values = Values::of(alloc, list)?;
+    let mut graph = Graph::new(alloc);
+    circuit.registers = grown(alloc, &mut graph, list, &values)?;
+    if !weave(alloc, circuit, &graph, seed, effort)? {
         return Ok(false);
-    };
-    weave(alloc, circuit, &graph, &found)?;
-    add_ends(circuit, list, values)?;
+    }
+    add_ends(circuit, list, &values)?;
     Ok(true)
 }
 
@@ -161,12 +190,10 @@ pub fn strand_circuit(
     seed: u64,
     effort: Effort,
 ) -> Result<Option<StrandCircuit>, OutOfMemory> {
-    let values = Values::of(alloc, list)?;
-    let registers = Registers::of(alloc, list, &values)?;
     let mut circuit = no_circuit(alloc);
-    if !fill(alloc, &mut circuit, list, &values, &registers, seed, effort)? {
-        return Ok(None);
+    if fill(alloc, &mut circuit, list, seed, effort)? {
+        Ok(Some(circuit))
+    } else {
+        Ok(None)
     }
-    circuit.registers = registers.registers;
-    Ok(Some(circuit))
 }

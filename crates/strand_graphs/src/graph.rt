@@ -50,34 +50,29 @@ fn kind_of(cell: Cell) -> NodeKind {
 }
 
 impl Graph {
-    /// Makes the graph of a list, with forks near to the readers, which stand about in the layers that `readers` says.
-    /// Notes there in which layers they stand now.
-    pub fn of(
-        alloc: Global,
-        list: &CellList,
-        values: &Values,
-        registers: &Registers,
-        readers: &mut Readers,
-    ) -> Result<Graph, AllocError> {
-        let entries = entry_of(readers.count) as usize;
-        let mut graph = Graph {
+    /// Returns a graph of no nodes.
+    pub fn new(alloc: Global) -> Graph {
+        Graph {
             nodes: Vec::new(alloc),
-            froms: vec![in alloc; None; entries]?,
+            froms: Vec::new(alloc),
             tree: Tree::new(alloc),
             readings: Vec::new(alloc),
             stems: Vec::new(alloc),
-        };
-        graph.fill(list, values, registers, readers)?;
-        Ok(graph)
+        }
     }
 
-    fn fill(
+    /// Makes this the graph of a list, with forks near to the readers, which stand about in the layers that `readers` says.
+    /// Notes there in which layers they stand now.
+    pub fn grow(
         &mut self,
         list: &CellList,
         values: &Values,
         registers: &Registers,
         readers: &mut Readers,
     ) -> Result<(), AllocError> {
+        self.nodes.clear();
+        self.froms.clear();
+        self.froms.resize(entry_of(readers.count) as usize, None)?;
         self.add_inputs(values, readers)?;
         self.add_registers(values, registers, readers)?;
         self.add_zeros(values, &registers.data)?;

@@ -66,19 +66,29 @@ fn add_cells(
     Ok(())
 }
 
-// The entries at which the values are read, each behind its value.
-fn pairs_of(
+// Adds the entries at which the values are read, each behind its value.
+fn add_all(
+    pairs: &mut Vec<(u32, u32)>,
+    list: &CellList,
+    values: &Values,
+    data: &[Src],
+) -> Result<(), AllocError> {
+    add_cells(pairs, values, list.cells.as_slice())?;
+    add_ports(pairs, values, values.cells, data)?;
+    let first = values.cells.saturating_add(small(data.len()));
+    add_ports(pairs, values, first, list.outs.as_slice())
+}
+
+// The entries at which each value is read.
+fn entries_of(
     alloc: Global,
     list: &CellList,
     values: &Values,
-    registers: &Registers,
-) -> Result<Vec<(u32, u32)>, AllocError> {
+    data: &[Src],
+) -> Result<Links, AllocError> {
     let mut pairs = Vec::new(alloc);
-    add_cells(&mut pairs, values, list.cells.as_slice())?;
-    add_ports(&mut pairs, values, values.cells, &registers.data)?;
-    let first = values.cells.saturating_add(small(registers.data.len()));
-    add_ports(&mut pairs, values, first, list.outs.as_slice())?;
-    Ok(pairs)
+    add_all(&mut pairs, list, values, data)?;
+    Links::of(alloc, values.reads.len(), &pairs)
 }
 
 impl Readers {
@@ -91,12 +101,10 @@ impl Readers {
     ) -> Result<Readers, AllocError> {
         let ports = small(registers.data.len()).saturating_add(small(list.outs.len()));
         let count = values.cells.saturating_add(ports);
-        let pairs = pairs_of(alloc, list, values, registers)?;
-        let entries = Links::of(alloc, values.reads.len(), &pairs)?;
         Ok(Readers {
             count,
             layers: vec![in alloc; 0u32; count as usize]?,
-            entries,
+            entries: entries_of(alloc, list, values, &registers.data)?,
         })
     }
 

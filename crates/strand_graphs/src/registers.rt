@@ -69,29 +69,23 @@ impl Registers {
             registers: Vec::new(alloc),
             data: Vec::new(alloc),
         };
-        let nexts = nexts(alloc, values, list.latches.as_slice())?;
-        found.find(alloc, list, values, &nexts)?;
-        if values.reads_of(values.one()) > 0 && !found.registers.is_empty() {
-            found.add_one(alloc)?;
-        }
+        found.find(alloc, list, values)?;
         Ok(found)
     }
 
-    fn find(
-        &mut self,
-        alloc: Global,
-        list: &CellList,
-        values: &Values,
-        nexts: &[Option<u32>],
-    ) -> Result<(), AllocError> {
+    fn find(&mut self, alloc: Global, list: &CellList, values: &Values) -> Result<(), AllocError> {
+        let nexts = nexts(alloc, values, list.latches.as_slice())?;
         for (latch, src) in list.latches.as_slice().iter().enumerate() {
             let latch = small(latch);
             let is_read = values.reads_of(values.latch(latch)) > 0;
             if is_read && joined(values, *src).is_none() {
-                let register = register_from(alloc, nexts, list.starts.as_slice(), latch)?;
+                let register = register_from(alloc, &nexts, list.starts.as_slice(), latch)?;
                 self.registers.push(register)?;
                 self.data.push(*src)?;
             }
+        }
+        if values.reads_of(values.one()) > 0 && !self.registers.is_empty() {
+            self.add_one(alloc)?;
         }
         Ok(())
     }

@@ -40,13 +40,17 @@ impl Values {
             made: Vec::new(alloc),
             reads: Vec::new(alloc),
         };
-        values.find_made(list.cells.as_slice())?;
-        let count = values.one().saturating_add(1) as usize;
-        values.reads.resize(count, 0)?;
-        let mut todo = Vec::with_capacity(alloc, count)?;
-        values.read_all(&mut todo, list.outs.as_slice())?;
-        values.read_more(&mut todo, list)?;
+        values.count_reads(alloc, list)?;
         Ok(values)
+    }
+
+    fn count_reads(&mut self, alloc: Global, list: &CellList) -> Result<(), AllocError> {
+        self.find_made(list.cells.as_slice())?;
+        let count = self.one().saturating_add(1) as usize;
+        self.reads.resize(count, 0)?;
+        let mut todo = Vec::new(alloc);
+        self.read_all(&mut todo, list.outs.as_slice())?;
+        self.read_more(&mut todo, list)
     }
 
     fn find_made(&mut self, cells: &[Cell]) -> Result<(), AllocError> {

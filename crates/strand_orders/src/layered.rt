@@ -84,20 +84,25 @@ fn turn(pairs: &mut [(u32, u32)]) {
     }
 }
 
+// The links down and those up between the nodes and the points of the edges, which are added.
+fn links_of(alloc: Global, parts: &mut Parts) -> Result<(Links, Links), AllocError> {
+    let mut short = Vec::new(alloc);
+    for number in 0..parts.edges.len() {
+        if let Some((from, to)) = parts.edges.get(number).copied() {
+            add_edge(parts, &mut short, from, to)?;
+        }
+    }
+    let downs = Links::of(alloc, parts.layers.len(), &short)?;
+    turn(&mut short);
+    let ups = Links::of(alloc, parts.layers.len(), &short)?;
+    Ok((downs, ups))
+}
+
 impl Layered {
     /// Makes a layered graph of its parts.
     pub fn of(alloc: Global, mut parts: Parts) -> Result<Layered, AllocError> {
         let inner = small(parts.layers.len());
-        let mut short = Vec::new(alloc);
-        for number in 0..parts.edges.len() {
-            if let Some((from, to)) = parts.edges.get(number).copied() {
-                add_edge(&mut parts, &mut short, from, to)?;
-            }
-        }
-        let count = parts.layers.len();
-        let downs = Links::of(alloc, count, &short)?;
-        turn(&mut short);
-        let ups = Links::of(alloc, count, &short)?;
+        let (downs, ups) = links_of(alloc, &mut parts)?;
         Ok(Layered {
             layers: parts.layers,
             signals: parts.signals,

@@ -51,25 +51,32 @@ fn fill_heights(heights: &mut [u32], start: u32, end: u32) {
 }
 
 impl Orders {
-    /// Returns the orders of a graph in which the nodes of a layer stand by their numbers.
-    pub fn of(alloc: Global, graph: &Layered) -> Result<Orders, AllocError> {
-        let depth = graph.depth() as usize;
-        let mut starts = vec![in alloc; 0u32; depth.saturating_add(1)]?;
-        let mut order = vec![in alloc; 0u32; graph.layers.len()]?;
-        add_up(&mut starts, &graph.layers);
-        fill(&mut starts, &mut order, &graph.layers);
-        let mut orders = Orders {
-            places: order.clone()?,
-            heights: order.clone()?,
-            starts,
-            order,
-        };
-        orders.renumber(0, small(graph.layers.len()));
-        for layer in 0..orders.depth() {
-            let (start, end) = orders.range(layer);
-            fill_heights(&mut orders.heights, start, end);
+    // The orders of no layers.
+    pub(crate) fn new(alloc: Global) -> Orders {
+        Orders {
+            starts: Vec::new(alloc),
+            order: Vec::new(alloc),
+            places: Vec::new(alloc),
+            heights: Vec::new(alloc),
         }
-        Ok(orders)
+    }
+
+    // Takes the layers of a graph, and orders the nodes of each by their numbers.
+    pub(crate) fn fill(&mut self, graph: &Layered) -> Result<(), AllocError> {
+        let count = graph.layers.len();
+        self.starts
+            .resize((graph.depth() as usize).saturating_add(1), 0)?;
+        self.order.resize(count, 0)?;
+        self.places.resize(count, 0)?;
+        self.heights.resize(count, 0)?;
+        add_up(&mut self.starts, &graph.layers);
+        fill(&mut self.starts, &mut self.order, &graph.layers);
+        self.renumber(0, small(count));
+        for layer in 0..self.depth() {
+            let (start, end) = self.range(layer);
+            fill_heights(&mut self.heights, start, end);
+        }
+        Ok(())
     }
 
     /// Returns how many layers there are.

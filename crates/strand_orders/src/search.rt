@@ -92,27 +92,35 @@ impl Search {
     fn new(alloc: Global, graph: Layered, seed: u64, effort: Effort) -> Result<Search, AllocError> {
         let nodes = graph.layers.len() as u64;
         let most = effort.of(nodes.saturating_mul(WORK_OF_NODE));
-        let now = Orders::of(alloc, &graph)?;
-        let widest = widest(&now);
-        let room = Room::new(alloc, widest as usize)?;
-        let (best, found) = (now.order().to_vec(alloc)?, now.order().to_vec(alloc)?);
-        let costs = vec![in alloc; 0u64; now.depth() as usize]?;
-        let is_due = vec![in alloc; false; now.depth() as usize]?;
-        Ok(Search {
+        let mut search = Search {
             graph,
-            now,
-            room,
+            now: Orders::new(alloc),
+            room: Room::new(alloc),
             draws: Draws::new(seed),
             reach: reach_for(most, nodes),
-            is_due,
-            best,
-            found,
-            costs,
+            is_due: Vec::new(alloc),
+            best: Vec::new(alloc),
+            found: Vec::new(alloc),
+            costs: Vec::new(alloc),
             least: u64::MAX,
             work: 0,
             most,
             patience: effort.of(nodes.saturating_mul(PATIENCE_OF_NODE)),
-        })
+        };
+        search.make_room()?;
+        Ok(search)
+    }
+
+    // Puts the nodes of each layer in order by their numbers, and makes room for the search.
+    fn make_room(&mut self) -> Result<(), AllocError> {
+        self.now.fill(&self.graph)?;
+        self.room.widen(widest(&self.now) as usize)?;
+        self.best.extend_from_slice(self.now.order())?;
+        self.found.extend_from_slice(self.now.order())?;
+        let depth = self.now.depth() as usize;
+        self.costs.resize(depth, 0)?;
+        self.is_due.resize(depth, false)?;
+        Ok(())
     }
 
     // Counts steps.

@@ -3,7 +3,6 @@
 use crate::plane::node_at;
 use crate::sweep::Sweep;
 use lists::OutOfMemory;
-use std::alloc::Global;
 use strand_core::{Layout, Strand};
 
 fn cell_row(row: i32) -> u32 {
@@ -36,8 +35,7 @@ fn add_cells(
     Ok(())
 }
 
-fn tile_cells(alloc: Global, sweep: &Sweep) -> Result<Vec<(u32, u32)>, OutOfMemory> {
-    let mut cells = Vec::new(alloc);
+fn add_tiles(sweep: &Sweep, cells: &mut Vec<(u32, u32)>) -> Result<(), OutOfMemory> {
     for (column, entry) in sweep.tiles.iter() {
         let row = match node_at(&sweep.plane.nodes, Some(*entry)) {
             Some(node) => node.row,
@@ -45,7 +43,7 @@ fn tile_cells(alloc: Global, sweep: &Sweep) -> Result<Vec<(u32, u32)>, OutOfMemo
         };
         cells.push((*column, cell_row(row)))?;
     }
-    Ok(cells)
+    Ok(())
 }
 
 // How many rows cells take: those of strands are the southernmost ones.
@@ -57,30 +55,25 @@ fn height_of(path: &[(u32, u32)]) -> u32 {
     height
 }
 
-/// Returns the layout of a circuit whose tiles are all placed.
-pub fn layout_of(alloc: Global, sweep: &Sweep) -> Result<Layout, OutOfMemory> {
-    let last = sweep.last_column();
-    let mut layout = Layout {
-        width: last.saturating_add(1),
-        height: 0,
-        tiles: tile_cells(alloc, sweep)?,
-        path: Vec::new(alloc),
-        starts: Vec::new(alloc),
-    };
+// Adds the cells of all strands.
+fn add_strands(sweep: &Sweep, layout: &mut Layout, last: u32) -> Result<(), OutOfMemory> {
     layout.starts.push(0)?;
-    let mut number = 0u32;
-    for strand in sweep.circuit.strands.iter() {
-        let first = sweep
-            .strands
-            .get(number as usize)
-            .copied()
-            .unwrap_or((0, 0));
+    for (number, strand) in sweep.circuit.strands.iter().enumerate() {
+        let first = sweep.strands.get(number).copied().unwrap_or((0, 0));
         add_cells(sweep, &mut layout.path, first, end_of(sweep, strand, last))?;
         layout
             .starts
             .push(u32::try_from(layout.path.len()).unwrap_or(u32::MAX))?;
-        number = number.saturating_add(1);
     }
+    Ok(())
+}
+
+/// Makes an empty layout that of a circuit whose tiles are all placed.
+pub fn lay_out(sweep: &Sweep, layout: &mut Layout) -> Result<(), OutOfMemory> {
+    let last = sweep.last_column();
+    layout.width = last.saturating_add(1);
+    add_tiles(sweep, &mut layout.tiles)?;
+    add_strands(sweep, layout, last)?;
     layout.height = height_of(&layout.path);
-    Ok(layout)
+    Ok(())
 }

@@ -136,7 +136,7 @@ impl Placing {
         }
         for column in self.shape.wide..6 {
             if let Some(node) = plane.node(self.lower.at(column)) {
-                join(plane, node.up, node.down)?;
+                plane.join(node.up, node.down)?;
             }
             self.lower.set(column, None);
         }
@@ -151,7 +151,7 @@ impl Placing {
             let Some(node) = plane.node(above) else {
                 return Ok(());
             };
-            let number = plane.add(Node {
+            let number = plane.insert(Node {
                 strand,
                 row: row
                     .saturating_add(self.south(&self.shape.lower, column))
@@ -165,9 +165,6 @@ impl Placing {
                 west,
                 east: None,
             })?;
-            join(plane, above, Some(number))?;
-            join(plane, Some(number), node.down)?;
-            join_east(plane, west, number)?;
             self.lower.set(column, Some(number));
             west = Some(number);
         }
@@ -226,25 +223,4 @@ impl Placing {
         }
         self.wait_all(plane)
     }
-}
-
-// Makes two nodes neighbours in their column.
-fn join(plane: &mut Plane, upper: Option<u32>, lower: Option<u32>) -> Result<(), OutOfMemory> {
-    if let (Some(number), Some(mut node)) = (upper, plane.node(upper)) {
-        node.down = lower;
-        plane.change(number, node)?;
-    }
-    if let (Some(number), Some(mut node)) = (lower, plane.node(lower)) {
-        node.up = upper;
-        plane.change(number, node)?;
-    }
-    Ok(())
-}
-
-fn join_east(plane: &mut Plane, west: Option<u32>, number: u32) -> Result<(), OutOfMemory> {
-    if let (Some(west), Some(mut node)) = (west, plane.node(west)) {
-        node.east = Some(number);
-        plane.change(west, node)?;
-    }
-    Ok(())
 }

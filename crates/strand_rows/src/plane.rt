@@ -92,12 +92,31 @@ impl Plane {
         node_at(&self.nodes, number)
     }
 
-    /// Adds a node, and returns its number.
-    pub fn add(&mut self, node: Node) -> Result<u32, OutOfMemory> {
+    /// Adds a node between its neighbours, and returns its number.
+    pub fn insert(&mut self, node: Node) -> Result<u32, OutOfMemory> {
         let number = u32::try_from(self.nodes.len()).unwrap_or(u32::MAX);
         self.nodes.push(node)?;
         self.is_waiting.push(false)?;
+        self.join(node.up, Some(number))?;
+        self.join(Some(number), node.down)?;
+        if let (Some(west), Some(mut before)) = (node.west, self.node(node.west)) {
+            before.east = Some(number);
+            self.change(west, before)?;
+        }
         Ok(number)
+    }
+
+    /// Makes two nodes neighbours in their column.
+    pub fn join(&mut self, upper: Option<u32>, lower: Option<u32>) -> Result<(), OutOfMemory> {
+        if let (Some(number), Some(mut node)) = (upper, self.node(upper)) {
+            node.down = lower;
+            self.change(number, node)?;
+        }
+        if let (Some(number), Some(mut node)) = (lower, self.node(lower)) {
+            node.up = upper;
+            self.change(number, node)?;
+        }
+        Ok(())
     }
 
     /// Changes a node.
@@ -111,16 +130,12 @@ impl Plane {
 
     /// Lets the bounds from a node be looked at.
     pub fn wait(&mut self, number: Option<u32>) -> Result<(), OutOfMemory> {
-        if let Some(number) = number {
-            if !self
-                .is_waiting
-                .get(number as usize)
-                .copied()
-                .unwrap_or(true)
-            {
-                self.waiting.push(number)?;
-                set_flag(&mut self.is_waiting, number, true);
-            }
+        let Some(number) = number else {
+            return Ok(());
+        };
+        if let Some(false) = self.is_waiting.get(number as usize) {
+            self.waiting.push(number)?;
+            set_flag(&mut self.is_waiting, number, true);
         }
         Ok(())
     }

@@ -1,6 +1,6 @@
 // Several numbers of rows are tried.
 
-use crate::cells::layout_of;
+use crate::cells::lay_out;
 use crate::sweep::{Plan, Sweep, longest};
 use crate::tails::tails_of;
 use lists::OutOfMemory;
@@ -23,12 +23,14 @@ const MOST_COLUMNS: u32 = 6;
 
 const MORE_COLUMNS: u32 = 1000;
 
-// The search for the layout with the least cost, and what has been looked at for it.
+// The search for the layout with the least cost, and what has been looked at for it. It has found nothing if the cost is
+// the greatest number.
 #[derive(Drop)]
 struct Search<'a, 'b> {
+    alloc: Global,
     circuit: &'a StrandCircuit,
     tails: &'b [u32],
-    best: Option<Layout>,
+    best: Layout,
     cost: u64,
     work: u64,
 }
@@ -46,53 +48,60 @@ impl<'a, 'b> Search<'a, 'b> {
     // Takes a layout if it costs less than the best one. Returns whether it costs at most an eighth more.
     fn offer(&mut self, layout: Layout) -> bool {
         let cost = cost(layout.width, layout.height, self.circuit.registers.len());
-        if self.best.is_none() || cost < self.cost {
-            self.best = Some(layout);
+        if cost < self.cost {
+            self.best = layout;
             self.cost = cost;
         }
         cost <= self.cost.saturating_add(self.cost / 8)
     }
 
-    // Tries a plan. Returns whether plans with fewer rows are worth a try.
-    fn try_plan(&mut self, alloc: Global, plan: Plan) -> Result<bool, OutOfMemory> {
+    // Places all tiles by a plan, and fills the layout. Returns whether it could.
+    fn place(&mut self, plan: Plan, layout: &mut Layout) -> Result<bool, OutOfMemory> {
         let columns = longest(self.tails)
             .saturating_mul(MOST_COLUMNS)
             .saturating_add(MORE_COLUMNS);
-        let mut sweep = Sweep::new(alloc, self.circuit, self.tails, plan)?;
+        let mut sweep = Sweep::new(self.alloc, self.circuit, self.tails, plan);
         let is_placed = sweep.run(columns)?;
         self.work = self.work.saturating_add(sweep.plane.work);
-        if !is_placed {
+        if is_placed {
+            lay_out(&sweep, layout)?;
+        }
+        Ok(is_placed)
+    }
+
+    // Tries a plan. Returns whether plans with fewer rows are worth a try.
+    fn try_plan(&mut self, plan: Plan) -> Result<bool, OutOfMemory> {
+        let mut layout = empty_layout(self.alloc);
+        if !self.place(plan, &mut layout)? {
             return Ok(false);
         }
-        let layout = layout_of(alloc, &sweep)?;
         Ok(self.offer(layout) && self.work < MOST_WORK)
     }
 
-    // The width and the rows of the best layout.
-    fn size(&self) -> (u32, i32) {
-        match &self.best {
-            Some(layout) => (
-                layout.width,
-                i32::try_from(layout.height).unwrap_or(UNBOUNDED),
-            ),
-            None => (0, UNBOUNDED),
-        }
-    }
-
     // Tries fewer and fewer rows, where forks come late if the columns are told.
-    fn try_fewer(
-        &mut self,
-        alloc: Global,
-        rows: i32,
-        columns: Option<u32>,
-    ) -> Result<(), OutOfMemory> {
+    fn try_fewer(&mut self, rows: i32, columns: Option<u32>) -> Result<(), OutOfMemory> {
         for fewer in 0..FEWER {
             let most = rows.saturating_sub(rows.saturating_mul(fewer) / PARTS);
-            if !self.try_plan(alloc, Plan { most, columns })? {
+            if !self.try_plan(Plan { most, columns })? {
                 break;
             }
         }
         Ok(())
+    }
+
+    // Tries plans.
+    fn run(&mut self, effort: Effort) -> Result<(), OutOfMemory> {
+        let first = Plan {
+            most: UNBOUNDED,
+            columns: None,
+        };
+        if !self.try_plan(first)? || matches!(effort, Effort::Brief) {
+            return Ok(());
+        }
+        let width = self.best.width;
+        let rows = i32::try_from(self.best.height).unwrap_or(UNBOUNDED);
+        self.try_fewer(rows, None)?;
+        self.try_fewer(rows, Some(width))
     }
 }
 
@@ -105,26 +114,15 @@ pub fn laid_out(
 ) -> Result<Layout, OutOfMemory> {
     let tails = tails_of(alloc, circuit)?;
     let mut search = Search {
+        alloc,
         circuit,
         tails: &tails,
-        best: None,
-        cost: 0,
+        best: empty_layout(alloc),
+        cost: u64::MAX,
         work: 0,
     };
-    let first = Plan {
-        most: UNBOUNDED,
-        columns: None,
-    };
-    let goes_on = search.try_plan(alloc, first)?;
-    if goes_on && effort == Effort::Whole {
-        let (width, rows) = search.size();
-        search.try_fewer(alloc, rows, None)?;
-        search.try_fewer(alloc, rows, Some(width))?;
-    }
-    match search.best {
-        Some(layout) => Ok(layout),
-        None => Ok(empty_layout(alloc)),
-    }
+    search.run(effort)?;
+    Ok(search.best)
 }
 
 fn empty_layout(alloc: Global) -> Layout {

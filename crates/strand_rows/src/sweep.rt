@@ -45,7 +45,6 @@ pub struct Sweep<'a, 'b> {
     /// The column and the node of each tile's upper entry, and of each strand's first cell.
     pub tiles: Vec<(u32, u32)>,
     pub strands: Vec<(u32, u32)>,
-    is_placed: Vec<bool>,
     // how often each tile was tried
     tries: Vec<u32>,
     left: usize,
@@ -56,12 +55,6 @@ pub struct Sweep<'a, 'b> {
 fn set_place(places: &mut [(u32, u32)], number: u32, place: (u32, u32)) {
     if (number as usize) < places.len() {
         places[number as usize] = place;
-    }
-}
-
-fn set_placed(is_placed: &mut [bool], tile: u32) {
-    if (tile as usize) < is_placed.len() {
-        is_placed[tile as usize] = true;
     }
 }
 
@@ -96,14 +89,14 @@ fn least_length(maker: Option<Tile>, user: TileKind) -> u32 {
 }
 
 impl<'a, 'b> Sweep<'a, 'b> {
-    /// Returns a circuit of which no tile is placed, in so many rows.
+    /// Returns a circuit that is to be placed by a plan.
     pub fn new(
         alloc: Global,
         circuit: &'a StrandCircuit,
         tails: &'b [u32],
         plan: Plan,
-    ) -> Result<Sweep<'a, 'b>, OutOfMemory> {
-        Ok(Sweep {
+    ) -> Sweep<'a, 'b> {
+        Sweep {
             circuit,
             tails,
             plane: Plane::new(alloc),
@@ -111,14 +104,13 @@ impl<'a, 'b> Sweep<'a, 'b> {
             column: 0,
             plan,
             longest: longest(tails),
-            tiles: vec![in alloc; (0u32, 0u32); circuit.tiles.len()]?,
-            strands: vec![in alloc; (0u32, 0u32); circuit.strands.len()]?,
-            is_placed: vec![in alloc; false; circuit.tiles.len()]?,
-            tries: vec![in alloc; 0u32; circuit.tiles.len()]?,
+            tiles: Vec::new(alloc),
+            strands: Vec::new(alloc),
+            tries: Vec::new(alloc),
             left: circuit.tiles.len(),
             stalled: 0,
             ready: Vec::new(alloc),
-        })
+        }
     }
 
     // Adds a node below another one of its column.
@@ -129,7 +121,7 @@ impl<'a, 'b> Sweep<'a, 'b> {
         strand: u32,
         row: i32,
     ) -> Result<u32, OutOfMemory> {
-        let number = self.plane.add(Node {
+        let number = self.plane.insert(Node {
             strand,
             row,
             depth: 0,
@@ -141,20 +133,15 @@ impl<'a, 'b> Sweep<'a, 'b> {
             west,
             east: None,
         })?;
-        if let (Some(above), Some(mut node)) = (above, self.plane.node(above)) {
-            node.down = Some(number);
-            self.plane.change(above, node)?;
-        }
-        if let (Some(west), Some(mut node)) = (west, self.plane.node(west)) {
-            node.east = Some(number);
-            self.plane.change(west, node)?;
-        }
         self.plane.wait(Some(number))?;
         Ok(number)
     }
 
-    // Puts the strands of the west into the first column.
+    // Places no tile yet, and puts the strands of the west into the first column.
     fn begin(&mut self) -> Result<(), OutOfMemory> {
+        self.tiles.resize(self.circuit.tiles.len(), (0, 0))?;
+        self.tries.resize(self.circuit.tiles.len(), 0)?;
+        self.strands.resize(self.circuit.strands.len(), (0, 0))?;
         let mut above = None;
         let mut row = 0i32;
         for end in self.circuit.west.iter() {
@@ -248,7 +235,6 @@ impl<'a, 'b> Sweep<'a, 'b> {
 
     // Notes where a tile was placed, and where its strands begin.
     fn note(&mut self, number: u32, tile: Tile, placing: &Placing) {
-        set_placed(&mut self.is_placed, number);
         let entry = placing.upper.at(0).unwrap_or(0);
         set_place(&mut self.tiles, number, (self.column, entry));
         let wide = shape_of(tile.kind).wide;

@@ -6,7 +6,7 @@ use crate::web::Web;
 use cell_core::Draws;
 use lists::OutOfMemory;
 use std::alloc::Global;
-use strand_core::{Effort, TileKind, West};
+use strand_core::{Effort, StrandCircuit, TileKind, West};
 
 // How late registers may begin.
 const STARTS: [u32; 11] = [0, 0, 2, 4, 6, 6, 8, 10, 12, 12, 18];
@@ -138,8 +138,12 @@ impl Search {
         Ok(true)
     }
 
-    // Makes changes until the work is done.
+    // Computes all times, rewrites all tiles, and then makes changes until the work is done.
     fn run(&mut self, work: u64) -> Result<(), OutOfMemory> {
+        self.web.update_all()?;
+        self.decide(0)?;
+        self.rewrite_all()?;
+        self.decide(u64::MAX)?;
         for _ in 0..work {
             if self.web.work >= work {
                 break;
@@ -154,19 +158,18 @@ impl Search {
     }
 }
 
-/// Changes a web so that it has fewer columns, bumps and crossings.
-pub fn anneal(alloc: Global, web: Web, effort: Effort) -> Result<Web, OutOfMemory> {
-    let work = effort.of(work_of(web.nodes.len()));
+/// Returns the web of a circuit, changed so that it has fewer columns, bumps and crossings.
+pub fn annealed(
+    alloc: Global,
+    circuit: &StrandCircuit,
+    effort: Effort,
+) -> Result<Web, OutOfMemory> {
     let mut search = Search {
-        web,
+        web: Web::of(alloc, circuit)?,
         draws: Draws::new(SEED),
         cost: u64::MAX,
         near: Vec::new(alloc),
     };
-    search.web.update_all()?;
-    search.decide(0)?;
-    search.rewrite_all()?;
-    search.decide(u64::MAX)?;
-    search.run(work)?;
+    search.run(effort.of(work_of(circuit.tiles.len())))?;
     Ok(search.web)
 }

@@ -4,7 +4,6 @@
 
 mod annealing;
 mod cooling;
-mod copies;
 mod rewriting;
 mod side;
 mod times;
@@ -13,4 +12,4 @@ mod waits;
 mod web;
 mod writing;
 
-pub use timing::timed;
+pub use timing::set_times;

@@ -16,21 +16,43 @@ pub struct Braid {
     pub third: Crossing,
 }
 
-// A gate or fork with its own strands, and two crossings on one side of it by which a strand passes it.
+// Two crossings by which a strand passes both inputs of a gate, or both copies of a fork.
 #[derive(Clone, Copy)]
 struct Passing {
     side: Side,
-    at: u32,
-    tile: Tile,
     first: Crossing,
     second: Crossing,
+}
+
+fn both(pair: [u32; 2]) -> [Option<u32>; 2] {
+    [Some(pair[0]), Some(pair[1])]
 }
 
 fn cross(ins: [u32; 2], outs: [u32; 2]) -> Tile {
     Tile {
         kind: TileKind::Cross,
-        ins: [Some(ins[0]), Some(ins[1])],
-        outs: [Some(outs[0]), Some(outs[1])],
+        ins: both(ins),
+        outs: both(outs),
+    }
+}
+
+// A gate or fork after the strand that passed it crosses on its other side.
+fn moved(tile: Tile, passing: Passing) -> Tile {
+    let (side, first, second) = (passing.side, passing.first, passing.second);
+    let (ins, outs) = match tile.kind {
+        TileKind::Fork => (
+            [tile.outs[0], None],
+            both(side.pair(side.near(first.outs), side.near(second.outs))),
+        ),
+        _ => (
+            both(side.pair(side.far(first.ins), side.far(second.ins))),
+            [tile.ins[0], None],
+        ),
+    };
+    Tile {
+        kind: tile.kind,
+        ins,
+        outs,
     }
 }
 
@@ -76,19 +98,20 @@ impl Web {
         self.put(third.at, three, choices[2])
     }
 
-    /// Rewrites what begins or ends at a tile, so that there are fewer crossings. Returns whether something was
-    /// rewritten; then `near` has the tiles around it.
-    pub fn rewrite(&mut self, at: u32, near: &mut Vec<u32>) -> Result<bool, OutOfMemory> {
+    /// Rewrites a gate or fork that a strand passes: the strand crosses once, on its other side. Then `near` has the
+    /// tiles around it.
+    pub fn rewrite(&mut self, at: u32, near: &mut Vec<u32>) -> Result<(), OutOfMemory> {
         let Some(node) = self.node(at) else {
-            return Ok(false);
+            return Ok(());
         };
-        match node.tile.kind {
-            TileKind::Cross | TileKind::Bump(_) => Ok(false),
-            TileKind::Fork => self.rewrite_fork(at, node.tile, near),
-            TileKind::Xor | TileKind::Or | TileKind::AndNot | TileKind::AndNotBelow => {
-                self.rewrite_gate(at, node.tile, near)
+        for side in SIDES {
+            if let Some(passing) = self.passing_at(node.tile, side) {
+                self.pass_tile(at, node.tile, passing)?;
+                self.look_around(at, near)?;
+                return self.look_around(passing.first.at, near);
             }
         }
+        Ok(())
     }
 
     /// Adds a tile and those that have a strand in common with it.
@@ -98,146 +121,64 @@ impl Web {
         };
         near.push(at)?;
         for strand in node.tile.ins {
-            if let Some(maker) = self.maker_of(strand) {
+            if let Some(maker) = self.wire_of(strand).strand.maker {
                 near.push(maker)?;
             }
         }
         for strand in node.tile.outs {
-            if let Some(user) = self.user_of(strand) {
+            if let Some(user) = self.wire_of(strand).strand.user {
                 near.push(user)?;
             }
         }
         Ok(())
     }
 
-    fn maker_of(&self, strand: Option<u32>) -> Option<u32> {
-        self.maker(strand?)
-    }
-
-    fn user_of(&self, strand: Option<u32>) -> Option<u32> {
-        self.user(strand?)
-    }
-
-    // A strand that crosses both copies of a fork crosses before it.
-    fn rewrite_fork(
-        &mut self,
-        at: u32,
-        tile: Tile,
-        near: &mut Vec<u32>,
-    ) -> Result<bool, OutOfMemory> {
-        for side in SIDES {
-            if let Some(passing) = self.passing_fork(at, tile, side) {
-                self.pass_fork(passing)?;
-                self.look_around(at, near)?;
-                self.look_around(passing.first.at, near)?;
-                return Ok(true);
-            }
+    // The tile at the other end of a gate's input, or of a fork's copy.
+    fn beyond(&self, kind: TileKind, strand: u32) -> Option<u32> {
+        match kind {
+            TileKind::Fork => self.user(strand),
+            _ => self.wire(strand).strand.maker,
         }
-        Ok(false)
     }
 
-    fn passing_fork(&self, at: u32, tile: Tile, side: Side) -> Option<Passing> {
-        let copies = [tile.outs[0]?, tile.outs[1]?];
-        let first = self.crossing(self.user(side.near(copies))?)?;
-        let second = self.crossing(self.user(side.far(copies))?)?;
-        let is_passing = side.far(first.ins) == side.near(copies)
-            && side.near(second.ins) == side.far(first.outs)
-            && side.far(second.ins) == side.far(copies);
+    // The crossings by which a strand from a side passes a tile.
+    fn passing_at(&self, tile: Tile, side: Side) -> Option<Passing> {
+        let ends = match tile.kind {
+            TileKind::Cross | TileKind::Bump(_) => return None,
+            TileKind::Fork => [tile.outs[0]?, tile.outs[1]?],
+            _ => [tile.ins[0]?, tile.ins[1]?],
+        };
+        let first = self.crossing(self.beyond(tile.kind, side.near(ends))?)?;
+        let second = self.crossing(self.beyond(tile.kind, side.far(ends))?)?;
+        let (near, far) = match tile.kind {
+            TileKind::Fork => (side.far(first.ins), side.far(second.ins)),
+            _ => (side.near(first.outs), side.near(second.outs)),
+        };
+        let is_passing = near == side.near(ends)
+            && far == side.far(ends)
+            && side.near(second.ins) == side.far(first.outs);
         if !is_passing {
             return None;
         }
         Some(Passing {
             side,
-            at,
-            tile,
             first,
             second,
         })
     }
 
-    fn pass_fork(&mut self, passing: Passing) -> Result<(), OutOfMemory> {
+    // Lets the strand that passes a tile cross on the tile's other side.
+    fn pass_tile(&mut self, at: u32, tile: Tile, passing: Passing) -> Result<(), OutOfMemory> {
         let (side, first, second) = (passing.side, passing.first, passing.second);
-        let (Some(source), Some(middle)) = (passing.tile.ins[0], passing.tile.outs[0]) else {
+        let (Some(source), Some(made)) = (tile.ins[0], tile.outs[0]) else {
             return Ok(());
         };
-        let choice = self.choice_of(first.at);
-        let passed = cross(
+        let crossing = cross(
             side.pair(side.near(first.ins), source),
-            side.pair(middle, side.far(second.outs)),
-        );
-        let copies = side.pair(side.near(first.outs), side.near(second.outs));
-        let fork = Tile {
-            kind: TileKind::Fork,
-            ins: [Some(middle), None],
-            outs: [Some(copies[0]), Some(copies[1])],
-        };
-        self.set_node(second.at, None)?;
-        self.put(first.at, passed, choice)?;
-        self.put(passing.at, fork, choice)
-    }
-
-    fn choice_of(&self, at: u32) -> Choice {
-        match self.node(at) {
-            Some(node) => node.choice,
-            None => Choice::Later,
-        }
-    }
-
-    // A strand that crosses both inputs of a gate crosses behind it.
-    fn rewrite_gate(
-        &mut self,
-        at: u32,
-        tile: Tile,
-        near: &mut Vec<u32>,
-    ) -> Result<bool, OutOfMemory> {
-        for side in SIDES {
-            if let Some(passing) = self.passing_gate(at, tile, side) {
-                self.pass_gate(passing)?;
-                self.look_around(at, near)?;
-                self.look_around(passing.first.at, near)?;
-                return Ok(true);
-            }
-        }
-        Ok(false)
-    }
-
-    fn passing_gate(&self, at: u32, tile: Tile, side: Side) -> Option<Passing> {
-        let entries = [tile.ins[0]?, tile.ins[1]?];
-        let first = self.crossing(self.maker(side.near(entries))?)?;
-        let second = self.crossing(self.maker(side.far(entries))?)?;
-        let is_passing = side.near(first.outs) == side.near(entries)
-            && side.near(second.ins) == side.far(first.outs)
-            && side.near(second.outs) == side.far(entries);
-        if !is_passing {
-            return None;
-        }
-        Some(Passing {
-            side,
-            at,
-            tile,
-            first,
-            second,
-        })
-    }
-
-    fn pass_gate(&mut self, passing: Passing) -> Result<(), OutOfMemory> {
-        let (side, first, second) = (passing.side, passing.first, passing.second);
-        let (Some(middle), Some(answer)) = (passing.tile.ins[0], passing.tile.outs[0]) else {
-            return Ok(());
-        };
-        let choice = self.choice_of(first.at);
-        let entries = side.pair(side.far(first.ins), side.far(second.ins));
-        let gate = Tile {
-            kind: passing.tile.kind,
-            ins: [Some(entries[0]), Some(entries[1])],
-            outs: [Some(middle), None],
-        };
-        let passed = cross(
-            side.pair(side.near(first.ins), middle),
-            side.pair(answer, side.far(second.outs)),
+            side.pair(made, side.far(second.outs)),
         );
         self.set_node(second.at, None)?;
-        self.put(passing.at, gate, choice)?;
-        self.put(first.at, passed, choice)
+        self.put(first.at, crossing, first.choice)?;
+        self.put(at, moved(tile, passing), first.choice)
     }
 }

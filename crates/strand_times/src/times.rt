@@ -56,10 +56,7 @@ impl Web {
         late: u32,
         level: u32,
     ) -> Result<(), OutOfMemory> {
-        let Some(strand) = strand else {
-            return Ok(());
-        };
-        let mut wire = self.wire(strand);
+        let mut wire = self.wire_of(strand);
         if wire.strand.late == late && wire.level == level {
             return Ok(());
         }

@@ -30,10 +30,11 @@ const NO_WIRE: Wire = Wire {
     level: 0,
 };
 
-/// Two strands that cross, before their Cross and behind it, and the number of this tile.
+/// Two strands that cross, before their Cross and behind it, the number of this tile, and which signal waits there.
 #[derive(Clone, Copy)]
 pub struct Crossing {
     pub at: u32,
+    pub choice: Choice,
     pub ins: [u32; 2],
     pub outs: [u32; 2],
 }
@@ -85,10 +86,10 @@ fn add_wires(wires: &mut Vec<Wire>, strands: &[Strand]) -> Result<(), OutOfMemor
 
 impl Web {
     /// Returns the web of a circuit. No times are computed yet.
-    pub fn new(alloc: Global, circuit: &StrandCircuit) -> Result<Web, OutOfMemory> {
+    pub fn of(alloc: Global, circuit: &StrandCircuit) -> Result<Web, OutOfMemory> {
         let mut web = Web {
-            nodes: Vec::with_capacity(alloc, circuit.tiles.len())?,
-            wires: Vec::with_capacity(alloc, circuit.strands.len())?,
+            nodes: Vec::new(alloc),
+            wires: Vec::new(alloc),
             west: Vec::new(alloc),
             east: Vec::new(alloc),
             work: 0,
@@ -97,11 +98,16 @@ impl Web {
             old_weight: 0,
             todo: BinaryHeap::new(alloc),
         };
-        add_nodes(&mut web.nodes, circuit.tiles.as_slice())?;
-        add_wires(&mut web.wires, circuit.strands.as_slice())?;
-        web.west.extend_from_slice(circuit.west.as_slice())?;
-        web.east.extend_from_slice(circuit.east.as_slice())?;
+        web.fill(circuit)?;
         Ok(web)
+    }
+
+    fn fill(&mut self, circuit: &StrandCircuit) -> Result<(), OutOfMemory> {
+        add_nodes(&mut self.nodes, circuit.tiles.as_slice())?;
+        add_wires(&mut self.wires, circuit.strands.as_slice())?;
+        self.west.extend_from_slice(circuit.west.as_slice())?;
+        self.east.extend_from_slice(circuit.east.as_slice())?;
+        Ok(())
     }
 
     // What there is.
@@ -135,19 +141,16 @@ impl Web {
         self.wire(strand).strand.user
     }
 
-    /// Returns the tile that makes a strand.
-    pub fn maker(&self, strand: u32) -> Option<u32> {
-        self.wire(strand).strand.maker
-    }
-
     /// Returns the strands of a tile that is a Cross.
     pub fn crossing(&self, at: u32) -> Option<Crossing> {
-        let tile = self.node(at)?.tile;
+        let node = self.node(at)?;
+        let tile = node.tile;
         if !matches!(tile.kind, TileKind::Cross) {
             return None;
         }
         Some(Crossing {
             at,
+            choice: node.choice,
             ins: [tile.ins[0]?, tile.ins[1]?],
             outs: [tile.outs[0]?, tile.outs[1]?],
         })
@@ -175,8 +178,11 @@ impl Web {
         }
     }
 
-    /// Sets a strand.
-    pub fn set_wire(&mut self, at: u32, wire: Wire) -> Result<(), OutOfMemory> {
+    /// Sets a strand, if it is there.
+    pub fn set_wire(&mut self, strand: Option<u32>, wire: Wire) -> Result<(), OutOfMemory> {
+        let Some(at) = strand else {
+            return Ok(());
+        };
         if (at as usize) < self.wires.len() {
             self.old.push(Old::Wire(at, self.wires[at as usize]))?;
             self.wires[at as usize] = wire;
@@ -184,39 +190,24 @@ impl Web {
         Ok(())
     }
 
-    fn set_user(&mut self, strand: u32, user: u32) -> Result<(), OutOfMemory> {
-        let mut wire = self.wire(strand);
-        wire.strand.user = Some(user);
-        self.set_wire(strand, wire)
-    }
-
-    fn set_maker(&mut self, strand: u32, maker: u32) -> Result<(), OutOfMemory> {
-        let mut wire = self.wire(strand);
-        wire.strand.maker = Some(maker);
-        self.set_wire(strand, wire)
-    }
-
     /// Puts a tile at a number.
     pub fn put(&mut self, at: u32, tile: Tile, choice: Choice) -> Result<(), OutOfMemory> {
         for strand in tile.ins {
-            if let Some(strand) = strand {
-                self.set_user(strand, at)?;
-            }
+            let mut wire = self.wire_of(strand);
+            wire.strand.user = Some(at);
+            self.set_wire(strand, wire)?;
         }
         for strand in tile.outs {
-            if let Some(strand) = strand {
-                self.set_maker(strand, at)?;
-            }
+            let mut wire = self.wire_of(strand);
+            wire.strand.maker = Some(at);
+            self.set_wire(strand, wire)?;
         }
-        let weight = 0;
-        self.set_node(
-            at,
-            Some(Node {
-                tile,
-                choice,
-                weight,
-            }),
-        )?;
+        let node = Node {
+            tile,
+            choice,
+            weight: 0,
+        };
+        self.set_node(at, Some(node))?;
         self.touch(at)
     }
 

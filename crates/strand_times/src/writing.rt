@@ -1,15 +1,18 @@
 // The circuit that a web has become, with its bumps.
-use crate::copies::copied_registers;
 use crate::waits::MOST;
 use crate::web::{Node, Web};
 use lists::OutOfMemory;
 use std::alloc::Global;
-use strand_core::{End, Register, Strand, StrandCircuit, Tile, TileKind, at, put};
+use strand_core::{East, End, Strand, StrandCircuit, Tile, TileKind, West, at, put};
 
-// A circuit with the numbers that the web's strands have in it, each one more, by their numbers in the web.
+// What a circuit is made of, with the numbers that the web's strands have in it, each one more, by their numbers in the
+// web.
 #[derive(Drop)]
 struct Writing {
-    circuit: StrandCircuit,
+    strands: Vec<Strand>,
+    tiles: Vec<Tile>,
+    west: Vec<End<West>>,
+    east: Vec<End<East>>,
     numbers: Vec<u32>,
 }
 
@@ -17,16 +20,31 @@ fn small(number: usize) -> u32 {
     u32::try_from(number).unwrap_or(u32::MAX)
 }
 
-// The tiles of a web, each after those whose strands it takes: by the columns before their ends.
-fn order_of(alloc: Global, web: &Web) -> Result<Vec<(u32, u32)>, OutOfMemory> {
-    let mut order = Vec::with_capacity(alloc, web.nodes.len())?;
+fn set_user(strands: &mut [Strand], strand: Option<u32>, tile: u32) {
+    if let Some(strand) = strand {
+        if (strand as usize) < strands.len() {
+            strands[strand as usize].user = Some(tile);
+        }
+    }
+}
+
+fn set_maker(strands: &mut [Strand], strand: Option<u32>, tile: u32) {
+    if let Some(strand) = strand {
+        if (strand as usize) < strands.len() {
+            strands[strand as usize].maker = Some(tile);
+        }
+    }
+}
+
+// Adds the tiles of a web, each after those whose strands it takes: by the columns before their ends.
+fn add_order(order: &mut Vec<(u32, u32)>, web: &Web) -> Result<(), OutOfMemory> {
     for (i, node) in web.nodes.iter().enumerate() {
         if let Some(node) = node {
             order.push((web.wire_of(node.tile.outs[0]).level, small(i)))?;
         }
     }
     order.sort()?;
-    Ok(order)
+    Ok(())
 }
 
 impl Writing {
@@ -37,8 +55,8 @@ impl Writing {
 
     // Adds a strand, and returns its number.
     fn add(&mut self, late: u32) -> Result<u32, OutOfMemory> {
-        let number = small(self.circuit.strands.len());
-        self.circuit.strands.push(Strand {
+        let number = small(self.strands.len());
+        self.strands.push(Strand {
             maker: None,
             user: None,
             late,
@@ -60,32 +78,15 @@ impl Writing {
         Ok(Some(number))
     }
 
-    fn set_user(&mut self, strand: Option<u32>, tile: u32) {
-        if let Some(strand) = strand {
-            if let Some(strand) = self.circuit.strands.get_mut(strand as usize) {
-                strand.user = Some(tile);
-            }
-        }
-    }
-
-    fn set_maker(&mut self, strand: Option<u32>, tile: u32) {
-        if let Some(strand) = strand {
-            if let Some(strand) = self.circuit.strands.get_mut(strand as usize) {
-                strand.maker = Some(tile);
-            }
-        }
-    }
-
     // Adds a tile between its strands.
     fn add_tile(&mut self, tile: Tile) -> Result<(), OutOfMemory> {
-        let number = small(self.circuit.tiles.len());
-        for strand in tile.ins {
-            self.set_user(strand, number);
-        }
-        for strand in tile.outs {
-            self.set_maker(strand, number);
-        }
-        self.circuit.tiles.push(tile)?;
+        let number = small(self.tiles.len());
+        let strands = self.strands.as_mut_slice();
+        set_user(strands, tile.ins[0], number);
+        set_user(strands, tile.ins[1], number);
+        set_maker(strands, tile.outs[0], number);
+        set_maker(strands, tile.outs[1], number);
+        self.tiles.push(tile)?;
         Ok(())
     }
 
@@ -137,7 +138,7 @@ impl Writing {
     fn add_west(&mut self, web: &Web) -> Result<(), OutOfMemory> {
         for end in web.west.iter() {
             let strand = self.add_strand(web, end.strand)?;
-            self.circuit.west.push(End { strand, is: end.is })?;
+            self.west.push(End { strand, is: end.is })?;
         }
         Ok(())
     }
@@ -148,39 +149,43 @@ impl Writing {
         for end in web.east.iter() {
             let wait = web.wait_at_east(*end, latest);
             let strand = self.wait(web, end.strand, wait)?;
-            self.circuit.east.push(End { strand, is: end.is })?;
+            self.east.push(End { strand, is: end.is })?;
         }
         Ok(())
     }
+
+    // Adds all ends and tiles of a web.
+    fn add_web(&mut self, web: &Web, order: &[(u32, u32)]) -> Result<(), OutOfMemory> {
+        self.add_west(web)?;
+        for (_, number) in order.iter() {
+            if let Some(node) = web.node(*number) {
+                self.add_node(web, node)?;
+            }
+        }
+        self.add_east(web)
+    }
 }
 
-fn empty(alloc: Global, registers: &[Register]) -> Result<StrandCircuit, OutOfMemory> {
-    Ok(StrandCircuit {
+fn writing_of(alloc: Global, web: &Web) -> Result<Writing, OutOfMemory> {
+    let mut order = Vec::new(alloc);
+    add_order(&mut order, web)?;
+    let mut writing = Writing {
+        numbers: vec![in alloc; 0; web.wires.len()]?,
         strands: Vec::new(alloc),
         tiles: Vec::new(alloc),
         west: Vec::new(alloc),
         east: Vec::new(alloc),
-        registers: copied_registers(alloc, registers)?,
-    })
+    };
+    writing.add_web(web, &order)?;
+    Ok(writing)
 }
 
-/// Returns a web as a circuit, with bumps.
-pub fn written(
-    alloc: Global,
-    web: &Web,
-    registers: &[Register],
-) -> Result<StrandCircuit, OutOfMemory> {
-    let mut writing = Writing {
-        circuit: empty(alloc, registers)?,
-        numbers: vec![in alloc; 0; web.wires.len()]?,
-    };
-    let order = order_of(alloc, web)?;
-    writing.add_west(web)?;
-    for (_, number) in order.iter() {
-        if let Some(node) = web.node(*number) {
-            writing.add_node(web, node)?;
-        }
-    }
-    writing.add_east(web)?;
-    Ok(writing.circuit)
+/// Makes a circuit that of a web, with bumps.
+pub fn write(alloc: Global, web: &Web, circuit: &mut StrandCircuit) -> Result<(), OutOfMemory> {
+    let writing = writing_of(alloc, web)?;
+    circuit.strands = writing.strands;
+    circuit.tiles = writing.tiles;
+    circuit.west = writing.west;
+    circuit.east = writing.east;
+    Ok(())
 }

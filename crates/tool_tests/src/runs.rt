@@ -5,11 +5,12 @@
 // before wrote. A command alone may have three numbers in brackets: the number of the source's call
 // that fails, counted from 0, and the rooms of the output and of the errors; a case with malformed
 // brackets fails. Other commands that write the same may follow, each after ` & `, and a remark on
-// the case ` -- `. `route` and `extract` are the commands of `wwroute`. Then come the lines of the
-// text that the first command reads; a case without them reads the text that the last line with `@`
-// names. Then come `== ` with the status, and the lines that the last command writes: to the output
-// if the status is 0, and else to the errors, or to the output up to `== err` and to the errors after
-// it. It writes nothing more. In the output, three full stops stand for anything.
+// the case ` -- `. `none` is no word at all, and `''` an empty one; `route` and `extract` are the
+// commands of `wwroute`. Then come the lines of the text that the first command reads; a case
+// without them reads the text that the last line with `@` names. Then come `== ` with the status,
+// and the lines that the last command writes: to the output if the status is 0, and else to the
+// errors, or to the output up to `== err` and to the errors after it. It writes nothing more. Three
+// full stops stand for anything.
 //
 // If a command follows the name after `@`, the cases are changes: the command reads the named text
 // with the lines of the case in place of each line that is the case's first.
@@ -18,6 +19,7 @@ ghost use Rattle.std.specs.Prelude.{◌≤◌};
 mod circuits;
 mod compiling;
 mod contexts;
+mod cuts;
 mod dumps;
 mod evaluating;
 mod failing;
@@ -29,6 +31,7 @@ mod routing;
 mod simulating;
 mod tapes;
 mod twice;
+mod words;
 
 use blifww_tool::run;
 use std::alloc::{AllocError, Global};
@@ -55,11 +58,11 @@ pub struct Outcome {
 }
 
 impl Outcome {
-    /// Returns whether the run ended with this status, `out` and `err`. In `out`, three full stops
+    /// Returns whether the run ended with this status, `out` and `err`, in which three full stops
     /// stand for anything.
     pub fn is(&self, status: u64, out: &str, err: &str) -> bool {
         u64::from(self.status) == status
-            && self.err.as_slice() == err.as_bytes()
+            && matches(self.err.as_slice(), err)
             && matches(self.out.as_slice(), out)
     }
 }
@@ -97,21 +100,15 @@ fn push_words(words: &mut Vec<String>, alloc: Global, command: &str) -> Result<(
     Ok(())
 }
 
-/// Returns the words of a command line: the program's name and the words of the command.
+/// Returns the words of a command line: the program's name and the words of the command, or no word
+/// if the command is `none`.
 pub fn words_of(alloc: Global, command: &str) -> Result<Vec<String>, AllocError> {
     let mut words = Vec::new(alloc);
-    push_word(&mut words, alloc, "blifww")?;
-    push_words(&mut words, alloc, command)?;
-    Ok(words)
-}
-
-/// Joins parts into one text.
-pub fn text_of(alloc: Global, parts: &[&str]) -> Result<String, AllocError> {
-    let mut text = String::new(alloc);
-    for part in parts {
-        text.push_str(part)?;
+    if command != "none" {
+        push_word(&mut words, alloc, "blifww")?;
+        push_words(&mut words, alloc, command)?;
     }
-    Ok(text)
+    Ok(words)
 }
 
 /// Runs a command over a source in memory and two sinks. `source` has the source's chunk and the
@@ -190,14 +187,12 @@ pub fn run_amply(alloc: Global, command: &str, text: &[u8]) -> Result<Outcome, F
     run_within(alloc, command, text, AMPLE)
 }
 
-// Whether a run ended well, and wrote a routed circuit and told its box.
-fn is_routed(got: &Outcome) -> bool {
-    got.status == 0 && matches(&got.out, "#C gate ...\n") && matches(&got.err, "box ...\n")
-}
-
-// Whether a run ended well, and wrote a pattern or a lifted netlist.
+// Whether a run ended well, and wrote a pattern, a routed circuit, whose box it told, or a lifted
+// netlist.
 fn is_handed_on(got: &Outcome) -> bool {
-    is_routed(got) || got.is(0, "#C BLIFWW 2 P ...\n", "") || got.is(0, ".model lifted\n...\n", "")
+    got.is(0, "#C BLIFWW 2 P ...\n", "")
+        || got.is(0, "#C gate ...\n", "box ...\n")
+        || got.is(0, ".model lifted\n...\n", "")
 }
 
 /// Returns the pattern or the lifted netlist that a command writes for a text, and fails if the run
@@ -324,10 +319,13 @@ fn text_named(name: &str) -> Option<&'static str> {
         "toggle" => Some(compiling::TOGGLE),
         "counter" => Some(nets::COUNTER),
         "adder" => Some(nets::ADDER),
+        "heavy" => Some(routing::HEAVY),
         "circuit" => Some(circuits::NAND),
         "gate's lines" => Some(lifts::GATE_LINES),
         "ring's lines" => Some(lifts::RING_LINES),
         "wire" => Some(contexts::WIRE),
+        "latch" => Some(simulating::LATCH),
+        "latches" => Some(contexts::LATCHES),
         _ => None,
     }
 }
@@ -368,16 +366,11 @@ fn is_met(alloc: Global, case: &Case, other: &str) -> Result<bool, Fail> {
     are_ends(alloc, case, case.commands, text.as_bytes())
 }
 
-// Adds a part to a text.
-pub fn push(text: &mut Vec<u8>, part: &str) -> Result<(), AllocError> {
-    text.extend_from_slice(part.as_bytes())
-}
-
 // Adds these lines, with `new` in place of each line that is `old`.
-fn push_changed(text: &mut Vec<u8>, lines: &str, old: &str, new: &str) -> Result<(), AllocError> {
+fn push_changed(text: &mut String, lines: &str, old: &str, new: &str) -> Result<(), AllocError> {
     for line in lines.split_inclusive('\n') {
         let kept = if line.trim_end() == old { new } else { line };
-        push(text, kept)?;
+        text.push_str(kept)?;
     }
     Ok(())
 }
@@ -385,10 +378,10 @@ fn push_changed(text: &mut Vec<u8>, lines: &str, old: &str, new: &str) -> Result
 // Whether the command over the changed lines ends as the change wants, and the change changes
 // something.
 fn is_change_met(alloc: Global, change: &Case, group: &Group) -> Result<bool, Fail> {
-    let mut text = Vec::new(alloc);
+    let mut text = String::new(alloc);
     push_changed(&mut text, group.text, change.commands, change.text)?;
-    let is_so = is_end(alloc, change, group.command, &text)?;
-    Ok(is_so && text.as_slice() != group.text.as_bytes())
+    let is_so = is_end(alloc, change, group.command, text.as_bytes())?;
+    Ok(is_so && text.as_str() != group.text)
 }
 
 // Whether a case of a group ends as it wants.
@@ -446,6 +439,7 @@ const LISTS: &[&str] = &[
     routing::CASES,
     simulating::CASES,
     tapes::CASES,
+    words::CASES,
 ];
 
 #[test]

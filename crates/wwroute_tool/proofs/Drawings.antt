@@ -9,6 +9,7 @@ use Rattle.netlist_core.specs.declared.model.Design.{Design}
 use Rattle.netlist_core.specs.declared.flat.Flat.{Flat}
 use Rattle.netlist_meaning.specs.Flat.{IsNamed, IsSound, IsWeighed}
 use Rattle.netlist_meaning.specs.Weight.{weight}
+use Rattle.netlist_plans.specs.Lists.{IsCompilable}
 use Rattle.netlist_text.specs.Parts.{AreParts}
 use Rattle.netlist_text.proofs.SoundParts.{sound, weighed, small}
 use Rattle.flat_designs.proofs.Sound.{flat_is_sound}
@@ -46,6 +47,10 @@ module _ (design : Design) (flat : Flat) (order : List ℕ) (parts : AreParts de
 
   pub placed : HasTablePlaces flat
   placed = places_fit design flat parts.faultless (let same : flat.weight ≡ weight design = parts.is_flat.weight in omega (arith, small design flat order parts, same)) parts.is_flat
+
+  -- its flat netlist can be compiled, if its ports' names can stand in a table
+  pub compilable : HasPortNames flat → IsCompilable flat order
+  compilable names = record { sound = sound_of; ordered = parts.is_order; named = named; names = names; places = placed }
 
   module _ (plan : Plan) (ports : Ports) where
     -- the text of a plan carries the design and shows its nets

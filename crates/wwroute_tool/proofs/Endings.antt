@@ -1,5 +1,5 @@
 -- How runs end.
-use Rattle.std.proofs.Common.{ℕ, ◌≡◌, ◌≢◌, ◌<◌, ◌≤◌, ◌*◌, inl, inr, refl, sym, ap, ◌∙◌, subst, List, ◌++◌, length, take, arith}
+use Rattle.std.proofs.Common.{ℕ, ◌≡◌, ◌≢◌, ◌<◌, ◌≤◌, ◌*◌, inl, inr, refl, sym, ap, ◌∙◌, subst, List, [], ◌++◌, length, take, arith}
 use Rattle.std.specs.Prelude.{Option}
 use Rattle.std.specs.Io.KnownBytes.{Appends}
 use Rattle.std.proofs.KnownBytes.{Appends-trans}
@@ -30,7 +30,8 @@ use Rattle.wwroute_tool.specs.declared.top.Stop.{Stop}
 use Rattle.wwroute_tool.specs.declared.top.Stop.TheVariants.{Refused}
 use Rattle.wwroute_tool.specs.Words.{AsksFor}
 use Rattle.wwroute_tool.specs.Commands.{HasTextReason}
-use Rattle.wwroute_tool.specs.Refusing.{HasNoRoutedCircuit, HasNoPatternOf, NeedsNoReason, IsPatternText, box_limit, route_line, route_status}
+use Rattle.route_tables.specs.Limit.{box_limit}
+use Rattle.wwroute_tool.specs.Refusing.{HasNoRoutedCircuit, HasNoPatternOf, NeedsNoReason, IsPatternText, route_line, route_status}
 use Rattle.wwroute_tool.specs.Runs.{CutsNotice, AnswersAll, IsCut, RouteEnds, HasCommandReason, HasRouteReason, HasBrokenOff, HasEarlyEnd}
 
 -- ---- reasons
@@ -149,13 +150,13 @@ module _ (words : List (List ℕ)) (src : Reading) (out : Writing) (old mid new 
       }
 
   -- the answer is whole, but the line beside it is not
-  pub done_cut : (line : List ℕ) (d : AnswersAll words src out line) → Gained before d.begun.notice → ((k : ℕ) × Appends mid new (take k line)) → NoWriteFailed out → NoWriteFailed before → RoseByOne g h
+  pub done_cut : (line : List ℕ) (d : AnswersAll words src out line) → line ≢ [] → Gained before d.begun.notice → ((k : ℕ) × Appends mid new (take k line)) → NoWriteFailed out → NoWriteFailed before → RoseByOne g h
       → RouteEnds (call words src out whole) 6
-  done_cut line d first last out_calm calm rose =
+  done_cut line d some first last out_calm calm rose =
       record {
         done = λ e. absurd (omega (arith, e));
         refused = λ zero six. absurd (six refl);
-        cut = λ e. inr (inr (inr (record { line = line; done = d; out_calm = out_calm; size = last.0; front = gained d.begun.notice (take last.0 line) first last.1; failed = failed_after calm rose })));
+        cut = λ e. inr (inr (inr (record { line = line; some = some; done = d; out_calm = out_calm; size = last.0; front = gained d.begun.notice (take last.0 line) first last.1; failed = failed_after calm rose })));
         front = front;
       }
 

@@ -10,6 +10,7 @@ use Rattle.refusals.specs.Refusals.{status_of, refusal_line}
 use Rattle.refusals.specs.declared.causes.Cause.{Cause}
 use Rattle.refusals.specs.declared.causes.Cause.TheVariants.{NetlistFault, WeightTooLarge, Loop, Pattern, GridTooLarge, PortTable}
 use Rattle.refusals.specs.declared.refusal.Refusal.TheVariants as refusal
+use Rattle.route_tables.specs.Limit.{box_limit}
 use Rattle.route_tables.specs.declared.fault.FaultWord.{FaultWord}
 use Rattle.route_tables.specs.declared.fault.FaultWord.TheVariants.{Kind, Gate, Touches, Wire, Length, Electron, Fed, Order, Port, Net}
 use Rattle.route_tables.specs.declared.fault.CellFault.{CellFault}
@@ -49,10 +50,6 @@ route_line (Common r) = refusal_line r
 pub record IsPatternText (text : List ℕ) (grid : Grid) (ports : Ports) : Type 0 where
   pub pattern : ReadsWithinLimit text grid
   pub table : ReadsAsPorts text grid.width grid.height ports
-
--- the greatest number of cells of a box that is looked at
-abbrev pub box_limit : ℕ
-box_limit = 67108864
 
 -- the pattern's box has more cells, and its port table no fault
 pub record HasBoxPastLimit (text : List ℕ) (width height : ℕ) : Type 0 where

@@ -95,9 +95,10 @@ pub record HasRefused (c : Call) (status : ℕ) : Type 0 where
   pub line : Gained c.err (notice ++ route_line refusal)
   pub err_calm : NoWriteFailed c.err
 
--- the notice was cut off by the one write that failed, and the output gained nothing
+-- there is a notice, it was cut off by the one write that failed, and the output gained nothing
 pub record CutsNotice (c : Call) : Type 0 where
   pub begun : IsBegun c.words c.src
+  pub some : begun.notice ≢ []
   pub unwritten : IsUnwritten c.out
   pub size : ℕ
   pub front : Gained c.err (take size begun.notice)
@@ -123,9 +124,11 @@ pub record CutsAnswer (c : Call) : Type 0 where
       ⊎ (WriteFailed c.err
       × ((k : ℕ) × Gained c.err (front.begun.notice ++ take k (refusal_line refusal.WriteFault))))
 
--- the output has the whole answer, and the line beside it was cut off by the one write that failed
+-- the output has the whole answer, there is a line beside it, and this was cut off by the one write
+-- that failed
 pub record CutsBeside (c : Call) : Type 0 where
   pub line : List ℕ
+  pub some : line ≢ []
   pub done : AnswersAll c.words c.src c.out line
   pub out_calm : NoWriteFailed c.out
   pub size : ℕ

@@ -4,9 +4,10 @@ ghost use Rattle.ww_rule.specs.Grid.{plane_of};
 ghost use Rattle.tile_match.specs.Names.{has_bad_name};
 ghost use Rattle.blif_write.specs.Lift.{IsLiftOfCells, text_of_lift};
 ghost use Rattle.routed_texts.specs.Tables.{ShowsListRuns};
+ghost use Rattle.route_tables.specs.Limit.{box_limit};
 ghost use Rattle.route_cells.specs.Fits.{FitsPorts};
 ghost use Rattle.wwroute_tool.specs.Carried.{GivesNetlist, IsLiftOfPattern};
-ghost use Rattle.wwroute_tool.specs.Refusing.{HasNoRoutedCircuit, NeedsNoReason, box_limit};
+ghost use Rattle.wwroute_tool.specs.Refusing.{HasNoRoutedCircuit, NeedsNoReason};
 
 use crate::RouteRefusal;
 use blif_write::Lift;
@@ -15,7 +16,7 @@ use pattern_reading::Ports;
 use refusals::{Cause, Refusal};
 use route_cells::{RouteError, cells_of};
 use route_finder::{DrawingFault, FindError};
-use route_tables::{CellFault, FaultWord};
+use route_tables::{BOX_LIMIT, CellFault, FaultWord};
 use routed_core::Drawing;
 use std::alloc::Global;
 use tile_match::has_bad_name;
@@ -28,14 +29,11 @@ fn refused(word: FaultWord, x: u32, y: u32) -> RouteRefusal
     RouteRefusal::NotCircuit(CellFault { word, x, y })
 }
 
-// The greatest number of cells of a box that is looked at.
-const MOST_CELLS: u64 = 1 << 26;
-
 fn is_too_large(pattern: &Pattern) -> bool
     ensures large { IsTrue result → box_limit < pattern.now.width * pattern.now.height }
     ensures within { result ≡ false → pattern.now.width * pattern.now.height ≤ box_limit }
 {
-    u128::from(pattern.width) * u128::from(pattern.height) > u128::from(MOST_CELLS)
+    u128::from(pattern.width) * u128::from(pattern.height) > u128::from(BOX_LIMIT)
 }
 
 // What the search for gates and wires tells.
@@ -48,7 +46,7 @@ fn of_find(error: FindError) -> RouteRefusal
             DrawingFault::Wire => refused(FaultWord::Wire, x, y),
             DrawingFault::Port => refused(FaultWord::Port, x, y),
         },
-        FindError::TooLarge => refused(FaultWord::Kind, 0, 0),
+        FindError::TooLarge => refused(FaultWord::Port, 0, 0),
         FindError::NoMemory => RouteRefusal::Common(Refusal::NoMemory),
     }
 }
@@ -59,7 +57,7 @@ fn of_route(error: RouteError) -> RouteRefusal
 {
     match error {
         RouteError::Fault(fault) => RouteRefusal::NotCircuit(fault),
-        RouteError::TooLarge { .. } => refused(FaultWord::Kind, 0, 0),
+        RouteError::TooLarge { .. } => refused(FaultWord::Port, 0, 0),
         RouteError::NoMemory => RouteRefusal::Common(Refusal::NoMemory),
     }
 }

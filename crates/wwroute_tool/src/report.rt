@@ -1,5 +1,5 @@
 // The lines that tell the weight of a netlist, and the size of an answer.
-ghost use Rattle.std.specs.Prelude.{ℕ, ◌++◌, take, OnOk, OnErr};
+ghost use Rattle.std.specs.Prelude.{ℕ, ◌++◌, ◌≢◌, [], take, OnOk, OnErr};
 ghost use Rattle.std.specs.Io.KnownBytes.{Appends};
 ghost use Rattle.ww_base.specs.Faults.{HasCause};
 ghost use Rattle.refusals.specs.Tells.{Tells};
@@ -63,13 +63,15 @@ fn tell_weight<E: Sink>(err: &mut E, weight: u64) -> Result<(), Failed>
 impl Report {
     ghost use Rattle.wwroute_tool.specs.Answers.{report_line};
 
-    /// Writes the line of the report, or a prefix of it if a write fails.
+    /// Writes the line of the report, or a prefix of it if a write fails. Where there is no line,
+    /// nothing is written, and nothing fails.
     pub fn tell<E: Sink>(self, err: &mut E) -> Result<(), Failed>
         ensures ok { OnOk result (Appends (E.written err.old) (E.written err.new)
             (report_line self)) }
         ensures front { OnErr result
             ((n : ℕ) × Appends (E.written err.old) (E.written err.new)
             (take n (report_line self))) }
+        ensures some { OnErr result (report_line self ≢ []) }
         ensures cause { HasCause (E.faults err.old) (E.faults err.new) result }
     {
         match self {

@@ -126,4 +126,247 @@ aag 3 2 0 1 1
 6 2 4
 == 0
 o0=0001
+> aiger -- the period, the ports, the lanes and the columns of plans
+aag 3 2 0 1 1
+2
+4
+7
+6 2 4
+i0 a
+i1 b
+o0 y
+== 0
+#C BLIFWW 2 P 512 L 192 C 1
+#C BLIFWW IN 32 8 a
+#C BLIFWW IN 32 40 b
+#C BLIFWW OUT 224 24 y
+x = 257, y = 80, rule = WireWorld
+...!
+> aiger
+aag 1 0 1 1 0
+2 3
+2
+== 0
+#C BLIFWW 2 P 640 L 192 C 1
+#C BLIFWW OUT 256 8 o0
+x = 321, y = 96, rule = WireWorld
+...!
+> aiger
+aag 0 0 0 1 0
+1
+== 0
+#C BLIFWW 2 P 256 L 64 C 1
+#C BLIFWW OUT 96 8 o0
+x = 129, y = 48, rule = WireWorld
+...!
+> aiger -- no latch, and nothing that needs constant 1
+aag 4 2 0 2 2
+2
+4
+6
+8
+6 2 4
+8 3 4
+== 0
+#C BLIFWW 2 P 32 L 128 C 1
+#C BLIFWW IN 0 40 i0
+#C BLIFWW IN 0 8 i1
+#C BLIFWW OUT 128 8 o0
+#C BLIFWW OUT 128 40 o1
+x = 129, y = 48, rule = WireWorld
+...!
+> aiger | simulate --cycles 4 i0=0011 i1=0101
+aag 4 2 0 2 2
+2
+4
+6
+8
+6 2 4
+8 3 4
+== 0
+o0=0001
+o1=0100
+> aiger -- a latch that starts as 1, and one that starts as its own literal
+aag 3 1 2 2 0
+2
+4 2 1
+6 4 6
+4
+6
+== 0
+#C BLIFWW 2 P 576 L 160 C 1
+#C BLIFWW IN 64 8 i0
+#C BLIFWW OUT 224 8 o0
+#C BLIFWW OUT 224 24 o1
+x = 289, y = 96, rule = WireWorld
+...!
+> aiger | simulate --cycles 4 i0=0110
+aag 3 1 2 2 0
+2
+4 2 1
+6 4 6
+4
+6
+== 0
+o0=1011
+o1=0101
+> aiger -- two outputs that are one input, and an output that is constant 0
+aag 1 1 0 3 0
+2
+2
+0
+2
+== 0
+#C BLIFWW 2 P 32 L 64 C 1
+#C BLIFWW IN 0 40 i0
+#C BLIFWW OUT 64 24 o0
+#C BLIFWW OUT 64 8 o1
+#C BLIFWW OUT 64 40 o2
+x = 65, y = 48, rule = WireWorld
+...!
+> aiger | simulate --cycles 2 i0=01
+aag 1 1 0 3 0
+2
+2
+0
+2
+== 0
+o0=01
+o1=00
+o2=01
+> aiger -- constant 0, and a gate that reaches no output, take no lane
+aag 0 0 0 0 0
+== 0
+#C BLIFWW 2 P 32 L 0 C 1
+x = 0, y = 0, rule = WireWorld
+...!
+> aiger | simulate --cycles 1
+aag 0 0 0 0 0
+== 0
+> aiger
+aag 4 2 0 1 2
+2
+4
+6
+6 2 4
+8 2 6
+== 0
+#C BLIFWW 2 P 32 L 96 C 1
+#C BLIFWW IN 0 8 i0
+#C BLIFWW IN 0 40 i1
+#C BLIFWW OUT 96 8 o0
+x = 97, y = 48, rule = WireWorld
+...!
+> aiger | simulate --cycles 4 i0=0011 i1=0101
+aag 4 2 0 1 2
+2
+4
+6
+6 2 4
+8 2 6
+== 0
+o0=0001
+> aiger
+aag 3 2 0 1 1
+2
+4
+6
+6 2 4
+== 0
+#C BLIFWW 2 P 32 L 96 C 1
+#C BLIFWW IN 0 8 i0
+#C BLIFWW IN 0 40 i1
+#C BLIFWW OUT 96 8 o0
+x = 97, y = 48, rule = WireWorld
+...!
+> aiger | simulate --cycles 3 -- resets: left out, its own literal, and 1; a latch that reads an odd literal
+aag 4 0 4 4 0
+2 2
+4 4 4
+6 6 1
+8 7 1
+2
+4
+6
+8
+== 0
+o0=000
+o1=000
+o2=111
+o3=100
+> aiger | simulate --cycles 7 i0=1100110 i1=1110101 -- the flip-flop with enable and reset of the format's description
+aag 7 2 1 2 4
+2
+4
+6 8
+6
+7
+8 4 10
+10 13 15
+12 2 6
+14 3 7
+== 0
+o0=0100010
+o1=1011101
+> aiger | simulate --cycles 2 i0=01 -- an input that is an output, a gate of constants, and a gate that nothing reads
+aag 4 1 0 4 2
+2
+3
+2
+8
+0
+6 1 2
+8 1 1
+== 0
+o0=10
+o1=01
+o2=11
+o3=00
+> aiger | simulate --cycles 3 -- a loop through a latch is allowed
+aag 2 0 1 1 1
+2 4
+2
+4 3 1
+== 0
+o0=010
+> aiger | simulate --cycles 1 -- neither inputs nor outputs
+aag 0 0 0 0 0
+== 0
+> aiger
+aag 2 1 0 0 1
+2
+4 0 5
+== 3
+loop: 4
+> aiger
+aag 4 1 0 1 3
+2
+2
+4 7 2
+6 8 2
+8 2 5
+== 3
+loop: 8 6 4
+> aiger
+aag 5 1 0 1 4
+2
+10
+4 2 2
+6 8 4
+8 4 7
+10 6 8
+== 3
+loop: 8 6
+> aiger
+aag 7 3 0 1 4
+2
+4
+6
+15
+8 14 2
+10 8 2
+12 10 2
+14 12 2
+== 3
+loop: 10 12 14 8
 ";

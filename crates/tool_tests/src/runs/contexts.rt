@@ -1,9 +1,4 @@
 // What `compile` makes of several contexts, and what such patterns show.
-use crate::runs::compiling::{INVERTER, TOGGLE};
-use crate::runs::{expect_holds, run_amply, text_of, written};
-use itoa::Buffer;
-use std::alloc::{AllocError, Global};
-use std::test::Fail;
 
 /// Netlists in several contexts: contexts that cannot be, and contexts that each start as their
 /// words say. The last cases drive a wire.
@@ -33,7 +28,26 @@ B14 Undriven line 2: q
 == 0
 0:y=1001
 1:y=1100
+> compile --contexts 13 -- two loops without instructions
+.model m
+.latch b a 1
+.latch a b 0
+== 4
+too large: contexts 13 limit 12
+@ inverter
+> compile -- a loop of constant 1 lengthens the period, which is one of whole tiles
+== 0
+#C BLIFWW 2 P 320 L ...
 @ toggle
+> compile -- contexts have room for each 32 generations of the period
+== 0
+#C BLIFWW 2 P 640 L ...
+> compile --contexts 20
+== 0
+#C BLIFWW 2 P ...
+> compile --contexts 21
+== 4
+too large: contexts 21 limit 20
 > compile --contexts 2 2:q=1 -- contexts that cannot be
 == 9
 stream: BadContext 2:q=1
@@ -81,6 +95,58 @@ $enddefinitions $end
 0#
 1$
 #2
+@ latches
+> compile --contexts 1 | simulate --cycles 1 -- the bits with which two latches start, one of a placed model
+== 0
+q1=1
+> compile --contexts 1 | probe --net q0 --cycles 1
+== 0
+q0=0
+> compile --contexts 3 2:q0=1 0:q1=0 | simulate --cycles 1
+== 0
+0:q1=0
+1:q1=1
+2:q1=1
+> compile --contexts 3 2:q0=1 0:q1=0 | probe --net q0 --cycles 1
+== 0
+0:q0=0
+1:q0=0
+2:q0=1
+> compile --contexts 2 1:q0=1 0:q0=1 1:q1=0 | simulate --cycles 1
+== 0
+0:q1=1
+1:q1=0
+> compile --contexts 2 1:q0=1 0:q0=1 1:q1=0 | probe --net q0 --cycles 1
+== 0
+0:q0=1
+1:q0=1
+> compile --contexts 2 q0
+== 9
+stream: NoEquals q0
+> compile --contexts 2 q0=1
+== 9
+stream: BadContext q0=1
+> compile --contexts 2 2:q0=1
+== 9
+stream: BadContext 2:q0=1
+> compile --contexts 2 01:q0=1
+== 9
+stream: BadContext 01:q0=1
+> compile --contexts 2 1:n=1
+== 9
+stream: NoSuchLatch 1:n=1
+> compile --contexts 2 1:q=1
+== 9
+stream: NoSuchLatch 1:q=1
+> compile --contexts 2 1:q0=1 0:q0=0 1:q0=1
+== 9
+stream: TwiceLatch 1:q0=1
+> compile --contexts 2 1:q0=
+== 9
+stream: BadBit 1:q0=
+> compile --contexts 2 1:q0=10 1:q0
+== 9
+stream: BadBit 1:q0=10
 @ wire
 > simulate --cycles 2 1:a=10 0:a=01 -- a wire in two contexts is driven
 == 0
@@ -111,74 +177,22 @@ stream: MissingInput 1:a
 pub const WIRE: &str =
     "#C BLIFWW 1 P 64 L 2 C 2\n#C BLIFWW IN 0 0 a\n#C BLIFWW OUT 2 0 y\n#C BLIFWW NET 1 0 1 m -\nx = 3, y = 1, rule = WireWorld\n3C!\n";
 
-// The number that a text begins with.
-fn number_at(text: &[u8]) -> u64 {
-    let mut number = 0;
-    for byte in text {
-        if !byte.is_ascii_digit() {
-            return number;
-        }
-        number = (number % 1_000_000) * 10 + (*byte - b'0') as u64;
-    }
-    number
-}
-
-// The period of a netlist's pattern.
-fn period_of(alloc: Global, netlist: &str) -> Result<u64, Fail> {
-    let text = written(alloc, "compile", netlist.as_bytes())?;
-    match text.strip_prefix(b"#C BLIFWW 2 P ") {
-        Some(rest) => Ok(number_at(rest)),
-        None => Err(Fail::new("the text begins otherwise")),
-    }
-}
-
-// Fails if `compile` of the toggle in this number of contexts ends otherwise.
-fn expect_contexts(
-    alloc: Global,
-    contexts: u64,
-    status: u64,
-    out: &str,
-    err: &str,
-) -> Result<(), Fail> {
-    let mut digits = Buffer::new();
-    let command = text_of(alloc, &["compile --contexts ", digits.format(contexts)])?;
-    let got = run_amply(alloc, &command, TOGGLE.as_bytes())?;
-    expect_holds(&command, got.is(status, out, err))
-}
-
-// The line that refuses `more` contexts if there is room for `room`.
-fn no_room(alloc: Global, more: u64, room: u64) -> Result<String, AllocError> {
-    let mut asked = Buffer::new();
-    let mut limit = Buffer::new();
-    let parts = [
-        "too large: contexts ",
-        asked.format(more),
-        " limit ",
-        limit.format(room),
-        "\n",
-    ];
-    text_of(alloc, &parts)
-}
-
-// Fails if one context more than there is room for is not refused.
-fn expect_no_room(alloc: Global, room: u64) -> Result<(), Fail> {
-    let more = room % 1_000_000 + 1;
-    let line = no_room(alloc, more, room)?;
-    expect_contexts(alloc, more, 4, "", &line)
-}
-
-#[test]
-fn as_many_contexts_as_have_room_are_compiled(rt: HostRuntime) -> Result<(), Fail> {
-    let alloc = rt.alloc();
-    let room = period_of(alloc, TOGGLE)? / 32;
-    expect_contexts(alloc, room, 0, "#C BLIFWW 2 P ...\n", "")?;
-    expect_no_room(alloc, room)?;
-    expect_holds("the room of the toggle", room >= 6)
-}
-
-#[test]
-fn a_loop_of_constant_1_lengthens_the_period(rt: HostRuntime) -> Result<(), Fail> {
-    let period = period_of(rt.alloc(), INVERTER)?;
-    expect_holds("the period is one of whole tiles", period % 32 == 0)?;
-    expect_holds("the period is that of a loop", period > 32)
-}
+/// The netlist of two latches: q1 of the main model starts with 1, and the one of model `l` with 0.
+/// The main model connects its net q0 to the output of `l`, and drives n by a cover.
+pub const LATCHES: &str = "\
+.model k
+.outputs q1
+.subckt l d=n q=q0
+.latch m q1 1
+.names q0 n
+0 1
+.names q0 q1 m
+10 1
+01 1
+.end
+.model l
+.inputs d
+.outputs q
+.latch d q 0
+.end
+";

@@ -148,6 +148,103 @@ B19 Recursive line 2: a b
 0 1
 == 3
 loop: y
+> eval --cycles 1 & compile -- the lowest rule is told, and of it the earliest word
+.model m
+.inputs a a
+== 1
+B12 DuplicatePort line 2: a
+> eval --cycles 1 & compile
+.model m
+.outputs y
+.inputs y
+== 1
+B12 DuplicatePort line 3: y
+> eval --cycles 1 & compile
+.model m
+.outputs y
+.inputs a
+.inputs a
+== 1
+B12 DuplicatePort line 4: a
+> eval --cycles 1 & compile
+.model m
+.inputs a
+.names a
+== 1
+B13 MultipleDrivers line 3: a
+> eval --cycles 1 & compile
+.model m
+.end
+.model s
+.outputs q
+== 1
+B14 Undriven line 4: q
+> eval --cycles 1 & compile
+.model m
+.subckt z
+.subckt w
+== 1
+B15 NoSuchModel line 2: z
+> eval --cycles 1 & compile
+.model m
+.subckt s q=y q=y
+.end
+.model s
+.outputs q
+.names q
+== 1
+B13 MultipleDrivers line 2: y
+> eval --cycles 1 & compile
+.model m
+.subckt s
+.end
+.model s
+.clock k
+.inputs p
+== 1
+B18 PinMissing line 2: k
+> eval --cycles 1 & compile
+.model m
+.subckt s
+.subckt z
+.end
+.model s
+.inputs p
+== 1
+B15 NoSuchModel line 3: z
+> eval --cycles 1 & compile
+.model m
+.subckt a
+.end
+.model a
+.subckt b
+.end
+.model b
+.subckt a
+== 1
+B19 Recursive line 5: a b
+> eval --cycles 1 & compile
+.model m
+.subckt m p=a
+.inputs a
+== 1
+B16 NoSuchPin line 2: p
+> eval --cycles 1 -- models without a fault
+.model m
+== 0
+> eval --cycles 2 a=01
+.model m
+.inputs a
+.outputs y
+.subckt s p=a q=y
+.end
+.model s
+.inputs p
+.outputs q
+.names p q
+1 1
+== 0
+y=01
 @ gate
 > eval --cycles 2 a=01 b=0 -- words that give a netlist no streams
 == 9

@@ -176,32 +176,6 @@ fn each_read_that_fails_is_told(rt: HostRuntime) -> Result<(), Fail> {
     Ok(())
 }
 
-// Fails if `compile` does not fill the room with the beginning of the pattern and report a write
-// fault, or does not write all of the pattern though it has room.
-fn expect_cut(alloc: Global, room: usize) -> Result<(), Fail> {
-    let got = run_over(alloc, "compile", GATE.as_bytes(), (4096, &[]), (room, 99))?;
-    let is_so = if room < 321 {
-        got.out.len() == room
-            && got.status == 6
-            && got.err.as_slice() == b"write fault\n".as_slice()
-    } else {
-        got.is(0, PATTERN, "")
-    };
-    if is_so && PATTERN.as_bytes().starts_with(&got.out) {
-        Ok(())
-    } else {
-        Err(Fail::new(format_args!("room {room}: {}", got.status)))
-    }
-}
-
-#[test]
-fn output_is_cut_where_there_is_no_room(rt: HostRuntime) -> Result<(), Fail> {
-    for room in 0..322 {
-        expect_cut(rt.alloc(), room)?;
-    }
-    Ok(())
-}
-
 // The numbers of calls of a sink that takes 7 bytes a call. The usage line takes fewer calls.
 const CALLS: &[u64] = &[0, 1, 2, 3, 4, 5, 6, 7, 8, 9, 10, 11, 12];
 

@@ -88,6 +88,201 @@ i1 b
 o0 y
 == 0
 y=1110
+> compile | lift -- names that begin with `_`, and one with a `\\` inside
+.model x
+.inputs _z a\\b
+.outputs __
+.names _z a\\b __
+10 1
+01 1
+== 0
+.model lifted
+.inputs _z a\\b
+.outputs __
+.names ___z
+.names _z a\\b ___g0
+10 1
+01 1
+.names ___g0 __
+1 1
+.end
+> compile | lift -- an input at two outputs, with names that have `=`, `.` and `\\` in them
+.model x
+.inputs a=b
+.outputs .names y\\1
+.names a=b .names
+1 1
+.names a=b y\\1
+1 1
+== 0
+.model lifted
+.inputs a=b
+.outputs .names y\\1
+.names _z
+.names a=b .names
+1 1
+.names a=b y\\1
+1 1
+.end
+> compile | lift -- two loops that read each other
+.model x
+.outputs y
+.latch b a 1
+.latch a b 0
+.names a y
+1 1
+== 0
+.model lifted
+.inputs
+.outputs y
+.names _z
+.latch _q1 _q0 1
+.latch _q0 _q1 0
+.names _q0 y
+1 1
+.end
+> compile | lift -- a gate that reads an input and a latch and feeds the latch, and an output that is constant 0
+.model x
+.inputs in
+.outputs zero
+.latch g q 1
+.names in q g
+10 1
+.names zero
+== 0
+.model lifted
+.inputs in
+.outputs zero
+.names _z
+.latch _g0 _q0 1
+.names in _q0 _g0
+10 1
+.names _z zero
+1 1
+.end
+> compile | lift -- a latch that starts with 1, and is 1 after a cycle if the input was 1 and the latch 0 in it
+.model x
+.inputs in
+.outputs y
+.latch g q 1
+.names in q g
+10 1
+.names q y
+1 1
+== 0
+.model lifted
+.inputs in
+.outputs y
+.names _z
+.latch _g0 _q0 1
+.names in _q0 _g0
+10 1
+.names _q0 y
+1 1
+.end
+> lift
+#C BLIFWW 1 P 32 L 32
+#C BLIFWW IN 0 8 a
+#C BLIFWW IN 0 24 b
+#C BLIFWW OUT 32 8 y
+x = 33, y = 32, rule = WireWorld
+8$5C18.10C$5.C16.C$6.C14.C$7.C12.C$8.C10.C$9.C.2C5.C$10.2C.C3.C$11.2C.
+C.C$15.C$11.2C.C$10.2C.C$9.C.2C$8.C$7.C$6.C$5.C$5C26.C!
+== 0
+.model lifted
+.inputs a b
+.outputs y
+.names _z
+.names a b _g0
+1- 1
+-1 1
+.names _g0 y
+1 1
+.end
+> lift -- the inputs in another order, and a net at any cell
+#C BLIFWW 1 P 32 L 32
+#C BLIFWW IN 0 24 b
+#C BLIFWW IN 0 8 a
+#C BLIFWW OUT 32 8 y
+#C BLIFWW NET 3 3 7 n -
+x = 33, y = 32, rule = WireWorld
+8$5C18.10C$5.C16.C$6.C14.C$7.C12.C$8.C10.C$9.C.2C5.C$10.2C.C3.C$11.2C.
+C.C$15.C$11.2C.C$10.2C.C$9.C.2C$8.C$7.C$6.C$5.C$5C26.C!
+== 0
+.model lifted
+.inputs b a
+.outputs y
+.names _z
+.names a b _g0
+1- 1
+-1 1
+.names _g0 y
+1 1
+.end
+> lift
+#C BLIFWW 1 P 32 L 32
+#C BLIFWW IN 0 8 a
+#C BLIFWW IN 0 24 b
+#C BLIFWW OUT 32 8 y
+x = 33, y = 32, rule = WireWorld
+8$5C18.10C$5.C16.C$6.C14.C$7.C12.C$8.C10.C$9.C.2C5.C$10.2C.C3.C$11.2C.
+C.C$15.C$11.2C.C$10.2C.C$9.C.2C$8.C$7.C$6.C$5.C$5C!
+== 12
+not a circuit: Cells
+> lift -- a port that is wrong is told before the output that is missing
+#C BLIFWW 1 P 64 L 32
+x = 33, y = 32, rule = WireWorld
+8$5C18.10C$5.C16.C$6.C14.C$7.C12.C$8.C10.C$9.C.2C5.C$10.2C.C3.C$11.2C.
+C.C$15.C$11.2C.C$10.2C.C$9.C.2C$8.C$7.C$6.C$5.C$5C26.C!
+== 12
+not a circuit: Ports
+> lift
+#C BLIFWW 1 P 64 L 32 C 2
+x = 33, y = 32, rule = WireWorld
+8$5C18.10C$5.C16.C$6.C14.C$7.C12.C$8.C10.C$9.C.2C5.C$10.2C.C3.C$11.2C.
+C.C$15.C$11.2C.C$10.2C.C$9.C.2C$8.C$7.C$6.C$5.C$5C26.C!
+== 12
+not a circuit: Ports
+> lift
+#C BLIFWW 1 P 32 L 32
+#C BLIFWW IN 0 9 a
+x = 33, y = 32, rule = WireWorld
+8$5C18.10C$5.C16.C$6.C14.C$7.C12.C$8.C10.C$9.C.2C5.C$10.2C.C3.C$11.2C.
+C.C$15.C$11.2C.C$10.2C.C$9.C.2C$8.C$7.C$6.C$5.C$5C26.C!
+== 12
+not a circuit: Ports
+> lift
+x = 5, y = 0, rule = WireWorld
+!
+== 12
+not a circuit: Ports
+> lift -- names that end with a backslash, have a byte 11, or stand twice
+#C BLIFWW 1 P 32 L 32
+#C BLIFWW IN 0 8 a\\
+#C BLIFWW OUT 32 8 y
+x = 33, y = 32, rule = WireWorld
+8$5C18.10C$5.C16.C$6.C14.C$7.C12.C$8.C10.C$9.C.2C5.C$10.2C.C3.C$11.2C.
+C.C$15.C$11.2C.C$10.2C.C$9.C.2C$8.C$7.C$6.C$5.C$5C26.C!
+== 12
+not a circuit: Names
+> lift
+#C BLIFWW 2 P 32 L 32 C 1
+#C BLIFWW IN 0 8 a%0Bc
+#C BLIFWW OUT 32 8 y
+x = 33, y = 32, rule = WireWorld
+8$5C18.10C$5.C16.C$6.C14.C$7.C12.C$8.C10.C$9.C.2C5.C$10.2C.C3.C$11.2C.
+C.C$15.C$11.2C.C$10.2C.C$9.C.2C$8.C$7.C$6.C$5.C$5C26.C!
+== 12
+not a circuit: Names
+> lift
+#C BLIFWW 1 P 32 L 32
+#C BLIFWW IN 0 8 y
+#C BLIFWW OUT 32 8 y
+x = 33, y = 32, rule = WireWorld
+8$5C18.10C$5.C16.C$6.C14.C$7.C12.C$8.C10.C$9.C.2C5.C$10.2C.C3.C$11.2C.
+C.C$15.C$11.2C.C$10.2C.C$9.C.2C$8.C$7.C$6.C$5.C$5C26.C!
+== 12
+not a circuit: Names
 @ gate
 > compile | lift
 == 0

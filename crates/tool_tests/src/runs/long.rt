@@ -1,7 +1,4 @@
 // Runs of many cycles.
-use crate::runs::{expect_holds, matches, run_amply, written};
-use std::alloc::{AllocError, Global};
-use std::test::Fail;
 
 /// A summary of 64 cycles, and a dump of 40 in which both nets change in each cycle.
 pub const CASES: &str = "
@@ -143,44 +140,3 @@ $enddefinitions $end
 0\"
 #40
 ";
-
-// The netlist of an OR of eight inputs.
-const EIGHT: &str =
-    ".model e\n.inputs a b c d e f g h\n.outputs y\n.names a b c d e f g h y\n1------- 1\n-1------ 1\n--1----- 1\n---1---- 1\n----1--- 1\n-----1-- 1\n------1- 1\n-------1 1\n.end\n";
-
-// Adds a word with 4096 bits for an input: 0 and 1 in turn.
-fn push_stream(command: &mut String, input: &str) -> Result<(), AllocError> {
-    command.push_str(" ")?;
-    command.push_str(input)?;
-    command.push_str("=")?;
-    for _ in 0..2048 {
-        command.push_str("01")?;
-    }
-    Ok(())
-}
-
-// The command that writes the tape of the eight inputs.
-fn tape_command(alloc: Global) -> Result<String, AllocError> {
-    let mut command = String::from_str(alloc, "tape --cycles 4096")?;
-    for input in "a b c d e f g h".split_ascii_whitespace() {
-        push_stream(&mut command, input)?;
-    }
-    Ok(command)
-}
-
-// Fails if the text is no tape whose pattern shows 0 and then 1.
-fn expect_tape(alloc: Global, tape: &[u8]) -> Result<(), Fail> {
-    expect_holds(
-        "the tape has its text",
-        matches(tape, "#C BLIFWW 2 P 32 L ...!\n"),
-    )?;
-    let shown = run_amply(alloc, "simulate --cycles 2", tape)?;
-    expect_holds("the tape shows 0 and 1", shown.is(0, "y=01\n", ""))
-}
-
-#[test]
-fn the_longest_tape_begins_right(rt: HostRuntime) -> Result<(), Fail> {
-    let command = tape_command(rt.alloc())?;
-    let tape = written(rt.alloc(), &command, EIGHT.as_bytes())?;
-    expect_tape(rt.alloc(), &tape)
-}

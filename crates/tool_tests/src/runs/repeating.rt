@@ -1,12 +1,12 @@
-// Texts that repeat a part: models inside models, weights near the limit and far beyond it, and
-// texts at the limit of length and beyond it.
-use crate::runs::{Case, are_ends, case_of, expect_holds, halves, number_of, push};
+// Texts that repeat a part: models inside models, weights near the limit and far beyond it, a long
+// loop, texts at the limit of length and beyond it, and the longest tape.
+use crate::runs::{Case, are_ends, case_of, expect_holds, halves, number_of};
 use itoa::Buffer;
 use std::alloc::{AllocError, Global};
 use std::test::Fail;
 
-// Cases that each begin with a number of repetitions and a command. Their texts repeat what stands
-// in braces, where `%` stands for the number of the repetition, counted from 0.
+// Cases that each begin with a number of repetitions and a command. Their commands and texts repeat
+// what stands in braces, where `%` stands for the number of the repetition, counted from 0.
 const CASES: &str = "
 > 300 eval --cycles 3 a=011 -- models that each place the next; the last one inverts its input
 .model c{
@@ -57,12 +57,133 @@ stream: MissingInput i0
 .end
 == 4
 too large: weight 8193 limit 8192
+> 300 eval --cycles 1 -- a full adder weighs 32, each place of a model 1, and a clock beside its inputs 1
+.model m
+.inputs x
+{.subckt fa a=x b=x c=x
+}.end
+.model fa
+.inputs a b c
+.outputs s co
+.names a b c s
+100 1
+010 1
+001 1
+111 1
+.names a b c co
+11- 1
+1-1 1
+-11 1
+== 4
+too large: weight 9901 limit 8192
+> 300 eval --cycles 1
+.model m
+.inputs x
+{.subckt fa a=x b=x c=x
+}.end
+.model fa
+.inputs a b c
+.outputs s co
+.names a b c s
+100 1
+010 1
+001 1
+111 1
+.names a b c co
+11- 1
+1-1 1
+-11 1
+.clock a
+== 4
+too large: weight 9901 limit 8192
+> 300 eval --cycles 1
+.model m
+.inputs x
+{.subckt fa a=x b=x c=x clk=x
+}.end
+.model fa
+.inputs a b c
+.outputs s co
+.names a b c s
+100 1
+010 1
+001 1
+111 1
+.names a b c co
+11- 1
+1-1 1
+-11 1
+.clock a clk
+== 4
+too large: weight 10201 limit 8192
 > 2048 aiger -- each output of a circuit weighs 4, and every circuit 2 more
 aag 0 0 0 2048 0
 {0
 }== 4
 too large: weight 8194 limit 8192
-> 40 eval --cycles 1 & compile -- models that each place the next one twice
+> 20 route -- a netlist of weight 400 is drawn without a notice
+.model m
+.inputs a b c d e f g h i j k l m n o p q r
+.outputs y
+.names a b c d e f g h i j k l m n o p q r y
+{111111111111111111 1
+}== 0
+#C gate ...
+== err
+box ...
+> 1637 aiger -- an input weighs 1, a gate 4, an output 4: the greatest weight, a greater one, and one with a loop
+aag 158200 1638 0 1 1637
+2
+{1%0
+}301
+{3%0 2 2
+}== 0
+#C BLIFWW 2 P 320 L 96 C 1
+...
+> 1637 aiger
+aag 158200 1639 0 1 1637
+2
+4
+{1%0
+}301
+{3%0 2 2
+}== 4
+too large: weight 8193 limit 8192
+> 1637 aiger
+aag 158200 1638 0 1 1638
+2
+{1%0
+}301
+{3%0 2 2
+}4 4 2
+== 4
+too large: weight 8196 limit 8192
+> 2000 aiger -- a latch weighs 5, whatever its reset
+aag 200000 0 2000 0 0
+{1%0 0
+}== 4
+too large: weight 10002 limit 8192
+> 2000 aiger
+aag 200000 0 2000 0 0
+{1%0 0 1%0
+}== 4
+too large: weight 10002 limit 8192
+> 2000 aiger [9999 0 12904] -- a long loop
+aag 1999995 1 0 1 2001
+2
+3999991
+3999990 3{%0 2
+3%0 3}999990 2
+== 3
+loop: 319990 319980 ...300 3999990
+> 2000 aiger [9999 0 12903]
+aag 1999995 1 0 1 2001
+2
+3999991
+3999990 3{%0 2
+3%0 3}999990 2
+== 6
+loop: 319990 319980 ...300 3999990> 40 eval --cycles 1 & compile -- models that each place the next one twice
 .model h{
 .subckt h%
 .subckt h%
@@ -92,6 +213,49 @@ too large: weight 13835058055282163710 limit 8192
 .end
 == 4
 too large: weight 18446744073709551615 limit 8192
+> 2048 tape --cycles 4096 a={01} b={01} c={01} d={01} e={01} f={01} g={01} h={01} -- the longest tape, and what it shows
+.model e
+.inputs a b c d e f g h
+.outputs y
+.names a b c d e f g h y
+1------- 1
+-1------ 1
+--1----- 1
+---1---- 1
+----1--- 1
+-----1-- 1
+------1- 1
+-------1 1
+.end
+== 0
+#C BLIFWW 2 P 32 L ...!
+> 2048 tape --cycles 4096 a={01} b={01} c={01} d={01} e={01} f={01} g={01} h={01} | simulate --cycles 2
+.model e
+.inputs a b c d e f g h
+.outputs y
+.names a b c d e f g h y
+1------- 1
+-1------ 1
+--1----- 1
+---1---- 1
+----1--- 1
+-----1-- 1
+------1- 1
+-------1 1
+.end
+== 0
+y=01
+> 95 vcd --cycles 1 a=1 [999 2176 99] -- of the nets of a dump the last id of one digit, and the first of two
+#C BLIFWW 1 P 4 L 2
+#C BLIFWW IN 0 0 a{
+#C BLIFWW NET 0 0 0 n% -}
+x = 3, y = 1, rule = WireWorld
+3C!
+== 6
+...$var wire 1 ~ n93 $end
+$var wire 1 !\" n94 $end
+== err
+write fault
 > 1048576 compile -- a text of 16,777,216 bytes, and one that is a byte longer
 {################}== 1
 B22 NoModel line 1: -
@@ -140,19 +304,19 @@ too long: limit 16777216
 ";
 
 // Adds a part with a number in place of each `%`.
-fn push_numbered(text: &mut Vec<u8>, part: &str, number: &str) -> Result<(), AllocError> {
+fn push_numbered(text: &mut String, part: &str, number: &str) -> Result<(), AllocError> {
     for piece in part.split_inclusive('%') {
         let (front, _) = halves(piece, "%");
-        push(text, front)?;
+        text.push_str(front)?;
         if front.len() < piece.len() {
-            push(text, number)?;
+            text.push_str(number)?;
         }
     }
     Ok(())
 }
 
 // Adds `times` repetitions of a part.
-fn push_repeated(text: &mut Vec<u8>, part: &str, times: usize) -> Result<(), AllocError> {
+fn push_repeated(text: &mut String, part: &str, times: usize) -> Result<(), AllocError> {
     let mut digits = Buffer::new();
     for number in 0..times {
         push_numbered(text, part, digits.format(number))?;
@@ -160,21 +324,22 @@ fn push_repeated(text: &mut Vec<u8>, part: &str, times: usize) -> Result<(), All
     Ok(())
 }
 
-// Adds the text that a case has, with the repetitions.
-fn push_text(text: &mut Vec<u8>, of: &str, times: usize) -> Result<(), AllocError> {
+// A text with so many repetitions of what stands in braces.
+fn repeated(alloc: Global, of: &str, times: usize) -> Result<String, AllocError> {
+    let mut text = String::new(alloc);
     for piece in of.split('}') {
         let (begin, part) = halves(piece, "{");
-        push(text, begin)?;
-        push_repeated(text, part, times)?;
+        text.push_str(begin)?;
+        push_repeated(&mut text, part, times)?;
     }
-    Ok(())
+    Ok(text)
 }
 
-// Whether a case ends as it wants if its text repeats so often what stands in braces.
+// Whether a case ends as it wants if its command and its text repeat so often what stands in braces.
 fn is_met(alloc: Global, case: &Case, command: &str, times: usize) -> Result<bool, Fail> {
-    let mut text = Vec::new(alloc);
-    push_text(&mut text, case.text, times)?;
-    are_ends(alloc, case, command, &text)
+    let command = repeated(alloc, command, times)?;
+    let text = repeated(alloc, case.text, times)?;
+    are_ends(alloc, case, &command, text.as_bytes())
 }
 
 // Whether a case ends as it wants.
@@ -192,7 +357,7 @@ fn is_case_met(alloc: Global, said: &str) -> Result<bool, Fail> {
 }
 
 #[test]
-fn texts_that_repeat_are_read_or_too_large(rt: HostRuntime) -> Result<(), Fail> {
+fn commands_and_texts_repeat_parts(rt: HostRuntime) -> Result<(), Fail> {
     for said in CASES.split('>').skip(1) {
         expect_holds(said, is_case_met(rt.alloc(), said)?)?;
     }

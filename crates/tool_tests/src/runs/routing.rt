@@ -1,7 +1,4 @@
 // What `route` and `extract` write and tell, also with sources and sinks that fail.
-use crate::runs::{GATE, Outcome, expect_holds, matches, push, run_over};
-use std::alloc::{AllocError, Global};
-use std::test::Fail;
 
 /// Words that are no command, sources that fail, and what `extract` makes of what `route` wrote.
 pub const CASES: &str = "
@@ -14,6 +11,76 @@ usage: wwroute extract|route
 > extract -- an empty text is no pattern
 == 8
 G1 NoHeader line 1
+> extract -- two gates are read
+#C gate XOR-E 8 1 7
+#C gate OR-E 18 4 17
+#C gate LONE-E 1 1 0
+#C gate LONE-E 1 7 0
+#C gate LONE-E 1 10 0
+#C gate LONE-E 26 6 25
+#C wire 1 1 E 8 1 -
+#C wire 1 7 E 8 7 -
+#C wire 12 4 E 18 4 -
+#C wire 1 10 E 18 8 -
+#C wire 20 6 E 26 6 -
+#C BLIFWW 2 P 20 L 25 C 1
+#C BLIFWW IN 1 1 a
+#C BLIFWW IN 1 7 b
+#C BLIFWW IN 1 10 c
+#C BLIFWW OUT 26 6 y
+x = 27, y = 11, rule = WireWorld
+$.8C$9.C$8.4C$8.C2.8C$8.4C7.C$9.C8.9C$.8C10.C$18.C$17.C$.16C!
+== 0
+.model lifted
+.inputs a b c
+.outputs y
+.names _z
+.names a b _g0
+10 1
+01 1
+.names _g0 c _g1
+1- 1
+-1 1
+.names _g1 y
+1 1
+.end
+> route -- two gates are drawn
+.model m
+.inputs a b c
+.outputs y
+.names a b t
+10 1
+01 1
+.names t c y
+1- 1
+-1 1
+.end
+== 0
+#C gate XOR-E 2 0 2
+#C gate OR-E 8 2 8
+#C gate LONE-E 0 0 0
+#C gate LONE-E 0 5 0
+#C gate LONE-E 0 8 0
+#C gate LONE-E 12 2 12
+#C wire 0 0 E 2 0 -
+#C wire 0 5 SE 2 6 -
+#C wire 0 8 E 8 6 -
+#C wire 6 3 NE 8 2 -
+#C wire 10 4 NE 12 2 -
+#C BLIFWW 2 P 10 L 12 C 1
+#C BLIFWW IN 0 0 a
+#C BLIFWW IN 0 5 b
+#C BLIFWW IN 0 8 c
+#C BLIFWW OUT 12 2 y
+#C BLIFWW NET 0 0 0 a -
+#C BLIFWW NET 0 5 0 b -
+#C BLIFWW NET 0 8 0 c -
+#C BLIFWW NET 10 4 10 y -
+#C BLIFWW NET 6 3 6 t -
+x = 13, y = 9, rule = WireWorld
+3C$3.C$2.4C.2C3.C$2.C2.2C2.C.C$2.4C2.3C$C2.C5.C$.2C2.4C$4.C$4C!
+== err
+box 13 x 9, P 10
 @ gate
 > route [0 999 99] -- the source has four calls for the text, and one more for its end
 == 5
@@ -29,6 +96,13 @@ G1 NoHeader line 1
 > route | extract | eval --cycles 4 a=0011 b=0101 & route --nets | probe --net y --cycles 4 a=0011 b=0101
 == 0
 y=0111
+@ heavy
+> route -- a heavy netlist is drawn after a notice
+== 0
+#C gate ...
+== err
+drawing a netlist of weight 401: this may take some time
+box ...
 @ gate's pattern
 > route -- a pattern is no netlist
 == 1
@@ -44,164 +118,34 @@ s1=0
 c=1
 ";
 
-// The line that is told before a netlist of weight 401 is drawn.
-const NOTICE: &str = "drawing a netlist of weight 401: this may take some time\n";
-
-// A cover of `inputs` inputs, whose rows all say the same.
-fn cover_of(alloc: Global, inputs: &str, row: &str, rows: usize) -> Result<Vec<u8>, AllocError> {
-    let mut text = Vec::new(alloc);
-    for part in [
-        ".model m\n.inputs ",
-        inputs,
-        "\n.outputs y\n.names ",
-        inputs,
-        " y\n",
-    ] {
-        push(&mut text, part)?;
-    }
-    for _ in 0..rows {
-        push(&mut text, row)?;
-    }
-    Ok(text)
-}
-
-// A netlist of weight 401: 15 inputs, one output, one cover, and 24 rows of weight 16.
-fn heavy(alloc: Global) -> Result<Vec<u8>, AllocError> {
-    cover_of(
-        alloc,
-        "a b c d e f g h i j k l m n o",
-        "111111111111111 1\n",
-        24,
-    )
-}
-
-// A netlist of weight 400: 18 inputs, one output, one cover, and 20 rows of weight 19.
-fn light(alloc: Global) -> Result<Vec<u8>, AllocError> {
-    cover_of(
-        alloc,
-        "a b c d e f g h i j k l m n o p q r",
-        "111111111111111111 1\n",
-        20,
-    )
-}
-
-// A run of `route` over a text, with these rooms for the output and the errors.
-fn routed(alloc: Global, text: &[u8], rooms: (usize, usize)) -> Result<Outcome, Fail> {
-    run_over(alloc, "route", text, (4096, &[]), rooms)
-}
-
-// Whether a run wrote a whole routed circuit, and told its box after the notice.
-fn is_whole(got: &Outcome, notice: &str) -> bool {
-    got.status == 0 && matches(&got.out, "#C gate ...\n") && is_told(&got.err, notice)
-}
-
-// Whether a text is a notice, and then the line of a box.
-fn is_told(err: &[u8], notice: &str) -> bool {
-    match err.strip_prefix(notice.as_bytes()) {
-        Some(line) => matches(line, "box ...\n"),
-        None => false,
-    }
-}
-
-#[test]
-fn a_heavy_netlist_is_drawn_after_a_notice(rt: HostRuntime) -> Result<(), Fail> {
-    let alloc = rt.alloc();
-    let (heavy, light) = (heavy(alloc)?, light(alloc)?);
-    let first = routed(alloc, &heavy, (1 << 20, 99))?;
-    let second = routed(alloc, &light, (1 << 20, 99))?;
-    expect_holds(
-        "the netlist of weight 401 has a notice",
-        is_whole(&first, NOTICE),
-    )?;
-    expect_holds("the netlist of weight 400 has none", is_whole(&second, ""))
-}
-
-// Fails if a run does not fill the room for its output with the beginning of what a whole run wrote,
-// and tell after the notice that a write failed.
-fn expect_out_cut(
-    alloc: Global,
-    text: &[u8],
-    whole: &Outcome,
-    told: &str,
-    room: usize,
-) -> Result<(), Fail> {
-    let got = routed(alloc, text, (room, 99))?;
-    let is_so = got.status == 6
-        && got.out.len() == room
-        && whole.out.starts_with(&got.out)
-        && got.err.as_slice() == told.as_bytes();
-    if is_so {
-        Ok(())
-    } else {
-        Err(Fail::new(format_args!("room {room}: {}", got.status)))
-    }
-}
-
-#[test]
-fn a_routed_circuit_is_cut_where_there_is_no_room(rt: HostRuntime) -> Result<(), Fail> {
-    let alloc = rt.alloc();
-    let whole = routed(alloc, GATE.as_bytes(), (999, 99))?;
-    expect_holds("the gate is routed", is_whole(&whole, ""))?;
-    for room in 0..whole.out.len() {
-        expect_out_cut(alloc, GATE.as_bytes(), &whole, "write fault\n", room)?;
-    }
-    Ok(())
-}
-
-// Fails if a run does not fill the room for its errors with the beginning of what a whole run told.
-// The output is whole, but if the notice is cut off it is empty.
-fn expect_err_cut(
-    alloc: Global,
-    text: &[u8],
-    whole: &Outcome,
-    notice: &str,
-    room: usize,
-) -> Result<(), Fail> {
-    let got = routed(alloc, text, (1 << 20, room))?;
-    let size = if room < notice.len() {
-        0
-    } else {
-        whole.out.len()
-    };
-    let is_so = got.status == 6
-        && got.err.len() == room
-        && whole.err.starts_with(&got.err)
-        && got.out.len() == size
-        && whole.out.starts_with(&got.out);
-    if is_so {
-        Ok(())
-    } else {
-        Err(Fail::new(format_args!("room {room}: {}", got.status)))
-    }
-}
-
-// Fails if a netlist's lines of errors can be cut off in another way.
-fn expect_errs_cut(alloc: Global, text: &[u8], notice: &str) -> Result<(), Fail> {
-    let whole = routed(alloc, text, (1 << 20, 99))?;
-    expect_holds("the netlist is routed", is_whole(&whole, notice))?;
-    for room in 0..whole.err.len() {
-        expect_err_cut(alloc, text, &whole, notice, room)?;
-    }
-    Ok(())
-}
-
-#[test]
-fn the_line_of_a_box_is_cut_where_there_is_no_room(rt: HostRuntime) -> Result<(), Fail> {
-    expect_errs_cut(rt.alloc(), GATE.as_bytes(), "")
-}
-
-#[test]
-fn so_is_a_notice(rt: HostRuntime) -> Result<(), Fail> {
-    let text = heavy(rt.alloc())?;
-    expect_errs_cut(rt.alloc(), &text, NOTICE)
-}
-
-#[test]
-fn a_failed_write_is_told_after_the_notice(rt: HostRuntime) -> Result<(), Fail> {
-    let alloc = rt.alloc();
-    let text = heavy(alloc)?;
-    let whole = routed(alloc, &text, (1 << 20, 99))?;
-    let told = "drawing a netlist of weight 401: this may take some time\nwrite fault\n";
-    expect_out_cut(alloc, &text, &whole, told, 0)?;
-    expect_out_cut(alloc, &text, &whole, told, 1_000)
-}
+/// A netlist of weight 401: 15 inputs, one output, one cover, and 24 rows of weight 16.
+pub const HEAVY: &str = "\
+.model m
+.inputs a b c d e f g h i j k l m n o
+.outputs y
+.names a b c d e f g h i j k l m n o y
+111111111111111 1
+111111111111111 1
+111111111111111 1
+111111111111111 1
+111111111111111 1
+111111111111111 1
+111111111111111 1
+111111111111111 1
+111111111111111 1
+111111111111111 1
+111111111111111 1
+111111111111111 1
+111111111111111 1
+111111111111111 1
+111111111111111 1
+111111111111111 1
+111111111111111 1
+111111111111111 1
+111111111111111 1
+111111111111111 1
+111111111111111 1
+111111111111111 1
+111111111111111 1
+111111111111111 1
+";

@@ -3,4 +3,4 @@ use Rattle.route_check.proofs.alone.is_alone.Goals as goal
 
 pub returns-in-Some : goal.returns-in-Some
 returns-in-Some c = λ t.
-    alone c.args.tables.now c.args.wire c.args.i c.in-Some.labels c.in-Some.ensures (c.is_cell_alone.ensures t)
+    alone c.args.tables.now c.args.wire c.args.i c.in-Some.serials c.in-Some.ensures (c.is_cell_alone.ensures t)

@@ -4,7 +4,7 @@ use Rattle.route_check.proofs.cells.test_cells.Goals as goal
 pub returns : goal.returns
 returns c =
     record {
-      labelled = c.in_ok-are_labelled.ensures;
+      serials = c.in_ok-are_serials.ensures;
       gates = c.in_ok-are_gates_there.ensures;
       in_gates = c.in_ok-are_in_gates.ensures;
       wires = c.in_ok-are_wires_there.ensures;

@@ -9,33 +9,38 @@ use Rattle.routed_plans.proofs.Readable.{routed_spells}
 use Rattle.routed_plans.proofs.Carrying.{carries_designs, shows_nets}
 use Rattle.routed_plans.proofs.routes.checked.Goals as goal
 
+pub page_of-requires : goal.page_of-requires
+page_of-requires c = c.requires.compilable.1.sound.in_range
+
 pub returns-clause-routed : goal.returns-clause-routed
 returns-clause-routed c =
     let flat = c.args.flat.now in
+    let k = c.requires.compilable.1 in
     let shown : List (Option SeenPort) = c.args.seen.now in
     let pattern = c.in-Some.page.pattern in
     let ports = c.in-Some.page.ports in
     let names = subst (λ (o : Option Page). IfSome o (λ (page : Page). NamesRouted flat shown page.ports)) c.in-Some.is c.in_ok-page.ensures.names in
     let fits = subst (λ (o : Option Page). IfSome o (λ (page : Page). FitsPattern page.pattern page.ports)) c.in-Some.is c.in_ok-page.ensures.fits in
     let text : List ℕ = c.in_ok-lines.lines ++ pattern_text (grid_of pattern) ports in
-    let spells = routed_spells flat shown pattern ports names fits c.requires.named c.requires.names c.requires.places c.in_ok-lines.lines c.in_ok-lines.ensures in
+    let spells = routed_spells flat shown pattern ports names fits k.named k.names k.places c.in_ok-lines.lines c.in_ok-lines.ensures in
     let drawn = c.in_ok-is_page_drawn.ensures c.if-not-branch.false in
     record {
       spells = spells;
-      carries = carries_designs text flat (grid_of pattern) ports shown c.args.list.now drawn.0 c.requires.sound c.requires.ordered.0 c.requires.ordered.1
+      carries = carries_designs text flat (grid_of pattern) ports shown c.args.list.now drawn.0 k.sound c.requires.compilable.0 k.ordered
           spells names drawn.1 c.requires.computes drawn.2;
     }
 
 pub returns-clause-nets : goal.returns-clause-nets
 returns-clause-nets c =
     let flat = c.args.flat.now in
+    let k = c.requires.compilable.1 in
     let shown : List (Option SeenPort) = c.args.seen.now in
     let pattern = c.in-Some.page.pattern in
     let ports = c.in-Some.page.ports in
     let names = subst (λ (o : Option Page). IfSome o (λ (page : Page). NamesRouted flat shown page.ports)) c.in-Some.is c.in_ok-page.ensures.names in
     let fits = subst (λ (o : Option Page). IfSome o (λ (page : Page). FitsPattern page.pattern page.ports)) c.in-Some.is c.in_ok-page.ensures.fits in
     let text : List ℕ = c.in_ok-lines.lines ++ pattern_text (grid_of pattern) ports in
-    let spells = routed_spells flat shown pattern ports names fits c.requires.named c.requires.names c.requires.places c.in_ok-lines.lines c.in_ok-lines.ensures in
+    let spells = routed_spells flat shown pattern ports names fits k.named k.names k.places c.in_ok-lines.lines c.in_ok-lines.ensures in
     let drawn = c.in_ok-is_page_drawn.ensures c.if-not-branch.false in
-    shows_nets text flat (grid_of pattern) ports shown c.args.list.now drawn.0 c.requires.sound c.requires.ordered.0 c.requires.ordered.1
+    shows_nets text flat (grid_of pattern) ports shown c.args.list.now drawn.0 k.sound c.requires.compilable.0 k.ordered
     spells names drawn.1 c.requires.computes drawn.2 c.args.nets (c.are_enough.ensures c.if-not-are_enough.false)

@@ -3,34 +3,18 @@ use Rattle.std.specs.Prelude.{IfSome}
 use Rattle.route_lines.specs.GateLines.{AreGateLines}
 use Rattle.routed_plans.specs.declared.routes.Routed.{Routed}
 use Rattle.routed_plans.specs.Carried.{IsRoutedFor}
-use Rattle.wwroute_tool.proofs.Drawings.{lanes_show, lanes_told, named, placed, routed_told, sound_of, weighed_of}
+use Rattle.wwroute_tool.proofs.Drawings.{compilable, lanes_show, lanes_told, routed_told, weighed_of}
 use Rattle.netlist_text.proofs.SoundParts.{small}
 use Rattle.wwroute_tool.proofs.route.drawn.Goals as goal
 
-pub route_netlist-requires-clause-sound : goal.route_netlist-requires-clause-sound
-route_netlist-requires-clause-sound c = sound_of c.args.netlist.now.design c.args.netlist.now.flat _ c.requires.parts
+pub route_netlist-requires-clause-compilable : goal.route_netlist-requires-clause-compilable
+route_netlist-requires-clause-compilable c = compilable c.args.netlist.now.design c.args.netlist.now.flat _ c.requires.parts c.requires.names
 
 pub route_netlist-requires-clause-weighed : goal.route_netlist-requires-clause-weighed
 route_netlist-requires-clause-weighed c = weighed_of c.args.netlist.now.design c.args.netlist.now.flat _ c.requires.parts
 
-pub route_netlist-requires-clause-ordered : goal.route_netlist-requires-clause-ordered
-route_netlist-requires-clause-ordered c = c.requires.parts.is_order
-
-pub route_netlist-requires-clause-named : goal.route_netlist-requires-clause-named
-route_netlist-requires-clause-named c = named c.args.netlist.now.design c.args.netlist.now.flat _ c.requires.parts
-
-pub route_netlist-requires-clause-places : goal.route_netlist-requires-clause-places
-route_netlist-requires-clause-places c = placed c.args.netlist.now.design c.args.netlist.now.flat _ c.requires.parts
-
 pub plan_netlist-requires-clause-compilable : goal.plan_netlist-requires-clause-compilable
-plan_netlist-requires-clause-compilable c =
-    record {
-      sound = sound_of c.args.netlist.now.design c.args.netlist.now.flat _ c.requires.parts;
-      ordered = c.requires.parts.is_order;
-      named = named c.args.netlist.now.design c.args.netlist.now.flat _ c.requires.parts;
-      names = c.requires.names;
-      places = placed c.args.netlist.now.design c.args.netlist.now.flat _ c.requires.parts;
-    }
+plan_netlist-requires-clause-compilable c = compilable c.args.netlist.now.design c.args.netlist.now.flat _ c.requires.parts c.requires.names
 
 pub plan_netlist-requires-clause-weighed : goal.plan_netlist-requires-clause-weighed
 plan_netlist-requires-clause-weighed c = weighed_of c.args.netlist.now.design c.args.netlist.now.flat _ c.requires.parts

@@ -19,7 +19,7 @@ returns-in-Ok-tell-clause-ends g c =
 pub returns-in-Ok-clause-ends : goal.returns-in-Ok-clause-ends
 returns-in-Ok-clause-ends g c =
     let e = c.in-Ok.ensures in
-    done_cut _ _ _ _ _ _ _ _ _ c.work.ensures.front _ e.done.0 e.done.1 c.in-Err.ensures.front e.out_calm e.err_calm c.in-Err.ensures.cause.failed
+    done_cut _ _ _ _ _ _ _ _ _ c.work.ensures.front _ e.done.0 c.in-Err.ensures.some e.done.1 c.in-Err.ensures.front e.out_calm e.err_calm c.in-Err.ensures.cause.failed
 
 pub returns-in-Ok-tell-2-clause-ends : goal.returns-in-Ok-tell-2-clause-ends
 returns-in-Ok-tell-2-clause-ends g c =

@@ -1,4 +1,4 @@
-use Rattle.std.proofs.Common.{refl, inl, inr, subst, [], take}
+use Rattle.std.proofs.Common.{◌≢◌, refl, inl, inr, subst, [], take}
 use Rattle.std.proofs.lemmas.Result.{err_from_is_err_and}
 use Rattle.program_runs.specs.Runs.{Gained, Writing, writing}
 use Rattle.program_runs.proofs.Given.{kept, gained_none}
@@ -21,6 +21,7 @@ returns-in_err-tell-clause-stopped g c =
     rw (p.1, p.2)
     (record {
       begun = begun _ _ c.in_ok-task.task c.in_ok-task.ensures.begun;
+      some = subst (λ (r : Report). report_line r ≢ []) c.notice.ensures c.in_err-tell.ensures.some;
       unwritten = record { nothing = kept _; calm = refl };
       size = front.0;
       front = subst (λ (r : Report). Gained err (take front.0 (report_line r))) c.notice.ensures front.1;

@@ -44,6 +44,16 @@ framed c =
     let q = c.requires in
     framed_of self.columns self.rows self.stride (with_bit self.cells.items (at c) (bit c)) q.closed.is.stride (long_put c) (in_rows self c.args.x c.args.k q.closed q.column q.row)
 
+pub invariant_of-free : goal.invariant_of-free
+invariant_of-free c =
+    let k = (goal.at.invariant_of-free c).After-set_bits in
+    let self = c.args.self.now in
+    let here = c.deref-2.ensures.value ∙ cells k in
+    record {
+      long = ap length c.deref.ensures.value ∙ (c.requires.closed.is.long_tails ∙ sym (ap length here ∙ long_put k));
+      framed = subst (λ l. IsFramed self.stride l) (sym here) (framed k);
+    }
+
 pub mark_head-requires-clause-inner : goal.mark_head-requires-clause-inner
 mark_head-requires-clause-inner c =
     let k = (goal.at.mark_head-requires-clause-inner c).After-set_bits in
@@ -90,7 +100,7 @@ returns-clause-closed c =
     (λ room. same_marked self.stride (heads k) refl (cells k) refl
     (head_marked self.stride self.heads.items self.tails.items self.cells.items self.marks.bytes.items (at k) head (bit_or (get_or self.cells.items (at k) 0) (bit k)) c.mark_head.new.now.bytes.items
     in_heads in_cells (framed k) (is.marked (omega (arith, not_full, n, le))) e.more e.here
-    (told_of _ (at k) c.mark_head.new.now.bytes.items word c.deref.ensures.value (c.deref-2.ensures.value ∙ cells k) e.told)))
+    (told_of self.stride (at k) c.mark_head.new.now.bytes.items word c.deref.ensures.value (c.deref-2.ensures.value ∙ cells k) e.told)))
 
 pub returns-clause-cells : goal.returns-clause-cells
 returns-clause-cells c =
