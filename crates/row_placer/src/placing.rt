@@ -277,12 +277,13 @@ fn more_tries(first: &Placed) -> u32 {
     }
 }
 
-// The second program if it has less than two thirds of the first one's instructions, and else the
-// first.
+// The second program if it has less than two thirds of the first one's instructions and its drawing
+// is at most twice as large, and else the first.
 fn much_shorter(first: Placed, second: Placed) -> Placed
     ensures { (result ≡ first) ⊎ (result ≡ second) }
 {
-    if second.program.instrs.len() < first.program.instrs.len() / 3 * 2 {
+    let is_short = second.program.instrs.len() < first.program.instrs.len() / 3 * 2;
+    if is_short && second.area() / 2 <= first.area() {
         second
     } else {
         first
