@@ -32,7 +32,9 @@ LINK_FAULTS = {
     "sped": "1",
 }
 BAD_WORDS = ["a0=01", "en", "en=2x", "en=01 en=11", "en=01 x=", "q=01"]
-LAMPS = "#C lamp 0 2700 1800 east\n#C lamp 1 2796 1812 down\nx = 3000, y = 2000, rule = WireWorld\n1800$2680.BA114C$!\n"
+LAMPS = (
+    "#C lamp 0 2700 1800 96 12\n#C lamp 1 2796 1812 12 96\nx = 3000, y = 2000, rule = WireWorld\n1800$2680.BA114C$!\n"
+)
 # The contrast of two colours #rrggbb, as the Web Content Accessibility Guidelines count it.
 CONTRAST = """(...colours) => {
   const linear = (it) => (it <= 0.04045 ? it / 12.92 : ((it + 0.055) / 1.055) ** 2.4);

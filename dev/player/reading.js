@@ -169,14 +169,14 @@ function tableOf(lines, { at, width, height }) {
   return table;
 }
 
-const LAMP = 96, LAMP_WIDE = 12, MOST_LAMPS = 1000; // the cells along a lamp of a computer, and across
+const MOST_LAMPS = 1000;
 
-/** The boxes of the lamps that comments such as `#C lamp 0 3737 876 east` name: what they begin with, and go down or east. */
+/** The boxes of the lamps that comments such as `#C lamp 0 425 698 15 5` name: a cell, columns and rows. */
 function lampsOf(lines, { at, width, height }) {
-  const found = lines.slice(0, at).map((it) => /^#C lamp \d+ (\d{1,9}) (\d{1,9}) (down|east)$/.exec(it)).filter((it) => it);
-  const boxes = found.map(([, x, y, way]) => {
-    const [left, top] = [Number(x), Number(y)], [wide, high] = way === "east" ? [LAMP, LAMP_WIDE] : [LAMP_WIDE, LAMP];
-    return { left, top, right: left + wide, bottom: top + high };
+  const found = lines.slice(0, at).map((it) => /^#C lamp \d+ (\d{1,9}) (\d{1,9}) (\d{1,9}) (\d{1,9})$/.exec(it)).filter((it) => it);
+  const boxes = found.map(([, ...numbers]) => {
+    const [left, top, wide, high] = numbers.map(Number);
+    return { left, top, right: Math.min(width, left + wide), bottom: Math.min(height, top + high) };
   });
   return boxes.filter((it) => it.left < width && it.top < height).slice(0, MOST_LAMPS);
 }

@@ -1,7 +1,7 @@
 """Joins the processor with the display: wires lead from the processor's outputs around its east to the display's gates,
 which stand below it and run west, and from these to the lamps below them."""
 from blifww import rle
-from lamps import LANE, Plane, evened, lamps, ordered, steps_of
+from lamps import LANE, Plane, box_of, evened, lamps, ordered, steps_of
 
 APART = 2  # columns from a wire to the next one
 BUMPS = 8  # how many bumps a wire has at most that waits for others on the way to the display
@@ -21,9 +21,9 @@ def even(number):
 
 
 def turned_back(ends, column, way, top):
-    """Returns the corners of wires that lead on from ends, which are from north to south, into columns of their own from
-    this one on, to rows below, and back; the last wire is the first there. `top` is even: rows keep what is odd, so that
-    the wires' lengths differ by even numbers."""
+    """Returns the corners of wires that lead on from ends, which are from north to south, into columns of their own
+    from this one on, to rows from `top` on, and back; the last wire is the first there. `top` is even, and a wire whose
+    end is in an odd row comes into an odd row: so the wires' lengths differ by even numbers."""
     made = []
     for i, (x, y) in enumerate(reversed(ends)):
         far, row = column + way * APART * i, top + LANE * i + y % 2
@@ -98,7 +98,10 @@ def text_of(processor, display, is_bare, about):
 
     def table(dx, dy):
         yield from about(latency)
-        outputs = [(f"lamp[{lamp}]", (x + dx, y + dy)) for lamp, (x, y) in sorted(ends.items())]
+        found = {lamp: (x + dx, y + dy) for lamp, (x, y) in sorted(ends.items())}
+        for lamp, end in () if is_bare else found.items():
+            yield " ".join(map(str, ["#C lamp", lamp, *box_of(lamp, end)]))
+        outputs = [(f"lamp[{lamp}]", end) for lamp, end in found.items()]
         nets = [(x + dx, y + dy, *it) for x, y, *it in processor.nets]
         yield from rle.table_lines(processor.period, latency, 1, [], outputs, nets)
 
