@@ -31,6 +31,12 @@ started-requires-clause-parts c = c.requires.parts
 pub started-requires-clause-names : goal.started-requires-clause-names
 started-requires-clause-names c = c.requires.names
 
+pub started-requires-clause-carried : goal.started-requires-clause-carried
+started-requires-clause-carried c = c.in_ok-plan.ensures.carried
+
+pub started-requires-clause-planned : goal.started-requires-clause-planned
+started-requires-clause-planned c = c.in_ok-plan.ensures.planned
+
 pub returns-clause-printed : goal.returns-clause-printed
 returns-clause-printed c =
     IfOk-weaker c.started.result _ _

@@ -18,15 +18,15 @@ use Rattle.lift_carries.proofs.Drawings.{compiled_are_drawings}
 use Rattle.lift_carries.proofs.Starts.{one_context_is_circuit}
 use Rattle.blifww_tool.proofs.compile.started.Goals as goal
 
-pub period-requires : goal.period-requires
-period-requires c = c.requires.planned.is.admissible
+pub period-limit-requires : goal.period-limit-requires
+period-limit-requires c = c.requires.planned.is.admissible
 
 pub returns-then-contexts-limit-clause-refused : goal.returns-then-contexts-limit-clause-refused
 returns-then-contexts-limit-clause-refused c = λ text has.
     let words = map string_bytes c.args.words.now in
     let flat = c.args.netlist.now.flat in
     let own = planned_table flat c.args.plan c.requires.planned in
-    let is : own.0.p ≡ c.period.result = own.1.period ∙ sym c.period.ensures in (
+    let is : own.0.p ≡ c.period-limit.result = own.1.period ∙ sym c.period-limit.ensures in (
       refl,
       subst (λ (p : ℕ). HasNoRoom c.args.contexts words text (p / 32)) is
           (room_refused c.args.contexts words text c.args.netlist.now.design flat c.args.plan own.0 has c.requires.parts.is_flat (c.requires.carried own.0 own.1) (omega (arith, is, c.if-contexts-limit.true))),
@@ -46,17 +46,17 @@ returns-in_err-ports-clause-refused c =
     let p = err_from_is_err_and c.from_residual.result c.from_residual.ensures.1 in
     rw (p.1, p.2) (λ text has. tt)
 
-pub returns-in_ok-ports-clause-printed : goal.returns-in_ok-ports-clause-printed
-returns-in_ok-ports-clause-printed c = λ text has.
+pub returns-then-is_alone-clause-printed : goal.returns-then-is_alone-clause-printed
+returns-then-is_alone-clause-printed c = λ text has.
     let ports = c.in_ok-ports.ports in
     let table = c.in_ok-ports.ensures in
-    let room : c.args.contexts ≤ ports.p / 32 = omega (arith, table.period, c.period.ensures, c.if-contexts-limit.false) in
+    let room : c.args.contexts ≤ ports.p / 32 = omega (arith, table.period, c.period-limit.ensures, c.if-contexts-limit.false) in
     compiles_plain one_context_carries one_context_carries_nets no_words_mean_start c.args.contexts (map string_bytes c.args.words.now)
     (alone string_bytes c.args.contexts c.args.words.now (sym c.is_alone.ensures ∙ c.if-is_alone.true)) text c.args.netlist.now.design c.args.netlist.now.flat _ c.args.plan ports has c.requires.parts (c.requires.carried ports table) room
 
 pub returns-in_err-bits-clause-refused : goal.returns-in_err-bits-clause-refused
 returns-in_err-bits-clause-refused c =
-    let p = err_from_is_err_and c.from_residual.result c.from_residual.ensures.1 in
+    let p = err_from_is_err_and c.from_residual-in_err-bits.result c.from_residual-in_err-bits.ensures.1 in
     rw (p.1, p.2) (λ text has. tt)
 
 pub returns-in_err-started-clause-refused : goal.returns-in_err-started-clause-refused
@@ -85,7 +85,7 @@ plan_contexts-requires-clause-starts c =
     let many = many_starts flat words c.args.contexts c.as_slice.result.now bits in
     record {
       some = omega (arith, many, c.requires.some);
-      fit = omega (arith, many, c.period.ensures, c.if-contexts-limit.false);
+      fit = omega (arith, many, c.period-limit.ensures, c.if-contexts-limit.false);
       long = long_starts flat words c.args.contexts c.as_slice.result.now bits;
     }
 
@@ -99,7 +99,7 @@ returns-clause-printed c = λ text has.
     let plan = c.in_ok-started.started.plan in
     let ports = c.in_ok-started.started.ports in
     let p = c.in_ok-started.ensures in
-    let room : contexts ≤ own.0.p / 32 = omega (arith, own.1.period, c.period.ensures, c.if-contexts-limit.false) in
+    let room : contexts ≤ own.0.p / 32 = omega (arith, own.1.period, c.period-limit.ensures, c.if-contexts-limit.false) in
     let bits = c.as_slice.ensures ∙ c.in_ok-bits.ensures words c.requires.set in
     let many : length c.as_slice.result.now ≡ contexts = many_starts flat words contexts c.as_slice.result.now bits in
     compiles flat_is_one designs_are_carried_in_contexts starts_are_flat contexts words text c.args.netlist.now.design flat _ base own.0 plan ports c.as_slice.result.now has
