@@ -3,7 +3,8 @@
 function namesOnPlane() {
   const { machine, context: c } = page, { inputs, outputs, nets } = machine.table;
   const now = Math.max(0, machine.entered(c) - 1), names = new Map();
-  for (const port of [...inputs, ...outputs, ...(plane.shows.nets && plane.size >= 1 ? nets : [])]) {
+  const own = machine.pattern.lamps.length && !plane.shows.nets ? inputs : [...inputs, ...outputs]; // names would hide lamps
+  for (const port of [...own, ...(plane.shows.nets && plane.size >= 1 ? nets : [])]) {
     const bits = machine.bitsOf(c, port), place = `${port.kind === "OUT"} ${port.x} ${port.y}`;
     if (!names.has(place)) names.set(place, { port, bit: port.kind === "IN" ? bits.at(now) : bits.last() });
   }
