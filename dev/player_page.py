@@ -98,6 +98,14 @@ EXAMPLES = [
         nets="step,word",
     ),
     Example(
+        "multiply",
+        "Computer with lamps: 6 times 7",
+        "Processor, memory and display in one pattern: the lamps are lit where show is 1: 7, 14, .. and 42.",
+        made="examples/computer/multiply.rle",
+        words="--cycles 71",
+        nets="show,word_out",
+    ),
+    Example(
         "toggle.tape",
         "Toggle with a tape",
         "The bits of en lie on the wire in the west, and run in by themselves.",

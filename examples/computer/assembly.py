@@ -12,6 +12,7 @@ STEPS = {"": 0, "take": 1, "sub": 2, "add": 3, "end": 4, "show": 5, "if": 6, "un
 WITH_WORD = {"take", "sub", "add", "show"}
 MOST_WORDS, MOST_STEPS = 8, 256  # what a program may have
 WIDTH = 6  # the bits of a word
+LAMPS = 14  # of the display
 
 
 class Mistake(ValueError):
@@ -162,8 +163,9 @@ def latches_of(memory, width):
                 yield nets[k + 1], nets[k], number >> i & 1
 
 
-def netlist(memory, width, core):
-    """Returns the text of a netlist of the processor, whose text is `core`, with the memory as latches."""
+def netlist(memory, width, core, display=""):
+    """Returns the text of a netlist of the processor, whose text is `core`, with the memory as latches, and with the
+    display behind it if its text is given: then the lamps are the outputs."""
     model = blif.Model("program", ["clk"], outputs=[*(f"word_out[{i}]" for i in range(width)), "show"])
     model.latches = [
         blif.Latch(data, output, ["re", "clk"], str(bit)) for data, output, bit in latches_of(memory, width)
@@ -175,7 +177,11 @@ def netlist(memory, width, core):
         for i in range(bits)
     ]
     model.places = [("computer", {it: it for it in ["clk", "show", *pins]})]
-    return f"{model.text()}{core}"
+    if display:
+        model.outputs = [f"lamp[{i}]" for i in range(LAMPS)]
+        words = {f"word[{i}]": f"word_out[{i}]" for i in range(width)}
+        model.places.append(("display", {"show": "show", **words, **{it: it for it in model.outputs}}))
+    return f"{model.text()}{core}{display}"
 
 
 @dataclass

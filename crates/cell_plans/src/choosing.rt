@@ -12,13 +12,17 @@ ghost use Rattle.row_placer.specs.Empty.{IsEmpty};
 ghost use Rattle.row_placer.specs.Entries.{AreAtEntries};
 
 use crate::PlanError;
-use crate::planning::{climbed_plan, plain_plan, reaches, tiles};
+use crate::planning::{climbed_plan, ordered_plan, planned, tiles};
 use cell_core::CellList;
 use cell_order::ending_order;
 use lane_core::Plan;
 use order_climbing::{Climbed, Start, climb};
 use std::alloc::Global;
+use std::ops::Range;
 use std::slice::from_ref;
+
+// The most cells of a list for which all orders are tried.
+const LONG_LIST: usize = 4096;
 
 /// A plan, and the number of the list that it computes.
 #[derive(Drop)]
@@ -43,28 +47,16 @@ fn smaller(lists: &[CellList], first: Chosen, second: Chosen) -> Chosen
     }
 }
 
-// The plan of a list, by its number, in one of a few orders.
-fn plain(alloc: Global, lists: &[CellList], number: usize) -> Result<Chosen, PlanError>
-    requires within { number < length lists.now }
-    requires short { All IsPlannable lists.now }
-    ensures { IfOk result (λ chosen. IsPlanOfOne lists.now chosen.list chosen.plan) }
-{
-    let plan = plain_plan(alloc, &lists[number])?;
-    Ok(Chosen { plan, list: number })
-}
-
-// The smallest of the plans of the lists in a few orders.
-fn best_plain(alloc: Global, lists: &[CellList]) -> Result<Chosen, PlanError>
-    requires some { 0 < length lists.now }
-    requires short { All IsPlannable lists.now }
-    ensures { IfOk result (λ chosen. IsPlanOfOne lists.now chosen.list chosen.plan) }
-{
-    let mut best = plain(alloc, lists, 0)?;
-    for number in 1..lists.len() {
-        let next = plain(alloc, lists, number)?;
-        best = smaller(lists, best, next);
+// The reaches for which orders are tried: 2, 3 and 4, or 3 alone for a long list, whose placing
+// takes long; 3 serves best. A list of fewer than two cells has one order.
+fn reaches(list: &CellList) -> Range<u32> {
+    if list.cells.len() < 2 {
+        2..2
+    } else if list.cells.len() > LONG_LIST {
+        3..4
+    } else {
+        2..5
     }
-    Ok(best)
 }
 
 // The cells of a list in the order in which they stand, by their numbers.
@@ -78,7 +70,7 @@ fn own_order(alloc: Global, list: &CellList) -> Result<Vec<u32>, PlanError> {
     Ok(order)
 }
 
-// The orders of a list in which climbing starts: its own and a few others.
+// Adds the orders of a list that are tried: its own and a few others.
 fn push_starts(
     alloc: Global,
     list: &CellList,
@@ -100,16 +92,64 @@ fn push_starts(
     Ok(())
 }
 
-// What climbing finds from a few orders of each list.
-fn climb_lists(alloc: Global, lists: &[CellList]) -> Result<Option<Climbed>, PlanError>
-    ensures { IfOk result (λ found. IfSome found (λ climbed. climbed.list < length lists.now)) }
-{
+// The orders of all lists that are tried, the first list's own at the front.
+fn starts_of(alloc: Global, lists: &[CellList]) -> Result<Vec<Start>, PlanError> {
     let mut starts = Vec::new(alloc);
     for number in 0..lists.len() {
         push_starts(alloc, &lists[number], number, &mut starts)?;
     }
-    let found = climb(alloc, lists, &starts)?;
-    Ok(found)
+    Ok(starts)
+}
+
+// The plan of the first list with its cells in the order in which they stand.
+fn first_plan(alloc: Global, lists: &[CellList]) -> Result<Chosen, PlanError>
+    requires some { 0 < length lists.now }
+    requires short { All IsPlannable lists.now }
+    ensures { IfOk result (λ chosen. IsPlanOfOne lists.now chosen.list chosen.plan) }
+{
+    let plan = planned(alloc, &lists[0])?;
+    Ok(Chosen { plan, list: 0 })
+}
+
+// The chosen plan, or that of a list in another order if it has fewer tiles.
+fn better_in_order(
+    alloc: Global,
+    lists: &[CellList],
+    chosen: Chosen,
+    start: &Start,
+) -> Result<Chosen, PlanError>
+    requires chosen { IsPlanOfOne lists.now chosen.list chosen.plan }
+    requires short { All IsPlannable lists.now }
+    ensures plan { IfOk result (λ next. IsPlanOfOne lists.now next.list next.plan) }
+    ensures no_larger { IfOk result (λ next. tiles next.plan ≤ tiles chosen.plan) }
+{
+    if start.list >= lists.len() {
+        return Ok(chosen);
+    }
+    match ordered_plan(alloc, &lists[start.list], &start.order)? {
+        None => Ok(chosen),
+        Some(plan) => {
+            let next = Chosen {
+                plan,
+                list: start.list,
+            };
+            Ok(smaller(lists, chosen, next))
+        }
+    }
+}
+
+// The smallest of the plans of the lists in these orders, of which the first is the first list's
+// own.
+fn best_plain(alloc: Global, lists: &[CellList], starts: &[Start]) -> Result<Chosen, PlanError>
+    requires some { 0 < length lists.now }
+    requires short { All IsPlannable lists.now }
+    ensures { IfOk result (λ chosen. IsPlanOfOne lists.now chosen.list chosen.plan) }
+{
+    let mut best = first_plan(alloc, lists)?;
+    for number in 1..starts.len() {
+        best = better_in_order(alloc, lists, best, &starts[number])?;
+    }
+    Ok(best)
 }
 
 // The chosen plan, or the one that climbing found if it has fewer tiles.
@@ -145,8 +185,9 @@ pub fn best_plan(alloc: Global, lists: &[CellList]) -> Result<Chosen, PlanError>
     requires short { All IsPlannable lists.now }
     ensures { IfOk result (λ chosen. IsPlanOfOne lists.now chosen.list chosen.plan) }
 {
-    let chosen = best_plain(alloc, lists)?;
-    match climb_lists(alloc, lists)? {
+    let starts = starts_of(alloc, lists)?;
+    let chosen = best_plain(alloc, lists, &starts)?;
+    match climb(alloc, lists, &starts)? {
         None => Ok(chosen),
         Some(found) => better(alloc, lists, chosen, &found),
     }

@@ -1,5 +1,5 @@
 // Plans of one list of cells.
-ghost use Rattle.std.specs.Prelude.{◌≡◌, ◌≤◌, max, length, IfOk, IfSome};
+ghost use Rattle.std.specs.Prelude.{◌≡◌, max, length, IfOk, IfSome};
 ghost use Rattle.cell_order.specs.Alike.{ComputeAlike};
 ghost use Rattle.row_placer.specs.Placed.{IsPlacedWithin};
 ghost use Rattle.cell_plans.specs.Counts.{tiles};
@@ -7,18 +7,14 @@ ghost use Rattle.cell_plans.specs.PlanOf.{IsPlannable, IsPlanOf};
 
 use crate::PlanError;
 use cell_core::CellList;
-use cell_order::{ending_order, in_order};
+use cell_order::in_order;
 use column_packer::pack;
 use lane_core::{Plan, Program};
 use latch_loops::close;
 use order_climbing::Climbed;
 use row_placer::{place, place_at};
 use std::alloc::Global;
-use std::ops::Range;
 use std::slice::from_ref;
-
-// The most cells of a list for which all orders are tried.
-const LONG_LIST: usize = 4096;
 
 // The plan of a list by a program that computes it.
 fn closed(alloc: Global, list: &CellList, program: &Program) -> Result<Plan, PlanError>
@@ -33,8 +29,8 @@ fn closed(alloc: Global, list: &CellList, program: &Program) -> Result<Plan, Pla
     Ok(plan)
 }
 
-// The plan of a list with its cells in the order in which they stand.
-fn planned(alloc: Global, list: &CellList) -> Result<Plan, PlanError>
+/// The plan of a list with its cells in the order in which they stand.
+pub fn planned(alloc: Global, list: &CellList) -> Result<Plan, PlanError>
     requires short { IsPlannable list.now }
     ensures { IfOk result (IsPlanOf list.now) }
 {
@@ -79,6 +75,24 @@ fn planned_by_at(
     planned_at(alloc, other, found.spare, &found.lanes)
 }
 
+/// The plan of a list with its cells in another order, if they can be put in it.
+pub fn ordered_plan(
+    alloc: Global,
+    list: &CellList,
+    order: &[u32],
+) -> Result<Option<Plan>, PlanError>
+    requires short { IsPlannable list.now }
+    ensures { IfOk result (λ plan. IfSome plan (IsPlanOf list.now)) }
+{
+    match in_order(alloc, list, order)? {
+        None => Ok(None),
+        Some(other) => {
+            let plan = planned_by(alloc, list, &other)?;
+            Ok(Some(plan))
+        }
+    }
+}
+
 /// The plan of a list at a draft that climbing found, if the cells can be put in its order.
 pub fn climbed_plan(
     alloc: Global,
@@ -104,61 +118,4 @@ pub fn tiles(plan: &Plan) -> u128
     let loops = plan.latches as u128;
     let columns = plan.columns.len() as u128 + 2 * loops;
     columns * (plan.lanes as u128 + loops)
-}
-
-// The plan of a list that takes fewer tiles, and the first if both take as many.
-fn smaller(list: &CellList, first: Plan, second: Plan) -> Plan
-    requires first { IsPlanOf list.now first }
-    requires second { IsPlanOf list.now second }
-    ensures plan { IsPlanOf list.now result }
-    ensures no_larger { (tiles result ≤ tiles first) × (tiles result ≤ tiles second) }
-{
-    let _list = list;
-    if tiles(&second) < tiles(&first) {
-        second
-    } else {
-        first
-    }
-}
-
-// The plan, or one of another order of the list's cells that takes fewer tiles.
-fn better(alloc: Global, list: &CellList, plan: Plan, reach: u32) -> Result<Plan, PlanError>
-    requires plan { IsPlanOf list.now plan }
-    requires short { IsPlannable list.now }
-    ensures plan { IfOk result (IsPlanOf list.now) }
-    ensures no_larger { IfOk result (λ next. tiles next ≤ tiles plan) }
-{
-    let order = ending_order(alloc, list, reach)?;
-    match in_order(alloc, list, &order)? {
-        None => Ok(plan),
-        Some(other) => {
-            let next = planned_by(alloc, list, &other)?;
-            Ok(smaller(list, plan, next))
-        }
-    }
-}
-
-/// Returns the reaches for which orders are tried: 2, 3 and 4, or 3 alone for a long list, whose
-/// placing takes long; 3 serves best. A list of fewer than two cells has one order.
-pub fn reaches(list: &CellList) -> Range<u32> {
-    if list.cells.len() < 2 {
-        2..2
-    } else if list.cells.len() > LONG_LIST {
-        3..4
-    } else {
-        2..5
-    }
-}
-
-/// Returns the plan of a list that takes the fewest tiles, among those of a few orders of its
-/// cells.
-pub fn plain_plan(alloc: Global, list: &CellList) -> Result<Plan, PlanError>
-    requires short { IsPlannable list.now }
-    ensures { IfOk result (IsPlanOf list.now) }
-{
-    let mut plan = planned(alloc, list)?;
-    for reach in reaches(list) {
-        plan = better(alloc, list, plan, reach)?;
-    }
-    Ok(plan)
 }

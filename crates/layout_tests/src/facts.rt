@@ -116,16 +116,13 @@ fn has_rows(plan: &Plan, rows: &str) -> bool
     true
 }
 
-fn are_places(found: &[NetPlace], wanted: &[NetPlace]) -> bool {
-    if found.len() != wanted.len() {
-        return false;
-    }
-    for (a, b) in found.iter().zip(wanted) {
-        if a.lane != b.lane || a.after != b.after {
+fn are_places(places: &[NetPlace], want: &[NetPlace]) -> bool {
+    for (i, place) in places.iter().enumerate() {
+        if i >= want.len() || place.lane != want[i].lane || place.after != want[i].after {
             return false;
         }
     }
-    true
+    places.len() == want.len()
 }
 
 fn has(alloc: Global, plan: &Plan, fact: &Fact) -> Result<bool, Fail>

@@ -6,8 +6,6 @@ mod audits;
 #[cfg(test)]
 mod bringing;
 #[cfg(test)]
-mod cells;
-#[cfg(test)]
 mod circuits;
 #[cfg(test)]
 mod closing;

@@ -67,11 +67,6 @@ fn laws() -> [bool; 5] {
     ]
 }
 
-#[test]
-fn law_holds_of_the_or_drawing_alone(rt: HostRuntime) {
-    assert_eq!(rt; laws(), [true, false, false, false, false]);
-}
-
 // The letter of a cell: `.` if it is empty, its port's letter if it is a port, and else `C`.
 fn letter(kind: Kind, x: u32, y: u32) -> char {
     if !Shipped.cell(kind, x, y) {
@@ -161,7 +156,8 @@ fn lights() -> [[bool; 2]; 4] {
 }
 
 #[test]
-fn tiles_answer_by_themselves(rt: HostRuntime) {
+fn tiles_answer_by_themselves_and_the_law_holds_of_the_or_drawing_alone(rt: HostRuntime) {
+    assert_eq!(rt; laws(), [true, false, false, false, false]);
     let want = [[false, true], [true, true], [true, false], [true, false]];
     assert_eq!(rt; lights(), want);
     assert_eq!(rt; tiles::SouthWest::ENTRIES, [(16, 0), (0, 0)]);

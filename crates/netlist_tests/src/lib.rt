@@ -1,4 +1,4 @@
-//! Tests of the public calls that read, weigh and map netlists.
+//! Tests of the public calls that read, map and make netlists.
 #![tactic(auto)]
 
 #[cfg(test)]
@@ -21,5 +21,3 @@ mod pages;
 mod rewriting;
 #[cfg(test)]
 mod texts;
-#[cfg(test)]
-mod weights;

@@ -1,11 +1,9 @@
-//! Tests of the public calls that read and lower AIGER circuits and make plans of these and of lists of cells, and write
-//! plans as texts. Also compares the stages of docs/TOUR.md with what the crates make.
+//! Tests of the public calls that read AIGER circuits, make plans of lists of cells, and lift lists of cells from plans.
+//! Also compares the stages of docs/TOUR.md with what the crates make.
 #![tactic(auto)]
 
 #[cfg(test)]
 mod aiger_texts;
-#[cfg(test)]
-mod chains;
 #[cfg(test)]
 mod choosing;
 #[cfg(test)]
@@ -13,11 +11,7 @@ mod climbing;
 #[cfg(test)]
 mod drawing;
 #[cfg(test)]
-mod flats;
-#[cfg(test)]
 mod lifting;
-#[cfg(test)]
-mod lowering;
 #[cfg(test)]
 mod page;
 #[cfg(test)]

@@ -52,18 +52,14 @@ fn expect_pulse(alloc: Global, plan: &Plan) -> Result<(), Fail>
     Ok(())
 }
 
+// Of two loops on four lanes the second starts with 1.
 #[test]
-fn a_plan_makes_the_cells_of_its_list(rt: HostRuntime) -> Result<(), Fail> {
+fn a_plan_makes_the_cells_and_starts_of_its_list(rt: HostRuntime) -> Result<(), Fail> {
+    let starts = starts_of_bits(rt.alloc(), 4, &[false, true])?;
+    must(starts.has(64, 56) && !starts.has(64, 40) && starts.list.len() == 1)?;
+    drop(starts);
     let plan = plan_of_written(rt.alloc(), &PULSE)?;
     let said = expect_pulse(rt.alloc(), &plan);
     drop(plan);
     said
-}
-
-// Of two loops on four lanes the second starts with 1.
-#[test]
-fn loops_start_where_they_enter(rt: HostRuntime) -> Result<(), Fail> {
-    let starts = starts_of_bits(rt.alloc(), 4, &[false, true])?;
-    let second = starts.has(64, 56) && !starts.has(64, 40) && starts.list.len() == 1;
-    Ok(must(second)?)
 }

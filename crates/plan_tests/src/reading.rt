@@ -367,12 +367,12 @@ fn expect_texts(alloc: Global, cases: &str) -> Result<(), Fail> {
     Ok(())
 }
 
-#[test]
-fn texts_are_read_as_circuits(rt: HostRuntime) -> Result<(), Fail> {
-    expect_texts(rt.alloc(), CIRCUITS)
-}
+const LISTS: &[&str] = &[CIRCUITS, FAULTS];
 
 #[test]
-fn the_first_fault_is_answered(rt: HostRuntime) -> Result<(), Fail> {
-    expect_texts(rt.alloc(), FAULTS)
+fn texts_are_read_as_circuits_or_have_a_first_fault(rt: HostRuntime) -> Result<(), Fail> {
+    for cases in LISTS {
+        expect_texts(rt.alloc(), cases)?;
+    }
+    Ok(())
 }

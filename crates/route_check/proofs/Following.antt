@@ -8,7 +8,7 @@ use Rattle.route_tables.specs.Tables.{wire_path, serial}
 use Rattle.route_tables.specs.Cells.{IsAlone}
 use Rattle.route_check.specs.declared.alone.PathSerials.{PathSerials}
 use Rattle.route_check.specs.Around.{IsOneOf, ArePathSerials}
-use Rattle.route_check.proofs.Serials.{near_index}
+use Rattle.route_check.proofs.SerialTable.{near_index}
 
 on_path : (t : Tables) (wire : TableWire) (i : ℕ) (serials : PathSerials) → ArePathSerials t wire i serials → (k : ℕ) → IsOneOf serials k → (k ≡ 0) ⊎ ((j : ℕ) × (j < 3) × (k ≡ serial t (wire_path t wire (i + j))))
 on_path t wire i serials are k (inl none) = inl none

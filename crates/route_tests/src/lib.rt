@@ -1,5 +1,5 @@
-//! Tests of the library of gates, of the lines that describe routed circuits, of the search that finds gates and wires,
-//! and of the check of circuits. `dev/gate/routed` tries broken ones with the program.
+//! Tests of the library of gates, of the lines that describe routed circuits, and of the search that finds gates and
+//! wires. `tool_tests` tries circuits with the program's calls, and `dev/gate/routed` broken ones with the program.
 #![tactic(auto)]
 
 #[cfg(test)]
@@ -10,5 +10,3 @@ mod fails;
 mod found;
 #[cfg(test)]
 mod gates;
-#[cfg(test)]
-mod read;

@@ -16,7 +16,7 @@ use lane_core::{Instr, NetPlace};
 use std::alloc::Global;
 
 // If two lanes share the way, each passes one of so many lanes between them.
-const SHARE: u32 = 32;
+const SHARE: u32 = 64;
 
 /// Lanes with the instructions so far. After these every tag tells the bit on its lane, and every
 /// place of a gate has the gate's value.

@@ -19,6 +19,9 @@ use std::alloc::Global;
 // A program with more instructions than these is long.
 const LONG: usize = 200_000;
 
+// One with more than these is too long: its text has over a hundred million characters.
+const TOO_LONG: usize = 600_000;
+
 /// Returns the numbers of the ports: of the loops' data, and then of the outputs.
 pub fn ports_of(alloc: Global, list: &CellList, loops: u32) -> Result<Vec<u32>, PlaceError>
     requires loops { loops ≡ loop_count list.now }
@@ -132,11 +135,6 @@ pub struct Placed {
 }
 
 impl Placed {
-    // Whether it is long.
-    fn is_long(&self) -> bool {
-        self.program.instrs.len() > LONG
-    }
-
     // The size of its drawing, in tiles.
     fn area(&self) -> u64 {
         let loops = self.program.latches.len() as u64;
@@ -272,22 +270,27 @@ fn most_spare(list: &CellList) -> u32
 // How many more numbers of spare lanes are tried if the first program is this one: none if it is
 // long.
 fn more_tries(first: &Placed) -> u32 {
-    if first.is_long() { 0 } else { 4 }
+    if first.program.instrs.len() > LONG {
+        0
+    } else {
+        4
+    }
 }
 
-// The second program if it has less than half as many instructions as the first, and else the first.
+// The second program if it has less than two thirds of the first one's instructions, and else the
+// first.
 fn much_shorter(first: Placed, second: Placed) -> Placed
     ensures { (result ≡ first) ⊎ (result ≡ second) }
 {
-    if second.program.instrs.len() < first.program.instrs.len() / 2 {
+    if second.program.instrs.len() < first.program.instrs.len() / 3 * 2 {
         second
     } else {
         first
     }
 }
 
-// The program of a list whose first program is long, on as many lanes: lanes share the way, and the
-// inputs stand in the order in which cells read them.
+// The program of a list whose first program is too long, on as many lanes: lanes share the way, and
+// the inputs stand in the order in which cells read them.
 fn placed_again(
     alloc: Global,
     list: &CellList,
@@ -305,8 +308,8 @@ fn placed_again(
     place_with(alloc, list, loops, spare, &wanted, Travel::Shared)
 }
 
-// The first program, or, if it is long, the one that `placed_again` makes if that is much shorter:
-// its drawing may be the larger one, but its text is not.
+// The first program, or, if it is too long, the one that `placed_again` makes if that is much
+// shorter: its drawing may be the larger one, but its text is not.
 fn shortened(
     alloc: Global,
     list: &CellList,
@@ -320,7 +323,7 @@ fn shortened(
     requires first { IsPlacedWithin list.now spare first.program }
     ensures { IfOk result (λ r. IsPlacedWithin list.now spare r.program) }
 {
-    if !first.is_long() {
+    if first.program.instrs.len() <= TOO_LONG {
         return Ok(first);
     }
     let second = placed_again(alloc, list, loops, spare, &first)?;
@@ -328,9 +331,9 @@ fn shortened(
 }
 
 /// Places a list on lanes: returns a program that computes it. It tries 0 to 4 spare lanes, but no
-/// more than there are inputs or outputs, whichever are more. If the program on 0 is long, it tries
-/// no others, but places the list once more, so that lanes share the way. The contract leaves open
-/// which of the programs is kept.
+/// more than there are inputs or outputs, whichever are more, and 0 alone if that program is long.
+/// If it is too long, the list is placed once more, so that lanes share the way. The contract leaves
+/// open which of the programs is kept.
 pub fn place(alloc: Global, list: &CellList) -> Result<Program, PlaceError>
     requires small { IsPlaceable list.now }
     ensures { IfOk result (IsPlacedWithin list.now (max list.now.inputs (length list.now.outs))) }

@@ -5,5 +5,3 @@
 mod runs;
 #[cfg(test)]
 mod sources;
-#[cfg(test)]
-mod words;

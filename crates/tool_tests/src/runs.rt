@@ -5,11 +5,12 @@
 // before wrote. A command alone may have three numbers in brackets: the number of the source's call
 // that fails, counted from 0, and the rooms of the output and of the errors; a case with malformed
 // brackets fails. Other commands that write the same may follow, each after ` & `, and a remark on
-// the case ` -- `. `route` and `extract` are the commands of `wwroute`. Then come the lines of the
-// text that the first command reads; a case without them reads the text that the last line with `@`
-// names. Then come `== ` with the status, and the lines that the last command writes: to the output
-// if the status is 0, and else to the errors, or to the output up to `== err` and to the errors after
-// it. It writes nothing more. Three full stops stand for anything.
+// the case ` -- `. `none` is no word at all, and `''` an empty one; `route` and `extract` are the
+// commands of `wwroute`. Then come the lines of the text that the first command reads; a case
+// without them reads the text that the last line with `@` names. Then come `== ` with the status,
+// and the lines that the last command writes: to the output if the status is 0, and else to the
+// errors, or to the output up to `== err` and to the errors after it. It writes nothing more. Three
+// full stops stand for anything.
 //
 // If a command follows the name after `@`, the cases are changes: the command reads the named text
 // with the lines of the case in place of each line that is the case's first.
@@ -30,6 +31,7 @@ mod routing;
 mod simulating;
 mod tapes;
 mod twice;
+mod words;
 
 use blifww_tool::run;
 use std::alloc::{AllocError, Global};
@@ -98,11 +100,14 @@ fn push_words(words: &mut Vec<String>, alloc: Global, command: &str) -> Result<(
     Ok(())
 }
 
-/// Returns the words of a command line: the program's name and the words of the command.
+/// Returns the words of a command line: the program's name and the words of the command, or no word
+/// if the command is `none`.
 pub fn words_of(alloc: Global, command: &str) -> Result<Vec<String>, AllocError> {
     let mut words = Vec::new(alloc);
-    push_word(&mut words, alloc, "blifww")?;
-    push_words(&mut words, alloc, command)?;
+    if command != "none" {
+        push_word(&mut words, alloc, "blifww")?;
+        push_words(&mut words, alloc, command)?;
+    }
     Ok(words)
 }
 
@@ -434,6 +439,7 @@ const LISTS: &[&str] = &[
     routing::CASES,
     simulating::CASES,
     tapes::CASES,
+    words::CASES,
 ];
 
 #[test]

@@ -33,20 +33,15 @@ fn expect_read(
     }
 }
 
+const CHUNKS: &[usize] = &[1, 16, 61, 5000];
+
 #[test]
-fn each_read_up_to_the_end_can_fail(rt: HostRuntime) -> Result<(), Fail> {
+fn all_is_read_within_the_limit_and_each_read_can_fail(rt: HostRuntime) -> Result<(), Fail> {
     // Calls 0 to 60 each take a byte, and call 61 finds the end.
     for call in 0..64 {
         let want = (call < 62).then_some(ReadAllError::ReadFault);
         expect_read(rt.alloc(), 1, call, 61, want)?;
     }
-    Ok(())
-}
-
-const CHUNKS: &[usize] = &[1, 16, 61, 5000];
-
-#[test]
-fn all_is_read_within_the_limit(rt: HostRuntime) -> Result<(), Fail> {
     for chunk in CHUNKS {
         expect_read(rt.alloc(), *chunk, 99, 61, None)?;
         expect_read(rt.alloc(), *chunk, 99, 60, Some(ReadAllError::TooLong))?;

@@ -279,4 +279,94 @@ aag 3 2 0 1 1
 #C BLIFWW OUT 96 8 o0
 x = 97, y = 48, rule = WireWorld
 ...!
+> aiger | simulate --cycles 3 -- resets: left out, its own literal, and 1; a latch that reads an odd literal
+aag 4 0 4 4 0
+2 2
+4 4 4
+6 6 1
+8 7 1
+2
+4
+6
+8
+== 0
+o0=000
+o1=000
+o2=111
+o3=100
+> aiger | simulate --cycles 7 i0=1100110 i1=1110101 -- the flip-flop with enable and reset of the format's description
+aag 7 2 1 2 4
+2
+4
+6 8
+6
+7
+8 4 10
+10 13 15
+12 2 6
+14 3 7
+== 0
+o0=0100010
+o1=1011101
+> aiger | simulate --cycles 2 i0=01 -- an input that is an output, a gate of constants, and a gate that nothing reads
+aag 4 1 0 4 2
+2
+3
+2
+8
+0
+6 1 2
+8 1 1
+== 0
+o0=10
+o1=01
+o2=11
+o3=00
+> aiger | simulate --cycles 3 -- a loop through a latch is allowed
+aag 2 0 1 1 1
+2 4
+2
+4 3 1
+== 0
+o0=010
+> aiger | simulate --cycles 1 -- neither inputs nor outputs
+aag 0 0 0 0 0
+== 0
+> aiger
+aag 2 1 0 0 1
+2
+4 0 5
+== 3
+loop: 4
+> aiger
+aag 4 1 0 1 3
+2
+2
+4 7 2
+6 8 2
+8 2 5
+== 3
+loop: 8 6 4
+> aiger
+aag 5 1 0 1 4
+2
+10
+4 2 2
+6 8 4
+8 4 7
+10 6 8
+== 3
+loop: 8 6
+> aiger
+aag 7 3 0 1 4
+2
+4
+6
+15
+8 14 2
+10 8 2
+12 10 2
+14 12 2
+== 3
+loop: 10 12 14 8
 ";

@@ -28,6 +28,12 @@ B14 Undriven line 2: q
 == 0
 0:y=1001
 1:y=1100
+> compile --contexts 13 -- two loops without instructions
+.model m
+.latch b a 1
+.latch a b 0
+== 4
+too large: contexts 13 limit 12
 @ inverter
 > compile -- a loop of constant 1 lengthens the period, which is one of whole tiles
 == 0

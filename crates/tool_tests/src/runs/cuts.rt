@@ -87,7 +87,7 @@ fn expect_cuts(alloc: Global, run: &Run) -> Result<(), Fail> {
     expect_errs_cut(alloc, run, &whole)
 }
 
-const RUNS: &[Run] = &[
+const RUNS: &[Run<'static>] = &[
     Run {
         command: "compile",
         text: GATE,

@@ -1,5 +1,5 @@
-// Texts that repeat a part: models inside models, weights near the limit and far beyond it, texts at
-// the limit of length and beyond it, and the longest tape.
+// Texts that repeat a part: models inside models, weights near the limit and far beyond it, a long
+// loop, texts at the limit of length and beyond it, and the longest tape.
 use crate::runs::{Case, are_ends, case_of, expect_holds, halves, number_of};
 use itoa::Buffer;
 use std::alloc::{AllocError, Global};
@@ -57,6 +57,65 @@ stream: MissingInput i0
 .end
 == 4
 too large: weight 8193 limit 8192
+> 300 eval --cycles 1 -- a full adder weighs 32, each place of a model 1, and a clock beside its inputs 1
+.model m
+.inputs x
+{.subckt fa a=x b=x c=x
+}.end
+.model fa
+.inputs a b c
+.outputs s co
+.names a b c s
+100 1
+010 1
+001 1
+111 1
+.names a b c co
+11- 1
+1-1 1
+-11 1
+== 4
+too large: weight 9901 limit 8192
+> 300 eval --cycles 1
+.model m
+.inputs x
+{.subckt fa a=x b=x c=x
+}.end
+.model fa
+.inputs a b c
+.outputs s co
+.names a b c s
+100 1
+010 1
+001 1
+111 1
+.names a b c co
+11- 1
+1-1 1
+-11 1
+.clock a
+== 4
+too large: weight 9901 limit 8192
+> 300 eval --cycles 1
+.model m
+.inputs x
+{.subckt fa a=x b=x c=x clk=x
+}.end
+.model fa
+.inputs a b c
+.outputs s co
+.names a b c s
+100 1
+010 1
+001 1
+111 1
+.names a b c co
+11- 1
+1-1 1
+-11 1
+.clock a clk
+== 4
+too large: weight 10201 limit 8192
 > 2048 aiger -- each output of a circuit weighs 4, and every circuit 2 more
 aag 0 0 0 2048 0
 {0
@@ -72,7 +131,59 @@ too large: weight 8194 limit 8192
 #C gate ...
 == err
 box ...
-> 40 eval --cycles 1 & compile -- models that each place the next one twice
+> 1637 aiger -- an input weighs 1, a gate 4, an output 4: the greatest weight, a greater one, and one with a loop
+aag 158200 1638 0 1 1637
+2
+{1%0
+}301
+{3%0 2 2
+}== 0
+#C BLIFWW 2 P 320 L 96 C 1
+...
+> 1637 aiger
+aag 158200 1639 0 1 1637
+2
+4
+{1%0
+}301
+{3%0 2 2
+}== 4
+too large: weight 8193 limit 8192
+> 1637 aiger
+aag 158200 1638 0 1 1638
+2
+{1%0
+}301
+{3%0 2 2
+}4 4 2
+== 4
+too large: weight 8196 limit 8192
+> 2000 aiger -- a latch weighs 5, whatever its reset
+aag 200000 0 2000 0 0
+{1%0 0
+}== 4
+too large: weight 10002 limit 8192
+> 2000 aiger
+aag 200000 0 2000 0 0
+{1%0 0 1%0
+}== 4
+too large: weight 10002 limit 8192
+> 2000 aiger [9999 0 12904] -- a long loop
+aag 1999995 1 0 1 2001
+2
+3999991
+3999990 3{%0 2
+3%0 3}999990 2
+== 3
+loop: 319990 319980 ...300 3999990
+> 2000 aiger [9999 0 12903]
+aag 1999995 1 0 1 2001
+2
+3999991
+3999990 3{%0 2
+3%0 3}999990 2
+== 6
+loop: 319990 319980 ...300 3999990> 40 eval --cycles 1 & compile -- models that each place the next one twice
 .model h{
 .subckt h%
 .subckt h%

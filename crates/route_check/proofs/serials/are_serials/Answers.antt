@@ -1,5 +1,5 @@
 use Rattle.std.proofs.Common.{length}
-use Rattle.route_check.proofs.Serials.{are_serials}
+use Rattle.route_check.proofs.SerialTable.{are_serials}
 use Rattle.route_check.proofs.serials.are_serials.Goals as goal
 
 pub returns : goal.returns
