@@ -10,7 +10,7 @@ use lists::{List, OutOfMemory};
 use register_ways::{Circuit, Loop, Ways, ways_around};
 use routed_core::{Drawing, DrawnPort};
 use std::alloc::{AllocError, Global};
-use strand_core::{East, Layout, StrandCircuit};
+use strand_core::{East, Layout, StrandCircuit, West};
 
 // How often other ways are looked for until all crossings accept their period.
 const ROUNDS: u32 = 8;
@@ -63,8 +63,20 @@ fn rounded_ways(
     }
 }
 
-// How many registers stand north of the outputs at the east, if the outputs stand together.
+fn has_inputs(circuit: &StrandCircuit) -> bool {
+    for end in &circuit.west {
+        if let (Some(_), West::Input(_)) = (end.strand, end.is) {
+            return true;
+        }
+    }
+    false
+}
+
+// How many registers stand north of the outputs at the east, if the outputs stand together and there are no inputs.
 fn gap_of(circuit: &StrandCircuit) -> Option<usize> {
+    if has_inputs(circuit) {
+        return None;
+    }
     let (mut registers, mut gap) = (0usize, None);
     for end in &circuit.east {
         match (end.strand, end.is, gap) {
