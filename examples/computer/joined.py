@@ -76,7 +76,8 @@ def draw_gates(strip, names, pattern):
 
 
 def joined(processor, display, is_bare):
-    """Returns the plane of a processor with the display, given as patterns, the table's first lines, and the lamps."""
+    """Returns the plane of a processor with the display, given as patterns; the latency; and the first cells of the
+    lamps' combs."""
     cells = Plane()
     copy(cells, processor.runs, lambda x, y: (x, y))
     outs = sorted(processor.outputs, key=lambda it: processor.outputs[it][1])
