@@ -1,6 +1,6 @@
 -- One band: its field, and its own injections.
 use Rattle.ww_rule.specs.Due.{AreLeftAt, due_count}
-use Rattle.std.specs.Prelude.{pos, ◌+ℤ◌, ◌-ℤ◌, ℕ, ◌+◌, ◌-◌, ◌/◌, ◌≤◌, ◌<◌, ◌≡◌, ◌==◌, true, false, if◌then◌else◌, List, ◌∷◌, length, get_or, map, drop, All, min, ◌*◌, ◌^◌, None}
+use Rattle.std.specs.Prelude.{pos, ◌+ℤ◌, ◌-ℤ◌, ℕ, ◌+◌, ◌-◌, ◌/◌, ◌≤◌, ◌<◌, ◌≡◌, true, false, List, ◌∷◌, length, get_or, map, drop, All, min, ◌*◌, ◌^◌, None}
 use Rattle.ww_rule.specs.declared.pattern.Injection.{Injection}
 use Rattle.ww_rule.specs.Wireworld.{Plane, Due, count_head, next_plane, injected}
 use Rattle.ww_rule.specs.Grid.{IsEmptyOutside}
@@ -8,7 +8,8 @@ use Rattle.ww_rule.specs.Injections.{due_of_list}
 use Rattle.ww_rule.specs.declared.pattern.State.TheVariants.{Head, Tail}
 use Rattle.lane_kernel.specs.Rows.{is_set}
 use Rattle.band_rows.specs.declared.field.Field.{Field}
-use Rattle.band_rows.specs.Fields.{IsClosedField, IsDarkField, ShowsField, TailsShow, field_heads, field_tails}
+use Rattle.band_rows.specs.Fields.{IsClosedField, IsDarkField, ShowsField, TailsShow}
+use Rattle.facing_rows.specs.Facing.{shown_heads}
 use Rattle.band_core.specs.declared.band.Band.{Band}
 use Rattle.band_core.specs.Bands.{bands_in, unready_neighbour}
 
@@ -53,12 +54,10 @@ pub record ShowsBand (e : ℕ → Plane) (due : Due) (y many : ℕ) (band : Band
 -- the heads of the bottom row, and below, of the top row, at the band's generation or the one
 -- before
 abbrev pub bottom_at : ℕ → Band → List ℕ
-bottom_at g band =
-    if band.generation == g then field_heads band.field band.field.rows
-    else field_tails band.field band.field.rows
+bottom_at g band = shown_heads g band.generation band.field band.field.rows
 
 abbrev pub top_at : ℕ → Band → List ℕ
-top_at g band = if band.generation == g then field_heads band.field 1 else field_tails band.field 1
+top_at g band = shown_heads g band.generation band.field 1
 
 -- the number of rows of band b, if bands of a height cover so many rows
 abbrev pub rows_in_band : (height rows b : ℕ) → ℕ

@@ -10,6 +10,7 @@ ghost use Rattle.band_core.specs.Beside.{HasRows, ShowBeside};
 ghost use Rattle.band_core.specs.Together.{HasBandRun, HasRested};
 
 use band_rows::{FacingRows, Field, PlaneRow};
+use facing_rows::{bottom_heads, top_heads};
 use ww_rule::Injection;
 
 /// A band: a field of its rows at a generation, and the band's injections, of which the first
@@ -71,11 +72,7 @@ impl Band {
         requires rows { HasRows self.now }
         ensures heads { words_in result ≡ bottom_at generation self.now }
     {
-        let last = self.field.rows - 1;
-        if self.generation == generation {
-            return self.field.heads_in_row(last);
-        }
-        self.field.tails_in_row(last)
+        bottom_heads(&self.field, self.generation, generation)
     }
 
     /// Returns the heads of the top row at a generation, which is the band's or the one before.
@@ -83,10 +80,7 @@ impl Band {
         requires rows { HasRows self.now }
         ensures heads { words_in result ≡ top_at generation self.now }
     {
-        if self.generation == generation {
-            return self.field.heads_in_row(0);
-        }
-        self.field.tails_in_row(0)
+        top_heads(&self.field, self.generation, generation)
     }
 
     /// Goes on by one generation. The heads of the rows beside the band are those at the band's own

@@ -7,10 +7,11 @@ ghost use Rattle.band_core.specs.Bands.{not_ready, unready_neighbour};
 ghost use Rattle.band_core.specs.Band.{AreBands, AllShow, CanMove, HasNoneDue, IsEvolution, IsBand, IsQuiet, IsWaking, ShowsBand, generation_at, generations_of, rows_in_band};
 ghost use Rattle.band_core.specs.Beside.{HasRows, HaveRows, IsRowAbove, IsRowBelow, ShowRowsOf};
 
-use crate::awake::{due_cell, faced_cell};
+use crate::awake::due_cell;
 use crate::band::Band;
 use crate::error::NotReady;
 use band_rows::{FacingRows, PlaneRow};
+use facing_rows::faced_cell;
 
 // A neighbour of band b, if its generation is neither the band's nor one more.
 fn not_ready(bands: &[Band], b: usize, neighbour: usize) -> Option<NotReady>

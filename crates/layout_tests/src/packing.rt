@@ -40,8 +40,8 @@ const FIVE_LANES_COLUMNS: &[&[Instr]] = &[
 
 const UPSIDE_DOWN_COLUMNS: &[&[Instr]] = &[&[Instr::Fork(0), Instr::Or(2), Instr::Swap(4)]];
 
-/// Returns whether the columns have these instructions.
-pub fn are_columns(columns: &[Column], want: &[&[Instr]]) -> bool {
+// Whether the columns have these instructions.
+fn are_columns(columns: &[Column], want: &[&[Instr]]) -> bool {
     for (i, column) in columns.iter().enumerate() {
         if i >= want.len() || column.instrs.as_slice() != want[i] {
             return false;

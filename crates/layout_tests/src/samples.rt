@@ -94,23 +94,6 @@ const LONG_LOOPS: Written<'static> = Written {
     tape: &[],
 };
 
-// Four lanes, each instruction once, and a last column without instructions.
-const FOUR_LANES: Written<'static> = Written {
-    lanes: 4,
-    columns: &[
-        &[Instr::Swap(0), Instr::Fork(2)],
-        &[Instr::Xor(1)],
-        &[Instr::Or(0), Instr::AndNot(2)],
-        &[],
-    ],
-    latches: 0,
-    starts: &[],
-    ins: &[],
-    outs: &[],
-    nets: &[],
-    tape: &[],
-};
-
 /// A name for each sample that tests reach through `written`.
 #[derive(Clone, Copy)]
 pub enum Sample {
@@ -120,7 +103,6 @@ pub enum Sample {
     ForkLoop,
     ThreeLoops,
     LongLoops,
-    FourLanes,
 }
 
 /// Returns how the plan of a sample is written down. A test that names the constant instead takes
@@ -133,6 +115,5 @@ pub fn written(sample: Sample) -> Written<'static> {
         Sample::ForkLoop => FORK_LOOP,
         Sample::ThreeLoops => THREE_LOOPS,
         Sample::LongLoops => LONG_LOOPS,
-        Sample::FourLanes => FOUR_LANES,
     }
 }

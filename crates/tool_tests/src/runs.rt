@@ -14,12 +14,10 @@
 //
 // If a command follows the name after `@`, the cases are changes: the command reads the named text
 // with the lines of the case in place of each line that is the case's first.
-ghost use Rattle.std.specs.Prelude.{◌≤◌};
 
 mod circuits;
 mod compiling;
 mod contexts;
-mod cuts;
 mod dumps;
 mod evaluating;
 mod failing;
@@ -111,22 +109,6 @@ pub fn words_of(alloc: Global, command: &str) -> Result<Vec<String>, AllocError>
     Ok(words)
 }
 
-/// Runs a command over a source in memory and two sinks. `source` has the source's chunk and the
-/// calls that fail, and `rooms` the rooms of the output and of the errors.
-pub fn run_over(
-    alloc: Global,
-    command: &str,
-    text: &[u8],
-    source: (usize, &[u64]),
-    rooms: (usize, usize),
-) -> Result<Outcome, Fail>
-    requires { 1 ≤ source.0 }
-{
-    let words = words_of(alloc, command)?;
-    let mut src = MemSource::new(alloc, text, source.0, source.1)?;
-    run_on(alloc, &words, &mut src, rooms)
-}
-
 // Whether the words are those of a command of `wwroute`.
 fn are_of_wwroute(words: &[String]) -> bool {
     match words.get(1) {
@@ -177,14 +159,11 @@ type Limits = (u64, (usize, usize));
 // No run makes so many calls of the source, and none in these tests writes more.
 const AMPLE: Limits = (u64::MAX, (1 << 20, 99));
 
-// Runs a command within limits.
+// Runs a command within limits. The source gives at most 16 bytes a call.
 fn run_within(alloc: Global, command: &str, text: &[u8], limits: Limits) -> Result<Outcome, Fail> {
-    run_over(alloc, command, text, (16, &[limits.0]), limits.1)
-}
-
-/// Runs a command with ample room for what it writes.
-pub fn run_amply(alloc: Global, command: &str, text: &[u8]) -> Result<Outcome, Fail> {
-    run_within(alloc, command, text, AMPLE)
+    let words = words_of(alloc, command)?;
+    let mut src = MemSource::new(alloc, text, 16, &[limits.0])?;
+    run_on(alloc, &words, &mut src, limits.1)
 }
 
 // Whether a run ended well, and wrote a pattern, a routed circuit, whose box it told, or a lifted
@@ -198,7 +177,7 @@ fn is_handed_on(got: &Outcome) -> bool {
 /// Returns the pattern or the lifted netlist that a command writes for a text, and fails if the run
 /// ends otherwise.
 pub fn written(alloc: Global, command: &str, text: &[u8]) -> Result<Vec<u8>, Fail> {
-    let got = run_amply(alloc, command, text)?;
+    let got = run_within(alloc, command, text, AMPLE)?;
     if is_handed_on(&got) {
         Ok(got.out)
     } else {

@@ -1,7 +1,7 @@
 // Sources and sinks that fail, and what such runs leave behind.
 ghost use Rattle.std.specs.Prelude.{◌≤◌};
 
-use crate::runs::{GATE, PATTERN, USAGE, run_over, status_of, words_of};
+use crate::runs::{GATE, USAGE, status_of, words_of};
 use std::alloc::Global;
 use std::test::Fail;
 use ww_base::{MemSink, MemSource};
@@ -58,7 +58,19 @@ write fault
 #C BLIFWW NET 0 24 0 b -
 #C BLIFWW NET 31 8 31 y -
 x = 33, y = 32, ru== err
-write> compile [1 321 99]
+write> compile [0 321 99] -- each read that fails is told: four for the text, and one that finds its end
+== 5
+read fault
+> compile [1 321 99]
+== 5
+read fault
+> compile [2 321 99]
+== 5
+read fault
+> compile [3 321 99]
+== 5
+read fault
+> compile [4 321 99]
 == 5
 read fault
 > compile [1 321 4]
@@ -74,7 +86,57 @@ write fault
 > lift [99 99 99] -- a netlist is no pattern
 == 8
 G1 NoHeader line 1
-> compile [99 321 0] -- there is just enough room for the output, and none for errors
+> compile [99 1 99] -- the output is cut off if there is no room for it
+== 6
+#== err
+write fault
+> route [99 100 99]
+== 6
+#C gate OR-E 2 0 2
+#C gate LONE-E 0 0 0
+#C gate LONE-E 0 3 0
+#C gate LONE-E 6 0 6
+#C wire 0 0 E 2 0 == err
+write fault
+> route [99 356 99]
+== 6
+#C gate OR-E 2 0 2
+#C gate LONE-E 0 0 0
+#C gate LONE-E 0 3 0
+#C gate LONE-E 6 0 6
+#C wire 0 0 E 2 0 -
+#C wire 0 3 SE 2 4 -
+#C wire 4 2 NE 6 0 -
+#C BLIFWW 2 P 10 L 6 C 1
+#C BLIFWW IN 0 0 a
+#C BLIFWW IN 0 3 b
+#C BLIFWW OUT 6 0 y
+#C BLIFWW NET 0 0 0 a -
+#C BLIFWW NET 0 3 0 b -
+#C BLIFWW NET 4 2 4 y -
+x = 7, y = 5, rule = WireWorld
+3C3.C$3.C.C$2.3C$C2.C$.2C!== err
+write fault
+> route [99 357 7] -- the output is whole if the line beside it is cut off
+== 6
+#C gate OR-E 2 0 2
+#C gate LONE-E 0 0 0
+#C gate LONE-E 0 3 0
+#C gate LONE-E 6 0 6
+#C wire 0 0 E 2 0 -
+#C wire 0 3 SE 2 4 -
+#C wire 4 2 NE 6 0 -
+#C BLIFWW 2 P 10 L 6 C 1
+#C BLIFWW IN 0 0 a
+#C BLIFWW IN 0 3 b
+#C BLIFWW OUT 6 0 y
+#C BLIFWW NET 0 0 0 a -
+#C BLIFWW NET 0 3 0 b -
+#C BLIFWW NET 4 2 4 y -
+x = 7, y = 5, rule = WireWorld
+3C3.C$3.C.C$2.3C$C2.C$.2C!
+== err
+box 7 x> compile [99 321 0] -- there is just enough room for the output, and none for errors
 == 0
 #C BLIFWW 2 P 32 L 32 C 1
 #C BLIFWW IN 0 8 a
@@ -90,7 +152,7 @@ C.C$15.C$11.2C.C$10.2C.C$9.C.2C$8.C$7.C$6.C$5.C$5C26.C!
 > simulate --cycles 4 a=0011 b=0101 [99 7 0]
 == 0
 y=0111
-> simulate --cycles 4 a=0011 b=0101 [99 4 99] -- the output is cut off if there is no room for it
+> simulate --cycles 4 a=0011 b=0101 [99 4 99]
 == 6
 y=01== err
 write fault
@@ -129,7 +191,29 @@ read fault
 > lift [99 0 99]
 == 6
 write fault
-@ inverter
+@ heavy
+> route [99 3000 99] -- the output is cut off after the notice, and nothing is drawn if the notice is cut off
+== 6
+#C gate FORK-E 2 0 2
+...== err
+drawing a netlist of weight 401: this may take some time
+write fault
+> route [99 9999 20]
+== 6
+== err
+drawing a netlist of> route [99 9999 57]
+== 6
+#C gate FORK-E 2 0 2
+...
+== err
+drawing a netlist of weight 401: this may take some time
+> route [99 9999 62]
+== 6
+#C gate FORK-E 2 0 2
+...
+== err
+drawing a netlist of weight 401: this may take some time
+box 2@ inverter
 > eval --cycles 4 a=0110 [0 99 99]
 == 5
 read fault
@@ -150,31 +234,6 @@ read fault
 == 6
 write fault
 ";
-
-// Fails if `compile`, which reads the gate byte by byte, does not report a read that fails, or does
-// not write the pattern though no read fails.
-fn expect_read(alloc: Global, call: u64) -> Result<(), Fail> {
-    let got = run_over(alloc, "compile", GATE.as_bytes(), (1, &[call]), (321, 99))?;
-    // The text has 61 bytes, and one more read finds its end.
-    let is_so = if call < 62 {
-        got.is(5, "", "read fault\n")
-    } else {
-        got.is(0, PATTERN, "")
-    };
-    if is_so {
-        Ok(())
-    } else {
-        Err(Fail::new(format_args!("call {call}: {}", got.status)))
-    }
-}
-
-#[test]
-fn each_read_that_fails_is_told(rt: HostRuntime) -> Result<(), Fail> {
-    for call in 0..63 {
-        expect_read(rt.alloc(), call)?;
-    }
-    Ok(())
-}
 
 // The numbers of calls of a sink that takes 7 bytes a call. The usage line takes fewer calls.
 const CALLS: &[u64] = &[0, 1, 2, 3, 4, 5, 6, 7, 8, 9, 10, 11, 12];
