@@ -1,8 +1,8 @@
 // docs/GATES.md, byte for byte.
 pub const PAGE: &str = "# Gates
 
-A test of `route_tests` compares each gate's table and drawing with those of `gate_library`, and the gate compares the
-page with `crates/route_tests/src/gates/page.rt`, byte for byte.
+A test of `pattern_tests` compares each gate's table and drawing with those of `gate_library`, and the gate compares the
+page with `crates/pattern_tests/src/gates/page.rt`, byte for byte.
 
 A routed circuit is made of these gates, which stand at least two cells apart, and of wires between their ports. A wire
 is a row of cells of any shape, each beside no drawn cell but the one before it and the one after it.

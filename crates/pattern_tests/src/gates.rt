@@ -164,29 +164,33 @@ fn push_sizes(page: &mut String, drawing: &GateDrawing) -> Result<(), AllocError
     })
 }
 
-// A gate's part of the page, up to the end of its drawing.
-fn section(alloc: Global, shape: Shape, drawing: &GateDrawing) -> Result<String, AllocError> {
-    let mut page = String::new(alloc);
+// Adds a gate's part of the page, up to the end of its drawing.
+fn push_section(page: &mut String, shape: Shape, drawing: &GateDrawing) -> Result<(), AllocError> {
     page.push_str("## ")?;
     for byte in word_of(shape) {
         page.push(char::from(*byte))?;
     }
     page.push_str("\n\n")?;
-    push_table(&mut page, drawing)?;
-    push_sizes(&mut page, drawing)?;
-    push_picture(&mut page, drawing)?;
-    Ok(page)
+    push_table(page, drawing)?;
+    push_sizes(page, drawing)?;
+    push_picture(page, drawing)
+}
+
+// Whether the page has a gate's part.
+fn has_section(alloc: Global, library: &GateLibrary, shape: Shape) -> Result<bool, AllocError> {
+    let kind = GateKind {
+        shape,
+        turn: Turn::East,
+    };
+    let mut section = String::new(alloc);
+    push_section(&mut section, shape, library.drawing(kind))?;
+    Ok(PAGE.contains(section.as_str()))
 }
 
 // Whether the page has each gate's part.
 fn has_sections(alloc: Global, library: &GateLibrary) -> Result<bool, AllocError> {
     for shape in SHAPES {
-        let kind = GateKind {
-            shape: *shape,
-            turn: Turn::East,
-        };
-        let section = section(alloc, *shape, library.drawing(kind))?;
-        if !PAGE.contains(section.as_str()) {
+        if !has_section(alloc, library, *shape)? {
             return Ok(false);
         }
     }
