@@ -13,80 +13,47 @@ use std::alloc::{AllocError, Global};
 use std::test::Fail;
 use ww_base::expect;
 
-// What a call on a band answers.
-#[derive(Clone, Copy)]
-enum Answer {
-    Moved,
-    NotReady { neighbour: usize, generation: u64 },
-    Awake { x: u64, y: u64 },
-    NoSuchBand,
+fn push_not_ready(text: &mut String, refusal: NotReady) -> Result<(), AllocError> {
+    write!(text, "{} at {}, ", refusal.neighbour, refusal.generation)
 }
 
-fn advanced(bands: &mut Bands, b: usize) -> Answer
+// Moves a band on, and appends what the call answers.
+fn push_advanced(text: &mut String, bands: &mut Bands, b: usize) -> Result<(), AllocError>
     ensures { IsSamePattern bands.old bands.new }
 {
     if b >= bands.bands() || bands.generation(b) == u64::MAX {
-        return Answer::NoSuchBand;
+        return text.push_str("no band, ");
     }
     match bands.advance(b) {
-        Ok(()) => Answer::Moved,
-        Err(
-            NotReady {
-                neighbour,
-                generation,
-            },
-        ) => Answer::NotReady {
-            neighbour,
-            generation,
-        },
+        Ok(()) => text.push_str("moved, "),
+        Err(refusal) => push_not_ready(text, refusal),
     }
 }
 
-fn skipped(bands: &mut Bands, b: usize) -> Answer
+// Moves a band on if nothing in it can change, and appends what the call answers.
+fn push_skipped(text: &mut String, bands: &mut Bands, b: usize) -> Result<(), AllocError>
     ensures { IsSamePattern bands.old bands.new }
 {
     if b >= bands.bands() || bands.generation(b) == u64::MAX {
-        return Answer::NoSuchBand;
+        return text.push_str("no band, ");
     }
     match bands.skip(b) {
-        Ok(()) => Answer::Moved,
-        Err(
-            NotSkipped::NotReady(
-                NotReady {
-                    neighbour,
-                    generation,
-                },
-            ),
-        ) => Answer::NotReady {
-            neighbour,
-            generation,
-        },
-        Err(NotSkipped::Awake { x, y }) => Answer::Awake { x, y },
+        Ok(()) => text.push_str("moved, "),
+        Err(NotSkipped::NotReady(refusal)) => push_not_ready(text, refusal),
+        Err(NotSkipped::Awake { x, y }) => write!(text, "lit {x} {y}, "),
     }
 }
 
-// What a call answers: `advance` or `skip`, and the number of a band.
-fn answered(bands: &mut Bands, call: &str) -> Answer
+// Makes a call, `advance` or `skip` and the number of a band, and appends what it answers.
+fn push_answer(text: &mut String, bands: &mut Bands, call: &str) -> Result<(), AllocError>
     ensures { IsSamePattern bands.old bands.new }
 {
     let (name, number) = call.split_once(' ').unwrap_or((call, ""));
     let b = number.parse::<usize>().unwrap_or(usize::MAX);
     if name == "skip" {
-        skipped(bands, b)
+        push_skipped(text, bands, b)
     } else {
-        advanced(bands, b)
-    }
-}
-
-fn push_answer(text: &mut String, answer: Answer) -> Result<(), AllocError> {
-    match answer {
-        Answer::Moved => text.push_str("moved, "),
-        Answer::NotReady {
-            neighbour,
-            generation,
-        } => write!(text, "{neighbour} at {generation}, "),
-        Answer::Awake { x, y } => write!(text, "lit {x} {y}, "),
-        Answer::NoSuchBand => text.push_str("no band, "),
+        push_advanced(text, bands, b)
     }
 }
 
@@ -95,7 +62,7 @@ fn push_answers(text: &mut String, bands: &mut Bands, calls: &str) -> Result<(),
     ensures { IsSamePattern bands.old bands.new }
 {
     for call in calls.split(", ") {
-        push_answer(text, answered(bands, call))?;
+        push_answer(text, bands, call)?;
     }
     Ok(())
 }

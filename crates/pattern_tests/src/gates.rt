@@ -49,15 +49,6 @@ fn first_fault(library: &GateLibrary) -> Option<GateKind> {
     None
 }
 
-#[test]
-fn each_drawing_keeps_its_law_with_its_time(rt: HostRuntime) -> Result<(), Fail> {
-    let library = GateLibrary::new(rt.alloc())?;
-    match first_fault(&library) {
-        None => Ok(()),
-        Some(kind) => Err(Fail::new(format_args!("{kind:?}"))),
-    }
-}
-
 // The letter of an output.
 fn output_letter(number: usize) -> char {
     match number {
@@ -197,10 +188,21 @@ fn has_sections(alloc: Global, library: &GateLibrary) -> Result<bool, AllocError
     Ok(true)
 }
 
+fn expect_library(alloc: Global, library: &GateLibrary) -> Result<(), Fail> {
+    if let Some(kind) = first_fault(library) {
+        return Err(Fail::new(format_args!("{kind:?}")));
+    }
+    expect_holds("the page", has_sections(alloc, library)?)
+}
+
 #[test]
-fn page_shows_every_gate(rt: HostRuntime) -> Result<(), Fail> {
+fn each_drawing_keeps_its_law_with_its_time_and_is_on_the_page(
+    rt: HostRuntime,
+) -> Result<(), Fail> {
     let library = GateLibrary::new(rt.alloc())?;
-    expect_holds("the page", has_sections(rt.alloc(), &library)?)
+    let told = expect_library(rt.alloc(), &library);
+    drop(library);
+    told
 }
 
 // The kind whose name is written of this kind.

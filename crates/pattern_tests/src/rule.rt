@@ -73,14 +73,6 @@ fn becomes(alloc: Global, text: &[u8], before: &[u8], after: &[u8]) -> Result<()
     expect_both(alloc, &plane, before, after)
 }
 
-#[test]
-fn one_generation_by_the_rule(rt: HostRuntime) -> Result<(), Fail> {
-    for (text, before, after) in GENERATIONS {
-        becomes(rt.alloc(), text, before, after)?;
-    }
-    Ok(())
-}
-
 // Fails unless the plane is this one a generation later, with an injection at the first cell then.
 fn expect_driven(alloc: Global, plane: &Plane, want: &[u8]) -> Result<(), Fail> {
     if plane.width == 0 || plane.height == 0 {
@@ -90,10 +82,9 @@ fn expect_driven(alloc: Global, plane: &Plane, want: &[u8]) -> Result<(), Fail> 
     expect_plane(alloc, &next, want)
 }
 
-#[test]
-fn an_injection_follows_the_rule(rt: HostRuntime) -> Result<(), Fail> {
-    let plane = plane_of(rt.alloc(), b"x = 3, y = 1, rule = WireWorld\nCCA!")?;
-    expect_driven(rt.alloc(), &plane, b"AAB$3 1")
+fn drives(alloc: Global, text: &[u8], want: &[u8]) -> Result<(), Fail> {
+    let plane = plane_of(alloc, text)?;
+    expect_driven(alloc, &plane, want)
 }
 
 fn mirrored(alloc: Global, pattern: &Pattern) -> Result<Plane, RuleError> {
@@ -106,8 +97,24 @@ fn expect_mirror(alloc: Global, pattern: &Pattern, want: &[u8]) -> Result<(), Fa
     expect_plane(alloc, &plane, want)
 }
 
+fn turns(alloc: Global, text: &[u8], want: &[u8]) -> Result<(), Fail> {
+    let pattern = read(alloc, text)?;
+    expect_mirror(alloc, &pattern, want)
+}
+
 #[test]
-fn a_mirror_turns_each_row(rt: HostRuntime) -> Result<(), Fail> {
-    let pattern = read(rt.alloc(), b"x = 3, y = 1, rule = WireWorld\nCA.!")?;
-    expect_mirror(rt.alloc(), &pattern, b".AC$3 1")
+fn planes_follow_the_rule_are_injected_and_mirrored(rt: HostRuntime) -> Result<(), Fail> {
+    for (text, before, after) in GENERATIONS {
+        becomes(rt.alloc(), text, before, after)?;
+    }
+    drives(
+        rt.alloc(),
+        b"x = 3, y = 1, rule = WireWorld\nCCA!",
+        b"AAB$3 1",
+    )?;
+    turns(
+        rt.alloc(),
+        b"x = 3, y = 1, rule = WireWorld\nCA.!",
+        b".AC$3 1",
+    )
 }

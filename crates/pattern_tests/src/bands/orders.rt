@@ -1,7 +1,6 @@
 // Bands of random patterns, which are moved in random orders and compared with whole planes.
 ghost use Rattle.std.specs.Prelude.{◌≡◌, ◌<◌, true, length, IfOk};
 ghost use Rattle.ww_rule.specs.Due.{AreInOrderFrom};
-ghost use Rattle.ww_rule.specs.Grid.{AreInBox};
 ghost use Rattle.ww_rule.specs.Injections.{AreInside};
 ghost use Rattle.band_core.specs.Bands.{IsSamePattern, generation_of};
 
@@ -11,7 +10,7 @@ use pattern_writing::tag_of;
 use rle_read::read;
 use std::alloc::{AllocError, Global};
 use std::test::Fail;
-use ww_rule::{Injection, Pattern, Plane, step_driven};
+use ww_rule::{Injection, Pattern, Plane, step_plain};
 
 // The last generation that a band may reach.
 const LAST: u64 = 6;
@@ -108,29 +107,20 @@ fn is_due(injection: &Injection, generation: u64, plane: &Plane) -> bool
         && injection.y < plane.height
 }
 
-// The cells of the injections at this generation.
-fn due(
-    alloc: Global,
-    drive: &[Injection],
-    generation: u64,
-    plane: &Plane,
-) -> Result<Vec<(u64, u64)>, AllocError>
-    ensures { IfOk result (λ cells. AreInBox plane.now.width plane.now.height cells.items) }
-{
-    let mut cells = Vec::new(alloc);
-    for i in drive {
-        if is_due(i, generation, plane) {
-            cells.push((i.x, i.y))?;
+// The plane with the injections at this generation.
+fn injected(plane: Plane, drive: &[Injection], generation: u64) -> Plane {
+    let mut plane = plane;
+    for injection in drive {
+        if is_due(injection, generation, &plane) {
+            plane = plane.inject(&[(injection.x, injection.y)]);
         }
     }
-    Ok(cells)
+    plane
 }
 
 // A pattern's plane at generation 0.
 fn first_plane(alloc: Global, pattern: &Pattern, drive: &[Injection]) -> Result<Plane, Fail> {
-    let plane = Plane::from_pattern(alloc, pattern)?;
-    let cells = due(alloc, drive, 0, &plane)?;
-    Ok(plane.inject(&cells))
+    Ok(injected(Plane::from_pattern(alloc, pattern)?, drive, 0))
 }
 
 // The plane of a generation, from that of the generation before.
@@ -140,8 +130,7 @@ fn next_plane(
     drive: &[Injection],
     generation: u64,
 ) -> Result<Plane, Fail> {
-    let cells = due(alloc, drive, generation, plane)?;
-    Ok(step_driven(alloc, plane, &cells)?)
+    Ok(injected(step_plain(alloc, plane)?, drive, generation))
 }
 
 // Appends the plane of this generation.
@@ -253,27 +242,26 @@ fn order_is_right(alloc: Global, draw: &mut Draw, height: u32, width: u64) -> Re
     requires height { 0 < height }
     requires width { 0 < width }
 {
-    let pattern = random_pattern(alloc, draw, width)?;
     let drive = random_drive(alloc, draw, width)?;
+    let pattern = random_pattern(alloc, draw, width)?;
     let planes = planes(alloc, &pattern, &drive)?;
     let mut bands = Bands::new(alloc, pattern, drive, height)?;
     Ok(calls_are_right(draw, &mut bands, height, width, &planes))
 }
 
-fn expect_right(alloc: Global, draw: &mut Draw, height: u32, width: u64) -> Result<(), Fail>
-    requires height { 0 < height }
-    requires width { 0 < width }
-{
-    if order_is_right(alloc, draw, height, width)? {
-        Ok(())
-    } else {
-        Err(Fail::new(format_args!("bands of {height} rows, {width} columns")))
+fn expect_right(alloc: Global, draw: &mut Draw, height: u32, width: u64) -> Result<(), Fail> {
+    if height == 0 || width == 0 || !order_is_right(alloc, draw, height, width)? {
+        return Err(Fail::new(format_args!("bands of {height} rows, {width} columns")));
     }
+    Ok(())
 }
 
+// The heights of bands, and the widths of patterns.
+const SIZES: &[(u32, u64)] = &[(1, 3), (2, 3), (3, 65), (1, 65), (2, 64), (7, 1)];
+
 fn expect_all_right(alloc: Global, draw: &mut Draw) -> Result<(), Fail> {
-    for (height, width) in [(1, 3), (2, 3), (3, 65), (1, 65), (2, 64), (7, 1)] {
-        expect_right(alloc, draw, height, width)?;
+    for (height, width) in SIZES {
+        expect_right(alloc, draw, *height, *width)?;
     }
     Ok(())
 }
