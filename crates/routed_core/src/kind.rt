@@ -1,7 +1,7 @@
 // The kinds of gates, and the turns in which they stand.
 
 /// What a gate does. Each has one drawing, whose signals run east; docs/GATES.md shows them.
-#[derive(Clone, Copy, Debug, PartialEq, Eq, PartialOrd, Ord)]
+#[derive(Clone, Copy, PartialEq)]
 pub enum Shape {
     /// One cell: an input, an output, or a point from which up to three wires go on.
     Lone,
@@ -26,7 +26,7 @@ pub enum Shape {
 }
 
 /// The direction in which the signals run, and whether the drawing is mirrored at that direction first.
-#[derive(Clone, Copy, Debug, PartialEq, Eq, PartialOrd, Ord)]
+#[derive(Clone, Copy, PartialEq)]
 pub enum Turn {
     East,
     EastMirrored,
@@ -39,7 +39,7 @@ pub enum Turn {
 }
 
 /// A gate's drawing: a shape in a turn.
-#[derive(Clone, Copy, Debug, PartialEq, Eq, PartialOrd, Ord)]
+#[derive(Clone, Copy, PartialEq)]
 pub struct GateKind {
     pub shape: Shape,
     pub turn: Turn,

@@ -13,6 +13,9 @@ const MOST_WHOLE: usize = 3;
 
 const MANY_CELLS: usize = 1_000;
 
+// A list of more cells than these is huge.
+const HUGE: usize = 2_000;
+
 /// The best drawing so far, and the place of its list.
 #[derive(Drop)]
 pub struct Best {
@@ -63,6 +66,15 @@ fn draw_at(
     Ok(Some(cost))
 }
 
+// Whether a netlist with this list is drawn by no other list if not by this one: it has so many cells
+// that what fails is the number of tiles, and the other lists have about as many.
+fn is_huge(lists: &[CellList], place: usize) -> bool {
+    match lists.get(place) {
+        Some(list) => list.cells.len() > HUGE,
+        None => false,
+    }
+}
+
 // Draws all lists with little effort. Returns what the drawings cost, each with its list's place, the
 // cheapest first.
 fn draw_briefly(
@@ -72,8 +84,10 @@ fn draw_briefly(
 ) -> Result<Vec<(u128, usize)>, OutOfMemory> {
     let mut costs = Vec::new(alloc);
     for place in 0..lists.len() {
-        if let Some(cost) = draw_at(alloc, lists, place, Effort::Brief, best)? {
-            costs.push((cost, place))?;
+        match draw_at(alloc, lists, place, Effort::Brief, best)? {
+            Some(cost) => costs.push((cost, place))?,
+            None if is_huge(lists, place) => break,
+            None => {}
         }
     }
     costs.sort()?;
