@@ -26,6 +26,12 @@ loop-k-init c =
       refl,
     )
 
+pub index-src-requires : goal.index-src-requires
+index-src-requires c = omega (arith, c.loop-k-test.true, c.len-k-end.ensures, c.requires.low.long, ap length c.loop-k.invariant.2)
+
+pub index-zero-requires : goal.index-zero-requires
+index-zero-requires c = omega (arith, c.loop-k-test.true, c.len-k-end.ensures, c.requires.low.zeros_long, ap length c.loop-k.invariant.1)
+
 pub raise-requires-clause-low : goal.raise-requires-clause-low
 unfolding none
 raise-requires-clause-low c =
