@@ -139,13 +139,8 @@ all_true zeros flags n is many = is ∙ ap (λ k. replicate k true) many ∙ by 
     by [] = refl
     by (z ∷ zs) = ap (λ (l : List Bool). true ∷ l) (by zs)
 
-pub all_flagged : (zeros flags all stays new : List Bool) (kept : List Src) (n : ℕ) → AreMarked flags kept stays → flags ≡ all → all ≡ replicate n true → n ≡ length zeros → new ≡ stays
-    → AreMarked (map (λ (zero : Bool). true) zeros) kept new
-all_flagged zeros flags all stays new kept n are is all_set many same =
-    subst (λ (m : List Bool). AreMarked (map (λ (zero : Bool). true) zeros) kept m) (sym same)
-    (subst (λ (f : List Bool). AreMarked f kept stays) (is ∙ all_true zeros all n all_set many) are)
-
-pub with_these : (flags zeros stays new : List Bool) (sources wanted these : List Src) → AreMarked flags sources stays → flags ≡ zeros → sources ≡ wanted → wanted ≡ these → new ≡ stays → AreMarked zeros these new
-with_these flags zeros stays new sources wanted these are is from to same =
-    subst (λ (m : List Bool). AreMarked zeros these m) (sym same)
-    (subst (λ (l : List Src). AreMarked zeros l stays) (from ∙ to) (subst (λ (f : List Bool). AreMarked f sources stays) is are))
+-- the same flags and marks, in slices
+pub same_marked : (of_flags : List Bool → List Bool) (flags flags' : List Bool) (sources : List Src) (marks marks' : List Bool) → flags ≡ flags' → marks' ≡ marks → AreMarked (of_flags flags) sources marks
+    → AreMarked (of_flags flags') sources marks'
+same_marked of_flags flags flags' sources marks marks' is same are =
+    subst (λ (m : List Bool). AreMarked (of_flags flags') sources m) (sym same) (subst (λ (f : List Bool). AreMarked (of_flags f) sources marks) is are)

@@ -13,6 +13,8 @@ use Rattle.cell_moves.specs.Same.{cell_over, MovesBy}
 use Rattle.cell_moves.specs.Moved.{NewSources, new_source, goes_to, AreMoved}
 use Rattle.cell_sharing.specs.Grown.{HasSource, Grows}
 use Rattle.cell_polarity.specs.Zero.{zero_bit, complement_if}
+use Rattle.cell_polarity.specs.Low.{AreLow}
+use Rattle.cell_polarity.specs.Marks.{AreMarked}
 use Rattle.cell_polarity.specs.Needed.{needed}
 
 -- why constant 1 may be read: a kept cell reads it, or a wanted one is complemented
@@ -66,3 +68,17 @@ pub record IsPorted (old : CellList) (kept : List Src) (now : CellList) (news : 
   pub cells : new.cells ≡ now.cells
   pub moves : MovesBy old (goes_to news) new
   pub follow : still ≡ map (goes_to news) kept
+
+-- the list has low cells and then high ones, by marks at the needed cells that are 1 at zero and at
+-- the kept ones
+pub record AreGrown (old : CellList) (kept : List Src) (now : CellList)
+    (news : NewSources) : Type 0 where
+  pub low : CellList
+  pub lows : List Src
+  pub zeros : List Bool
+  pub marks : List Bool
+  pub stays : List Bool
+  pub are_low : AreLow old (length old.cells) zeros low lows
+  pub are_marked : AreMarked zeros (needed old kept) marks
+  pub are_stays : AreMarked (map (λ zero. true) zeros) kept stays
+  pub are_raised : AreRaised old low kept zeros marks stays (length old.cells) now news

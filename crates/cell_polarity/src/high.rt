@@ -8,10 +8,11 @@ ghost use Rattle.cell_sharing.specs.Grown.{HasSource};
 ghost use Rattle.cell_polarity.specs.Low.{AreLow};
 ghost use Rattle.cell_polarity.specs.Marks.{AreMarked};
 ghost use Rattle.cell_polarity.specs.Needed.{needed};
-ghost use Rattle.cell_polarity.specs.Raised.{IsRaised, AreRaised};
+ghost use Rattle.cell_polarity.specs.Raised.{IsRaised, AreRaised, AreGrown};
 
 use crate::PolarityError;
-use crate::low::Lowered;
+use crate::low::{Lowered, lower};
+use crate::marks::{marks_of_kept, marks_of_needed};
 use cell_core::{Cell, CellList, Src};
 use cell_sharing::{Places, settle, share};
 use std::alloc::Global;
@@ -92,49 +93,54 @@ fn raise(
     Ok(Some(settle(list, places, alloc, Cell::AndNot(Src::One, known.low))?))
 }
 
-/// A list, and for each cell of the old list the source with its own bit, if it has one.
-#[derive(Drop)]
-pub struct Raised {
-    pub list: CellList,
-    pub news: Vec<Option<Src>>,
-}
-
-/// Adds the high cells to the low ones. `marks` are the needed cells that are 1 at zero, and
-/// `stays` the kept ones.
-pub fn raise_all(
+// Adds the high cells to the low ones, and returns for each cell of the old list the source with its
+// own bit, if it has one. `marks` are the needed cells that are 1 at zero, and `stays` the kept ones.
+fn raise_all(
     alloc: Global,
     old: &CellList,
     kept: &[Src],
-    low: Lowered,
+    low: &mut Lowered,
     marks: &[bool],
     stays: &[bool],
-) -> Result<Raised, PolarityError>
-    requires low { AreLow old.now (length old.now.cells) low.zeros.items low.list low.lows.items }
-    requires marks { AreMarked low.zeros.items (needed old.now kept.now) marks.now }
-    requires stays { AreMarked (map (λ zero. true) low.zeros.items) kept.now stays.now }
-    ensures { IfOk result (λ r. AreRaised old.now low.list kept.now low.zeros.items marks.now
-        stays.now (length old.now.cells) r.list r.news.items) }
+) -> Result<Vec<Option<Src>>, PolarityError>
+    requires low { AreLow old.now (length old.now.cells) low.old.zeros.items low.old.list
+        low.old.lows.items }
+    requires marks { AreMarked low.old.zeros.items (needed old.now kept.now) marks.now }
+    requires stays { AreMarked (map (λ zero. true) low.old.zeros.items) kept.now stays.now }
+    ensures { IfOk result (λ news. AreRaised old.now low.old.list kept.now low.old.zeros.items
+        marks.now stays.now (length old.now.cells) low.new.list news.items) }
 {
     let _kept = kept;
-    let Lowered {
-        mut list,
-        mut places,
-        zeros,
-        lows,
-    } = low;
     let mut news = vec![in alloc; None; old.cells.len()]?;
     for k in 0..old.cells.len() {
         let own = cell_gone(&news, old.cells.as_slice()[k]);
-        let low = lows[k];
-        let zero = zeros[k];
+        let src = low.lows[k];
+        let zero = low.zeros[k];
         let known = Known {
-            low,
+            low: src,
             zero,
             wanted: marks[k],
             kept: stays[k],
         };
-        let new = raise(&mut list, &mut places, alloc, known, own)?;
+        let new = raise(&mut low.list, &mut low.places, alloc, known, own)?;
         news[k] = new;
     }
-    Ok(Raised { list, news })
+    Ok(news)
+}
+
+/// Adds the low cells of a list, and then the high ones; returns for each cell of the list the source
+/// with its own bit, if it has one.
+pub fn grow(
+    alloc: Global,
+    old: &CellList,
+    kept: &[Src],
+    low: &mut Lowered,
+) -> Result<Vec<Option<Src>>, PolarityError>
+    requires { AreLow old.now 0 low.old.zeros.items low.old.list low.old.lows.items }
+    ensures { IfOk result (λ news. AreGrown old.now kept.now low.new.list news.items) }
+{
+    lower(alloc, old, low)?;
+    let marks = marks_of_needed(alloc, old, kept, &low.zeros)?;
+    let stays = marks_of_kept(alloc, kept, &low.zeros)?;
+    raise_all(alloc, old, kept, low, &marks, &stays)
 }

@@ -1,5 +1,5 @@
 // The low cells: each source that is 1 at zero is kept as its complement.
-ghost use Rattle.std.specs.Prelude.{◌≡◌, ◌&&◌, not, cond, [], length, IfOk};
+ghost use Rattle.std.specs.Prelude.{◌≡◌, ◌<◌, ◌+◌, ◌&&◌, not, cond, [], length, IfOk, OnOk};
 ghost use Rattle.cell_core.specs.Meaning.{cell_bit};
 ghost use Rattle.cell_polarity.specs.Low.{low_of, zero_in, cells_in, low_or, low_xor, low_and_not, low_bit, IsLowSource, ReadLow, AnswersLow, AreLow};
 
@@ -187,25 +187,54 @@ fn begun(alloc: Global, old: &CellList) -> Result<CellList, PolarityError>
     })
 }
 
-/// Makes the low cells of a list.
-pub fn lower(alloc: Global, old: &CellList) -> Result<Lowered, PolarityError>
-    ensures { IfOk result (λ low.
-        AreLow old.now (length old.now.cells) low.zeros.items low.list low.lows.items) }
-{
-    let mut list = begun(alloc, old)?;
-    let mut places = Places::new(alloc);
-    let mut zeros = Vec::with_capacity(alloc, old.cells.len())?;
-    let mut lows = Vec::with_capacity(alloc, old.cells.len())?;
-    for cell in old.cells.as_slice() {
-        let zero = cell_zero(&zeros, *cell);
-        let low = cell_low(&mut list, &mut places, alloc, &zeros, &lows, *cell)?;
-        zeros.push(zero)?;
-        lows.push(low)?;
+impl Lowered {
+    /// No low cells yet.
+    pub fn begin(alloc: Global, old: &CellList) -> Result<Lowered, PolarityError>
+        ensures { IfOk result (λ low.
+            AreLow old.now 0 low.zeros.items low.list low.lows.items) }
+    {
+        let list = begun(alloc, old)?;
+        Ok(Lowered {
+            list,
+            places: Places::new(alloc),
+            zeros: Vec::new(alloc),
+            lows: Vec::new(alloc),
+        })
     }
-    Ok(Lowered {
-        list,
-        places,
-        zeros,
-        lows,
-    })
+
+    // Adds the low cells for the next cell, which has this number.
+    fn add(&mut self, alloc: Global, old: &CellList, number: usize) -> Result<(), PolarityError>
+        requires number { number < length old.now.cells }
+        requires low { AreLow old.now number self.old.zeros.items self.old.list self.old.lows.items }
+        ensures { OnOk result (
+            AreLow old.now (number + 1) self.new.zeros.items self.new.list self.new.lows.items
+            ) }
+    {
+        let cell = *old.cells.get(number);
+        let zero = cell_zero(&self.zeros, cell);
+        let low = cell_low(
+            &mut self.list,
+            &mut self.places,
+            alloc,
+            &self.zeros,
+            &self.lows,
+            cell,
+        )?;
+        self.zeros.push(zero)?;
+        self.lows.push(low)?;
+        Ok(())
+    }
+}
+
+/// Adds the low cells of a list.
+pub fn lower(alloc: Global, old: &CellList, low: &mut Lowered) -> Result<(), PolarityError>
+    requires { AreLow old.now 0 low.old.zeros.items low.old.list low.old.lows.items }
+    ensures { OnOk result (
+        AreLow old.now (length old.now.cells) low.new.zeros.items low.new.list low.new.lows.items
+        ) }
+{
+    for number in 0..old.cells.len() {
+        low.add(alloc, old, number)?;
+    }
+    Ok(())
 }

@@ -1,5 +1,5 @@
 // Marks at the cells that are among some sources.
-ghost use Rattle.std.specs.Prelude.{◌≡◌, ◌∷◌, ◌++◌, false, cond, replicate, length, slice_get, flat_map, IfOk, OnOk};
+ghost use Rattle.std.specs.Prelude.{◌≡◌, ◌∷◌, ◌++◌, false, true, cond, map, replicate, length, slice_get, flat_map, IfOk, OnOk};
 ghost use Rattle.cell_polarity.specs.Low.{zero_in};
 ghost use Rattle.cell_polarity.specs.Marks.{marks_with, AreMarked};
 ghost use Rattle.cell_polarity.specs.Needed.{cell_operands, with_operands, needed};
@@ -40,8 +40,8 @@ fn mark_all(marks: &mut [bool], flags: &[bool], sources: &[Src])
     }
 }
 
-/// Marks the cells that are among the sources and have a flag.
-pub fn marks_of(alloc: Global, flags: &[bool], sources: &[Src]) -> Result<Vec<bool>, PolarityError>
+// Marks the cells that are among the sources and have a flag, in a new table.
+fn marks_of(alloc: Global, flags: &[bool], sources: &[Src]) -> Result<Vec<bool>, PolarityError>
     ensures { IfOk result (λ marks. AreMarked flags.now sources.now marks.items) }
 {
     let mut marks = vec![in alloc; false; flags.len()]?;
@@ -83,29 +83,64 @@ fn push_with_operands(found: &mut Vec<Src>, cells: &[Cell], src: Src) -> Result<
     }
 }
 
-// Those of the sources that are cells, with what these cells read.
-fn all_with_operands(
-    alloc: Global,
+// Adds those of the sources that are cells, with what these cells read.
+fn push_all_with_operands(
+    found: &mut Vec<Src>,
     cells: &[Cell],
     sources: &[Src],
-) -> Result<Vec<Src>, PolarityError>
-    ensures { IfOk result (λ found. found.items ≡ flat_map (with_operands cells.now) sources.now) }
+) -> Result<(), PolarityError>
+    ensures { OnOk result (
+        found.new.items ≡ found.old.items ++ flat_map (with_operands cells.now) sources.now
+        ) }
+{
+    for src in sources {
+        push_with_operands(found, cells, *src)?;
+    }
+    Ok(())
+}
+
+// Adds the sources that must have their own bits.
+fn push_needed(found: &mut Vec<Src>, list: &CellList, kept: &[Src]) -> Result<(), PolarityError>
+    ensures { OnOk result (found.new.items ≡ found.old.items ++ needed list.now kept.now) }
+{
+    found.extend_from_slice(list.outs.as_slice())?;
+    found.extend_from_slice(list.latches.as_slice())?;
+    found.extend_from_slice(list.nets.as_slice())?;
+    push_all_with_operands(found, list.cells.as_slice(), kept)
+}
+
+// Returns the sources that must have their own bits.
+fn needed(alloc: Global, list: &CellList, kept: &[Src]) -> Result<Vec<Src>, PolarityError>
+    ensures { IfOk result (λ found. found.items ≡ needed list.now kept.now) }
 {
     let mut found = Vec::new(alloc);
-    for src in sources {
-        push_with_operands(&mut found, cells, *src)?;
-    }
+    push_needed(&mut found, list, kept)?;
     Ok(found)
 }
 
-/// Returns the sources that must have their own bits.
-pub fn needed(alloc: Global, list: &CellList, kept: &[Src]) -> Result<Vec<Src>, PolarityError>
-    ensures { IfOk result (λ found. found.items ≡ needed list.now kept.now) }
+/// Marks the cells that have a flag and must have their own bits.
+pub fn marks_of_needed(
+    alloc: Global,
+    list: &CellList,
+    kept: &[Src],
+    flags: &[bool],
+) -> Result<Vec<bool>, PolarityError>
+    ensures { IfOk result (λ marks.
+        AreMarked flags.now (needed list.now kept.now) marks.items) }
 {
-    let mut found = list.outs.as_slice().to_vec(alloc)?;
-    found.extend_from_slice(list.latches.as_slice())?;
-    found.extend_from_slice(list.nets.as_slice())?;
-    let cells = all_with_operands(alloc, list.cells.as_slice(), kept)?;
-    found.extend_from_slice(&cells)?;
-    Ok(found)
+    let needed = needed(alloc, list, kept)?;
+    marks_of(alloc, flags, &needed)
+}
+
+/// Marks the cells that are kept; there are as many cells as there are flags.
+pub fn marks_of_kept(
+    alloc: Global,
+    kept: &[Src],
+    flags: &[bool],
+) -> Result<Vec<bool>, PolarityError>
+    ensures { IfOk result (λ marks.
+        AreMarked (map (λ flag. true) flags.now) kept.now marks.items) }
+{
+    let all = vec![in alloc; true; flags.len()]?;
+    marks_of(alloc, &all, kept)
 }

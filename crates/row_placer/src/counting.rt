@@ -7,11 +7,11 @@ use crate::{NumberedCell, PlaceError};
 use std::alloc::Global;
 
 // Counts one more use of a value; 1 if it had uses already.
-fn add_use(left: &mut Vec<u32>, value: u32) -> u32
-    requires within { value < length left.old.items }
-    requires few { number_at left.old.items value < 2 ^ 32 - 1 }
-    ensures need { result ≡ cond (number_at left.old.items value == 0) 0 1 }
-    ensures left { left.new.items ≡ set left.old.items value (number_at left.old.items value + 1) }
+fn add_use(left: &mut [u32], value: u32) -> u32
+    requires within { value < length left.old }
+    requires few { number_at left.old value < 2 ^ 32 - 1 }
+    ensures need { result ≡ cond (number_at left.old value == 0) 0 1 }
+    ensures left { left.new ≡ set left.old value (number_at left.old value + 1) }
 {
     let before = left[value as usize];
     left[value as usize] = before + 1;
@@ -19,9 +19,9 @@ fn add_use(left: &mut Vec<u32>, value: u32) -> u32
 }
 
 // 1 if a value has no use, and else 0.
-fn unused(left: &Vec<u32>, value: u32) -> u32
-    requires { value < length left.now.items }
-    ensures { result ≡ unused (number_at left.now.items value) }
+fn unused(left: &[u32], value: u32) -> u32
+    requires { value < length left.now }
+    ensures { result ≡ unused (number_at left.now value) }
 {
     if left[value as usize] == 0 { 1 } else { 0 }
 }
@@ -31,22 +31,23 @@ pub fn count_idle(left: &Vec<u32>, values: u32) -> u32
     requires { values ≤ length left.now.items }
     ensures { result ≡ idle left.now.items values }
 {
+    let uses = left.as_slice();
     let mut idle = 0;
     let mut value = 0;
     while value < values {
-        idle += unused(left, value);
+        idle += unused(uses, value);
         value += 1;
     }
     idle
 }
 
 // Counts the uses of ports in a table that has none yet; how many free lanes are enough for them.
-fn count_ports(left: &mut Vec<u32>, ports: &[u32]) -> u32
-    requires none { AreCounted left.old.items [] }
-    requires ports { All (λ v. v < length left.old.items) ports.now }
+fn count_ports(left: &mut [u32], ports: &[u32]) -> u32
+    requires none { AreCounted left.old [] }
+    requires ports { All (λ v. v < length left.old) ports.now }
     requires few { length ports.now < 2 ^ 32 - 1 }
-    ensures left { AreCounted left.new.items ports.now }
-    ensures long { length left.new.items ≡ length left.old.items }
+    ensures left { AreCounted left.new ports.now }
+    ensures long { length left.new ≡ length left.old }
     ensures owed { result ≡ owed_ports ports.now }
     ensures few { result ≤ length ports.now }
 {
@@ -55,6 +56,32 @@ fn count_ports(left: &mut Vec<u32>, ports: &[u32]) -> u32
     while port > 0 {
         port -= 1;
         owed += add_use(left, ports[port]);
+    }
+    owed
+}
+
+// Counts the uses of ports and gates in a table that has none yet; how many free lanes are enough.
+fn count_all(left: &mut [u32], gates: &[NumberedCell], ports: &[u32], base: u32) -> u32
+    requires none { AreCounted left.old [] }
+    requires long { length left.old ≡ base + length gates.now }
+    requires fits { base + length gates.now < 2 ^ 32 }
+    requires gates { All (ReadsBelow (base + length gates.now)) gates.now }
+    requires ports { All (λ v. v < base + length gates.now) ports.now }
+    requires few { 2 * length gates.now + length ports.now < 2 ^ 32 - 1 }
+    ensures left { AreCounted left.new (uses_of gates.now ++ ports.now) }
+    ensures long { length left.new ≡ base + length gates.now }
+    ensures owed { result ≡ owed ports.now base gates.now }
+    ensures few { result ≤ length gates.now + length ports.now + 1 }
+{
+    let mut owed = count_ports(left, ports);
+    let mut at = gates.len();
+    while at > 0 {
+        at -= 1;
+        let gate = gates[at];
+        let freed = 1 + unused(left, base + at as u32);
+        let second = add_use(left, gate.second);
+        let first = add_use(left, gate.first);
+        owed = first + (second + owed.saturating_sub(freed));
     }
     owed
 }
@@ -77,15 +104,6 @@ pub fn count_uses(
     ensures few { IfOk result (λ r. r.1 ≤ length gates.now + length ports.now + 1) }
 {
     let mut left = vec![in alloc; 0; base as usize + gates.len()]?;
-    let mut owed = count_ports(&mut left, ports);
-    let mut at = gates.len();
-    while at > 0 {
-        at -= 1;
-        let gate = gates[at];
-        let freed = 1 + unused(&left, base + at as u32);
-        let second = add_use(&mut left, gate.second);
-        let first = add_use(&mut left, gate.first);
-        owed = first + (second + owed.saturating_sub(freed));
-    }
+    let owed = count_all(left.as_mut_slice(), gates, ports, base);
     Ok((left, owed))
 }

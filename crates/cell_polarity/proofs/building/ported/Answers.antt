@@ -6,8 +6,8 @@ use Rattle.cell_polarity.proofs.building.ported.Goals as goal
 pub invariant_of-list : goal.invariant_of-list
 invariant_of-list c =
     let old = c.args.old.now in
-    let now = c.args.raised.list in
-    let news = c.args.raised.news.items in
+    let now = c.args.list in
+    let news = c.args.news.now in
     let outs : c.of.result ≡ map (goes_to news) old.outs = search rules in
     let latches : c.of-2.result ≡ map (goes_to news) old.latches = search rules in
     let nets : c.of-3.result ≡ map (goes_to news) old.nets = search rules in
@@ -22,10 +22,10 @@ invariant_of-list c =
 pub returns : goal.returns
 returns c =
     let old = c.args.old.now in
-    let now = c.args.raised.list in
-    let news = c.args.raised.news.items in
+    let now = c.args.list in
+    let news = c.args.news.now in
     let outs : c.of.result ≡ map (goes_to news) old.outs = search rules in
     let latches : c.of-2.result ≡ map (goes_to news) old.latches = search rules in
     let nets : c.of-3.result ≡ map (goes_to news) old.nets = search rules in
-    let kept : c.in_ok-kept.kept.items ≡ map (goes_to news) c.args.kept.now = search rules in
-    is_ported old c.args.kept.now now news c.requires _ c.in_ok-kept.kept.items refl refl refl outs latches nets kept
+    let kept : c.in_ok-ports.ports.kept.items ≡ map (goes_to news) c.args.kept.now = search rules in
+    is_ported old c.args.kept.now now news c.requires _ c.in_ok-ports.ports.kept.items refl refl refl outs latches nets kept

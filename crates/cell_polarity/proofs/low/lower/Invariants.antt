@@ -1,5 +1,5 @@
 use Rattle.cell_polarity.specs.Low.{AreLow}
 use Rattle.cell_polarity.proofs.low.lower.Given as goal
 
-abbrev pub invariant-loop-cell : goal.invariant-loop-cell
-invariant-loop-cell l = AreLow l.fn.old l.cell-index l.zeros.items l.list l.lows.items
+abbrev pub invariant-loop-number : goal.invariant-loop-number
+invariant-loop-number l = AreLow l.fn.old l.number l.low.zeros.items l.low.list l.low.lows.items
