@@ -240,6 +240,5 @@ pub fn plan_of(alloc: Global, list: &CellList) -> Result<Plan, PlanError>
         * (plan.lanes + 1)
         ) }
 {
-    let plan = one_plan(alloc, list)?;
-    Ok(plan)
+    one_plan(alloc, list)
 }

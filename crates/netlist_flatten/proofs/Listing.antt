@@ -1,6 +1,7 @@
 -- What is listed place by place.
-use Rattle.std.proofs.Common.{ℕ, ◌≡◌, ◌<◌, inl, inr, List, [], ◌∷◌, Option, Some, get_or, length, map, flat_map, take, refl, sym, subst}
+use Rattle.std.proofs.Common.{ℕ, ◌≡◌, ◌<◌, ◌≤◌, ◌+◌, ◌∙◌, inl, inr, List, [], ◌∷◌, ◌++◌, Option, Some, get_or, length, map, flat_map, take, refl, sym, ap, subst}
 use Rattle.std.specs.Prelude.{All, option_to_list}
+use Rattle.std.proofs.lemmas.List.{flat_map_more, map-append, take_all, take_more}
 use Rattle.std.proofs.lemmas.Option.{slice_get_within, slice_get_read, get_or_from_slice_get}
 use Rattle.netlist_core.specs.declared.model.Design.{Design}
 use Rattle.netlist_core.specs.declared.model.Model.{Model}
@@ -8,16 +9,46 @@ use Rattle.netlist_core.specs.declared.model.Cover.{Cover}
 use Rattle.netlist_core.specs.declared.model.LatchRow.{LatchRow}
 use Rattle.netlist_core.specs.Names.{Name}
 use Rattle.netlist_meaning.specs.Places.{Place, model_at}
-use Rattle.netlist_meaning.specs.Nets.{net_at, IsNet}
-use Rattle.netlist_meaning.specs.InOrder.{of_some, places_in_order}
+use Rattle.netlist_meaning.specs.Nets.{Net, net_at, IsNet}
+use Rattle.netlist_meaning.specs.InOrder.{of_some, places_in_order, nets_at, nets_in_order}
+use Rattle.netlist_meaning.specs.FlatOf.{at_places}
 use Rattle.lists.proofs.Members.{In, in_left, in_right, in_got, got_from}
 use Rattle.flat_designs.proofs.Lists.{all_of}
 use Rattle.flat_designs.proofs.Names.{cover_name, latch_name, is_net_of}
 use Rattle.netlist_flatten.specs.Listed.{cover_names, latch_names}
+use Rattle.netlist_flatten.specs.Numbered.{place_at, nets_before}
 
 -- what is listed at the places before one
 abbrev pub listed_before : {X Y : Type 0} → Design → (Model → List X) → (Place → X → Y) → ℕ → List Y
 listed_before design items f k = flat_map (λ place. map (f place) (of_some items (model_at design place))) (take k (places_in_order design))
+
+-- what is listed at one more place, and at all of them
+module _ {X Y : Type 0} (design : Design) (items : Model → List X) (f : Place → X → Y) where
+  abbrev here : Place → List Y
+  here place = map (f place) (of_some items (model_at design place))
+
+  pub listed_more : (k : ℕ) (old new : List Y) → k < length (places_in_order design) → old ≡ listed_before design items f k → new ≡ old ++ map (f (place_at design k)) (of_some items (model_at design (place_at design k)))
+      → new ≡ listed_before design items f (k + 1)
+  listed_more k old new lt before is =
+      is
+      ∙ ap (λ (l : List Y). l ++ here (place_at design k)) before
+      ∙ flat_map_more here [] (take k (places_in_order design)) (place_at design k)
+      ∙ ap (flat_map here) (sym (take_more (places_in_order design) k [] lt))
+
+  pub listed_all : (k : ℕ) → length (places_in_order design) ≤ k → listed_before design items f k ≡ at_places design items f
+  listed_all k past = ap (flat_map here) (take_all k (places_in_order design) past)
+
+-- what is made of the nets at one more place, and at all of them
+module _ {Y : Type 0} (design : Design) (f : Net → Y) where
+  pub nets_more : (k : ℕ) (old new : List Y) → k < length (places_in_order design) → old ≡ map f (nets_before design k) → new ≡ old ++ map f (nets_at design (place_at design k)) → new ≡ map f (nets_before design (k + 1))
+  nets_more k old new lt before is =
+      is
+      ∙ ap (λ (l : List Y). l ++ map f (nets_at design (place_at design k))) before
+      ∙ sym (map-append f (nets_before design k) (nets_at design (place_at design k)))
+      ∙ ap (map f) (flat_map_more (nets_at design) [] (take k (places_in_order design)) (place_at design k) ∙ ap (flat_map (nets_at design)) (sym (take_more (places_in_order design) k [] lt)))
+
+  pub nets_all : (k : ℕ) → length (places_in_order design) ≤ k → map f (nets_before design k) ≡ map f (nets_in_order design)
+  nets_all k past = ap (λ (places : List Place). map f (flat_map (nets_at design) places)) (take_all k (places_in_order design) past)
 
 -- the names of a cover and of a latch are nets at its place
 pub cover_nets : (design : Design) (place : Place) (m : Model) (c : Cover) → model_at design place ≡ Some m → In c m.covers → All (λ (name : Name). IsNet design (net_at place name)) (cover_names c)

@@ -89,8 +89,7 @@ fn rewritten_lists(
     ensures spares { IfOk result (λ lists. NamesNoOne list.now → All NamesNoOne lists.items) }
 {
     let _flat = flat;
-    let lists = rewritten(alloc, list, kept)?;
-    Ok(lists)
+    rewritten(alloc, list, kept)
 }
 
 // How many cells the shortest list has.
@@ -205,8 +204,7 @@ pub fn plan_flat(alloc: Global, flat: &Flat, order: &Order) -> Result<Plan, Netl
         length flat.now.latches ≡ 0 → any_needs_one flat.now ≡ false → period_of plan ≡ 32) }
     ensures at_zero { IfOk result (λ plan. SparesOne flat.now → period_of plan ≡ 32) }
 {
-    let plan = plan_of_cells(alloc, flat, order)?;
-    Ok(plan)
+    plan_of_cells(alloc, flat, order)
 }
 
 /// Makes a plan of a sound flat netlist, with its port table. `order` is an order of its covers in

@@ -66,9 +66,9 @@ fn rows_in_run(
     requires long { All (λ bits. length bits ≡ streams.now.cycles) streams.now.bits }
     ensures { IfOk result (λ rows. AreRowsInRun flat.now streams.now rows.items) }
 {
-    let mut machine = Machine::new(alloc, flat, order)?;
     let mut row = vec![in alloc; false; flat.ins.len()]?;
     let mut shown = vec![in alloc; false; flat.outs.len()]?;
+    let mut machine = Machine::new(alloc, flat, order)?;
     Ok(machine_rows(alloc, &mut machine, streams, &mut row, &mut shown)?)
 }
 
