@@ -32,13 +32,51 @@ const TOGGLE: Listed<'static> = Listed {
     nets: &[],
 };
 
-const FIVE_LANES_COLUMNS: &[&[Instr]] = &[
-    &[Instr::Or(0), Instr::Or(2)],
-    &[Instr::Swap(1), Instr::Xor(3)],
-    &[Instr::Fork(0)],
-];
+// A program, the columns that it is packed into, and how many contexts its plan has room for: one for
+// each tile of a loop, or one if there are no loops.
+struct Case {
+    about: &'static str,
+    program: &'static Listed<'static>,
+    columns: &'static [&'static [Instr]],
+    contexts: u64,
+}
 
-const UPSIDE_DOWN_COLUMNS: &[&[Instr]] = &[&[Instr::Fork(0), Instr::Or(2), Instr::Swap(4)]];
+const PACKED: &[Case] = &[
+    Case {
+        about: "each instruction comes first after its lanes' uses",
+        program: &FIVE_LANES,
+        columns: &[
+            &[Instr::Or(0), Instr::Or(2)],
+            &[Instr::Swap(1), Instr::Xor(3)],
+            &[Instr::Fork(0)],
+        ],
+        contexts: 1,
+    },
+    Case {
+        about: "a column is sorted",
+        program: &UPSIDE_DOWN,
+        columns: &[&[Instr::Fork(0), Instr::Or(2), Instr::Swap(4)]],
+        contexts: 1,
+    },
+    Case {
+        about: "two loops without instructions",
+        program: &TWO_LOOPS,
+        columns: &[],
+        contexts: 12,
+    },
+    Case {
+        about: "the toggle: five columns and one loop",
+        program: &TOGGLE,
+        columns: &[
+            &[Instr::Swap(1)],
+            &[Instr::Fork(1)],
+            &[Instr::Xor(0)],
+            &[Instr::Swap(0)],
+            &[Instr::Swap(1)],
+        ],
+        contexts: 14,
+    },
+];
 
 // Whether the columns have these instructions.
 fn are_columns(columns: &[Column], want: &[&[Instr]]) -> bool {
@@ -50,76 +88,27 @@ fn are_columns(columns: &[Column], want: &[&[Instr]]) -> bool {
     columns.len() == want.len()
 }
 
-fn expect_packed(
-    alloc: Global,
-    about: &str,
-    program: &Program,
-    want: &[&[Instr]],
-) -> Result<(), Fail> {
+fn expect_packed(alloc: Global, case: &Case, program: &Program) -> Result<(), Fail>
+    requires { length program.now.instrs < 2 ^ 40 }
+{
     let columns = pack(alloc, program)?;
-    let is_same = are_columns(&columns, want);
+    let is_so = are_columns(&columns, case.columns)
+        && most_contexts(&columns, program) == case.contexts;
     drop(columns);
-    expect_holds(about, is_same)
+    expect_holds(case.about, is_so)
 }
 
-fn expect_columns(
-    alloc: Global,
-    about: &str,
-    listed: &Listed<'_>,
-    want: &[&[Instr]],
-) -> Result<(), Fail> {
-    let program = program_of(alloc, listed)?;
-    let told = expect_packed(alloc, about, &program, want);
+fn expect_case(alloc: Global, case: &Case) -> Result<(), Fail> {
+    let program = program_of(alloc, case.program)?;
+    let told = expect_packed(alloc, case, &program);
     drop(program);
     told
 }
 
-// What a case shows, a program, and the columns that it is packed into.
-const PACKED: &[(&str, &Listed<'static>, &[&[Instr]])] = &[
-    (
-        "each instruction comes first after its lanes' uses",
-        &FIVE_LANES,
-        FIVE_LANES_COLUMNS,
-    ),
-    ("a column is sorted", &UPSIDE_DOWN, UPSIDE_DOWN_COLUMNS),
-];
-
 #[test]
-fn programs_are_packed(rt: HostRuntime) -> Result<(), Fail> {
-    for (about, listed, want) in PACKED {
-        expect_columns(rt.alloc(), about, listed, want)?;
-    }
-    Ok(())
-}
-
-fn expect_room(alloc: Global, about: &str, listed: &Listed<'_>, contexts: u64) -> Result<(), Fail> {
-    let program = program_of(alloc, listed)?;
-    let room = room_of(alloc, &program);
-    drop(program);
-    expect_holds(about, room? == contexts)
-}
-
-fn room_of(alloc: Global, program: &Program) -> Result<u64, Fail>
-    requires { length program.now.instrs < 2 ^ 40 }
-{
-    let columns = pack(alloc, program)?;
-    let room = most_contexts(&columns, program);
-    drop(columns);
-    Ok(room)
-}
-
-// What a case shows, a program, and the number of contexts that its plan has room for: one for each
-// tile of a loop.
-const ROOMS: &[(&str, &Listed<'static>, u64)] = &[
-    ("without loops there is one context", &FIVE_LANES, 1),
-    ("two loops without instructions", &TWO_LOOPS, 12),
-    ("the toggle: five columns and one loop", &TOGGLE, 14),
-];
-
-#[test]
-fn programs_have_room_for_contexts(rt: HostRuntime) -> Result<(), Fail> {
-    for (about, listed, contexts) in ROOMS {
-        expect_room(rt.alloc(), about, listed, *contexts)?;
+fn programs_are_packed_and_have_room_for_contexts(rt: HostRuntime) -> Result<(), Fail> {
+    for case in PACKED {
+        expect_case(rt.alloc(), case)?;
     }
     Ok(())
 }

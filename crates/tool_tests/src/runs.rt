@@ -47,12 +47,13 @@ pub const PATTERN: &str =
 pub const USAGE: &str =
     "usage: blifww compile|simulate|eval|probe|window|make|self|tape|aiger|vcd|lift\n";
 
-/// The outcome of a run: its status, and what `out` and `err` hold.
+/// The outcome of a run: its status, what `out` and `err` hold, and how often these failed.
 #[derive(Drop)]
 pub struct Outcome {
     status: u8,
     out: Vec<u8>,
     err: Vec<u8>,
+    faults: (u64, u64),
 }
 
 impl Outcome {
@@ -118,8 +119,8 @@ fn are_of_wwroute(words: &[String]) -> bool {
     }
 }
 
-/// Runs a command line. These are the calls of the two programs: their contracts are long.
-pub fn status_of(
+// Runs a command line. These are the calls of the two programs: their contracts are long.
+fn status_of(
     alloc: Global,
     words: &[String],
     src: &mut MemSource,
@@ -133,28 +134,39 @@ pub fn status_of(
     }
 }
 
-// Runs a command line over a source and sinks with these rooms.
-fn run_on(
+/// Runs a command line over a source and sinks with these rooms. The calls of `out` and of `err`
+/// that fail are those in `fails`.
+pub fn run_on(
     alloc: Global,
     words: &[String],
     src: &mut MemSource,
     rooms: (usize, usize),
+    fails: (&[u64], &[u64]),
 ) -> Result<Outcome, Fail> {
-    let mut out = MemSink::new(alloc, rooms.0, 7, &[])?;
-    let mut err = MemSink::new(alloc, rooms.1, 7, &[])?;
+    let mut out = MemSink::new(alloc, rooms.0, 7, fails.0)?;
+    let mut err = MemSink::new(alloc, rooms.1, 7, fails.1)?;
     let status = status_of(alloc, words, src, &mut out, &mut err);
-    ended(alloc, status, out.held(), err.held())
+    ended(alloc, status, &out, &err)
 }
 
 // The outcome of a run, with copies of what the sinks hold.
-fn ended(alloc: Global, status: u8, out: &[u8], err: &[u8]) -> Result<Outcome, Fail> {
-    let out = out.to_vec(alloc)?;
-    let err = err.to_vec(alloc)?;
-    Ok(Outcome { status, out, err })
+fn ended(alloc: Global, status: u8, out: &MemSink, err: &MemSink) -> Result<Outcome, Fail> {
+    let faults = (out.faults(), err.faults());
+    let out = out.held().to_vec(alloc)?;
+    let err = err.held().to_vec(alloc)?;
+    Ok(Outcome {
+        status,
+        out,
+        err,
+        faults,
+    })
 }
 
 // The call of the source that fails, and the rooms of the output and of the errors.
 type Limits = (u64, (usize, usize));
+
+// No call fails.
+const NONE: &[u64] = &[];
 
 // No run makes so many calls of the source, and none in these tests writes more.
 const AMPLE: Limits = (u64::MAX, (1 << 20, 99));
@@ -163,7 +175,7 @@ const AMPLE: Limits = (u64::MAX, (1 << 20, 99));
 fn run_within(alloc: Global, command: &str, text: &[u8], limits: Limits) -> Result<Outcome, Fail> {
     let words = words_of(alloc, command)?;
     let mut src = MemSource::new(alloc, text, 16, &[limits.0])?;
-    run_on(alloc, &words, &mut src, limits.1)
+    run_on(alloc, &words, &mut src, limits.1, (NONE, NONE))
 }
 
 // Whether a run ended well, and wrote a pattern, a routed circuit, whose box it told, or a lifted

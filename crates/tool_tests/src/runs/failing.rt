@@ -1,10 +1,10 @@
 // Sources and sinks that fail, and what such runs leave behind.
 ghost use Rattle.std.specs.Prelude.{◌≤◌};
 
-use crate::runs::{GATE, USAGE, status_of, words_of};
+use crate::runs::{GATE, Outcome, USAGE, run_on, words_of};
 use std::alloc::Global;
 use std::test::Fail;
-use ww_base::{MemSink, MemSource};
+use ww_base::MemSource;
 
 /// Runs with a source or a sink that fails. No run makes a call of the source with the number 99.
 pub const CASES: &str = "
@@ -241,25 +241,19 @@ const CALLS: &[u64] = &[0, 1, 2, 3, 4, 5, 6, 7, 8, 9, 10, 11, 12];
 // The status, how often `out` and `err` failed, and the lengths of what they hold.
 type Counts = (u8, u64, u64, usize, usize);
 
-// The counts of a run over a source. The calls of `out` that fail are those of `CALLS` from
-// `calls.0` on, and those of `err` from `calls.1` on.
-fn counts_of(
-    alloc: Global,
-    words: &[String],
-    src: &mut MemSource,
-    calls: (usize, usize),
-) -> Result<Counts, Fail>
-    requires out { calls.0 ≤ 13 }
-    requires err { calls.1 ≤ 13 }
-{
-    let mut out = MemSink::new(alloc, 99, 7, &CALLS[calls.0..])?;
-    let mut err = MemSink::new(alloc, 99, 7, &CALLS[calls.1..])?;
-    let status = status_of(alloc, words, src, &mut out, &mut err);
-    let held = (out.held().len(), err.held().len());
-    Ok((status, out.faults(), err.faults(), held.0, held.1))
+// Whether a run ended with these counts.
+fn has_counts(got: &Outcome, counts: Counts) -> bool {
+    (
+        got.status,
+        got.faults.0,
+        got.faults.1,
+        got.out.len(),
+        got.err.len(),
+    ) == counts
 }
 
-// Fails if a run has other counts, as it has if it calls a sink again that has failed.
+// Fails if a run has other counts, as it has if it calls a sink again that has failed. The calls of
+// `out` that fail are those of `CALLS` from `calls.0` on, and those of `err` from `calls.1` on.
 fn expect_counts(
     alloc: Global,
     command: &str,
@@ -269,10 +263,11 @@ fn expect_counts(
     requires out { calls.0 ≤ 13 }
     requires err { calls.1 ≤ 13 }
 {
-    let given = words_of(alloc, command)?;
+    let words = words_of(alloc, command)?;
     let mut src = MemSource::new(alloc, GATE.as_bytes(), 4096, &[])?;
-    let got = counts_of(alloc, &given, &mut src, calls)?;
-    if got == counts {
+    let fails = (&CALLS[calls.0..], &CALLS[calls.1..]);
+    let got = run_on(alloc, &words, &mut src, (99, 99), fails)?;
+    if has_counts(&got, counts) {
         Ok(())
     } else {
         Err(Fail::new(format_args!("{command}, calls from {} and {}", calls.0, calls.1)))
