@@ -3,4 +3,7 @@ pub mod ShortItems
 pub mod Tags
 pub mod Lefts
 pub mod PlanLefts
+pub mod DarkRows
+pub mod StretchCells
 pub mod Wholes
+pub mod KeptBlocks

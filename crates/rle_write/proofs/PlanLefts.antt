@@ -20,7 +20,7 @@ row_long : (plan : Plan) (y : ℕ) → length (start_row plan y) ≡ (size_of pl
 row_long plan y = length-map-range_with_len (λ x. drawn_plane shipped_drawing plan (pos x) (pos y)) 0 (size_of plan).0
 
 -- the rest of a row begins with a piece that has its cells
-piece_next : (plan : Plan) (y x : ℕ) (cells : List State) → AreCellsOfRow plan y x cells → x + length cells ≤ (size_of plan).0
+pub piece_next : (plan : Plan) (y x : ℕ) (cells : List State) → AreCellsOfRow plan y x cells → x + length cells ≤ (size_of plan).0
     → drop x (start_row plan y) ≡ cells ++ drop (x + length cells) (start_row plan y)
 piece_next plan y x cells are within =
     let row : List State = start_row plan y in

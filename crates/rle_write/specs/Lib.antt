@@ -1,4 +1,6 @@
 pub mod Blocks
+pub mod Dark
 pub mod Left
 pub mod Opening
 pub mod PlanText
+pub mod Runs

@@ -3,11 +3,14 @@
 //! Theorem: `write` and `write_pattern` (each `ok`, `front`, `cause`).
 #![tactic(auto)]
 
+mod bare;
 mod blocks;
+mod dark;
 mod items;
 mod pattern_rows;
 mod plan_rows;
 mod rows;
+mod stretches;
 mod text;
 
 pub use text::{write, write_pattern};

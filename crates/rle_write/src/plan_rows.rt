@@ -1,5 +1,5 @@
 // The rows of a plan's drawing, run by run.
-ghost use Rattle.std.specs.Prelude.{◌≡◌, ◌≢◌, ◌≤◌, ◌<◌, ◌+◌, ◌^◌, ◌/◌, ◌%◌, ℕ, pos, List, ◌∷◌, ◌++◌, IfOk, OnErr, OnOk};
+ghost use Rattle.std.specs.Prelude.{◌≡◌, ◌≢◌, ◌≤◌, ◌<◌, ◌+◌, ◌*◌, ◌^◌, ◌/◌, ◌%◌, ℕ, pos, List, ◌∷◌, ◌++◌, length, IfOk, OnErr, OnOk};
 ghost use Rattle.ww_rule.specs.declared.pattern.State.{State};
 ghost use Rattle.tile_library.specs.Drawings.{shipped_drawing};
 ghost use Rattle.tile_library.specs.RowRuns.{IsRowRun};
@@ -11,13 +11,16 @@ ghost use Rattle.grid_assembly.specs.PlanDrawing.{start_row, start_grid};
 ghost use Rattle.grid_assembly.specs.West.{tape_end};
 ghost use Rattle.pattern_writing.specs.Writer.{item_texts, wrapped};
 ghost use Rattle.rle_write.specs.Blocks.{AreBlocks, IsWestUpTo};
+ghost use Rattle.rle_write.specs.Dark.{IsDark};
 ghost use Rattle.rle_write.specs.Left.{rows_left, text_left};
 ghost use Rattle.ww_base.specs.Pages.{held, column_of};
 ghost use Rattle.ww_base.specs.Progress.{Wrote, Broke};
 
-use crate::blocks::{keep_blocks, kept_block};
+use crate::blocks::{Stretch, keep_blocks, kept_block};
+use crate::dark::is_dark;
 use crate::items::write_item;
-use crate::rows::{Kept, end_row, write_same};
+use crate::rows::{end_row, write_same};
+use crate::stretches::write_stretches;
 use grid_assembly::{West, run_in, run_on_tape, tape_end, west_of};
 use lane_core::Plan;
 use plan_layout::Slot;
@@ -26,7 +29,7 @@ use ww_rule::State;
 
 // What stands in the block of the cell at column `x` and row `y`: it is looked up where the block
 // begins, and is else what stood there for the cell before.
-fn slot_from(plan: &Plan, blocks: &[Slot], y: u64, x: u64, before: Slot) -> Slot
+fn slot_from(plan: &Plan, blocks: &[Stretch], y: u64, x: u64, before: Slot) -> Slot
     requires admissible { IsAdmissible plan.now }
     requires kept { AreBlocks plan.now (y / 16) blocks.now }
     requires before { x % 32 ≢ 0 → slot_of before ≡ drawn_tiling plan.now (x / 32) (y / 16) }
@@ -43,7 +46,7 @@ fn slot_from(plan: &Plan, blocks: &[Slot], y: u64, x: u64, before: Slot) -> Slot
 // block is looked up.
 fn next_run(
     plan: &Plan,
-    blocks: &[Slot],
+    blocks: &[Stretch],
     end: u64,
     west: West,
     before: Slot,
@@ -71,6 +74,23 @@ fn next_run(
     }
 }
 
+// The blocks whose row `y` is written stretch by stretch: those that are kept, if no electron stands
+// in the row, or else none.
+fn dark_blocks<'a>(plan: &Plan, blocks: &'a [Stretch], y: u64) -> &'a [Stretch]
+    requires admissible { IsAdmissible plan.now }
+    requires kept { AreBlocks plan.now (y / 16) blocks.now }
+    requires low { y < 2 ^ 60 }
+    ensures kept { AreBlocks plan.now (y / 16) result.now }
+    ensures fewer { length result.now ≤ length blocks.now }
+    ensures dark { 1 ≤ length result.now → IsDark plan.now y }
+{
+    if is_dark(plan, y) {
+        blocks
+    } else {
+        &blocks[..0]
+    }
+}
+
 // Writes row `y` up to its last cell that is not empty, and returns how many row ends are due then,
 // its own among them.
 fn write_plan_row<O: Sink>(
@@ -78,13 +98,14 @@ fn write_plan_row<O: Sink>(
     page: &mut Page,
     ends: usize,
     plan: &Plan,
-    blocks: &[Slot],
+    blocks: &[Stretch],
     width: u64,
     y: u64,
 ) -> Result<usize, Failed>
     requires admissible { IsAdmissible plan.now }
     requires kept { AreBlocks plan.now (y / 16) blocks.now }
     requires wide { width ≡ (size_of plan.now).0 }
+    requires inside { 32 * length blocks.now ≤ width }
     requires low { y < 2 ^ 60 }
     requires few { ends + 1 < 2 ^ 64 }
     ensures one_more { IfOk result (λ after. after ≤ ends + 1) }
@@ -99,8 +120,9 @@ fn write_plan_row<O: Sink>(
         (rows_left ends (start_row plan.now y ∷ rows)))) }
 {
     let (end, west) = (tape_end(plan), west_of(plan, y));
-    let mut kept = Kept::begin(ends);
-    let mut x = 0;
+    let stretches = dark_blocks(plan, blocks, y);
+    let mut kept = write_stretches(sink, page, ends, plan, stretches, y)?;
+    let mut x = 32 * stretches.len() as u64;
     let mut slot = Slot::Nothing;
     'runs: while x < width {
         let (block, (state, count)) = next_run(plan, blocks, end, west, slot, y, x, width - x);
@@ -117,13 +139,14 @@ pub fn write_plan_rows<O: Sink>(
     sink: &mut O,
     page: &mut Page,
     plan: &Plan,
-    blocks: &mut [Slot],
+    blocks: &mut [Stretch],
     width: u64,
     height: u64,
 ) -> Result<(), Failed>
     requires admissible { IsAdmissible plan.now }
     requires wide { width ≡ (size_of plan.now).0 }
     requires high { height ≡ (size_of plan.now).1 }
+    requires inside { 32 * length blocks.old ≤ width }
     requires begun { column_of page.old ≡ 0 }
     ensures ok { OnOk result ((rest : List ℕ) →
         Wrote (O.written sink.old) (O.written sink.new) (O.faults sink.old) (O.faults sink.new)

@@ -3,6 +3,7 @@
 ghost use Rattle.std.specs.Prelude.{◌≡◌, ◌≢◌, ◌≤◌, ◌<◌, ◌+◌, ◌^◌, ℕ, List, [], ◌++◌, replicate, IfOk, OnErr, OnOk};
 ghost use Rattle.ww_rule.specs.declared.pattern.State.{State};
 ghost use Rattle.pattern_writing.specs.Writer.{TagRun, tag_of, row_end};
+ghost use Rattle.rle_write.specs.Runs.{IsCellRun};
 ghost use Rattle.rle_write.specs.Left.{rows_left, row_left, end_items, items_left, text_left, IsRunBefore};
 ghost use Rattle.ww_base.specs.Pages.{held, column_of};
 ghost use Rattle.ww_base.specs.Progress.{Wrote, Broke};
@@ -13,7 +14,7 @@ use ww_base::{Failed, Page, Sink};
 use ww_rule::State;
 
 /// The tag of an empty cell.
-const EMPTY: u8 = b'.';
+pub const EMPTY: u8 = b'.';
 
 /// A run of equal cells of a row that is not yet written.
 #[derive(Clone, Copy)]
@@ -126,8 +127,41 @@ pub fn end_row<O: Sink>(sink: &mut O, page: &mut Page, kept: Kept) -> Result<usi
     Ok(last + 1)
 }
 
-/// Takes `count` more cells of one state, and writes the kept run if it is of another state.
-/// Returns what is kept then: these cells, joined with the kept run if it is of the same state.
+/// Takes a run of more cells, and writes the kept run if it is of another tag. Returns what is kept
+/// then: these cells, joined with the kept run if it is of the same tag.
+pub fn add_run<O: Sink>(sink: &mut O, page: &mut Page, kept: Kept, run: Run) -> Result<Kept, Failed>
+    requires cell { kept.run.tag ≢ row_end }
+    requires run { IsCellRun run }
+    requires short { kept.run.count + run.count < 2 ^ 64 }
+    ensures cell { IfOk result (λ k. k.run.tag ≢ row_end) }
+    ensures fewer { IfOk result (λ k. k.due ≤ kept.due) }
+    ensures short { IfOk result (λ k. k.run.count ≤ kept.run.count + run.count) }
+    ensures ok { IfOk result (λ k. (more : List ℕ) (rows : List (List State)) →
+        Wrote (O.written sink.old) (O.written sink.new) (O.faults sink.old) (O.faults sink.new)
+        (text_left (held page.old) (column_of page.old)
+        (row_left kept.due (replicate kept.run.count kept.run.tag ++
+        (replicate run.count run.tag ++ more)) rows))
+        (text_left (held page.new) (column_of page.new)
+        (row_left k.due (replicate k.run.count k.run.tag ++ more) rows))) }
+    ensures err { OnErr result ((more : List ℕ) (rows : List (List State)) →
+        Broke (O.written sink.old) (O.written sink.new) (O.faults sink.old) (O.faults sink.new)
+        (text_left (held page.old) (column_of page.old)
+        (row_left kept.due (replicate kept.run.count kept.run.tag ++
+        (replicate run.count run.tag ++ more)) rows))) }
+{
+    let tag = run.tag;
+    if tag == kept.run.tag {
+        let count = kept.run.count + run.count;
+        return Ok(Kept {
+            due: kept.due,
+            run: Run { count, tag },
+        });
+    }
+    let due = write_run(sink, page, kept.due, kept.run)?;
+    Ok(Kept { due, run })
+}
+
+/// Takes `count` more cells of one state, as `add_run` takes a run.
 pub fn write_same<O: Sink>(
     sink: &mut O,
     page: &mut Page,
@@ -155,16 +189,5 @@ pub fn write_same<O: Sink>(
         (replicate count (tag_of state) ++ more)) rows))) }
 {
     let tag = tag_of(state);
-    if tag == kept.run.tag {
-        let count = kept.run.count + count;
-        return Ok(Kept {
-            due: kept.due,
-            run: Run { count, tag },
-        });
-    }
-    let due = write_run(sink, page, kept.due, kept.run)?;
-    Ok(Kept {
-        due,
-        run: Run { count, tag },
-    })
+    add_run(sink, page, kept, Run { count, tag })
 }

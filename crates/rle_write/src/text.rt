@@ -1,5 +1,5 @@
 // The whole text: the lines of the port table, the header, and the items.
-ghost use Rattle.std.specs.Prelude.{◌≡◌, ◌≤◌, ◌<◌, ◌^◌, ℕ, List, ◌++◌, take, decimal, OnOk, OnErr};
+ghost use Rattle.std.specs.Prelude.{◌≡◌, ◌≤◌, ◌<◌, ◌*◌, ◌^◌, ℕ, List, ◌++◌, take, decimal, OnOk, OnErr};
 ghost use Rattle.std.specs.Io.KnownBytes.{Appends};
 ghost use Rattle.ww_base.specs.Faults.{HasCause};
 ghost use Rattle.lane_core.specs.Plans.{IsAdmissible};
@@ -10,6 +10,7 @@ ghost use Rattle.rle_write.specs.PlanText.{text_of_plan};
 ghost use Rattle.ww_base.specs.Pages.{held, column_of};
 ghost use Rattle.ww_base.specs.Progress.{Wrote, Broke};
 
+use crate::blocks::Stretch;
 use crate::pattern_rows::write_rows;
 use crate::plan_rows::write_plan_rows;
 use grid_assembly::size;
@@ -24,11 +25,12 @@ use ww_rule::Pattern;
 // The greatest number of blocks of a lane that are kept for its rows: 32 columns of cells each.
 const KEPT: usize = 16384;
 
-// How many blocks are kept for a drawing of this width.
+// How many blocks are kept for a drawing of this width: only those that lie wholly within it.
 fn kept_blocks(width: u64) -> usize
-    ensures { result ≤ 16384 }
+    ensures room { result ≤ 16384 }
+    ensures inside { 32 * result ≤ width }
 {
-    (width / 32 + 1).min(KEPT as u64) as usize
+    (width / 32).min(KEPT as u64) as usize
 }
 
 // Writes the digits of a number.
@@ -105,7 +107,10 @@ pub fn write<O: Sink>(plan: &Plan, ports: &Ports, sink: &mut O) -> Result<(), Fa
     let mut page = Page::new();
     let (width, height) = size(plan);
     write_opening(sink, &mut page, ports, width, height)?;
-    let mut blocks = [Slot::Nothing; KEPT];
+    let mut blocks = [Stretch {
+        slot: Slot::Nothing,
+        count: 0,
+    }; KEPT];
     let kept = &mut blocks[..kept_blocks(width)];
     write_plan_rows(sink, &mut page, plan, kept, width, height)?;
     page.flush(sink)

@@ -1,8 +1,15 @@
-use Rattle.std.proofs.Common.{◌<◌, ◌≢◌, length, arith, get_or-set_other, get_or-set_same, below_more}
+use Rattle.std.proofs.Common.{◌≡◌, ◌∙◌, ◌+◌, ◌-◌, ℕ, subst, arith}
+use Rattle.std.proofs.lemmas.List.{length-set}
+use Rattle.rle_write.specs.Blocks.{AreBlocksFrom}
+use Rattle.rle_write.proofs.KeptBlocks.{blocks_more}
 use Rattle.rle_write.proofs.blocks.look_up.Goals as goal
 
 pub loop-i-preserved : goal.loop-i-preserved
 loop-i-preserved c =
-    below_more _ _
-    (λ k h. (let ne : k ≢ c.loop-i.i = omega arith in rw get_or-set_other (c.loop-i.invariant k h)))
-    (let lt : c.loop-i.i < length c.loop-i.blocks = omega arith in rw get_or-set_same c.block_at.ensures)
+    let i : ℕ = c.loop-i.i - 1 in
+    let next : c.loop-i.i ≡ i + 1 = omega arith in
+    let east = subst (λ k. AreBlocksFrom c.args.plan.now c.args.lane k c.loop-i.blocks) next c.loop-i.invariant.from in
+    record {
+      size = length-set c.loop-i.blocks i _ ∙ c.loop-i.invariant.size;
+      from = blocks_more c.args.plan.now c.args.lane i c.loop-i.blocks _ (omega arith) east c.stretch_at.ensures;
+    }

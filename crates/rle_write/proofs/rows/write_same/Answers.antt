@@ -1,41 +1,24 @@
-use Rattle.std.proofs.Common.{◌≡◌, ◌+◌, ℕ, List, ◌++◌, replicate, sym, ap, ◌∙◌}
-use Rattle.ww_rule.specs.declared.pattern.State.{State}
-use Rattle.pattern_writing.specs.Writer.{tag_of}
-use Rattle.rle_write.specs.Left.{row_left, text_left}
+use Rattle.std.proofs.Common.{◌++◌, replicate, sym, ap}
+use Rattle.std.proofs.lemmas.Result.{IfOk-weaker, on_err_weaker}
 use Rattle.ww_base.specs.Pages.{held, column_of}
 use Rattle.rle_write.proofs.Lefts.{left_by}
-use Rattle.lists.proofs.Results.{on_err}
-use Rattle.ww_base.proofs.Steps.{wrote_as, wrote_none, broke_as}
-use Rattle.rle_write.proofs.Tags.{run_before_run, run_joined}
+use Rattle.ww_base.proofs.Steps.{wrote_as, broke_as}
 use Rattle.rle_write.proofs.rows.write_same.Goals as goal
 
-pub returns-then-tag-kept-clause-ok : goal.returns-then-tag-kept-clause-ok
-returns-then-tag-kept-clause-ok g c more rows =
-    let run = c.args.kept.run in
-    let n : ℕ = c.args.count in
-    let same : tag_of c.args.state ≡ run.tag = sym c.tag_of-tag.ensures.tag ∙ c.if-tag-kept.true in
-    wrote_as
-    (left_by (held c.args.page.now) (column_of c.args.page.now) c.args.kept.due run.count run.tag rows (ap (λ t. replicate n t ++ more) same)
-    ∙ ap (λ l. text_left (held c.args.page.now) (column_of c.args.page.now) (row_left c.args.kept.due l rows)) (run_joined run.count n run.tag more)
-    ∙ ap (λ t. text_left (held c.args.page.now) (column_of c.args.page.now) (row_left c.args.kept.due (replicate (run.count + n) t ++ more) rows)) (sym c.if-tag-kept.true))
-    (wrote_none _ _ _)
-
-pub returns-in_err-due-clause-err : goal.returns-in_err-due-clause-err
-returns-in_err-due-clause-err g c =
-    let run = c.args.kept.run in
-    let n : ℕ = c.args.count in
-    let tag : ℕ = c.tag_of-tag.result in
-    let f = λ (more : List ℕ) (rows : List (List State)).
-    broke_as
-    (left_by (held c.args.page.now) (column_of c.args.page.now) c.args.kept.due run.count run.tag rows (ap (λ t. replicate n t ++ more) (sym c.tag_of-tag.ensures.tag)))
-    (c.in_err-due.ensures.err (replicate n tag ++ more) rows (run_before_run run.count run.tag n tag more c.requires.some (λ e. c.if-tag-kept.false (sym e)))) in
-    on_err _ f
-
 pub returns-clause-ok : goal.returns-clause-ok
-returns-clause-ok g c more rows =
+returns-clause-ok g c =
     let run = c.args.kept.run in
-    let n : ℕ = c.args.count in
-    let tag : ℕ = c.tag_of-tag.result in
+    IfOk-weaker c.add_run.result _ _ (λ k wrote more rows.
     wrote_as
-    (left_by (held c.args.page.now) (column_of c.args.page.now) c.args.kept.due run.count run.tag rows (ap (λ t. replicate n t ++ more) (sym c.tag_of-tag.ensures.tag)))
-    (c.in_ok-due.ensures.ok (replicate n tag ++ more) rows (run_before_run run.count run.tag n tag more c.requires.some (λ e. c.if-tag-kept.false (sym e))))
+    (left_by (held c.args.page.now) (column_of c.args.page.now) c.args.kept.due run.count run.tag rows (ap (λ t. replicate c.args.count t ++ more) (sym c.tag_of-tag.ensures.tag)))
+    (wrote more rows))
+    c.add_run.ensures.ok
+
+pub returns-clause-err : goal.returns-clause-err
+returns-clause-err g c =
+    let run = c.args.kept.run in
+    on_err_weaker c.add_run.result (λ broke more rows.
+    broke_as
+    (left_by (held c.args.page.now) (column_of c.args.page.now) c.args.kept.due run.count run.tag rows (ap (λ t. replicate c.args.count t ++ more) (sym c.tag_of-tag.ensures.tag)))
+    (broke more rows))
+    c.add_run.ensures.err

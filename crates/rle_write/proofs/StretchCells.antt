@@ -1,0 +1,143 @@
+-- The cells of a stretch of blocks, by the runs of one of them.
+use Rattle.std.proofs.Common.{◌≡◌, refl, sym, ◌∙◌, ap, ap₂, ℕ, zero, suc, ◌+◌, ◌-◌, ◌*◌, ◌/◌, ◌%◌, ◌<◌, ◌≤◌, List, [], ◌∷◌, ◌++◌, map, take, drop, set, length, replicate, get_or, All, subst, arith, append_assoc, length-drop, length-take-le, drop_of_length-le}
+use Rattle.std.proofs.lemmas.List.{append-nil, drop_more, ext_get_or, get_or-take, get_or-drop, get_or-replicate, length-append, length-replicate, map-append, replicate-append-replicate, take_more_set}
+use Rattle.std.proofs.lemmas.List.Elements.{All-append}
+use Rattle.std.proofs.lemmas.List.FromFn.{length-map-range_with_len, get_or-map-range_with_len}
+use Rattle.std.proofs.Math.Seq.{take-add}
+use Rattle.ww_rule.specs.declared.pattern.State.{State}
+use Rattle.ww_rule.specs.declared.pattern.State.TheVariants.{Empty}
+use Rattle.tiling.specs.Tiling.{Slot}
+use Rattle.tile_library.specs.RowRuns.{IsRowRun}
+use Rattle.lane_core.specs.declared.plan.Plan.{Plan}
+use Rattle.lane_core.specs.Plans.{size_of}
+use Rattle.plan_layout.specs.Tape.{drawn_tiling}
+use Rattle.grid_assembly.specs.PlanDrawing.{AreCellsOfRow, start_row}
+use Rattle.pattern_writing.specs.Writer.{tag_of}
+use Rattle.rle_write.specs.declared.rows.Run.{Run}
+use Rattle.rle_write.specs.Dark.{IsDark, bare_slot, bare_row}
+use Rattle.rle_write.specs.Runs.{IsCellRun, spelled, repeated}
+use Rattle.rle_write.proofs.PlanLefts.{piece_next}
+use Rattle.rle_write.proofs.Tags.{run_tags}
+
+-- Runs.
+
+spelled_joined : (runs others : List Run) → spelled (runs ++ others) ≡ spelled runs ++ spelled others
+spelled_joined [] others = refl
+spelled_joined (run ∷ runs) others =
+    ap (λ l. replicate run.count run.tag ++ l) (spelled_joined runs others)
+    ∙ sym (append_assoc (replicate run.count run.tag) (spelled runs) (spelled others))
+
+-- one more run in a list that is filled
+pub spelled_more : (runs : List Run) (i : ℕ) (run : Run) → i < length runs
+    → spelled (take (i + 1) (set runs i run)) ≡ spelled (take i runs) ++ replicate run.count run.tag
+spelled_more runs i run lt =
+    ap spelled (take_more_set runs i run lt) ∙ spelled_joined (take i runs) (run ∷ [])
+    ∙ ap (λ l. spelled (take i runs) ++ l) (append-nil (replicate run.count run.tag))
+
+pub cells_more : (runs : List Run) (i : ℕ) (run : Run) → i < length runs → All IsCellRun (take i runs) → IsCellRun run
+    → All IsCellRun (take (i + 1) (set runs i run))
+cells_more runs i run lt all more =
+    subst (All IsCellRun) (sym (take_more_set runs i run lt)) (All-append IsCellRun (take i runs) (run ∷ []) all
+    (λ k d lt. (let first : k ≡ 0 = omega (arith, lt) in subst (λ k. IsCellRun (get_or (run ∷ []) k d)) (sym first) more)))
+
+-- A block's row.
+
+row_long : (slot : Slot) (y : ℕ) → length (bare_row slot y) ≡ 32
+row_long slot y = length-map-range_with_len (λ x. bare_slot slot x y) 0 32
+
+row_cell : (slot : Slot) (y x : ℕ) → x < 32 → get_or (bare_row slot y) x Empty ≡ bare_slot slot x y
+row_cell slot y x lt = get_or-map-range_with_len (λ x. bare_slot slot x y) 0 32 x x Empty lt (omega arith)
+
+-- the row up to the end of a run
+pub row_more : (slot : Slot) (y x : ℕ) (state : State) (count : ℕ) → IsRowRun (λ x. bare_slot slot x y) x (32 - x) (state, count)
+    → map tag_of (take (x + count) (bare_row slot y)) ≡ map tag_of (take x (bare_row slot y)) ++ replicate count (tag_of state)
+row_more slot y x state count is =
+    let row : List State = bare_row slot y in
+    let room : count ≤ length (drop x row) = omega (arith, length-drop x row, row_long slot y, is.some, is.within) in
+    let here : take count (drop x row) ≡ replicate count state =
+    ext_get_or Empty (take count (drop x row)) (replicate count state) (length-take-le count (drop x row) room ∙ sym (length-replicate count state))
+    (λ i lt. (
+    let lt' : i < count = omega (arith, lt, length-take-le count (drop x row) room) in
+    get_or-take count (drop x row) i Empty lt' ∙ get_or-drop x row i Empty ∙ row_cell slot y (x + i) (omega (arith, lt', is.within))
+    ∙ is.alike i lt' ∙ sym (get_or-replicate count i state Empty lt'))) in
+    ap (map tag_of) (take-add x count row ∙ ap (λ l. take x row ++ l) here)
+    ∙ map-append tag_of (take x row) (replicate count state)
+    ∙ ap (λ l. map tag_of (take x row) ++ l) (run_tags count state)
+
+-- Stretches.
+
+pub repeated_run : (n count tag : ℕ) → count ≡ 32 → repeated n (replicate count tag ++ []) ≡ replicate (32 * n) tag
+repeated_run zero count tag e = refl
+repeated_run (suc n) count tag e =
+    let k : count + 32 * n ≡ 32 * suc n = omega (arith, e) in
+    ap₂ (λ a b. a ++ b) (append-nil (replicate count tag)) (repeated_run n count tag e)
+    ∙ replicate-append-replicate count (32 * n) tag ∙ ap (λ m. replicate m tag) k
+
+pub repeated_next : (n i : ℕ) (tags : List ℕ) → i < n → repeated (n - i) tags ≡ tags ++ repeated (n - (i + 1)) tags
+repeated_next n i tags lt =
+    let e : n - i ≡ suc (n - (i + 1)) = omega (arith, lt) in ap (λ m. repeated m tags) e
+
+-- the rest of a row begins with the cells of a block
+block_next : (plan : Plan) (y k : ℕ) (slot : Slot) → IsDark plan y → slot ≡ drawn_tiling plan k (y / 16) → 32 * k + 32 ≤ (size_of plan).0
+    → map tag_of (drop (32 * k) (start_row plan y)) ≡ map tag_of (bare_row slot (y % 16)) ++ map tag_of (drop (32 * (k + 1)) (start_row plan y))
+block_next plan y k slot dark stands inside =
+    let row : List State = start_row plan y in
+    let cells : List State = bare_row slot (y % 16) in
+    let long : length cells ≡ 32 = row_long slot (y % 16) in
+    let are : AreCellsOfRow plan y (32 * k) cells = λ i lt. (
+    let lt' : i < 32 = omega (arith, lt, long) in
+    row_cell slot (y % 16) i lt' ∙ ap (λ s. bare_slot s i (y % 16)) stands ∙ sym (dark k i lt')) in
+    let next : 32 * k + length cells ≡ 32 * (k + 1) = omega (arith, long) in
+    ap (map tag_of) (piece_next plan y (32 * k) cells are (omega (arith, long, inside)) ∙ ap (λ x. cells ++ drop x row) next)
+    ∙ map-append tag_of cells (drop (32 * (k + 1)) row)
+
+-- and with those of the rest of a stretch, from its i-th block on
+stretch_from : (plan : Plan) (y k n : ℕ) (slot : Slot) → IsDark plan y → ((i : ℕ) → i < n → slot ≡ drawn_tiling plan (k + i) (y / 16))
+    → 32 * (k + n) ≤ (size_of plan).0 → (j i : ℕ) → i + j ≡ n
+    → map tag_of (drop (32 * (k + i)) (start_row plan y))
+    ≡ repeated j (map tag_of (bare_row slot (y % 16))) ++ map tag_of (drop (32 * (k + n)) (start_row plan y))
+stretch_from plan y k n slot dark alike inside zero i e =
+    let here : i ≡ n = omega (arith, e) in ap (λ m. map tag_of (drop (32 * (k + m)) (start_row plan y))) here
+stretch_from plan y k n slot dark alike inside (suc j) i e =
+    let row : List State = start_row plan y in
+    let tags : List ℕ = map tag_of (bare_row slot (y % 16)) in
+    let next : k + i + 1 ≡ k + (i + 1) = omega arith in
+    block_next plan y (k + i) slot dark (alike i (omega (arith, e))) (omega (arith, inside, e))
+    ∙ ap (λ l. tags ++ l)
+    (ap (λ m. map tag_of (drop (32 * m) row)) next ∙ stretch_from plan y k n slot dark alike inside j (i + 1) (omega (arith, e)))
+    ∙ sym (append_assoc tags (repeated j tags) (map tag_of (drop (32 * (k + n)) row)))
+
+-- and with those of a stretch
+pub stretch_next : (plan : Plan) (y k n : ℕ) (slot : Slot) → IsDark plan y → ((i : ℕ) → i < n → slot ≡ drawn_tiling plan (k + i) (y / 16))
+    → 32 * (k + n) ≤ (size_of plan).0
+    → map tag_of (drop (32 * k) (start_row plan y))
+    ≡ repeated n (map tag_of (bare_row slot (y % 16))) ++ map tag_of (drop (32 * (k + n)) (start_row plan y))
+stretch_next plan y k n slot dark alike inside =
+    let start : k + 0 ≡ k = omega arith in
+    ap (λ m. map tag_of (drop (32 * m) (start_row plan y))) (sym start) ∙ stretch_from plan y k n slot dark alike inside n 0 (omega arith)
+
+-- Runs one by one.
+
+pub spelled_next : (runs : List Run) (i : ℕ) (d : Run) → i < length runs
+    → spelled (drop i runs) ≡ replicate (get_or runs i d).count (get_or runs i d).tag ++ spelled (drop (i + 1) runs)
+spelled_next runs i d lt = ap spelled (drop_more runs i d lt)
+
+pub spelled_long : (runs : List Run) (i : ℕ) (d : Run) → i < length runs
+    → length (spelled (drop i runs)) ≡ (get_or runs i d).count + length (spelled (drop (i + 1) runs))
+spelled_long runs i d lt =
+    let run : Run = get_or runs i d in
+    ap length (spelled_next runs i d lt) ∙ length-append (replicate run.count run.tag) (spelled (drop (i + 1) runs))
+    ∙ ap (λ n. n + length (spelled (drop (i + 1) runs))) (length-replicate run.count run.tag)
+
+pub spelled_none : (runs : List Run) (i : ℕ) → length runs ≤ i → spelled (drop i runs) ≡ []
+spelled_none runs i past = ap spelled (drop_of_length-le runs past)
+
+-- a run that fills the row of each block
+pub repeated_one : (runs : List Run) (d : Run) (n : ℕ) → length runs ≡ 1 → length (spelled runs) ≡ 32
+    → repeated n (spelled runs) ≡ replicate (32 * n) (get_or runs 0 d).tag
+repeated_one [] d n one long = absurd (omega (arith, one))
+repeated_one (run ∷ []) d n one long =
+    let whole : run.count ≡ 32 =
+    sym (length-replicate run.count run.tag) ∙ ap length (sym (append-nil (replicate run.count run.tag))) ∙ long in
+    repeated_run n run.count run.tag whole
+repeated_one (run ∷ other ∷ runs) d n one long = absurd (omega (arith, one))

@@ -1,0 +1,21 @@
+use Rattle.std.proofs.Common.{◌≢◌, ◌≤◌, ◌+◌, ℕ, List, ◌++◌, drop, length, replicate}
+use Rattle.ww_rule.specs.declared.pattern.State.{State}
+use Rattle.pattern_writing.specs.Writer.{row_end}
+use Rattle.rle_write.specs.Left.{row_left, text_left}
+use Rattle.rle_write.specs.Runs.{spelled}
+use Rattle.ww_base.specs.Pages.{held, column_of}
+use Rattle.ww_base.specs.Progress.{Wrote}
+use Rattle.rle_write.proofs.stretches.add_runs.Given as goal
+
+abbrev pub invariant-loop-run : goal.invariant-loop-run
+invariant-loop-run g l = record {
+  fewer : l.kept.due ≤ l.initial.kept.due;
+  short : l.kept.run.count + length (spelled (drop l.run-index l.runs)) ≤ l.initial.kept.run.count + length (spelled l.runs);
+  cell : l.kept.run.tag ≢ row_end;
+  wrote : (more : List ℕ) (rows : List (List State)) →
+      Wrote (g.O.Sink.written l.initial.sink) (g.O.Sink.written l.sink) (g.O.Sink.faults l.initial.sink) (g.O.Sink.faults l.sink)
+      (text_left (held l.initial.page) (column_of l.initial.page)
+      (row_left l.initial.kept.due (replicate l.initial.kept.run.count l.initial.kept.run.tag ++ (spelled l.runs ++ more)) rows))
+      (text_left (held l.page) (column_of l.page)
+      (row_left l.kept.due (replicate l.kept.run.count l.kept.run.tag ++ (spelled (drop l.run-index l.runs) ++ more)) rows));
+}

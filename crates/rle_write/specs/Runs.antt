@@ -1,0 +1,19 @@
+-- Runs of equal cells, and the cells that they spell.
+use Rattle.std.specs.Prelude.{◌≢◌, ◌≤◌, ℕ, zero, suc, List, [], ◌∷◌, ◌++◌, replicate}
+use Rattle.pattern_writing.specs.Writer.{row_end}
+use Rattle.rle_write.specs.declared.rows.Run.{Run}
+
+-- a run has cells, and they have a tag of cells
+pub record IsCellRun (run : Run) : Type 0 where
+  pub some : 1 ≤ run.count
+  pub cell : run.tag ≢ row_end
+
+-- the tags of the cells of runs
+abbrev pub spelled : List Run → List ℕ
+spelled [] = []
+spelled (run ∷ runs) = replicate run.count run.tag ++ spelled runs
+
+-- tags, so many times
+abbrev pub repeated : ℕ → List ℕ → List ℕ
+repeated zero tags = []
+repeated (suc n) tags = tags ++ repeated n tags

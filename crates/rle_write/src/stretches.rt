@@ -1,0 +1,139 @@
+// The rows of stretches of blocks in which the same stands, where no electron does. The runs of such
+// a row are those of what stands in the blocks, so they are found once, and written for each block.
+ghost use Rattle.std.specs.Prelude.{◌≡◌, ◌≢◌, ◌≤◌, ◌<◌, ◌+◌, ◌*◌, ◌^◌, ◌/◌, ℕ, List, ◌∷◌, ◌++◌, map, drop, replicate, length, All, IfOk, OnErr};
+ghost use Rattle.ww_rule.specs.declared.pattern.State.{State};
+ghost use Rattle.lane_core.specs.Plans.{IsAdmissible, size_of};
+ghost use Rattle.grid_assembly.specs.PlanDrawing.{start_row};
+ghost use Rattle.pattern_writing.specs.Writer.{tag_of, row_end};
+ghost use Rattle.rle_write.specs.Blocks.{AreBlocks};
+ghost use Rattle.rle_write.specs.Dark.{IsDark};
+ghost use Rattle.rle_write.specs.Left.{rows_left, row_left, text_left};
+ghost use Rattle.rle_write.specs.Runs.{IsCellRun, repeated, spelled};
+ghost use Rattle.ww_base.specs.Pages.{held, column_of};
+ghost use Rattle.ww_base.specs.Progress.{Wrote, Broke};
+
+use crate::bare::runs_of_row;
+use crate::blocks::Stretch;
+use crate::rows::{EMPTY, Kept, Run, add_run};
+use lane_core::Plan;
+use ww_base::{Failed, Page, Sink};
+
+// Takes runs of more cells one by one.
+fn add_runs<O: Sink>(
+    sink: &mut O,
+    page: &mut Page,
+    kept: Kept,
+    runs: &[Run],
+) -> Result<Kept, Failed>
+    requires cell { kept.run.tag ≢ row_end }
+    requires runs { All IsCellRun runs.now }
+    requires short { kept.run.count + length (spelled runs.now) < 2 ^ 64 }
+    ensures cell { IfOk result (λ k. k.run.tag ≢ row_end) }
+    ensures fewer { IfOk result (λ k. k.due ≤ kept.due) }
+    ensures short { IfOk result (λ k. k.run.count ≤ kept.run.count + length (spelled runs.now)) }
+    ensures ok { IfOk result (λ k. (more : List ℕ) (rows : List (List State)) →
+        Wrote (O.written sink.old) (O.written sink.new) (O.faults sink.old) (O.faults sink.new)
+        (text_left (held page.old) (column_of page.old)
+        (row_left kept.due (replicate kept.run.count kept.run.tag ++
+        (spelled runs.now ++ more)) rows))
+        (text_left (held page.new) (column_of page.new)
+        (row_left k.due (replicate k.run.count k.run.tag ++ more) rows))) }
+    ensures err { OnErr result ((more : List ℕ) (rows : List (List State)) →
+        Broke (O.written sink.old) (O.written sink.new) (O.faults sink.old) (O.faults sink.new)
+        (text_left (held page.old) (column_of page.old)
+        (row_left kept.due (replicate kept.run.count kept.run.tag ++
+        (spelled runs.now ++ more)) rows))) }
+{
+    let mut kept = kept;
+    for run in runs {
+        kept = add_run(sink, page, kept, *run)?;
+    }
+    Ok(kept)
+}
+
+// Takes the cells of a block's row, which these runs spell, `count` times.
+fn add_stretch<O: Sink>(
+    sink: &mut O,
+    page: &mut Page,
+    kept: Kept,
+    runs: &[Run],
+    count: usize,
+) -> Result<Kept, Failed>
+    requires cell { kept.run.tag ≢ row_end }
+    requires runs { All IsCellRun runs.now }
+    requires block { length (spelled runs.now) ≡ 32 }
+    requires some { 1 ≤ count }
+    requires short { kept.run.count + 32 * count < 2 ^ 64 }
+    ensures cell { IfOk result (λ k. k.run.tag ≢ row_end) }
+    ensures fewer { IfOk result (λ k. k.due ≤ kept.due) }
+    ensures short { IfOk result (λ k. k.run.count ≤ kept.run.count + 32 * count) }
+    ensures ok { IfOk result (λ k. (more : List ℕ) (rows : List (List State)) →
+        Wrote (O.written sink.old) (O.written sink.new) (O.faults sink.old) (O.faults sink.new)
+        (text_left (held page.old) (column_of page.old)
+        (row_left kept.due (replicate kept.run.count kept.run.tag ++
+        (repeated count (spelled runs.now) ++ more)) rows))
+        (text_left (held page.new) (column_of page.new)
+        (row_left k.due (replicate k.run.count k.run.tag ++ more) rows))) }
+    ensures err { OnErr result ((more : List ℕ) (rows : List (List State)) →
+        Broke (O.written sink.old) (O.written sink.new) (O.faults sink.old) (O.faults sink.new)
+        (text_left (held page.old) (column_of page.old)
+        (row_left kept.due (replicate kept.run.count kept.run.tag ++
+        (repeated count (spelled runs.now) ++ more)) rows))) }
+{
+    if runs.len() == 1 {
+        let run = Run {
+            count: 32 * count,
+            tag: runs[0].tag,
+        };
+        return add_run(sink, page, kept, run);
+    }
+    let mut kept = kept;
+    for _ in 0..count {
+        kept = add_runs(sink, page, kept, runs)?;
+    }
+    Ok(kept)
+}
+
+/// Writes row `y` as far as these blocks reach, stretch by stretch, but for what is returned: what
+/// is kept then.
+pub fn write_stretches<O: Sink>(
+    sink: &mut O,
+    page: &mut Page,
+    ends: usize,
+    plan: &Plan,
+    blocks: &[Stretch],
+    y: u64,
+) -> Result<Kept, Failed>
+    requires admissible { IsAdmissible plan.now }
+    requires kept { AreBlocks plan.now (y / 16) blocks.now }
+    requires inside { 32 * length blocks.now ≤ (size_of plan.now).0 }
+    requires dark { 1 ≤ length blocks.now → IsDark plan.now y }
+    ensures cell { IfOk result (λ k. k.run.tag ≢ row_end) }
+    ensures fewer { IfOk result (λ k. k.due ≤ ends) }
+    ensures short { IfOk result (λ k. k.run.count ≤ 32 * length blocks.now) }
+    ensures ok { IfOk result (λ k. (rows : List (List State)) →
+        Wrote (O.written sink.old) (O.written sink.new) (O.faults sink.old) (O.faults sink.new)
+        (text_left (held page.old) (column_of page.old)
+        (rows_left ends (start_row plan.now y ∷ rows)))
+        (text_left (held page.new) (column_of page.new)
+        (row_left k.due (replicate k.run.count k.run.tag ++
+        map tag_of (drop (32 * length blocks.now) (start_row plan.now y))) rows))) }
+    ensures err { OnErr result ((rows : List (List State)) →
+        Broke (O.written sink.old) (O.written sink.new) (O.faults sink.old) (O.faults sink.new)
+        (text_left (held page.old) (column_of page.old)
+        (rows_left ends (start_row plan.now y ∷ rows)))) }
+{
+    let mut runs = [Run {
+        count: 0,
+        tag: EMPTY,
+    }; 32];
+    let mut kept = Kept::begin(ends);
+    let mut column = 0;
+    'stretches: while column < blocks.len() {
+        let stretch = blocks[column];
+        let found = runs_of_row(stretch.slot, (y % 16) as u32, &mut runs);
+        kept = add_stretch(sink, page, kept, &runs[..found], stretch.count)?;
+        column += stretch.count;
+    }
+    Ok(kept)
+}
