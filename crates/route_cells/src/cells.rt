@@ -112,7 +112,7 @@ pub fn cells_of(
     if ports.p < 3 || ports.c != 1 {
         return Err(at_header(FaultWord::Port));
     }
-    let tables = tables_of(alloc, drawing, width, size)?;
+    let tables = tables_of(alloc, drawing, width, size)??;
     let cells = flat_cells(alloc, pattern)?;
     let states = cells.as_slice();
     test_all(alloc, &tables, states, ports)?;

@@ -1,10 +1,8 @@
 // Why a pattern is no routed circuit.
 
 use lists::OutOfMemory;
-use route_filling::FillError;
 use route_runs::RunError;
 use route_tables::CellFault;
-use std::alloc::{AllocError, AllocFailed};
 
 /// Why there is no list: the box is larger than is looked at, the drawing is no routed circuit, or
 /// memory ran out.
@@ -21,30 +19,9 @@ impl From<OutOfMemory> for RouteError {
     }
 }
 
-impl From<AllocError> for RouteError {
-    fn from(_: AllocError) -> Self {
-        RouteError::NoMemory
-    }
-}
-
-impl<T: Drop> From<AllocFailed<T>> for RouteError {
-    fn from(_: AllocFailed<T>) -> Self {
-        RouteError::NoMemory
-    }
-}
-
 impl From<CellFault> for RouteError {
     fn from(fault: CellFault) -> Self {
         RouteError::Fault(fault)
-    }
-}
-
-impl From<FillError> for RouteError {
-    fn from(error: FillError) -> Self {
-        match error {
-            FillError::Fault(fault) => RouteError::Fault(fault),
-            FillError::NoMemory => RouteError::NoMemory,
-        }
     }
 }
 

@@ -1,219 +1,191 @@
-// The kinds and the gates of a drawing, and what feeds their inputs.
+// The gates of a drawing, their kinds, and the ports of all gates in one row.
 
-use crate::FillError;
+use cell_core::Src;
 use gate_library::drawing_of;
 use lawful_gates::LawfulGate;
-use lists::List;
-use route_tables::{CellFault, FaultWord, Feed, GateInput, TableGate};
-use routed_core::{Drawing, DrawnGate, DrawnPort, GateKind, GatePort};
+use lists::OutOfMemory;
+use route_tables::{CellFault, FaultWord, Feed, GateInput};
+use routed_core::{DrawnGate, DrawnPort, DrawnWire, GateKind, GatePort};
 use std::alloc::Global;
-use std::collections::BTreeMap;
 
-/// The kinds that a drawing uses, and their numbers.
+/// The kinds that a drawing uses, and their drawings up to the first that keeps no law.
 #[derive(Drop)]
 pub struct Kinds {
-    pub kinds: Vec<LawfulGate>,
-    numbers: BTreeMap<GateKind, u32>,
+    pub names: Vec<GateKind>,
+    pub drawings: Vec<LawfulGate>,
 }
 
-impl Kinds {
-    fn new(alloc: Global) -> Kinds {
-        Kinds {
-            kinds: Vec::new(alloc),
-            numbers: BTreeMap::new(alloc),
-        }
-    }
-
-    fn add(&mut self, kind: GateKind, number: u32, lawful: LawfulGate) -> Result<(), FillError> {
-        self.kinds.push(lawful)?;
-        self.numbers.insert(kind, number)?;
-        Ok(())
-    }
-
-    // The number of a kind, which is tested when it comes for the first time; none if its drawing
-    // keeps no law.
-    fn number_of(&mut self, alloc: Global, kind: GateKind) -> Result<Option<u32>, FillError> {
-        if let Some(number) = self.numbers.get(&kind) {
-            return Ok(Some(*number));
-        }
-        let Ok(number) = u32::try_from(self.kinds.len()) else {
-            return Err(FillError::NoMemory);
-        };
-        match lawful_kind(alloc, kind)? {
-            Some(lawful) => {
-                self.add(kind, number, lawful)?;
-                Ok(Some(number))
-            }
-            None => Ok(None),
-        }
-    }
-}
-
-// The drawing of a kind, if it keeps its law.
-fn lawful_kind(alloc: Global, kind: GateKind) -> Result<Option<LawfulGate>, FillError> {
-    Ok(LawfulGate::of(drawing_of(alloc, kind)?))
-}
-
-/// The gates of a drawing in numbers of kinds, without sources.
-#[derive(Drop)]
-pub struct Gates {
-    pub kinds: Vec<LawfulGate>,
-    pub rows: Vec<GateRow>,
-}
-
-/// A gate, the number of its kind, and what feeds its inputs: nothing yet, or this.
-#[derive(Drop)]
+/// The number of a gate's kind, and those of its ports among the ports of all gates: its inputs are those from `ins`
+/// on, its outputs those from `outs` on, and `end` is the number after its last one.
+#[derive(Clone, Copy)]
 pub struct GateRow {
-    pub gate: DrawnGate,
     pub kind: u32,
+    pub ins: usize,
     pub outs: usize,
-    pub feeds: Vec<Option<Feed>>,
+    pub end: usize,
 }
 
-// So many inputs that nothing feeds yet.
-fn unfed(alloc: Global, count: usize) -> Result<Vec<Option<Feed>>, FillError> {
-    let mut feeds = Vec::new(alloc);
-    for _input in 0..count {
-        feeds.push(None)?;
+/// A port with what feeds it, if it is an input, the source of its bits, and the first wire that begins there, as far
+/// as these are known.
+#[derive(Clone, Copy)]
+pub struct PortRow {
+    pub at: DrawnPort,
+    pub feed: Option<Feed>,
+    pub source: Option<Src>,
+    pub wire: Option<u32>,
+}
+
+/// Returns a number as a `u32`, or the greatest one if it is greater.
+pub fn small(number: usize) -> u32 {
+    u32::try_from(number).unwrap_or(u32::MAX)
+}
+
+// The number of a kind among these, or how many they are if it is none of them.
+fn kind_number(names: &[GateKind], kind: GateKind) -> usize {
+    for number in 0..names.len() {
+        if names[number] == kind {
+            return number;
+        }
     }
-    Ok(feeds)
+    names.len()
 }
 
-// The gates with the numbers of their kinds.
-fn rows_of(alloc: Global, kinds: &mut Kinds, drawing: &Drawing) -> Result<Vec<GateRow>, FillError> {
-    let mut rows = Vec::new(alloc);
-    for gate in drawing.gates.as_slice() {
-        let Some(kind) = kinds.number_of(alloc, gate.kind)? else {
-            return Err(fault(FaultWord::Kind, gate.x, gate.y));
-        };
-        let (ins, outs) = match kinds.kinds.get(kind as usize) {
-            Some(lawful) => {
-                let drawing = lawful.drawing();
-                (drawing.ins.len(), drawing.outs.len())
-            }
-            None => (0, 0),
-        };
-        rows.push(GateRow {
-            gate: *gate,
-            kind,
-            outs,
-            feeds: unfed(alloc, ins)?,
-        })?;
+fn names_of(alloc: Global, gates: &[DrawnGate]) -> Result<Vec<GateKind>, OutOfMemory> {
+    let mut names = Vec::new(alloc);
+    for gate in gates {
+        if kind_number(&names, gate.kind) == names.len() {
+            names.push(gate.kind)?;
+        }
+    }
+    Ok(names)
+}
+
+// The drawings of kinds, up to the first that keeps no law.
+fn drawings_of(alloc: Global, names: &[GateKind]) -> Result<Vec<LawfulGate>, OutOfMemory> {
+    let mut drawings = Vec::new(alloc);
+    for name in names {
+        match LawfulGate::of(drawing_of(alloc, *name)?) {
+            Some(drawing) => drawings.push(drawing)?,
+            None => break,
+        }
+    }
+    Ok(drawings)
+}
+
+/// Returns the kinds of gates.
+pub fn kinds_of(alloc: Global, gates: &[DrawnGate]) -> Result<Kinds, OutOfMemory> {
+    let names = names_of(alloc, gates)?;
+    let drawings = drawings_of(alloc, &names)?;
+    Ok(Kinds { names, drawings })
+}
+
+// The row of a gate whose ports are those from this number on. It has none if its kind keeps no law.
+fn row_of(kinds: &Kinds, kind: GateKind, first: usize) -> GateRow {
+    let number = kind_number(&kinds.names, kind);
+    let (mut ins, mut outs) = (0, 0);
+    if let Some(lawful) = kinds.drawings.get(number) {
+        (ins, outs) = (lawful.drawing().ins.len(), lawful.drawing().outs.len());
+    }
+    GateRow {
+        kind: small(number),
+        ins: first,
+        outs: first.saturating_add(ins),
+        end: first.saturating_add(ins).saturating_add(outs),
+    }
+}
+
+/// Returns the rows of gates. Their ports are numbered one gate after the other.
+pub fn rows_of(
+    alloc: Global,
+    kinds: &Kinds,
+    gates: &[DrawnGate],
+) -> Result<Vec<GateRow>, OutOfMemory> {
+    let mut rows = Vec::with_capacity(alloc, gates.len())?;
+    let mut end = 0;
+    for gate in gates {
+        let row = row_of(kinds, gate.kind, end);
+        rows.push(row)?;
+        end = row.end;
     }
     Ok(rows)
 }
 
-fn fault(word: FaultWord, x: u32, y: u32) -> FillError {
-    FillError::Fault(CellFault { word, x, y })
-}
-
-/// Returns the gates of a drawing with their kinds.
-pub fn gates_of(alloc: Global, drawing: &Drawing) -> Result<Gates, FillError> {
-    let mut kinds = Kinds::new(alloc);
-    let rows = rows_of(alloc, &mut kinds, drawing)?;
-    let Kinds { kinds, .. } = kinds;
-    Ok(Gates { kinds, rows })
-}
-
-// Feeds an input, if it is there and not fed yet; returns whether it did.
-fn feed(rows: &mut [GateRow], gate: u32, input: u32, by: Feed) -> bool {
-    let Some(row) = rows.get_mut(gate as usize) else {
-        return false;
-    };
-    match row.feeds.get_mut(input as usize) {
-        Some(there) if there.is_none() => {
-            *there = Some(by);
-            true
-        }
-        _ => false,
-    }
-}
-
-/// Feeds the inputs at the ends of wires. An input with two wires, and one that is not there, are at
-/// fault.
-pub fn feed_by_wires(rows: &mut [GateRow], drawing: &Drawing) -> Result<(), FillError> {
-    for (w, wire) in drawing.wires.as_slice().iter().enumerate() {
-        let Ok(number) = u32::try_from(w) else {
-            return Err(FillError::NoMemory);
+// Names the ports of the gate with this number.
+fn name_ports(ports: &mut [PortRow], gate: u32, row: &GateRow) {
+    for number in row.ins..row.end {
+        let port = if number < row.outs {
+            GatePort::In(small(number.saturating_sub(row.ins)))
+        } else {
+            GatePort::Out(small(number.saturating_sub(row.outs)))
         };
-        if !feed(rows, wire.gate, wire.input, Feed::Wire(number)) {
-            return Err(at_gate(rows, wire.gate, FaultWord::Fed));
+        if number < ports.len() {
+            ports[number].at = DrawnPort { gate, port };
         }
     }
-    Ok(())
 }
 
-fn at_gate(rows: &[GateRow], gate: u32, word: FaultWord) -> FillError {
-    match rows.get(gate as usize) {
-        Some(row) => fault(word, row.gate.x, row.gate.y),
-        None => fault(word, 0, 0),
-    }
-}
-
-// The input of a port; a lone cell's output is its input.
-fn input_of(port: DrawnPort) -> GateInput {
-    let input = match port.port {
-        GatePort::In(i) => i,
-        GatePort::Out(_) => 0,
+/// Returns the ports of all gates, of which nothing is known.
+pub fn ports_of(alloc: Global, rows: &[GateRow]) -> Result<Vec<PortRow>, OutOfMemory> {
+    let unknown = PortRow {
+        at: DrawnPort {
+            gate: 0,
+            port: GatePort::In(0),
+        },
+        feed: None,
+        source: None,
+        wire: None,
     };
-    GateInput {
-        gate: port.gate,
-        input,
-    }
-}
-
-// Feeds an input by the next drive.
-fn drive(
-    rows: &mut [GateRow],
-    driven: &mut Vec<GateInput>,
-    at: GateInput,
-) -> Result<bool, FillError> {
-    let Ok(number) = u32::try_from(driven.len()) else {
-        return Err(FillError::NoMemory);
-    };
-    if !feed(rows, at.gate, at.input, Feed::Driven(number)) {
-        return Ok(false);
-    }
-    driven.push(at)?;
-    Ok(true)
-}
-
-// Drives the inputs of a gate that nothing feeds.
-fn drive_rest(
-    rows: &mut [GateRow],
-    driven: &mut Vec<GateInput>,
-    gate: usize,
-) -> Result<(), FillError> {
-    let inputs = match rows.get(gate) {
-        Some(row) => row.feeds.len(),
+    let count = match rows.last() {
+        Some(row) => row.end,
         None => 0,
     };
-    let Ok(gate) = u32::try_from(gate) else {
-        return Err(FillError::NoMemory);
+    let mut ports = vec![in alloc; unknown; count]?;
+    let mut gate = 0u32;
+    for row in rows {
+        name_ports(&mut ports, gate, row);
+        gate = gate.saturating_add(1);
+    }
+    Ok(ports)
+}
+
+/// Returns the number of a port among those of all gates, which is past the last one's if the port is not there.
+pub fn port_number(rows: &[GateRow], at: DrawnPort) -> usize {
+    let Some(row) = rows.get(at.gate as usize) else {
+        return usize::MAX;
     };
-    for input in 0..inputs {
-        let Ok(input) = u32::try_from(input) else {
-            return Err(FillError::NoMemory);
-        };
-        drive(rows, driven, GateInput { gate, input })?;
+    let (number, end) = match at.port {
+        GatePort::In(i) => (row.ins.saturating_add(i as usize), row.outs),
+        GatePort::Out(o) => (row.outs.saturating_add(o as usize), row.end),
+    };
+    if number < end { number } else { usize::MAX }
+}
+
+/// Returns the input at which a wire ends.
+pub fn end_of(wire: &DrawnWire) -> GateInput {
+    GateInput {
+        gate: wire.gate,
+        input: wire.input,
+    }
+}
+
+/// Tests that the kinds of all gates keep their laws.
+pub fn test_kinds(kinds: &Kinds, rows: &[GateRow], gates: &[DrawnGate]) -> Result<(), CellFault> {
+    for number in 0..rows.len() {
+        if rows[number].kind as usize >= kinds.drawings.len() {
+            return Err(at_gate(gates, number, FaultWord::Kind));
+        }
     }
     Ok(())
 }
 
-/// Drives the circuit's inputs, and then all inputs that nothing feeds; returns these in order.
-pub fn drive_all(
-    alloc: Global,
-    rows: &mut [GateRow],
-    drawing: &Drawing,
-) -> Result<Vec<GateInput>, FillError> {
-    let mut driven = Vec::new(alloc);
-    for port in drawing.ins.as_slice() {
-        if !drive(rows, &mut driven, input_of(*port))? {
-            return Err(at_gate(rows, port.gate, FaultWord::Port));
-        }
+/// Returns a fault at the gate with this number.
+pub fn at_gate(gates: &[DrawnGate], number: usize, word: FaultWord) -> CellFault {
+    match gates.get(number) {
+        Some(gate) => CellFault {
+            word,
+            x: gate.x,
+            y: gate.y,
+        },
+        None => CellFault { word, x: 0, y: 0 },
     }
-    for gate in 0..rows.len() {
-        drive_rest(rows, &mut driven, gate)?;
-    }
-    Ok(driven)
 }

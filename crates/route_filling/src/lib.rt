@@ -1,12 +1,11 @@
 //! Fills the tables of a routed circuit from its drawing. What stands in them is tested elsewhere.
 #![tactic(auto)]
 
-mod error;
+mod feeding;
 mod gates;
 mod listing;
 mod lists_of;
 mod solving;
 mod tables;
 
-pub use error::FillError;
 pub use tables::tables_of;

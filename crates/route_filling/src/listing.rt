@@ -1,10 +1,11 @@
 // The cells of gates and wires, listed, and the table of their numbers.
 
-use crate::FillError;
-use crate::gates::Gates;
+use crate::gates::{GateRow, end_of, small};
 use gate_library::GateDrawing;
-use route_tables::{GateInput, TableWire};
-use routed_core::{Drawing, DrawnGate};
+use lawful_gates::LawfulGate;
+use lists::OutOfMemory;
+use route_tables::TableWire;
+use routed_core::{Drawing, DrawnGate, DrawnWire};
 use std::alloc::Global;
 use ww_rule::State;
 
@@ -16,99 +17,93 @@ pub struct Listing {
     pub wires: Vec<TableWire>,
 }
 
-impl Listing {
-    fn push(&mut self, cell: (u32, u32), group: u32) -> Result<(), FillError> {
-        self.cells.push(cell)?;
-        self.groups.push(group)?;
-        Ok(())
-    }
-
-    // Lists the cells of a gate.
-    fn push_gate(
-        &mut self,
-        gate: &DrawnGate,
-        drawing: &GateDrawing,
-        group: u32,
-    ) -> Result<(), FillError> {
-        let width = drawing.width.max(1) as usize;
-        for (i, state) in drawing.cells.as_slice().iter().enumerate() {
-            if let State::Conductor = state {
-                let x = u32::try_from(i % width).unwrap_or(u32::MAX);
-                let y = u32::try_from(i / width).unwrap_or(u32::MAX);
-                self.push((gate.x.saturating_add(x), gate.y.saturating_add(y)), group)?;
-            }
+// Lists the cells of a gate.
+fn push_gate(
+    cells: &mut Vec<(u32, u32)>,
+    gate: &DrawnGate,
+    drawing: &GateDrawing,
+) -> Result<(), OutOfMemory> {
+    let (mut x, mut y) = (0u32, 0u32);
+    for state in drawing.cells.as_slice() {
+        if let State::Conductor = state {
+            cells.push((gate.x.saturating_add(x), gate.y.saturating_add(y)))?;
         }
-        Ok(())
-    }
-
-    // Lists the cells of a wire.
-    fn push_wire(&mut self, cells: &[(u32, u32)], group: u32) -> Result<(), FillError> {
-        for cell in cells {
-            self.push(*cell, group)?;
+        x = x.saturating_add(1);
+        if x >= drawing.width {
+            (x, y) = (0, y.saturating_add(1));
         }
-        Ok(())
     }
+    Ok(())
 }
 
-// The cells of a drawing's path from a place on, if they are all there.
-fn path_part(path: &[(u32, u32)], start: u32, size: u32) -> &[(u32, u32)] {
-    let (start, size) = (start as usize, size as usize);
-    if start <= path.len() && size <= path.len() - start {
-        &path[start..start + size]
+// Lists the cells of all gates.
+fn push_gates(
+    listing: &mut Listing,
+    kinds: &[LawfulGate],
+    rows: &[GateRow],
+    gates: &[DrawnGate],
+) -> Result<(), OutOfMemory> {
+    let mut group = 0u32;
+    for (row, gate) in rows.iter().zip(gates.iter()) {
+        if let Some(kind) = kinds.get(row.kind as usize) {
+            push_gate(&mut listing.cells, gate, kind.drawing())?;
+        }
+        listing.groups.resize(listing.cells.len(), group)?;
+        group = group.saturating_add(1);
+    }
+    Ok(())
+}
+
+/// Returns the items of a row from a place to another one, or none if they are not all there.
+pub fn part<T>(items: &[T], begin: usize, end: usize) -> &[T] {
+    if begin <= end && end <= items.len() {
+        &items[begin..end]
     } else {
         &[]
     }
 }
 
-fn number(count: usize) -> Result<u32, FillError> {
-    match u32::try_from(count) {
-        Ok(number) => Ok(number),
-        Err(_) => Err(FillError::NoMemory),
+// A wire whose listed cells begin with this number.
+fn table_wire(wire: &DrawnWire, start: u32) -> TableWire {
+    TableWire {
+        start,
+        size: wire.size,
+        from: wire.from,
+        to: end_of(wire),
+        cycles: wire.cycles,
     }
 }
 
-// Lists the cells of all gates.
-fn push_gates(listing: &mut Listing, gates: &Gates) -> Result<(), FillError> {
-    for (k, row) in gates.rows.iter().enumerate() {
-        if let Some(kind) = gates.kinds.get(row.kind as usize) {
-            listing.push_gate(&row.gate, kind.drawing(), number(k)?)?;
-        }
-    }
-    Ok(())
-}
-
-// Lists the cells of all wires, whose groups come after those of the gates.
-fn push_wires(listing: &mut Listing, drawing: &Drawing, gates: usize) -> Result<(), FillError> {
-    for (w, wire) in drawing.wires.as_slice().iter().enumerate() {
-        let start = number(listing.cells.len())?;
-        let group = number(gates.saturating_add(w))?;
-        listing.push_wire(
-            path_part(drawing.path.as_slice(), wire.start, wire.size),
-            group,
-        )?;
-        listing.wires.push(TableWire {
-            start,
-            size: wire.size,
-            from: wire.from,
-            to: GateInput {
-                gate: wire.gate,
-                input: wire.input,
-            },
-            cycles: wire.cycles,
-        })?;
+// Lists all wires and their cells. Their groups come after those of the gates.
+fn push_wires(listing: &mut Listing, drawing: &Drawing) -> Result<(), OutOfMemory> {
+    let path = drawing.path.as_slice();
+    let mut group = small(drawing.gates.len());
+    for wire in drawing.wires.as_slice() {
+        let start = small(listing.cells.len());
+        listing.wires.push(table_wire(wire, start))?;
+        let (begin, size) = (wire.start as usize, wire.size as usize);
+        let cells = part(path, begin, begin.saturating_add(size));
+        listing.cells.extend_from_slice(cells)?;
+        listing.groups.resize(listing.cells.len(), group)?;
+        group = group.saturating_add(1);
     }
     Ok(())
 }
 
 /// Lists the cells of a drawing's gates and wires.
-pub fn listing_of(alloc: Global, gates: &Gates, drawing: &Drawing) -> Result<Listing, FillError> {
+pub fn listing_of(
+    alloc: Global,
+    kinds: &[LawfulGate],
+    rows: &[GateRow],
+    drawing: &Drawing,
+) -> Result<Listing, OutOfMemory> {
     let mut listing = Listing {
         cells: Vec::new(alloc),
         groups: Vec::new(alloc),
         wires: Vec::new(alloc),
     };
-    push_gates(&mut listing, gates)?;
-    push_wires(&mut listing, drawing, gates.rows.len())?;
+    push_gates(&mut listing, kinds, rows, drawing.gates.as_slice())?;
+    push_wires(&mut listing, drawing)?;
     Ok(listing)
 }
 
@@ -119,22 +114,17 @@ pub fn serials_of(
     width: u32,
     size: usize,
     cells: &[(u32, u32)],
-) -> Result<Vec<u32>, FillError> {
+) -> Result<Vec<u32>, OutOfMemory> {
     let mut serials = vec![in alloc; 0u32; size]?;
-    for (n, cell) in cells.iter().enumerate() {
-        let serial = number(n.saturating_add(1))?;
+    let mut serial = 0u32;
+    for cell in cells {
+        serial = serial.saturating_add(1);
         let at = (cell.1 as usize)
             .saturating_mul(width as usize)
             .saturating_add(cell.0 as usize);
-        if cell.0 < width {
-            put(&mut serials, at, serial);
+        if cell.0 < width && at < serials.len() {
+            serials[at] = serial;
         }
     }
     Ok(serials)
-}
-
-fn put(serials: &mut [u32], at: usize, serial: u32) {
-    if let Some(place) = serials.get_mut(at) {
-        *place = serial;
-    }
 }

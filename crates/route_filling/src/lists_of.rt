@@ -4,7 +4,7 @@ ghost use Rattle.cell_core.specs.Sources.{are_in_order, are_there};
 ghost use Rattle.route_filling.specs.Ends.{FitsCells};
 
 use cell_core::{Cell, CellList, Src};
-use lists::List;
+use lists::{List, OutOfMemory};
 use std::alloc::Global;
 
 // Whether each of the sources is there, if there are so many inputs, latches and cells.
@@ -16,19 +16,17 @@ fn are_there(sources: &[Src], inputs: u32, latches: usize, cells: usize) -> bool
         .all(|src| src.is_there(inputs as usize, latches, cells))
 }
 
-/// The sources of a list's outputs and nets, and of its latches' data, with the latches' start bits.
+/// The sources of a list's outputs and nets, and of its latches' data.
 #[derive(Drop)]
 pub struct Ends {
     pub outs: Vec<Src>,
     pub nets: Vec<Src>,
     pub latches: Vec<Src>,
-    pub starts: Vec<bool>,
 }
 
-fn fit(ends: &Ends, inputs: u32, cells: usize) -> bool
-    ensures { IsTrue result → FitsCells inputs cells ends.now }
+fn fit(ends: &Ends, inputs: u32, latches: usize, cells: usize) -> bool
+    ensures { IsTrue result → FitsCells inputs latches cells ends.now }
 {
-    let latches = ends.starts.len();
     if latches != ends.latches.len() {
         return false;
     }
@@ -41,68 +39,100 @@ fn fit(ends: &Ends, inputs: u32, cells: usize) -> bool
     are_there(&ends.latches, inputs, latches, cells)
 }
 
-// The list of these cells with ends that fit them.
-fn list_with(inputs: u32, cells: List<Cell>, ends: Ends) -> CellList
-    requires fit { FitsCells inputs (length cells) ends }
-    requires order { IsTrue (are_in_order inputs (length ends.starts.items) 0 cells) }
+// The list of these cells with start bits, and with ends that fit them.
+fn list_with(inputs: u32, cells: List<Cell>, starts: List<bool>, ends: Ends) -> CellList
+    requires fit { FitsCells inputs (length starts) (length cells) ends }
+    requires order { IsTrue (are_in_order inputs (length starts) 0 cells) }
 {
     let Ends {
         outs,
         nets,
         latches,
-        starts,
     } = ends;
     CellList {
         inputs,
         cells,
         outs: List::of(outs),
         latches: List::of(latches),
-        starts: List::of(starts),
+        starts,
         nets: List::of(nets),
     }
 }
 
-/// Returns a list without cells that has these ends, if they are all there.
-pub fn empty_list(alloc: Global, inputs: u32, ends: Ends) -> Option<CellList> {
-    if !fit(&ends, inputs, 0) {
-        return None;
-    }
-    Some(list_with(inputs, List::of(Vec::new(alloc)), ends))
-}
-
-// Whether the ends have a start bit for each of the list's latches, and are all there.
-fn can_end(list: &CellList, ends: &Ends) -> bool
-    ensures fit { IsTrue result → FitsCells list.now.inputs (length list.now.cells) ends.now }
-    ensures same { IsTrue result → length ends.now.starts.items ≡ length list.now.starts }
-{
-    if ends.starts.len() != list.starts.len() {
-        return false;
-    }
-    fit(ends, list.inputs, list.cells.len())
-}
-
-/// Returns the list with these ends in place of its own, if they are all there.
-pub fn with_ends(list: CellList, ends: Ends) -> Option<CellList> {
-    if !can_end(&list, &ends) {
-        return None;
-    }
-    let CellList { inputs, cells, .. } = list;
-    Some(list_with(inputs, cells, ends))
-}
-
-/// Adds a cell whose sources are there; returns its source, or none if they are not.
-pub fn add_cell(
-    list: &mut CellList,
+// A list with these inputs and start bits that has no cells, outputs and nets. Its latches read constant 0.
+fn empty_list(
     alloc: Global,
-    cell: Cell,
-) -> Result<Option<Src>, lists::OutOfMemory> {
-    let (inputs, latches, cells) = (list.inputs as usize, list.starts.len(), list.cells.len());
-    if !cell.reads_there(inputs, latches, cells) {
+    inputs: u32,
+    starts: &[bool],
+) -> Result<Option<CellList>, OutOfMemory> {
+    let starts = starts.to_vec(alloc)?;
+    let ends = Ends {
+        outs: Vec::new(alloc),
+        nets: Vec::new(alloc),
+        latches: vec![in alloc; Src::Zero; starts.len()]?,
+    };
+    if !fit(&ends, inputs, starts.len(), 0) {
         return Ok(None);
     }
-    let Ok(number) = u32::try_from(cells) else {
-        return Err(lists::OutOfMemory::NoMemory);
+    let cells = List::of(Vec::new(alloc));
+    Ok(Some(list_with(inputs, cells, List::of(starts), ends)))
+}
+
+// Adds cells up to the first whose sources are not there; returns whether it added all.
+fn add_cells(list: &mut CellList, alloc: Global, cells: &[Cell]) -> Result<bool, OutOfMemory> {
+    for cell in cells {
+        let (inputs, latches, before) = (list.inputs as usize, list.starts.len(), list.cells.len());
+        if !cell.reads_there(inputs, latches, before) {
+            return Ok(false);
+        }
+        list.push(alloc, *cell)?;
+    }
+    Ok(true)
+}
+
+// Gives a list these ends in place of its own, if they are all there; returns whether it did.
+fn set_ends(list: &mut CellList, ends: Ends) -> bool {
+    if !fit(&ends, list.inputs, list.starts.len(), list.cells.len()) {
+        return false;
+    }
+    let Ends {
+        outs,
+        nets,
+        latches,
+    } = ends;
+    list.outs = List::of(outs);
+    list.nets = List::of(nets);
+    list.latches = List::of(latches);
+    true
+}
+
+// Adds cells to a list and gives it these ends, if what they read is there; returns whether it did.
+fn complete(
+    list: &mut CellList,
+    alloc: Global,
+    cells: &[Cell],
+    ends: Ends,
+) -> Result<bool, OutOfMemory> {
+    if !add_cells(list, alloc, cells)? {
+        return Ok(false);
+    }
+    Ok(set_ends(list, ends))
+}
+
+/// Returns the list with these inputs, start bits, cells and ends, or none if what they read is not there.
+pub fn list_of(
+    alloc: Global,
+    inputs: u32,
+    starts: &[bool],
+    cells: &[Cell],
+    ends: Ends,
+) -> Result<Option<CellList>, OutOfMemory> {
+    let Some(mut list) = empty_list(alloc, inputs, starts)? else {
+        return Ok(None);
     };
-    list.push(alloc, cell)?;
-    Ok(Some(Src::Cell(number)))
+    if complete(&mut list, alloc, cells, ends)? {
+        Ok(Some(list))
+    } else {
+        Ok(None)
+    }
 }

@@ -1,482 +1,247 @@
 // The sources of all ports, found from the circuit's inputs and latches on.
 
-use crate::FillError;
-use crate::gates::{GateRow, Gates};
-use crate::lists_of::{Ends, add_cell, empty_list};
-use cell_core::{Cell, CellList, Src};
+use crate::gates::{GateRow, PortRow, end_of, port_number, small};
+use crate::listing::part;
+use cell_core::{Cell, Src};
 use gate_library::Answer;
-use lists::List;
-use route_tables::Feed;
-use routed_core::{Drawing, DrawnPort, GatePort};
+use lawful_gates::LawfulGate;
+use lists::OutOfMemory;
+use route_tables::{Feed, input_port};
+use routed_core::{Drawing, DrawnPort, DrawnWire, GatePort};
 use std::alloc::Global;
 
-/// An input of a gate whose source is known.
+/// A port, by its number, whose source is known.
 #[derive(Clone, Copy)]
 struct Known {
-    gate: u32,
-    input: u32,
+    port: usize,
     source: Src,
 }
 
-/// The sources of a gate's ports, as far as they are known, and of each port the first wire that
-/// begins there.
-#[derive(Drop)]
-pub struct GateSources {
-    ins: Vec<Option<Src>>,
-    outs: Vec<Option<Src>>,
-    from_ins: Vec<Option<u32>>,
-    from_outs: Vec<Option<u32>>,
+/// What is searched: the gates and their kinds, the wires, and of each wire the next one that begins at its port.
+#[derive(Clone, Copy)]
+pub struct Circuit<'a> {
+    pub rows: &'a [GateRow],
+    pub kinds: &'a [LawfulGate],
+    pub wires: &'a [DrawnWire],
+    pub next: &'a [Option<u32>],
 }
 
-/// What is known so far.
+/// The cells that were made so far, and the ports from which the search goes on.
 #[derive(Drop)]
-pub struct Solver {
-    pub gates: Vec<GateSources>,
-    // of each wire, the next one that begins at its port
-    next: Vec<Option<u32>>,
-    pub list: CellList,
-    pub latches: Vec<Src>,
+struct Search {
+    cells: Vec<Cell>,
     waiting: Vec<Known>,
 }
 
-fn none<T>(alloc: Global, count: usize) -> Result<Vec<Option<T>>, FillError>
-where
-    T: Copy,
-{
-    let mut items = Vec::new(alloc);
-    for _item in 0..count {
-        items.push(None)?;
-    }
-    Ok(items)
-}
-
-fn unknown_gate(alloc: Global, row: &GateRow) -> Result<GateSources, FillError> {
-    Ok(GateSources {
-        ins: none(alloc, row.feeds.len())?,
-        outs: none(alloc, row.outs)?,
-        from_ins: none(alloc, row.feeds.len())?,
-        from_outs: none(alloc, row.outs)?,
-    })
-}
-
-// The ports of all gates, of which nothing is known.
-fn unknown(alloc: Global, gates: &Gates) -> Result<Vec<GateSources>, FillError> {
-    let mut sources = Vec::new(alloc);
-    for row in &gates.rows {
-        let gate = unknown_gate(alloc, row)?;
-        sources.push(gate)?;
-    }
-    Ok(sources)
-}
-
-// Puts a wire first among those that begin at a port; returns the one that was first.
-fn put_first(gates: &mut [GateSources], port: DrawnPort, wire: u32) -> Option<u32> {
-    let gate = gates.get_mut(port.gate as usize)?;
-    let place = match port.port {
-        GatePort::In(i) => gate.from_ins.get_mut(i as usize)?,
-        GatePort::Out(o) => gate.from_outs.get_mut(o as usize)?,
-    };
-    let before = *place;
-    *place = Some(wire);
-    before
-}
-
-// Notes at which port each wire begins; returns of each wire the next one at its port.
-fn note_wires(
-    alloc: Global,
-    gates: &mut [GateSources],
-    drawing: &Drawing,
-) -> Result<Vec<Option<u32>>, FillError> {
-    let mut next = Vec::new(alloc);
-    for wire in drawing.wires.as_slice() {
-        let Ok(number) = u32::try_from(next.len()) else {
-            return Err(FillError::NoMemory);
-        };
-        let before = put_first(gates, wire.from, number);
-        next.push(before)?;
-    }
-    Ok(next)
-}
-
-// A list without cells, with a latch for each start bit of the drawing.
-fn first_list(alloc: Global, inputs: u32, starts: &[bool]) -> Result<Option<CellList>, FillError> {
-    Ok(empty_list(
-        alloc,
-        inputs,
-        Ends {
-            outs: Vec::new(alloc),
-            nets: Vec::new(alloc),
-            latches: vec![in alloc; Src::Zero; starts.len()]?,
-            starts: starts.to_vec(alloc)?,
+// The source with which an input begins, if it is driven or at the end of a wire with latches.
+fn first_source(feed: Feed, wires: &[DrawnWire], inputs: u32) -> Option<Src> {
+    match feed {
+        Feed::Driven(d) if d < inputs => Some(Src::Input(d)),
+        Feed::Driven(_) => Some(Src::Zero),
+        Feed::Wire(w) => match wires.get(w as usize) {
+            Some(wire) if wire.cycles > 0 => {
+                Some(Src::Latch(wire.latch.saturating_add(wire.cycles - 1)))
+            }
+            _ => None,
         },
-    ))
-}
-
-/// The ports of all gates, and of each wire the next one that begins at its port.
-#[derive(Drop)]
-struct PortWires {
-    gates: Vec<GateSources>,
-    next: Vec<Option<u32>>,
-}
-
-fn port_wires(alloc: Global, gates: &Gates, drawing: &Drawing) -> Result<PortWires, FillError> {
-    let mut gates = unknown(alloc, gates)?;
-    let next = note_wires(alloc, &mut gates, drawing)?;
-    Ok(PortWires { gates, next })
-}
-
-// Knows nothing but a list, the ports and the wires.
-fn solver_of(
-    alloc: Global,
-    list: CellList,
-    gates: &Gates,
-    drawing: &Drawing,
-) -> Result<Solver, FillError> {
-    let latches = vec![in alloc; Src::Zero; list.starts.len()]?;
-    let PortWires { gates, next } = port_wires(alloc, gates, drawing)?;
-    Ok(Solver {
-        gates,
-        next,
-        list,
-        latches,
-        waiting: Vec::new(alloc),
-    })
-}
-
-// Sets a source, if it is there and not set; returns whether it did.
-fn set(sources: &mut [Option<Src>], i: usize, source: Src) -> bool {
-    match sources.get_mut(i) {
-        Some(place) if place.is_none() => {
-            *place = Some(source);
-            true
-        }
-        _ => false,
     }
 }
 
-// The first wire from a port.
-fn first_from(wires: &[Option<u32>], i: usize) -> Option<u32> {
-    match wires.get(i) {
-        Some(wire) => *wire,
+// The inputs that are driven, and those at the ends of wires with latches.
+fn first_known(
+    alloc: Global,
+    ports: &[PortRow],
+    wires: &[DrawnWire],
+    inputs: u32,
+) -> Result<Vec<Known>, OutOfMemory> {
+    let mut known = Vec::new(alloc);
+    for port in 0..ports.len() {
+        if let Some(feed) = ports[port].feed {
+            if let Some(source) = first_source(feed, wires, inputs) {
+                known.push(Known { port, source })?;
+            }
+        }
+    }
+    Ok(known)
+}
+
+// Leads a source along the wires that begin at its port, of which this is the first. A wire with latches ends it.
+fn lead(
+    c: Circuit,
+    waiting: &mut Vec<Known>,
+    first: Option<u32>,
+    source: Src,
+) -> Result<(), OutOfMemory> {
+    let mut at = first;
+    for _ in 0..c.wires.len() {
+        let Some(number) = at else {
+            break;
+        };
+        let number = number as usize;
+        if number >= c.wires.len() || number >= c.next.len() {
+            break;
+        }
+        if c.wires[number].cycles == 0 {
+            let port = port_number(c.rows, input_port(end_of(&c.wires[number])));
+            waiting.push(Known { port, source })?;
+        }
+        at = c.next[number];
+    }
+    Ok(())
+}
+
+// The two inputs of an answer, which are one if it is a copy.
+fn inputs_of(answer: Answer) -> (u32, u32) {
+    match answer {
+        Answer::Copy(i) => (i, i),
+        Answer::Or(i, j) | Answer::Xor(i, j) | Answer::AndNot(i, j) => (i, j),
+    }
+}
+
+// The cell that is an answer to two sources; none for a copy.
+fn cell_of(answer: Answer, a: Src, b: Src) -> Option<Cell> {
+    match answer {
+        Answer::Copy(_) => None,
+        Answer::Or(_, _) => Some(Cell::Or(a, b)),
+        Answer::Xor(_, _) => Some(Cell::Xor(a, b)),
+        Answer::AndNot(_, _) => Some(Cell::AndNot(a, b)),
+    }
+}
+
+fn source_at(ports: &[PortRow], i: u32) -> Option<Src> {
+    match ports.get(i as usize) {
+        Some(port) => port.source,
         None => None,
     }
 }
 
-impl Solver {
-    /// Knows nothing but the ports and wires.
-    pub fn new(
-        alloc: Global,
-        gates: &Gates,
-        drawing: &Drawing,
-        inputs: u32,
-    ) -> Result<Option<Solver>, FillError> {
-        match first_list(alloc, inputs, drawing.starts.as_slice())? {
-            Some(list) => Ok(Some(solver_of(alloc, list, gates, drawing)?)),
-            None => Ok(None),
-        }
+// The source that answers inputs, if the given one is the last of them that became known.
+fn answer_of(
+    cells: &mut Vec<Cell>,
+    ins: &[PortRow],
+    input: u32,
+    answer: Answer,
+) -> Result<Option<Src>, OutOfMemory> {
+    let (i, j) = inputs_of(answer);
+    if i != input && j != input {
+        return Ok(None);
     }
+    let (Some(a), Some(b)) = (source_at(ins, i), source_at(ins, j)) else {
+        return Ok(None);
+    };
+    let Some(cell) = cell_of(answer, a, b) else {
+        return Ok(Some(a));
+    };
+    let source = Src::Cell(small(cells.len()));
+    cells.push(cell)?;
+    Ok(Some(source))
+}
 
-    fn put_latch(&mut self, latch: u32, reads: Src) {
-        if let Some(place) = self.latches.get_mut(latch as usize) {
-            *place = reads;
+// Answers what can be answered of a gate, of which this input became known.
+fn answer_gate(
+    c: Circuit,
+    ports: &[PortRow],
+    search: &mut Search,
+    gate: u32,
+    input: u32,
+) -> Result<(), OutOfMemory> {
+    let Some(row) = c.rows.get(gate as usize) else {
+        return Ok(());
+    };
+    let Some(kind) = c.kinds.get(row.kind as usize) else {
+        return Ok(());
+    };
+    let ins = part(ports, row.ins, row.outs);
+    let mut port = row.outs;
+    for answer in kind.drawing().answers.as_slice() {
+        if let Some(source) = answer_of(&mut search.cells, ins, input, *answer)? {
+            search.waiting.push(Known { port, source })?;
         }
+        port = port.saturating_add(1);
     }
+    Ok(())
+}
 
-    // Leads a source along a wire: into its first latch, or to the input at its end.
-    fn lead(&mut self, drawing: &Drawing, wire: u32, source: Src) -> Result<(), FillError> {
-        let Some(wire) = drawing.wires.as_slice().get(wire as usize) else {
-            return Ok(());
+// Goes on from a port whose source is known.
+fn go_on(
+    c: Circuit,
+    ports: &mut [PortRow],
+    search: &mut Search,
+    known: Known,
+) -> Result<(), OutOfMemory> {
+    if known.port >= ports.len() {
+        return Ok(());
+    }
+    ports[known.port].source = Some(known.source);
+    let PortRow { at, wire, .. } = ports[known.port];
+    lead(c, &mut search.waiting, wire, known.source)?;
+    if let GatePort::In(input) = at.port {
+        answer_gate(c, ports, search, at.gate, input)?;
+    }
+    Ok(())
+}
+
+/// Finds the sources of all ports that can be known; returns the cells that they are of.
+pub fn solve(
+    alloc: Global,
+    c: Circuit,
+    ports: &mut [PortRow],
+    inputs: u32,
+) -> Result<Vec<Cell>, OutOfMemory> {
+    let mut search = Search {
+        cells: Vec::new(alloc),
+        waiting: first_known(alloc, ports, c.wires, inputs)?,
+    };
+    for _ in 0..ports.len() {
+        let Some(known) = search.waiting.pop() else {
+            break;
         };
-        if wire.cycles > 0 {
-            self.put_latch(wire.latch, source);
-            return Ok(());
-        }
-        self.waiting.push(Known {
-            gate: wire.gate,
-            input: wire.input,
-            source,
-        })?;
-        Ok(())
+        go_on(c, ports, &mut search, known)?;
     }
+    let Search { cells, .. } = search;
+    Ok(cells)
+}
 
-    // Leads a source along all wires from its port.
-    fn lead_all(
-        &mut self,
-        drawing: &Drawing,
-        first: Option<u32>,
-        source: Src,
-    ) -> Result<(), FillError> {
-        let mut at = first;
-        for _wire in 0..self.next.len() {
-            let Some(wire) = at else {
-                return Ok(());
-            };
-            self.lead(drawing, wire, source)?;
-            at = match self.next.get(wire as usize) {
-                Some(next) => *next,
-                None => None,
-            };
-        }
-        Ok(())
-    }
-
-    // Sets the source of an input, if it is not set; returns the first wire from there.
-    fn set_input(&mut self, known: Known) -> Option<Option<u32>> {
-        let gate = self.gates.get_mut(known.gate as usize)?;
-        let input = known.input as usize;
-        if set(&mut gate.ins, input, known.source) {
-            Some(first_from(&gate.from_ins, input))
-        } else {
-            None
+/// Returns a gate of which an input has no source, if there is one: then gates read each other in a circle.
+pub fn unsolved(ports: &[PortRow]) -> Option<u32> {
+    for port in ports {
+        if port.feed.is_some() && port.source.is_none() {
+            return Some(port.at.gate);
         }
     }
+    None
+}
 
-    // Sets the source of an output, if it is not set; returns the first wire from there.
-    fn set_output(&mut self, gate: u32, output: usize, source: Src) -> Option<Option<u32>> {
-        let gate = self.gates.get_mut(gate as usize)?;
-        if set(&mut gate.outs, output, source) {
-            Some(first_from(&gate.from_outs, output))
-        } else {
-            None
-        }
-    }
-
-    fn input_source(&self, gate: u32, input: u32) -> Option<Src> {
-        let gate = self.gates.get(gate as usize)?;
-        match gate.ins.get(input as usize) {
-            Some(source) => *source,
-            None => None,
-        }
-    }
-
-    // The cell that is an answer to two inputs, if both are known.
-    fn cell_of(&self, gate: u32, answer: Answer) -> Option<Cell> {
-        match answer {
-            Answer::Copy(_) => None,
-            Answer::Or(i, j) => {
-                Some(Cell::Or(self.input_source(gate, i)?, self.input_source(gate, j)?))
-            }
-            Answer::Xor(i, j) => {
-                Some(Cell::Xor(self.input_source(gate, i)?, self.input_source(gate, j)?))
-            }
-            Answer::AndNot(i, j) => {
-                Some(Cell::AndNot(self.input_source(gate, i)?, self.input_source(gate, j)?))
-            }
-        }
-    }
-
-    fn is_open(&self, gate: u32, output: usize) -> bool {
-        match self.gates.get(gate as usize) {
-            Some(gate) => match gate.outs.get(output) {
-                Some(source) => source.is_none(),
-                None => false,
-            },
-            None => false,
-        }
-    }
-
-    // The source that answers inputs, if these are known.
-    fn answer(
-        &mut self,
-        alloc: Global,
-        gate: u32,
-        answer: Answer,
-    ) -> Result<Option<Src>, FillError> {
-        if let Answer::Copy(i) = answer {
-            return Ok(self.input_source(gate, i));
-        }
-        match self.cell_of(gate, answer) {
-            Some(cell) => Ok(add_cell(&mut self.list, alloc, cell)?),
-            None => Ok(None),
-        }
-    }
-
-    // Answers what can be answered of a gate.
-    fn answer_gate(
-        &mut self,
-        alloc: Global,
-        drawing: &Drawing,
-        gate: u32,
-        answers: &[Answer],
-    ) -> Result<(), FillError> {
-        for (output, answer) in answers.iter().enumerate() {
-            self.answer_output(alloc, drawing, gate, output, *answer)?;
-        }
-        Ok(())
-    }
-
-    fn answer_output(
-        &mut self,
-        alloc: Global,
-        drawing: &Drawing,
-        gate: u32,
-        output: usize,
-        answer: Answer,
-    ) -> Result<(), FillError> {
-        if !self.is_open(gate, output) {
-            return Ok(());
-        }
-        let Some(source) = self.answer(alloc, gate, answer)? else {
-            return Ok(());
-        };
-        if let Some(first) = self.set_output(gate, output, source) {
-            self.lead_all(drawing, first, source)?;
-        }
-        Ok(())
-    }
-
-    // Goes on from an input whose source is known.
-    fn go_on(
-        &mut self,
-        alloc: Global,
-        gates: &Gates,
-        drawing: &Drawing,
-        known: Known,
-    ) -> Result<(), FillError> {
-        let Some(first) = self.set_input(known) else {
-            return Ok(());
-        };
-        self.lead_all(drawing, first, known.source)?;
-        let Some(row) = gates.rows.get(known.gate as usize) else {
-            return Ok(());
-        };
-        let Some(kind) = gates.kinds.get(row.kind as usize) else {
-            return Ok(());
-        };
-        self.answer_gate(
-            alloc,
-            drawing,
-            known.gate,
-            kind.drawing().answers.as_slice(),
-        )
-    }
-
-    // Notes the source of an input that is driven, or at the end of a wire with latches.
-    fn note_feed(
-        &mut self,
-        drawing: &Drawing,
-        gate: u32,
-        input: u32,
-        feed: Feed,
-    ) -> Result<(), FillError> {
-        let source = match feed {
-            Feed::Driven(d) if d < self.list.inputs => Some(Src::Input(d)),
-            Feed::Driven(_) => Some(Src::Zero),
-            Feed::Wire(w) => last_latch(drawing, w),
-        };
-        if let Some(source) = source {
-            self.waiting.push(Known {
-                gate,
-                input,
-                source,
-            })?;
-        }
-        Ok(())
-    }
-
-    fn note_gate(
-        &mut self,
-        drawing: &Drawing,
-        gate: u32,
-        feeds: &[Option<Feed>],
-    ) -> Result<(), FillError> {
-        for (input, feed) in feeds.iter().enumerate() {
-            if let (Some(feed), Ok(input)) = (feed, u32::try_from(input)) {
-                self.note_feed(drawing, gate, input, *feed)?;
-            }
-        }
-        Ok(())
-    }
-
-    fn note_gates(&mut self, gates: &Gates, drawing: &Drawing) -> Result<(), FillError> {
-        for (gate, row) in gates.rows.iter().enumerate() {
-            if let Ok(gate) = u32::try_from(gate) {
-                self.note_gate(drawing, gate, &row.feeds)?;
-            }
-        }
-        Ok(())
-    }
-
-    // Links the latches of each wire: each but the first reads the one before it.
-    fn link_latches(&mut self, drawing: &Drawing) {
-        for wire in drawing.wires.as_slice() {
-            for i in 1..wire.cycles {
-                let latch = wire.latch.saturating_add(i);
-                self.put_latch(latch, Src::Latch(latch.saturating_sub(1)));
-            }
-        }
-    }
-
-    /// Finds the sources of all ports that can be known.
-    pub fn solve(
-        &mut self,
-        alloc: Global,
-        gates: &Gates,
-        drawing: &Drawing,
-    ) -> Result<(), FillError> {
-        self.note_gates(gates, drawing)?;
-        self.link_latches(drawing);
-        let most = self.waiting.len().saturating_add(drawing.wires.len());
-        for _known in 0..most {
-            let Some(known) = self.waiting.pop() else {
-                return Ok(());
-            };
-            self.go_on(alloc, gates, drawing, known)?;
-        }
-        Ok(())
-    }
-
-    /// Returns the source of a port, or constant 0 if none is known.
-    pub fn source_of(&self, port: DrawnPort) -> Src {
-        let Some(gate) = self.gates.get(port.gate as usize) else {
-            return Src::Zero;
-        };
-        let source = match port.port {
-            GatePort::In(i) => gate.ins.get(i as usize),
-            GatePort::Out(o) => gate.outs.get(o as usize),
-        };
-        match source {
-            Some(Some(source)) => *source,
-            _ => Src::Zero,
-        }
-    }
-
-    /// Returns a gate of which a port has no source, if there is one: then gates read each other in
-    /// a circle.
-    pub fn unsolved(&self) -> Option<usize> {
-        for (k, gate) in self.gates.iter().enumerate() {
-            if gate.ins.iter().any(|source| source.is_none()) {
-                return Some(k);
-            }
-        }
-        None
+/// Returns the source of a port, or constant 0 if none is known.
+pub fn source_of(rows: &[GateRow], ports: &[PortRow], at: DrawnPort) -> Src {
+    match ports.get(port_number(rows, at)) {
+        Some(port) => port.source.unwrap_or(Src::Zero),
+        None => Src::Zero,
     }
 }
 
-// The last latch of a wire, if it has any.
-fn last_latch(drawing: &Drawing, wire: u32) -> Option<Src> {
-    let wire = drawing.wires.as_slice().get(wire as usize)?;
-    if wire.cycles == 0 {
-        return None;
+// Has the first latch of a wire read this source, and each other one the latch before it.
+fn put_latches(latches: &mut [Src], wire: &DrawnWire, source: Src) {
+    let mut reads = source;
+    for i in 0..wire.cycles {
+        let latch = wire.latch.saturating_add(i);
+        if (latch as usize) < latches.len() {
+            latches[latch as usize] = reads;
+        }
+        reads = Src::Latch(latch);
     }
-    Some(Src::Latch(wire.latch.saturating_add(wire.cycles - 1)))
 }
 
-/// Copies the known sources of a gate's ports, constant 0 for those that are not known.
-pub fn known_sources(alloc: Global, sources: &[Option<Src>]) -> Result<List<Src>, FillError> {
-    let mut known = Vec::new(alloc);
-    for source in sources {
-        known.push(source.unwrap_or(Src::Zero))?;
+/// Returns what the latches of a drawing's wires read.
+pub fn latches_of(
+    alloc: Global,
+    rows: &[GateRow],
+    ports: &[PortRow],
+    drawing: &Drawing,
+) -> Result<Vec<Src>, OutOfMemory> {
+    let mut latches = vec![in alloc; Src::Zero; drawing.starts.len()]?;
+    for wire in drawing.wires.as_slice() {
+        put_latches(&mut latches, wire, source_of(rows, ports, wire.from));
     }
-    Ok(List::of(known))
-}
-
-impl GateSources {
-    /// Returns the sources of the inputs and of the outputs.
-    pub fn known(&self, alloc: Global) -> Result<(List<Src>, List<Src>), FillError> {
-        Ok((
-            known_sources(alloc, &self.ins)?,
-            known_sources(alloc, &self.outs)?,
-        ))
-    }
+    Ok(latches)
 }

@@ -1,241 +1,257 @@
 // Tables of a drawing.
 
-use crate::FillError;
-use crate::gates::{GateRow, Gates, drive_all, feed_by_wires, gates_of};
-use crate::listing::{Listing, listing_of, serials_of};
-use crate::lists_of::{Ends, with_ends};
-use crate::solving::{GateSources, Solver};
-use cell_core::{CellList, Src};
-use lists::List;
+use crate::feeding::{drive_inputs, drive_rest, driven_of, feed_by_wires, note_wires};
+use crate::gates::{
+    GateRow, Kinds, PortRow, at_gate, kinds_of, ports_of, rows_of, small, test_kinds,
+};
+use crate::listing::{Listing, listing_of, part, serials_of};
+use crate::lists_of::{Ends, list_of};
+use crate::solving::{Circuit, latches_of, solve, source_of, unsolved};
+use cell_core::{Cell, CellList, Src};
+use lists::{List, OutOfMemory};
 use route_tables::{CellFault, FaultWord, Feed, GateInput, TableGate, Tables};
-use routed_core::{Drawing, DrawnPort};
+use routed_core::{Drawing, DrawnGate, DrawnPort};
 use std::alloc::Global;
 
-// The feeds of a gate whose inputs are all fed.
-fn fed(alloc: Global, feeds: &[Option<Feed>]) -> Result<List<Feed>, FillError> {
-    let mut all = Vec::new(alloc);
-    for feed in feeds {
-        if let Some(feed) = feed {
-            all.push(*feed)?;
+/// The gates of a drawing and their ports, of each wire the next one that begins at its port, and the number of inputs
+/// that are driven.
+#[derive(Drop)]
+struct FedGates {
+    rows: Vec<GateRow>,
+    ports: Vec<PortRow>,
+    next: Vec<Option<u32>>,
+    drives: u32,
+}
+
+// The gates with their ports, which nothing feeds yet.
+fn unfed_gates(alloc: Global, kinds: &Kinds, drawing: &Drawing) -> Result<FedGates, OutOfMemory> {
+    let rows = rows_of(alloc, kinds, drawing.gates.as_slice())?;
+    let mut ports = ports_of(alloc, &rows)?;
+    let next = note_wires(alloc, &rows, &mut ports, drawing)?;
+    Ok(FedGates {
+        rows,
+        ports,
+        next,
+        drives: 0,
+    })
+}
+
+// Feeds all inputs: by wires, and the others by drives.
+fn feed_all(kinds: &Kinds, fed: &mut FedGates, drawing: &Drawing) -> Result<(), CellFault> {
+    test_kinds(kinds, &fed.rows, drawing.gates.as_slice())?;
+    feed_by_wires(&fed.rows, &mut fed.ports, drawing)?;
+    drive_inputs(&fed.rows, &mut fed.ports, drawing)?;
+    fed.drives = drive_rest(&mut fed.ports, small(drawing.ins.len()));
+    Ok(())
+}
+
+// The sources of ports, constant 0 for those that are not known.
+fn known_sources(alloc: Global, ports: &[PortRow]) -> Result<List<Src>, OutOfMemory> {
+    let mut sources = Vec::with_capacity(alloc, ports.len())?;
+    for port in ports {
+        sources.push(port.source.unwrap_or(Src::Zero))?;
+    }
+    Ok(List::of(sources))
+}
+
+// What feeds inputs that are all fed.
+fn feeds_of(alloc: Global, ports: &[PortRow]) -> Result<List<Feed>, OutOfMemory> {
+    let mut feeds = Vec::with_capacity(alloc, ports.len())?;
+    for port in ports {
+        if let Some(feed) = port.feed {
+            feeds.push(feed)?;
         }
     }
-    Ok(List::of(all))
+    Ok(List::of(feeds))
 }
 
 // A gate with its sources.
-fn table_gate(alloc: Global, row: &GateRow, sources: &GateSources) -> Result<TableGate, FillError> {
-    let (ins, outs) = sources.known(alloc)?;
+fn table_gate(
+    alloc: Global,
+    gate: &DrawnGate,
+    row: &GateRow,
+    ports: &[PortRow],
+) -> Result<TableGate, OutOfMemory> {
+    let ins = part(ports, row.ins, row.outs);
+    let outs = part(ports, row.outs, row.end);
     Ok(TableGate {
         kind: row.kind,
-        x: row.gate.x,
-        y: row.gate.y,
-        first: row.gate.first,
-        later: row.gate.later,
-        ins,
-        outs,
-        feeds: fed(alloc, &row.feeds)?,
+        x: gate.x,
+        y: gate.y,
+        first: gate.first,
+        later: gate.later,
+        ins: known_sources(alloc, ins)?,
+        outs: known_sources(alloc, outs)?,
+        feeds: feeds_of(alloc, ins)?,
     })
 }
 
 fn table_gates(
     alloc: Global,
-    rows: &[GateRow],
-    sources: &[GateSources],
-) -> Result<List<TableGate>, FillError> {
-    let mut gates = Vec::new(alloc);
-    for (row, sources) in rows.iter().zip(sources.iter()) {
-        gates.push(table_gate(alloc, row, sources)?)?;
-    }
-    Ok(List::of(gates))
-}
-
-// The nets' ports that are drawn.
-fn drawn_nets(alloc: Global, drawing: &Drawing) -> Result<Vec<DrawnPort>, FillError> {
-    let mut nets = Vec::new(alloc);
-    for net in drawing.nets.as_slice() {
-        if let Some(port) = net {
-            nets.push(*port)?;
+    fed: &FedGates,
+    gates: &[DrawnGate],
+) -> Result<List<TableGate>, OutOfMemory> {
+    let mut table = Vec::new(alloc);
+    for number in 0..gates.len() {
+        if number < fed.rows.len() {
+            let gate = table_gate(alloc, &gates[number], &fed.rows[number], &fed.ports)?;
+            table.push(gate)?;
         }
     }
-    Ok(nets)
+    Ok(List::of(table))
 }
 
-fn sources_of(alloc: Global, solver: &Solver, ports: &[DrawnPort]) -> Result<Vec<Src>, FillError> {
-    let mut sources = Vec::new(alloc);
-    for port in ports {
-        sources.push(solver.source_of(*port))?;
+// The ports of nets that are drawn.
+fn drawn_nets(alloc: Global, nets: &[Option<DrawnPort>]) -> Result<Vec<DrawnPort>, OutOfMemory> {
+    let mut drawn = Vec::with_capacity(alloc, nets.len())?;
+    for net in nets {
+        if let Some(port) = net {
+            drawn.push(*port)?;
+        }
+    }
+    Ok(drawn)
+}
+
+// The sources at ports, constant 0 for those that are not known.
+fn sources_at(alloc: Global, fed: &FedGates, named: &[DrawnPort]) -> Result<Vec<Src>, OutOfMemory> {
+    let mut sources = Vec::with_capacity(alloc, named.len())?;
+    for at in named {
+        sources.push(source_of(&fed.rows, &fed.ports, *at))?;
     }
     Ok(sources)
 }
 
-// The sources of the circuit's outputs and nets, and what its latches read.
 fn ends_of(
     alloc: Global,
-    solver: &Solver,
+    fed: &FedGates,
     drawing: &Drawing,
-    ports: &NamedPorts,
-) -> Result<Ends, FillError> {
+    nets: &[DrawnPort],
+) -> Result<Ends, OutOfMemory> {
     Ok(Ends {
-        outs: sources_of(alloc, solver, &ports.outs)?,
-        nets: sources_of(alloc, solver, &ports.nets)?,
-        latches: solver.latches.to_vec(alloc)?,
-        starts: drawing.starts.as_slice().to_vec(alloc)?,
+        outs: sources_at(alloc, fed, drawing.outs.as_slice())?,
+        nets: sources_at(alloc, fed, nets)?,
+        latches: latches_of(alloc, &fed.rows, &fed.ports, drawing)?,
     })
 }
 
-// The list of what was solved, with these ends.
-fn list_of(gates: &Gates, solver: Solver, ends: Ends) -> Result<CellList, FillError> {
-    let Solver { list, .. } = solver;
-    match with_ends(list, ends) {
-        Some(list) => Ok(list),
-        None => Err(at_gate(gates, 0, FaultWord::Order)),
-    }
-}
-
-fn at_gate(gates: &Gates, gate: usize, word: FaultWord) -> FillError {
-    let (x, y) = match gates.rows.get(gate) {
-        Some(row) => (row.gate.x, row.gate.y),
-        None => (0, 0),
-    };
-    FillError::Fault(CellFault { word, x, y })
-}
-
-fn new_solver(alloc: Global, gates: &Gates, drawing: &Drawing) -> Result<Solver, FillError> {
-    let Ok(inputs) = u32::try_from(drawing.ins.len()) else {
-        return Err(FillError::NoMemory);
-    };
-    match Solver::new(alloc, gates, drawing, inputs)? {
-        Some(solver) => Ok(solver),
-        None => Err(at_gate(gates, 0, FaultWord::Order)),
-    }
-}
-
-// Finds the sources of all ports.
-fn solve(
-    solver: &mut Solver,
+// Finds the sources of all ports that can be known; returns the cells that they are of.
+fn solved(
     alloc: Global,
-    gates: &Gates,
+    kinds: &Kinds,
+    fed: &mut FedGates,
     drawing: &Drawing,
-) -> Result<(), FillError> {
-    solver.solve(alloc, gates, drawing)?;
-    match solver.unsolved() {
-        Some(gate) => Err(at_gate(gates, gate, FaultWord::Order)),
-        None => Ok(()),
+) -> Result<Vec<Cell>, OutOfMemory> {
+    let circuit = Circuit {
+        rows: &fed.rows,
+        kinds: &kinds.drawings,
+        wires: drawing.wires.as_slice(),
+        next: &fed.next,
+    };
+    solve(alloc, circuit, &mut fed.ports, small(drawing.ins.len()))
+}
+
+// The list of these cells with the drawing's ends, or none if what they read is not there.
+fn list_with(
+    alloc: Global,
+    fed: &FedGates,
+    drawing: &Drawing,
+    nets: &[DrawnPort],
+    cells: &[Cell],
+) -> Result<Option<CellList>, OutOfMemory> {
+    let ends = ends_of(alloc, fed, drawing, nets)?;
+    let inputs = small(drawing.ins.len());
+    list_of(alloc, inputs, drawing.starts.as_slice(), cells, ends)
+}
+
+// Feeds the gates of a drawing; returns the list of cells that they compute.
+fn compute(
+    alloc: Global,
+    kinds: &Kinds,
+    fed: &mut FedGates,
+    drawing: &Drawing,
+    nets: &[DrawnPort],
+) -> Result<Result<CellList, CellFault>, OutOfMemory> {
+    let gates = drawing.gates.as_slice();
+    if let Err(fault) = feed_all(kinds, fed, drawing) {
+        return Ok(Err(fault));
+    }
+    let cells = solved(alloc, kinds, fed, drawing)?;
+    if let Some(gate) = unsolved(&fed.ports) {
+        return Ok(Err(at_gate(gates, gate as usize, FaultWord::Order)));
+    }
+    match list_with(alloc, fed, drawing, nets, &cells)? {
+        Some(list) => Ok(Ok(list)),
+        None => Ok(Err(at_gate(gates, 0, FaultWord::Order))),
     }
 }
 
-// The sources of all ports.
-fn solved(alloc: Global, gates: &Gates, drawing: &Drawing) -> Result<Solver, FillError> {
-    let mut solver = new_solver(alloc, gates, drawing)?;
-    solve(&mut solver, alloc, gates, drawing)?;
-    Ok(solver)
-}
-
-/// Gates whose inputs are fed, and the inputs that are driven.
+/// What the tables have beside the kinds of gates and the list of cells.
 #[derive(Drop)]
-struct FedGates {
-    gates: Gates,
+struct Parts {
+    listing: Listing,
     driven: Vec<GateInput>,
+    gates: List<TableGate>,
+    outs: Vec<DrawnPort>,
 }
 
-fn fed_gates(alloc: Global, drawing: &Drawing) -> Result<FedGates, FillError> {
-    let mut gates = gates_of(alloc, drawing)?;
-    feed_by_wires(&mut gates.rows, drawing)?;
-    let driven = drive_all(alloc, &mut gates.rows, drawing)?;
-    Ok(FedGates { gates, driven })
+fn parts_of(
+    alloc: Global,
+    kinds: &Kinds,
+    fed: &FedGates,
+    drawing: &Drawing,
+) -> Result<Parts, OutOfMemory> {
+    let outs = drawing.outs.as_slice().to_vec(alloc)?;
+    let driven = driven_of(alloc, &fed.ports, fed.drives)?;
+    let listing = listing_of(alloc, &kinds.drawings, &fed.rows, drawing)?;
+    let gates = table_gates(alloc, fed, drawing.gates.as_slice())?;
+    Ok(Parts {
+        listing,
+        driven,
+        gates,
+        outs,
+    })
 }
 
-/// What a drawing computes: the gates with their sources, and the list with its ports.
+/// What the tables have beside the kinds of gates and the numbers of cells.
 #[derive(Drop)]
 struct Computed {
-    gates: List<TableGate>,
-    listed: ListedPorts,
-}
-
-/// The list that a drawing computes, and the ports of its outputs and nets.
-#[derive(Drop)]
-struct ListedPorts {
     list: CellList,
-    ports: NamedPorts,
-}
-
-/// The ports of outputs and of nets.
-#[derive(Drop)]
-struct NamedPorts {
-    outs: Vec<DrawnPort>,
     nets: Vec<DrawnPort>,
+    parts: Parts,
 }
 
-fn named_ports(alloc: Global, drawing: &Drawing) -> Result<NamedPorts, FillError> {
-    let outs = drawing.outs.as_slice().to_vec(alloc)?;
-    let nets = drawn_nets(alloc, drawing)?;
-    Ok(NamedPorts { outs, nets })
-}
-
-fn listed_ports(
+fn filled(
     alloc: Global,
-    gates: &Gates,
+    kinds: &Kinds,
     drawing: &Drawing,
-    solver: Solver,
-) -> Result<ListedPorts, FillError> {
-    let ports = named_ports(alloc, drawing)?;
-    let ends = ends_of(alloc, &solver, drawing, &ports)?;
-    let list = list_of(gates, solver, ends)?;
-    Ok(ListedPorts { list, ports })
+) -> Result<Result<Computed, CellFault>, OutOfMemory> {
+    let nets = drawn_nets(alloc, drawing.nets.as_slice())?;
+    let mut fed = unfed_gates(alloc, kinds, drawing)?;
+    let list = match compute(alloc, kinds, &mut fed, drawing, &nets)? {
+        Ok(list) => list,
+        Err(fault) => return Ok(Err(fault)),
+    };
+    let parts = parts_of(alloc, kinds, &fed, drawing)?;
+    Ok(Ok(Computed { list, nets, parts }))
 }
 
-fn compute_with(
-    alloc: Global,
-    gates: &Gates,
-    drawing: &Drawing,
-    solver: Solver,
-) -> Result<Computed, FillError> {
-    let table = table_gates(alloc, &gates.rows, &solver.gates)?;
-    let listed = listed_ports(alloc, gates, drawing, solver)?;
-    Ok(Computed {
-        gates: table,
-        listed,
-    })
-}
-
-fn compute(alloc: Global, gates: &Gates, drawing: &Drawing) -> Result<Computed, FillError> {
-    let solver = solved(alloc, gates, drawing)?;
-    compute_with(alloc, gates, drawing, solver)
-}
-
-/// The listed cells, and the table of their numbers.
-#[derive(Drop)]
-struct Numbered {
-    listing: Listing,
-    serials: Vec<u32>,
-}
-
-fn number_cells(
-    alloc: Global,
-    gates: &Gates,
-    drawing: &Drawing,
-    width: u32,
-    size: usize,
-) -> Result<Numbered, FillError> {
-    let listing = listing_of(alloc, gates, drawing)?;
-    let serials = serials_of(alloc, width, size, &listing.cells)?;
-    Ok(Numbered { listing, serials })
-}
-
-fn tables_with(width: u32, fed: FedGates, numbered: Numbered, computed: Computed) -> Tables {
-    let FedGates { gates, driven } = fed;
-    let Gates { kinds, .. } = gates;
-    let Numbered { listing, serials } = numbered;
+fn tables_with(width: u32, kinds: Kinds, serials: Vec<u32>, computed: Computed) -> Tables {
+    let Kinds { drawings, .. } = kinds;
+    let Computed { list, nets, parts } = computed;
+    let Parts {
+        listing,
+        driven,
+        gates,
+        outs,
+    } = parts;
     let Listing {
         cells,
         groups,
         wires,
     } = listing;
-    let Computed { gates, listed } = computed;
-    let ListedPorts { list, ports } = listed;
     Tables {
         width,
-        kinds: List::of(kinds),
+        kinds: List::of(drawings),
         gates,
         wires: List::of(wires),
         driven: List::of(driven),
@@ -243,8 +259,8 @@ fn tables_with(width: u32, fed: FedGates, numbered: Numbered, computed: Computed
         groups: List::of(groups),
         serials: List::of(serials),
         list,
-        outs: List::of(ports.outs),
-        nets: List::of(ports.nets),
+        outs: List::of(outs),
+        nets: List::of(nets),
     }
 }
 
@@ -255,9 +271,12 @@ pub fn tables_of(
     drawing: &Drawing,
     width: u32,
     size: usize,
-) -> Result<Tables, FillError> {
-    let fed = fed_gates(alloc, drawing)?;
-    let numbered = number_cells(alloc, &fed.gates, drawing, width, size)?;
-    let computed = compute(alloc, &fed.gates, drawing)?;
-    Ok(tables_with(width, fed, numbered, computed))
+) -> Result<Result<Tables, CellFault>, OutOfMemory> {
+    let kinds = kinds_of(alloc, drawing.gates.as_slice())?;
+    let computed = match filled(alloc, &kinds, drawing)? {
+        Ok(computed) => computed,
+        Err(fault) => return Ok(Err(fault)),
+    };
+    let serials = serials_of(alloc, width, size, &computed.parts.listing.cells)?;
+    Ok(Ok(tables_with(width, kinds, serials, computed)))
 }

@@ -4,7 +4,7 @@ use crate::nets::SeenPort;
 use cell_core::{CellList, Src};
 use list_matching::{stand_in, stand_ins};
 use lists::{List, OutOfMemory};
-use route_filling::{FillError, tables_of};
+use route_filling::tables_of;
 use route_tables::{BOX_LIMIT, Tables};
 use routed_core::{Drawing, DrawnPort, GatePort};
 use std::alloc::Global;
@@ -124,10 +124,9 @@ fn filled(alloc: Global, drawing: &Drawing) -> Result<Option<Tables>, OutOfMemor
     if cells > BOX_LIMIT {
         return Ok(None);
     }
-    match tables_of(alloc, drawing, drawing.width, cells as usize) {
+    match tables_of(alloc, drawing, drawing.width, cells as usize)? {
         Ok(tables) => Ok(Some(tables)),
-        Err(FillError::Fault(_)) => Ok(None),
-        Err(FillError::NoMemory) => Err(OutOfMemory::NoMemory),
+        Err(_) => Ok(None),
     }
 }
 
