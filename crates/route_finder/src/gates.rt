@@ -2,10 +2,10 @@
 
 use crate::cells::Found;
 use crate::error::{DrawingFault, FindError};
-use crate::templates::{Template, Templates};
+use crate::templates::Template;
+use lists::OutOfMemory;
 use route_board::{Board, Owner, give_gate};
 use routed_core::{DrawnGate, GateKind, Shape};
-use std::alloc::AllocError;
 
 fn fits(board: &Board, template: &Template, cell: (u32, u32)) -> bool {
     for near in &template.nears {
@@ -22,19 +22,18 @@ fn fits(board: &Board, template: &Template, cell: (u32, u32)) -> bool {
 }
 
 // The first template that fits at a cell.
-fn fitting<'a>(board: &Board, templates: &'a Templates, cell: (u32, u32)) -> Option<&'a Template> {
-    for number in templates.with(board.surroundings(cell)) {
-        if let Some(template) = templates.get(*number) {
-            if fits(board, template, cell) {
-                return Some(template);
-            }
+fn fitting<'a>(board: &Board, templates: &'a [Template], cell: (u32, u32)) -> Option<&'a Template> {
+    let surroundings = board.surroundings(cell);
+    for template in templates {
+        if template.surroundings == surroundings && fits(board, template, cell) {
+            return Some(template);
         }
     }
     None
 }
 
 /// Adds a gate at a place of its north-west corner.
-pub fn add_gate(found: &mut Found, kind: GateKind, x: u32, y: u32) -> Result<(), AllocError> {
+pub fn add_gate(found: &mut Found, kind: GateKind, x: u32, y: u32) -> Result<(), OutOfMemory> {
     let gate = DrawnGate {
         kind,
         x,
@@ -48,27 +47,16 @@ pub fn add_gate(found: &mut Found, kind: GateKind, x: u32, y: u32) -> Result<(),
     Ok(())
 }
 
-fn find_gate(found: &mut Found, templates: &Templates, cell: (u32, u32)) -> Result<(), AllocError> {
-    if found.board.owner(cell) != Owner::Open {
-        return Ok(());
-    }
-    match fitting(&found.board, templates, cell) {
-        Some(template) => {
-            let (x, y) = (
-                cell.0.wrapping_sub(template.x),
-                cell.1.wrapping_sub(template.y),
-            );
-            add_gate(found, template.kind, x, y)
-        }
-        None => Ok(()),
-    }
-}
-
 /// Finds all gates but lone cells.
-pub fn find_gates(found: &mut Found, templates: &Templates) -> Result<(), AllocError> {
-    for y in 0..found.board.height() {
-        for x in 0..found.board.width() {
-            find_gate(found, templates, (x, y))?;
+pub fn find_gates(found: &mut Found, templates: &[Template]) -> Result<(), OutOfMemory> {
+    for y in 0..found.board.height {
+        for x in 0..found.board.width {
+            if found.board.owner((x, y)) == Owner::Open {
+                if let Some(template) = fitting(&found.board, templates, (x, y)) {
+                    let (x, y) = (x.wrapping_sub(template.x), y.wrapping_sub(template.y));
+                    add_gate(found, template.kind, x, y)?;
+                }
+            }
         }
     }
     Ok(())
@@ -103,23 +91,15 @@ fn misfit(found: &Found, template: &Template, at: (u32, u32)) -> Option<(u32, u3
     misfit
 }
 
-// The one cell at which a template does not fit that covers a cell.
-fn misfit_around(found: &Found, template: &Template, cell: (u32, u32)) -> Option<(u32, u32)> {
-    for near in &template.nears {
-        let at = (cell.0.wrapping_sub(near.x), cell.1.wrapping_sub(near.y));
-        if let Some(wrong) = misfit(found, template, at) {
-            return Some(wrong);
-        }
-    }
-    None
-}
-
 /// Returns the fault at a cell that is of no gate and of no wire: if all but one of the cells of a gate around it are
 /// as drawn, that one.
-pub fn fault_near(found: &Found, templates: &Templates, cell: (u32, u32)) -> FindError {
-    for template in templates.all() {
-        if let Some(wrong) = misfit_around(found, template, cell) {
-            return FindError::at(DrawingFault::Gate, wrong);
+pub fn fault_near(found: &Found, templates: &[Template], cell: (u32, u32)) -> FindError {
+    for template in templates {
+        for near in &template.nears {
+            let at = (cell.0.wrapping_sub(near.x), cell.1.wrapping_sub(near.y));
+            if let Some(wrong) = misfit(found, template, at) {
+                return FindError::at(DrawingFault::Gate, wrong);
+            }
         }
     }
     FindError::at(DrawingFault::Wire, cell)
