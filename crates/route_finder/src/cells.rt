@@ -1,5 +1,6 @@
 // What the search works on.
 
+use crate::error::FindError;
 use gate_library::GateLibrary;
 use route_board::{Board, Owner, STEPS};
 use routed_core::{DrawnGate, DrawnPort};
@@ -29,10 +30,12 @@ pub enum Way {
     Back,
 }
 
-/// What is at a gate: the number of the first of its wires, and whether the port table names one of its cells.
+/// What is at a gate: the number of the first of its wires, how many there are, and whether the port table names one of
+/// its cells.
 #[derive(Clone, Copy)]
 pub struct Use {
     pub link: u32,
+    pub wires: u32,
     pub is_named: bool,
 }
 
@@ -44,6 +47,7 @@ pub struct GateTime {
 }
 
 /// The gates and the wires that are found so far. Each gate has one use, two inputs that may be fed, and two times.
+/// The first fault is noted, and whether memory ran out.
 #[derive(Drop)]
 pub struct Found {
     pub period: u32,
@@ -56,6 +60,8 @@ pub struct Found {
     pub uses: Vec<Use>,
     pub are_fed: Vec<bool>,
     pub times: Vec<GateTime>,
+    pub fault: Option<FindError>,
+    pub is_short: bool,
 }
 
 impl Link {
@@ -85,6 +91,13 @@ impl Link {
 }
 
 impl Found {
+    /// Notes a fault, if none was noted before.
+    pub fn note(&mut self, fault: FindError) {
+        if self.fault.is_none() {
+            self.fault = Some(fault);
+        }
+    }
+
     /// Returns the port at a cell.
     pub fn port_at(&self, cell: (u32, u32)) -> Option<DrawnPort> {
         route_board::port_at(&self.board, &self.library, self.gates.as_slice(), cell)

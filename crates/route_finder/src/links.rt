@@ -1,10 +1,9 @@
-// Wires are followed from port to port. A wire ends at another cell than that at which it begins, so a ring, which leads
-// back to its port, is split by a lone cell.
+// Wires are followed from port to port. A wire ends at another cell than that at which it begins, so a lone cell splits
+// a ring, which leads back to its port.
 
 use crate::cells::{Found, Link, Way, state_at};
 use crate::error::{DrawingFault, FindError};
 use crate::lone::add_lone;
-use lists::OutOfMemory;
 use route_board::{Owner, STEPS, Traced, port_cell};
 use routed_core::{DrawnPort, GatePort};
 use ww_rule::{Pattern, State};
@@ -22,36 +21,31 @@ fn split_size(found: &Found, pattern: &Pattern, ring: &Link) -> Option<u32> {
 }
 
 // Adds the two wires that are left of a ring after so many of its cells, if the next one is a lone cell.
-fn add_halves(found: &mut Found, ring: Link, size: u32) -> Result<(), OutOfMemory> {
+fn add_halves(found: &mut Found, ring: Link, size: u32) {
     let gate = u32::try_from(found.gates.len()).unwrap_or(u32::MAX);
     if let Some(cell) = found.cell_before(&ring, ring.size.saturating_sub(size)) {
-        add_lone(found, cell)?;
+        add_lone(found, cell);
     }
     let port = GatePort::In(0);
     let lone = DrawnPort { gate, port };
     let after = size.saturating_add(1);
-    found.links.push(Link {
+    let first = Link {
         to: lone,
         size,
         ..ring
-    })?;
-    found.links.push(Link {
+    };
+    let second = Link {
         from: lone,
         start: ring.start.saturating_add(after),
         size: ring.size.saturating_sub(after),
         ..ring
-    })?;
-    Ok(())
+    };
+    found.is_short |= found.links.push(first).is_err();
+    found.is_short |= found.links.push(second).is_err();
 }
 
 // Adds the wire between two ports whose cells are the last of the path, from place `start` on.
-fn add_link(
-    found: &mut Found,
-    pattern: &Pattern,
-    from: DrawnPort,
-    to: DrawnPort,
-    start: usize,
-) -> Result<(), OutOfMemory> {
+fn add_link(found: &mut Found, pattern: &Pattern, from: DrawnPort, to: DrawnPort, start: usize) {
     let size = found.path.len().saturating_sub(start);
     let link = Link {
         from,
@@ -64,11 +58,11 @@ fn add_link(
     };
     if from == to {
         if let Some(size) = split_size(found, pattern, &link) {
-            return add_halves(found, link, size);
+            add_halves(found, link, size);
+            return;
         }
     }
-    found.links.push(link)?;
-    Ok(())
+    found.is_short |= found.links.push(link).is_err();
 }
 
 // Follows a wire from the cell of a port, by its first cell.
@@ -78,69 +72,65 @@ fn follow(
     from: DrawnPort,
     cell: (u32, u32),
     first: (u32, u32),
-) -> Result<(), FindError> {
+) {
     let start = found.path.len();
-    let end = match found.board.trace(cell, first, &mut found.path)? {
-        Traced::To(end) => end,
-        Traced::Lost(end) => return Err(FindError::at(DrawingFault::Wire, end)),
-    };
-    match found.port_at(end) {
-        Some(to) => Ok(add_link(found, pattern, from, to, start)?),
-        None => Err(FindError::at(DrawingFault::Gate, end)),
+    match found.board.trace(cell, first, &mut found.path) {
+        Ok(Traced::To(end)) => match found.port_at(end) {
+            Some(to) => add_link(found, pattern, from, to, start),
+            None => found.note(FindError::at(DrawingFault::Gate, end)),
+        },
+        Ok(Traced::Lost(end)) => found.note(FindError::at(DrawingFault::Wire, end)),
+        Err(_) => found.is_short = true,
     }
 }
 
 // Follows the wires from a port.
-fn follow_from(found: &mut Found, pattern: &Pattern, port: DrawnPort) -> Result<(), FindError> {
+fn follow_from(found: &mut Found, pattern: &Pattern, port: DrawnPort) {
     let Some(gate) = found.gates.get(port.gate as usize).copied() else {
-        return Ok(());
+        return;
     };
     let Some(cell) = port_cell(&found.library, gate, port.port) else {
-        return Ok(());
+        return;
     };
     for step in STEPS {
         let first = step.from(cell);
         if found.board.owner(first) == Owner::Open {
-            follow(found, pattern, port, cell, first)?;
+            follow(found, pattern, port, cell, first);
         }
     }
-    Ok(())
 }
 
 // Follows the wires from the inputs and the outputs of a gate, which has at most four of each.
-fn follow_from_gate(found: &mut Found, pattern: &Pattern, gate: u32) -> Result<(), FindError> {
+fn follow_from_gate(found: &mut Found, pattern: &Pattern, gate: u32) {
     for i in 0..4 {
         let port = GatePort::In(i);
-        follow_from(found, pattern, DrawnPort { gate, port })?;
+        follow_from(found, pattern, DrawnPort { gate, port });
     }
     for o in 0..4 {
         let port = GatePort::Out(o);
-        follow_from(found, pattern, DrawnPort { gate, port })?;
+        follow_from(found, pattern, DrawnPort { gate, port });
     }
-    Ok(())
 }
 
 /// Follows the wires from all gates.
-pub fn follow_wires(found: &mut Found, pattern: &Pattern) -> Result<(), FindError> {
+pub fn follow_wires(found: &mut Found, pattern: &Pattern) {
     let count = u32::try_from(found.gates.len()).unwrap_or(u32::MAX);
     for gate in 0..count {
-        follow_from_gate(found, pattern, gate)?;
+        follow_from_gate(found, pattern, gate);
     }
-    Ok(())
 }
 
 /// Follows the rings at which there is no gate: a conductor of each becomes a lone cell.
-pub fn follow_rings(found: &mut Found, pattern: &Pattern) -> Result<(), FindError> {
+pub fn follow_rings(found: &mut Found, pattern: &Pattern) {
     for y in 0..found.board.height {
         for x in 0..found.board.width {
             if found.board.owner((x, y)) == Owner::Open
                 && state_at(pattern, (x, y)) == State::Conductor
             {
                 let gate = u32::try_from(found.gates.len()).unwrap_or(u32::MAX);
-                add_lone(found, (x, y))?;
-                follow_from_gate(found, pattern, gate)?;
+                add_lone(found, (x, y));
+                follow_from_gate(found, pattern, gate);
             }
         }
     }
-    Ok(())
 }

@@ -1,7 +1,6 @@
 // The cells in and around a gate's drawing.
 
 use gate_library::GateDrawing;
-use lists::OutOfMemory;
 use route_board::{STEPS, port_of};
 use ww_rule::State;
 
@@ -79,21 +78,19 @@ pub fn inner_cell(drawing: &GateDrawing) -> (u32, u32) {
     best
 }
 
-/// Adds all cells of a drawing, and all empty ones beside those that are no ports, as they are near a cell.
-pub fn add_nears(
-    nears: &mut Vec<Near>,
-    drawing: &GateDrawing,
-    cell: (u32, u32),
-) -> Result<(), OutOfMemory> {
+/// Adds all cells of a drawing, and all empty ones beside those that are no ports, as they are near a cell. Answers
+/// whether memory runs out.
+pub fn add_nears(nears: &mut Vec<Near>, drawing: &GateDrawing, cell: (u32, u32)) -> bool {
+    let mut is_short = false;
     for v in 0..height(drawing).saturating_add(2) {
         for u in 0..drawing.width.saturating_add(2) {
             let other = (u.wrapping_sub(1), v.wrapping_sub(1));
             let is_drawn = is_drawn(drawing, other);
             if is_drawn || is_beside_inner(drawing, other) {
                 let (x, y) = (other.0.wrapping_sub(cell.0), other.1.wrapping_sub(cell.1));
-                nears.push(Near { x, y, is_drawn })?;
+                is_short |= nears.push(Near { x, y, is_drawn }).is_err();
             }
         }
     }
-    Ok(())
+    is_short
 }

@@ -3,54 +3,38 @@
 use crate::cells::Found;
 use crate::table::{LineKind, TableCell};
 use crate::times::{port_time, span_of};
-use lists::OutOfMemory;
 use std::alloc::Global;
 use std::collections::BinaryHeap;
 
 // Lets a time be no earlier than a generation, as far as whole periods go.
-fn raise(
-    found: &mut Found,
-    todo: &mut BinaryHeap<(u32, u32)>,
-    number: u32,
-    least: i64,
-) -> Result<(), OutOfMemory> {
+fn raise(found: &mut Found, todo: &mut BinaryHeap<(u32, u32)>, number: u32, least: i64) {
     if let Some(time) = found.times.get_mut(number as usize) {
         let wait = least.saturating_sub(i64::from(time.known.unwrap_or(0)));
         let periods = wait.checked_div(i64::from(found.period)).unwrap_or(0);
         let periods = u32::try_from(periods).unwrap_or(0);
         if time.periods < periods {
             time.periods = periods;
-            todo.push((periods, number))?;
+            found.is_short |= todo.push((periods, number)).is_err();
         }
     }
-    Ok(())
 }
 
 // The outputs and nets of the table are lit at their generations.
-fn begin_at_table(
-    found: &mut Found,
-    todo: &mut BinaryHeap<(u32, u32)>,
-    table: &[TableCell],
-) -> Result<(), OutOfMemory> {
+fn begin_at_table(found: &mut Found, todo: &mut BinaryHeap<(u32, u32)>, table: &[TableCell]) {
     for line in table {
         if !matches!(line.kind, LineKind::In) {
             if let Some(port) = found.port_at(line.cell) {
                 let at = port_time(found, port);
                 let generation = i64::try_from(line.generation).unwrap_or(i64::MAX);
                 let least = generation.saturating_sub(i64::from(at.after));
-                raise(found, todo, at.number, least)?;
+                raise(found, todo, at.number, least);
             }
         }
     }
-    Ok(())
 }
 
 // The wires to a gate are no less than 0 periods long.
-fn spread(
-    found: &mut Found,
-    todo: &mut BinaryHeap<(u32, u32)>,
-    time: u32,
-) -> Result<(), OutOfMemory> {
+fn spread(found: &mut Found, todo: &mut BinaryHeap<(u32, u32)>, time: u32) {
     let (gate, generation) = (time / 2, found.generation(time));
     let mut number = found.first_link(gate);
     for _ in 0..found.links.len() {
@@ -64,26 +48,20 @@ fn spread(
                 todo,
                 span.from,
                 generation.saturating_sub(span.shift),
-            )?;
+            );
         }
         number = link.next_at(gate);
     }
-    Ok(())
 }
 
 /// Finds the periods of all times.
-pub fn find_periods(
-    alloc: Global,
-    found: &mut Found,
-    table: &[TableCell],
-) -> Result<(), OutOfMemory> {
+pub fn find_periods(alloc: Global, found: &mut Found, table: &[TableCell]) {
     let mut todo = BinaryHeap::new(alloc);
-    begin_at_table(found, &mut todo, table)?;
+    begin_at_table(found, &mut todo, table);
     for _ in 0..found.times.len().saturating_add(found.links.len()) {
         let Some((_, time)) = todo.pop() else {
             break;
         };
-        spread(found, &mut todo, time)?;
+        spread(found, &mut todo, time);
     }
-    Ok(())
 }

@@ -6,11 +6,11 @@ use crate::error::{DrawingFault, FindError};
 use crate::table::{LineKind, TableCell};
 use crate::times::{port_time, span_of};
 use gate_library::Timing;
-use lists::{List, OutOfMemory};
+use lists::List;
 use routed_core::{Drawing, DrawnGate, DrawnPort, DrawnWire, GatePort};
 use ww_rule::{Pattern, State};
 
-/// The parts of a drawing that are made at the end.
+/// The parts of a drawing that are made at the end, and whether memory ran out.
 #[derive(Drop)]
 pub struct Parts {
     pub wires: Vec<DrawnWire>,
@@ -19,6 +19,7 @@ pub struct Parts {
     pub ins: Vec<DrawnPort>,
     pub outs: Vec<DrawnPort>,
     pub nets: Vec<Option<DrawnPort>>,
+    pub is_short: bool,
 }
 
 fn number(count: usize) -> u32 {
@@ -39,75 +40,54 @@ fn periods_of(found: &Found, link: &Link) -> u32 {
 }
 
 // Adds the cells of a wire, from its beginning on.
-fn add_path(path: &mut Vec<(u32, u32)>, found: &Found, link: &Link) -> Result<(), OutOfMemory> {
+fn add_path(parts: &mut Parts, found: &Found, link: &Link) {
     for place in 0..link.size {
         if let Some(cell) = found.cell_before(link, link.size.saturating_sub(place)) {
-            path.push(cell)?;
+            parts.is_short |= parts.path.push(cell).is_err();
         }
     }
-    Ok(())
 }
 
-// Adds the start bits of a wire of so many periods, whose end is lit first at this generation, the last latch's last.
-fn add_starts(
-    starts: &mut Vec<bool>,
-    found: &Found,
-    pattern: &Pattern,
-    link: &Link,
-    cycles: u32,
-    end: u32,
-) -> Result<(), OutOfMemory> {
-    for latch in 1..=cycles {
-        let wait = cycles.saturating_sub(latch).saturating_mul(found.period);
-        let state = found.state_before(pattern, link, end.saturating_add(wait));
-        starts.push(state == State::Head)?;
-    }
-    Ok(())
-}
-
-// Adds a wire that leads to an input, and its cells and start bits.
-fn add_wire(
-    parts: &mut Parts,
-    found: &Found,
-    pattern: &Pattern,
-    link: &Link,
-    input: u32,
-) -> Result<(), OutOfMemory> {
+// Adds the start bits of a wire of so many periods, the last latch's last.
+fn add_starts(parts: &mut Parts, found: &Found, pattern: &Pattern, link: &Link, cycles: u32) {
     let at = port_time(found, link.to);
     let end = found
         .generation(at.number)
         .saturating_add(i64::from(at.after));
-    let cycles = periods_of(found, link);
-    parts.wires.push(DrawnWire {
+    for latch in 1..=cycles {
+        let wait = cycles.saturating_sub(latch).saturating_mul(found.period);
+        let distance = generation(end).saturating_add(wait);
+        let is_head = found.state_before(pattern, link, distance) == State::Head;
+        parts.is_short |= parts.starts.push(is_head).is_err();
+    }
+}
+
+// Adds a wire that leads to an input, and its cells and start bits.
+fn add_wire(parts: &mut Parts, found: &Found, pattern: &Pattern, link: &Link, input: u32) {
+    let wire = DrawnWire {
         from: port_after(found, link.from),
         gate: link.to.gate,
         input,
         start: number(parts.path.len()),
         size: link.size,
         latch: number(parts.starts.len()),
-        cycles,
-    })?;
-    add_path(&mut parts.path, found, link)?;
-    add_starts(
-        &mut parts.starts,
-        found,
-        pattern,
-        link,
-        cycles,
-        generation(end),
-    )
+        cycles: periods_of(found, link),
+    };
+    parts.is_short |= parts.wires.push(wire).is_err();
+    add_path(parts, found, link);
+    add_starts(parts, found, pattern, link, wire.cycles);
 }
 
-/// Adds all wires.
-pub fn add_wires(parts: &mut Parts, found: &Found, pattern: &Pattern) -> Result<(), FindError> {
+/// Adds all wires, or returns the fault of the first that leads to no input.
+pub fn add_wires(parts: &mut Parts, found: &Found, pattern: &Pattern) -> Option<FindError> {
     for link in &found.links {
         let GatePort::In(input) = port_after(found, link.to).port else {
             let cell = found.path.get(link.start as usize).copied();
-            return Err(FindError::at(DrawingFault::Wire, cell.unwrap_or((0, 0))));
+            return Some(FindError::at(DrawingFault::Wire, cell.unwrap_or((0, 0))));
         };
-        add_wire(parts, found, pattern, link, input)?;
+        add_wire(parts, found, pattern, link, input);
     }
-    Ok(())
+    None
 }
 
 // A gate with its times.
@@ -142,17 +122,16 @@ pub fn time_gates(found: &mut Found) {
 }
 
 /// Adds the ports of the port table.
-pub fn add_ports(parts: &mut Parts, found: &Found, table: &[TableCell]) -> Result<(), OutOfMemory> {
+pub fn add_ports(parts: &mut Parts, found: &Found, table: &[TableCell]) {
     for line in table {
         let port = found.port_at(line.cell);
-        match (line.kind, port) {
-            (LineKind::In, Some(port)) => parts.ins.push(port)?,
-            (LineKind::Out, Some(port)) => parts.outs.push(port)?,
-            (LineKind::Net, port) => parts.nets.push(port)?,
-            _ => {}
-        }
+        parts.is_short |= match (line.kind, port) {
+            (LineKind::In, Some(port)) => parts.ins.push(port).is_err(),
+            (LineKind::Out, Some(port)) => parts.outs.push(port).is_err(),
+            (LineKind::Net, port) => parts.nets.push(port).is_err(),
+            _ => false,
+        };
     }
-    Ok(())
 }
 
 /// Puts the drawing together.

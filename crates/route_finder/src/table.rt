@@ -1,6 +1,5 @@
 // The cells of the port table.
 
-use lists::OutOfMemory;
 use pattern_reading::Ports;
 
 /// What a line of the port table names.
@@ -32,16 +31,20 @@ fn table_cell(kind: LineKind, x: u64, y: u64, generation: u64) -> TableCell {
     }
 }
 
-/// Adds the cells of inputs, outputs and nets, in this order.
-pub fn add_cells(cells: &mut Vec<TableCell>, ports: &Ports) -> Result<(), OutOfMemory> {
+/// Adds the cells of inputs, outputs and nets, in this order, and answers whether memory runs out.
+pub fn add_cells(cells: &mut Vec<TableCell>, ports: &Ports) -> bool {
+    let mut is_short = false;
     for line in ports.ins.as_slice() {
-        cells.push(table_cell(LineKind::In, line.x, line.y, 0))?;
+        let cell = table_cell(LineKind::In, line.x, line.y, 0);
+        is_short |= cells.push(cell).is_err();
     }
     for line in ports.outs.as_slice() {
-        cells.push(table_cell(LineKind::Out, line.x, line.y, ports.l))?;
+        let cell = table_cell(LineKind::Out, line.x, line.y, ports.l);
+        is_short |= cells.push(cell).is_err();
     }
     for line in ports.nets.as_slice() {
-        cells.push(table_cell(LineKind::Net, line.x, line.y, line.offset))?;
+        let cell = table_cell(LineKind::Net, line.x, line.y, line.offset);
+        is_short |= cells.push(cell).is_err();
     }
-    Ok(())
+    is_short
 }

@@ -3,7 +3,6 @@
 use crate::cells::{Found, Link};
 use crate::table::{LineKind, TableCell};
 use gate_library::{Answer, GateDrawing, Timing};
-use lists::OutOfMemory;
 use routed_core::{DrawnPort, GatePort};
 use std::alloc::Global;
 use ww_rule::{Pattern, State};
@@ -91,24 +90,18 @@ fn modulo(number: i64, period: u32) -> u32 {
 }
 
 // Notes a time that is not yet known.
-fn note(
-    found: &mut Found,
-    todo: &mut Vec<u32>,
-    number: u32,
-    generation: i64,
-) -> Result<(), OutOfMemory> {
+fn note(found: &mut Found, todo: &mut Vec<u32>, number: u32, generation: i64) {
     let time = modulo(generation, found.period);
     if let Some(place) = found.times.get_mut(number as usize) {
         if place.known.is_none() {
             place.known = Some(time);
-            todo.push(number)?;
+            found.is_short |= todo.push(number).is_err();
         }
     }
-    Ok(())
 }
 
 // Notes the times at the other ends of a gate's wires.
-fn spread(found: &mut Found, todo: &mut Vec<u32>, time: u32) -> Result<(), OutOfMemory> {
+fn spread(found: &mut Found, todo: &mut Vec<u32>, time: u32) {
     let (gate, generation) = (time / 2, found.generation(time));
     let mut number = found.first_link(gate);
     for _ in 0..found.links.len() {
@@ -117,93 +110,70 @@ fn spread(found: &mut Found, todo: &mut Vec<u32>, time: u32) -> Result<(), OutOf
         };
         let span = span_of(found, &link);
         if span.from == time {
-            note(found, todo, span.to, generation.saturating_add(span.shift))?;
+            note(found, todo, span.to, generation.saturating_add(span.shift));
         } else if span.to == time {
             note(
                 found,
                 todo,
                 span.from,
                 generation.saturating_sub(span.shift),
-            )?;
+            );
         }
         number = link.next_at(gate);
     }
-    Ok(())
 }
 
 // Notes the time of a port that is lit at this generation, and all that hang on it.
-fn begin(
-    found: &mut Found,
-    todo: &mut Vec<u32>,
-    port: DrawnPort,
-    generation: u32,
-) -> Result<(), OutOfMemory> {
+fn begin(found: &mut Found, todo: &mut Vec<u32>, port: DrawnPort, generation: u32) {
     let at = port_time(found, port);
     let generation = i64::from(generation) - i64::from(at.after);
-    note(found, todo, at.number, generation)?;
+    note(found, todo, at.number, generation);
     for _ in 0..found.times.len() {
         let Some(time) = todo.pop() else {
             break;
         };
-        spread(found, todo, time)?;
+        spread(found, todo, time);
     }
-    Ok(())
 }
 
 // The inputs and the outputs are lit at the generations of the port table.
-fn begin_at_table(
-    found: &mut Found,
-    todo: &mut Vec<u32>,
-    table: &[TableCell],
-) -> Result<(), OutOfMemory> {
+fn begin_at_table(found: &mut Found, todo: &mut Vec<u32>, table: &[TableCell]) {
     for line in table {
         if !matches!(line.kind, LineKind::Net) {
             if let Some(port) = found.port_at(line.cell) {
                 let generation = u32::try_from(line.generation).unwrap_or(0);
-                begin(found, todo, port, generation)?;
+                begin(found, todo, port, generation);
             }
         }
     }
-    Ok(())
 }
 
 // The nearest head of each wire tells when the wire's end is lit.
-fn begin_at_heads(
-    found: &mut Found,
-    todo: &mut Vec<u32>,
-    pattern: &Pattern,
-) -> Result<(), OutOfMemory> {
+fn begin_at_heads(found: &mut Found, todo: &mut Vec<u32>, pattern: &Pattern) {
     for number in 0..found.links.len() {
         if let Some(link) = found.links.get(number).copied() {
             if let Some(distance) = nearest_head(found, pattern, &link) {
-                begin(found, todo, link.to, distance)?;
+                begin(found, todo, link.to, distance);
             }
         }
     }
-    Ok(())
 }
 
 // A gate whose time is not known begins at generation 0.
-fn begin_rest(found: &mut Found, todo: &mut Vec<u32>) -> Result<(), OutOfMemory> {
+fn begin_rest(found: &mut Found, todo: &mut Vec<u32>) {
     for number in 0..found.links.len() {
         if let Some(link) = found.links.get(number).copied() {
             let after = port_time(found, link.from).after;
-            begin(found, todo, link.from, after)?;
+            begin(found, todo, link.from, after);
         }
     }
-    Ok(())
 }
 
 /// Finds the times of gates from those of inputs, outputs and electrons. A gate on which none of these hangs begins at
 /// generation 0.
-pub fn find_times(
-    alloc: Global,
-    found: &mut Found,
-    pattern: &Pattern,
-    table: &[TableCell],
-) -> Result<(), OutOfMemory> {
+pub fn find_times(alloc: Global, found: &mut Found, pattern: &Pattern, table: &[TableCell]) {
     let mut todo = Vec::new(alloc);
-    begin_at_table(found, &mut todo, table)?;
-    begin_at_heads(found, &mut todo, pattern)?;
-    begin_rest(found, &mut todo)
+    begin_at_table(found, &mut todo, table);
+    begin_at_heads(found, &mut todo, pattern);
+    begin_rest(found, &mut todo);
 }

@@ -2,8 +2,9 @@
 
 use crate::cells::{Found, Link, Use};
 use crate::error::{DrawingFault, FindError};
-use crate::table::TableCell;
+use crate::table::{LineKind, TableCell};
 use crate::times::nearest_head;
+use crate::ways::feed;
 use routed_core::{DrawnPort, Shape};
 use ww_rule::Pattern;
 
@@ -13,6 +14,7 @@ fn put_first(uses: &mut [Use], gate: u32, number: u32) -> u32 {
         Some(used) => {
             let next = used.link;
             used.link = number;
+            used.wires = used.wires.saturating_add(1);
             next
         }
         None => u32::MAX,
@@ -33,12 +35,15 @@ pub fn chain_links(uses: &mut [Use], links: &mut [Link]) {
     }
 }
 
-/// Notes the gates that the port table names.
-pub fn name_gates(found: &mut Found, table: &[TableCell]) {
+/// Notes which gates the port table names, and which inputs it drives.
+pub fn note_table(found: &mut Found, table: &[TableCell]) {
     for line in table {
         if let Some(port) = found.port_at(line.cell) {
             if let Some(used) = found.uses.get_mut(port.gate as usize) {
                 used.is_named = true;
+            }
+            if matches!(line.kind, LineKind::In) {
+                feed(found.are_fed.as_mut_slice(), port);
             }
         }
     }
@@ -48,8 +53,7 @@ pub fn name_gates(found: &mut Found, table: &[TableCell]) {
 fn loose_end(found: &Found, link: &Link, end: DrawnPort) -> Option<(u32, u32)> {
     let used = found.uses.get(end.gate as usize)?;
     let gate = found.gates.get(end.gate as usize)?;
-    let first = found.links.get(used.link as usize)?;
-    let is_alone = first.next_at(end.gate) == u32::MAX && link.from.gate != link.to.gate;
+    let is_alone = used.wires == 1 && link.from.gate != link.to.gate;
     if gate.kind.shape == Shape::Lone && is_alone && !used.is_named {
         Some((gate.x, gate.y))
     } else {
@@ -57,18 +61,18 @@ fn loose_end(found: &Found, link: &Link, end: DrawnPort) -> Option<(u32, u32)> {
     }
 }
 
-/// Fails if a wire leads to a cell, or a wire with no electrons from one, at which it is alone and which is no cell of the
-/// port table.
-pub fn check_ends(found: &Found, pattern: &Pattern) -> Result<(), FindError> {
+/// Returns the fault of the first wire that leads to a cell, or with no electrons from one, at which it is alone and
+/// which is no cell of the port table.
+pub fn fault_of_ends(found: &Found, pattern: &Pattern) -> Option<FindError> {
     for link in &found.links {
         if let Some(cell) = loose_end(found, link, link.to) {
-            return Err(FindError::at(DrawingFault::Wire, cell));
+            return Some(FindError::at(DrawingFault::Wire, cell));
         }
         if let Some(cell) = loose_end(found, link, link.from) {
             if nearest_head(found, pattern, link).is_none() {
-                return Err(FindError::at(DrawingFault::Wire, cell));
+                return Some(FindError::at(DrawingFault::Wire, cell));
             }
         }
     }
-    Ok(())
+    None
 }

@@ -1,8 +1,6 @@
 // In which direction each wire runs.
 
 use crate::cells::{Found, Link, Way};
-use crate::table::{LineKind, TableCell};
-use lists::OutOfMemory;
 use routed_core::{DrawnPort, GatePort};
 use std::alloc::Global;
 use ww_rule::{Pattern, State};
@@ -14,8 +12,8 @@ fn input_number(gate: u32, input: u32) -> usize {
         .saturating_add(input as usize)
 }
 
-// Notes that a wire leads to a port, or that it is driven from outside.
-fn feed(are_fed: &mut [bool], port: DrawnPort) {
+/// Notes that a wire leads to a port, or that it is driven from outside.
+pub fn feed(are_fed: &mut [bool], port: DrawnPort) {
     if let GatePort::In(input) = port.port {
         if let Some(is_fed) = are_fed.get_mut(input_number(port.gate, input)) {
             *is_fed = true;
@@ -71,16 +69,8 @@ fn direct_at_once(found: &mut Found, pattern: &Pattern) {
     }
 }
 
-// Feeds the inputs of the port table, and those to which wires lead.
-fn feed_inputs(found: &mut Found, pattern: &Pattern, table: &[TableCell]) {
-    for line in table {
-        if matches!(line.kind, LineKind::In) {
-            if let Some(port) = found.port_at(line.cell) {
-                feed(found.are_fed.as_mut_slice(), port);
-            }
-        }
-    }
-    direct_at_once(found, pattern);
+// Feeds the inputs to which wires lead.
+fn feed_ends(found: &mut Found) {
     for link in &found.links {
         if link.way != Way::Unknown {
             feed(found.are_fed.as_mut_slice(), link.to);
@@ -89,23 +79,17 @@ fn feed_inputs(found: &mut Found, pattern: &Pattern, table: &[TableCell]) {
 }
 
 // Lets a wire run in this direction, if none is known yet, and looks at its ports again.
-fn direct(
-    found: &mut Found,
-    todo: &mut Vec<DrawnPort>,
-    number: u32,
-    way: Way,
-) -> Result<(), OutOfMemory> {
+fn direct(found: &mut Found, todo: &mut Vec<DrawnPort>, number: u32, way: Way) {
     let Some(link) = found.links.get_mut(number as usize) else {
-        return Ok(());
+        return;
     };
     if link.way == Way::Unknown {
         let directed = link.in_way(way);
         *link = directed;
         feed(found.are_fed.as_mut_slice(), directed.to);
-        todo.push(directed.from)?;
-        todo.push(directed.to)?;
+        found.is_short |= todo.push(directed.from).is_err();
+        found.is_short |= todo.push(directed.to).is_err();
     }
-    Ok(())
 }
 
 // How many ends of wires are at a port whose directions are not known.
@@ -126,71 +110,60 @@ fn open_count(found: &Found, port: DrawnPort) -> u32 {
 
 // Directs the wires at a port that have only one direction left: from it if it is a source, and to it if there is one
 // wire alone.
-fn settle(
-    found: &mut Found,
-    todo: &mut Vec<DrawnPort>,
-    port: DrawnPort,
-) -> Result<(), OutOfMemory> {
+fn settle(found: &mut Found, todo: &mut Vec<DrawnPort>, port: DrawnPort) {
     let is_source = is_source(found, port);
     if !is_source && open_count(found, port) != 1 {
-        return Ok(());
+        return;
     }
     let mut number = found.first_link(port.gate);
     for _ in 0..found.links.len() {
         let Some(link) = found.links.get(number as usize).copied() else {
             break;
         };
-        if link.from == port || link.to == port {
-            let way = if (link.from == port) == is_source {
+        let at_from = link.from == port;
+        if at_from || link.to == port {
+            let way = if at_from == is_source {
                 Way::Onward
             } else {
                 Way::Back
             };
-            direct(found, todo, number, way)?;
+            direct(found, todo, number, way);
         }
         number = link.next_at(port.gate);
     }
-    Ok(())
 }
 
 // Settles the ports that are to be looked at: two of each gate, and those of each wire that is directed.
-fn settle_all(found: &mut Found, todo: &mut Vec<DrawnPort>) -> Result<(), OutOfMemory> {
+fn settle_all(found: &mut Found, todo: &mut Vec<DrawnPort>) {
     let most = found.links.len().saturating_add(found.gates.len());
     for _ in 0..most.saturating_mul(2) {
         let Some(port) = todo.pop() else {
             break;
         };
-        settle(found, todo, port)?;
+        settle(found, todo, port);
     }
-    Ok(())
 }
 
 // Looks at each input.
-fn add_inputs(todo: &mut Vec<DrawnPort>, gates: usize) -> Result<(), OutOfMemory> {
-    for gate in 0..u32::try_from(gates).unwrap_or(u32::MAX) {
+fn add_inputs(found: &mut Found, todo: &mut Vec<DrawnPort>) {
+    for gate in 0..u32::try_from(found.gates.len()).unwrap_or(u32::MAX) {
         for input in 0..2 {
             let port = GatePort::In(input);
-            todo.push(DrawnPort { gate, port })?;
+            found.is_short |= todo.push(DrawnPort { gate, port }).is_err();
         }
     }
-    Ok(())
 }
 
-/// Directs all wires: from outputs, from driven inputs, as electrons run, and so that one wire leads to each input. Those
-/// that are left run onward, each with what it tells of others.
-pub fn direct_wires(
-    alloc: Global,
-    found: &mut Found,
-    pattern: &Pattern,
-    table: &[TableCell],
-) -> Result<(), OutOfMemory> {
-    feed_inputs(found, pattern, table);
+/// Directs all wires: from outputs, from driven inputs, as electrons run, and so that one wire leads to each input.
+/// Those that are left run onward, each with what it tells of others.
+pub fn direct_wires(alloc: Global, found: &mut Found, pattern: &Pattern) {
+    direct_at_once(found, pattern);
+    feed_ends(found);
     let mut todo = Vec::new(alloc);
-    add_inputs(&mut todo, found.gates.len())?;
-    settle_all(found, &mut todo)?;
+    add_inputs(found, &mut todo);
+    settle_all(found, &mut todo);
     for number in 0..u32::try_from(found.links.len()).unwrap_or(u32::MAX) {
-        direct(found, &mut todo, number, Way::Onward)?;
-        settle_all(found, &mut todo)?;
+        direct(found, &mut todo, number, Way::Onward);
+        settle_all(found, &mut todo);
     }
-    Ok(())
 }

@@ -162,8 +162,8 @@ impl Named {
             latch: u32::try_from(self.starts.len()).unwrap_or(u32::MAX),
             cycles: u32::try_from(starts.len()).unwrap_or(u32::MAX),
         })?;
-        for bit in starts.iter().rev() {
-            self.starts.push(*bit == b'1')?;
+        for i in (0..starts.len()).rev() {
+            self.starts.push(starts[i] == b'1')?;
         }
         Ok(())
     }
