@@ -2,7 +2,7 @@
 use crate::cases::CASES;
 use crate::fails::expect_holds;
 use pattern_reading::Ports;
-use route_finder::{FindError, crop_of, find};
+use route_finder::{FindError, find};
 use route_lines::{gate_lines, read};
 use routed_core::Drawing;
 use std::alloc::Global;
@@ -61,24 +61,4 @@ fn gates_and_wires_are_found(rt: HostRuntime) -> Result<(), Fail> {
         expect_holds(about, is_so)?;
     }
     Ok(())
-}
-
-// A wire whose box was cut to its cells, with the table that it had before.
-const CROPPED: &str = "#C BLIFWW 2 P 3 L 5 C 1
-#C BLIFWW IN 5 3 a
-#C BLIFWW OUT 10 3 y
-x = 6, y = 1, rule = WireWorld
-6C!
-";
-
-fn crop(alloc: Global) -> Result<Option<(u64, u64)>, Fail> {
-    let text = CROPPED.as_bytes();
-    let pattern = rle_read::read(alloc, text)?;
-    let ports = port_table::read(alloc, text, 100, 100)?;
-    Ok(crop_of(alloc, &pattern, &ports)?)
-}
-
-#[test]
-fn a_cropped_pattern_is_placed(rt: HostRuntime) -> Result<(), Fail> {
-    expect_holds("the offset", crop(rt.alloc())? == Some((5, 3)))
 }

@@ -3,11 +3,8 @@ ghost use Rattle.std.specs.Prelude.{◌≡◌};
 
 use crate::steps::STEPS;
 use lists::OutOfMemory;
-use std::alloc::{AllocError, Global};
+use std::alloc::Global;
 use ww_rule::{Pattern, State};
-
-// The most cells of a box.
-const MOST_CELLS: u64 = 67108864;
 
 /// What a cell belongs to.
 #[derive(Clone, Copy, PartialEq)]
@@ -33,8 +30,8 @@ pub enum Traced {
 /// The cells of a box, by columns and rows.
 #[derive(Drop)]
 pub struct Board {
-    width: u32,
-    height: u32,
+    pub width: u32,
+    pub height: u32,
     owners: Vec<Owner>,
 }
 
@@ -45,7 +42,7 @@ fn owner_of(state: State) -> Owner {
     }
 }
 
-fn add_row(owners: &mut Vec<Owner>, row: &[State]) -> Result<(), AllocError> {
+fn add_row(owners: &mut Vec<Owner>, row: &[State]) -> Result<(), OutOfMemory> {
     for state in row {
         owners.push(owner_of(*state))?;
     }
@@ -53,15 +50,12 @@ fn add_row(owners: &mut Vec<Owner>, row: &[State]) -> Result<(), AllocError> {
 }
 
 impl Board {
-    /// Makes the board of a pattern, of whose drawn cells all are open, or `None` if its box has over 2^26 cells.
+    /// Makes the board of a pattern, of whose drawn cells all are open, or `None` if a side of its box is 2^32 or more.
     pub fn new(alloc: Global, pattern: &Pattern) -> Result<Option<Board>, OutOfMemory> {
         let (Ok(width), Ok(height)) = (u32::try_from(pattern.width), u32::try_from(pattern.height))
         else {
             return Ok(None);
         };
-        if u64::from(width).saturating_mul(u64::from(height)) > MOST_CELLS {
-            return Ok(None);
-        }
         let mut owners = Vec::with_capacity(
             alloc,
             (width as usize).saturating_mul(height as usize),
@@ -74,16 +68,6 @@ impl Board {
             height,
             owners,
         }))
-    }
-
-    /// Returns how many columns the box has.
-    pub fn width(&self) -> u32 {
-        self.width
-    }
-
-    /// Returns how many rows the box has.
-    pub fn height(&self) -> u32 {
-        self.height
     }
 
     // The number of a cell, which is past the last one's if the cell is outside.
@@ -152,7 +136,7 @@ impl Board {
         before: (u32, u32),
         first: (u32, u32),
         path: &mut Vec<(u32, u32)>,
-    ) -> Result<Traced, AllocError> {
+    ) -> Result<Traced, OutOfMemory> {
         let (mut last, mut cell) = (before, first);
         for _ in 0..self.owners.len() {
             self.give(cell, Owner::Wire);

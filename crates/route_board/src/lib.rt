@@ -7,5 +7,5 @@ mod ports;
 mod steps;
 
 pub use board::{Board, Owner, Traced};
-pub use ports::{give_gate, port_at, port_cell};
+pub use ports::{give_gate, port_at, port_cell, port_of};
 pub use steps::{STEPS, Step};

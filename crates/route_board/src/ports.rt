@@ -5,8 +5,9 @@ use gate_library::{GateDrawing, GateLibrary};
 use routed_core::{DrawnGate, DrawnPort, GatePort};
 use ww_rule::State;
 
-// The number of a cell's port among those of a drawing: its inputs first.
-fn port_of(drawing: &GateDrawing, x: u32, y: u32) -> Option<GatePort> {
+/// Returns the port at a cell of a drawing.
+pub fn port_of(drawing: &GateDrawing, cell: (u32, u32)) -> Option<GatePort> {
+    let (x, y) = cell;
     let mut number = 0u32;
     for input in drawing.ins.as_slice() {
         if input.x == x && input.y == y {
@@ -35,8 +36,8 @@ pub fn port_at(
         return None;
     };
     let drawn = gates.get(gate as usize)?;
-    let (x, y) = (cell.0.wrapping_sub(drawn.x), cell.1.wrapping_sub(drawn.y));
-    let port = port_of(library.drawing(drawn.kind), x, y)?;
+    let cell = (cell.0.wrapping_sub(drawn.x), cell.1.wrapping_sub(drawn.y));
+    let port = port_of(library.drawing(drawn.kind), cell)?;
     Some(DrawnPort { gate, port })
 }
 

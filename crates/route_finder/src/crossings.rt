@@ -1,9 +1,22 @@
-// Crossings whose second input is lit before the first are mirrored.
+// Crossings whose second input is lit before the first are mirrored, where that is their own drawing.
 
-use crate::cells::Link;
-use routed_core::{DrawnGate, DrawnPort, GateKind, GatePort, Shape, Turn};
+use crate::cells::Found;
+use routed_core::{DrawnPort, GatePort, Shape, Turn};
 
-fn mirrored(turn: Turn) -> Turn {
+/// Returns whether a gate is such a crossing.
+pub fn is_mirrored(found: &Found, gate: u32) -> bool {
+    let first = gate.saturating_mul(2);
+    match found.gates.get(gate as usize) {
+        Some(drawn) => {
+            matches!(drawn.kind.shape, Shape::Cross | Shape::TapTwice)
+                && found.generation(first.saturating_add(1)) < found.generation(first)
+        }
+        None => false,
+    }
+}
+
+/// Returns a turn, mirrored.
+pub fn mirrored(turn: Turn) -> Turn {
     match turn {
         Turn::East => Turn::EastMirrored,
         Turn::EastMirrored => Turn::East,
@@ -16,48 +29,17 @@ fn mirrored(turn: Turn) -> Turn {
     }
 }
 
-/// Returns whether a crossing's drawing is its own mirror image.
-pub fn is_own_mirror(shape: Shape) -> bool {
-    matches!(shape, Shape::Cross | Shape::TapTwice)
-}
-
-/// Mirrors a crossing in its place.
-pub fn mirror(gate: &mut DrawnGate) {
-    gate.kind = GateKind {
-        shape: gate.kind.shape,
-        turn: mirrored(gate.kind.turn),
-    };
-}
-
-// The inputs change places, and so do the outputs on the two sides, which are numbered in pairs.
-fn mirrored_port(port: GatePort) -> GatePort {
-    match port {
-        GatePort::In(i) => GatePort::In(i ^ 1),
-        GatePort::Out(o) => GatePort::Out(o ^ 1),
+/// Returns a port after crossings have been mirrored: their inputs change places, and so do the outputs on their two
+/// sides, which are numbered in pairs.
+pub fn port_after(found: &Found, port: DrawnPort) -> DrawnPort {
+    if !is_mirrored(found, port.gate) {
+        return port;
     }
-}
-
-// A port after the gates that are listed have been mirrored.
-fn port_after(are_mirrored: &[bool], port: DrawnPort) -> DrawnPort {
-    if are_mirrored
-        .get(port.gate as usize)
-        .copied()
-        .unwrap_or(false)
-    {
-        DrawnPort {
-            gate: port.gate,
-            port: mirrored_port(port.port),
-        }
-    } else {
-        port
+    DrawnPort {
+        gate: port.gate,
+        port: match port.port {
+            GatePort::In(i) => GatePort::In(i ^ 1),
+            GatePort::Out(o) => GatePort::Out(o ^ 1),
+        },
     }
-}
-
-/// Names the ports of a wire anew after gates have been mirrored.
-pub fn rename_ends(are_mirrored: &[bool], link: &mut Link) {
-    let [first, second] = link.ends;
-    link.ends = [
-        port_after(are_mirrored, first),
-        port_after(are_mirrored, second),
-    ];
 }

@@ -3,7 +3,6 @@ ghost use Rattle.std.specs.Prelude.{◌≡◌};
 ghost use Rattle.route_finder.specs.declared.error.FindError.TheVariants.{NoMemory};
 
 use lists::OutOfMemory;
-use std::alloc::{AllocError, AllocFailed};
 
 /// What is at fault at a cell.
 #[derive(Clone, Copy, Debug)]
@@ -21,7 +20,7 @@ pub enum DrawingFault {
 pub enum FindError {
     /// The cell in column x and row y is at fault.
     Fault { kind: DrawingFault, x: u32, y: u32 },
-    /// The box has over 2^26 cells, or the period or the latency is over 2^31.
+    /// A side of the box is 2^32 or more, or the period or the latency is over 2^31.
     TooLarge,
     /// Memory runs out.
     NoMemory,
@@ -42,22 +41,6 @@ impl From<OutOfMemory> for FindError {
     ghost from_gives = { λ _ e. e ≡ NoMemory };
 
     fn from(_: OutOfMemory) -> Self {
-        FindError::NoMemory
-    }
-}
-
-impl From<AllocError> for FindError {
-    ghost from_gives = { λ _ e. e ≡ NoMemory };
-
-    fn from(_: AllocError) -> Self {
-        FindError::NoMemory
-    }
-}
-
-impl<T: Drop> From<AllocFailed<T>> for FindError {
-    ghost from_gives = { λ _ e. e ≡ NoMemory };
-
-    fn from(_: AllocFailed<T>) -> Self {
         FindError::NoMemory
     }
 }

@@ -2,13 +2,13 @@
 
 use crate::cells::Found;
 use crate::error::{DrawingFault, FindError};
+use crate::near::Near;
 use crate::templates::{Template, Templates};
 use route_board::{Board, Owner, give_gate};
 use routed_core::{DrawnGate, GateKind, Shape};
-use std::alloc::AllocError;
 
-fn fits(board: &Board, template: &Template, cell: (u32, u32)) -> bool {
-    for near in &template.nears {
+fn fits(board: &Board, nears: &[Near], cell: (u32, u32)) -> bool {
+    for near in nears {
         let wanted = if near.is_drawn {
             Owner::Open
         } else {
@@ -23,18 +23,19 @@ fn fits(board: &Board, template: &Template, cell: (u32, u32)) -> bool {
 
 // The first template that fits at a cell.
 fn fitting<'a>(board: &Board, templates: &'a Templates, cell: (u32, u32)) -> Option<&'a Template> {
-    for number in templates.with(board.surroundings(cell)) {
-        if let Some(template) = templates.get(*number) {
-            if fits(board, template, cell) {
-                return Some(template);
-            }
+    let surroundings = board.surroundings(cell);
+    for template in &templates.all {
+        if template.surroundings == surroundings
+            && fits(board, templates.nears_of(template), cell)
+        {
+            return Some(template);
         }
     }
     None
 }
 
 /// Adds a gate at a place of its north-west corner.
-pub fn add_gate(found: &mut Found, kind: GateKind, x: u32, y: u32) -> Result<(), AllocError> {
+pub fn add_gate(found: &mut Found, kind: GateKind, x: u32, y: u32) {
     let gate = DrawnGate {
         kind,
         x,
@@ -44,34 +45,21 @@ pub fn add_gate(found: &mut Found, kind: GateKind, x: u32, y: u32) -> Result<(),
     };
     let number = u32::try_from(found.gates.len()).unwrap_or(u32::MAX);
     give_gate(&mut found.board, found.library.drawing(kind), gate, number);
-    found.gates.push(gate)?;
-    Ok(())
-}
-
-fn find_gate(found: &mut Found, templates: &Templates, cell: (u32, u32)) -> Result<(), AllocError> {
-    if found.board.owner(cell) != Owner::Open {
-        return Ok(());
-    }
-    match fitting(&found.board, templates, cell) {
-        Some(template) => {
-            let (x, y) = (
-                cell.0.wrapping_sub(template.x),
-                cell.1.wrapping_sub(template.y),
-            );
-            add_gate(found, template.kind, x, y)
-        }
-        None => Ok(()),
-    }
+    found.is_short |= found.gates.push(gate).is_err();
 }
 
 /// Finds all gates but lone cells.
-pub fn find_gates(found: &mut Found, templates: &Templates) -> Result<(), AllocError> {
-    for y in 0..found.board.height() {
-        for x in 0..found.board.width() {
-            find_gate(found, templates, (x, y))?;
+pub fn find_gates(found: &mut Found, templates: &Templates) {
+    for y in 0..found.board.height {
+        for x in 0..found.board.width {
+            if found.board.owner((x, y)) == Owner::Open {
+                if let Some(template) = fitting(&found.board, templates, (x, y)) {
+                    let (x, y) = (x.wrapping_sub(template.x), y.wrapping_sub(template.y));
+                    add_gate(found, template.kind, x, y);
+                }
+            }
         }
     }
-    Ok(())
 }
 
 // Whether a cell is of a gate that is no lone cell.
@@ -86,9 +74,9 @@ fn is_of_whole_gate(found: &Found, cell: (u32, u32)) -> bool {
 }
 
 // The one cell at which a template does not fit, if none of its cells is of another gate.
-fn misfit(found: &Found, template: &Template, at: (u32, u32)) -> Option<(u32, u32)> {
+fn misfit(found: &Found, nears: &[Near], at: (u32, u32)) -> Option<(u32, u32)> {
     let mut misfit = None;
-    for near in &template.nears {
+    for near in nears {
         let cell = near.from(at);
         if near.is_drawn && is_of_whole_gate(found, cell) {
             return None;
@@ -103,23 +91,16 @@ fn misfit(found: &Found, template: &Template, at: (u32, u32)) -> Option<(u32, u3
     misfit
 }
 
-// The one cell at which a template does not fit that covers a cell.
-fn misfit_around(found: &Found, template: &Template, cell: (u32, u32)) -> Option<(u32, u32)> {
-    for near in &template.nears {
-        let at = (cell.0.wrapping_sub(near.x), cell.1.wrapping_sub(near.y));
-        if let Some(wrong) = misfit(found, template, at) {
-            return Some(wrong);
-        }
-    }
-    None
-}
-
 /// Returns the fault at a cell that is of no gate and of no wire: if all but one of the cells of a gate around it are
 /// as drawn, that one.
 pub fn fault_near(found: &Found, templates: &Templates, cell: (u32, u32)) -> FindError {
-    for template in templates.all() {
-        if let Some(wrong) = misfit_around(found, template, cell) {
-            return FindError::at(DrawingFault::Gate, wrong);
+    for template in &templates.all {
+        let nears = templates.nears_of(template);
+        for near in nears {
+            let at = (cell.0.wrapping_sub(near.x), cell.1.wrapping_sub(near.y));
+            if let Some(wrong) = misfit(found, nears, at) {
+                return FindError::at(DrawingFault::Gate, wrong);
+            }
         }
     }
     FindError::at(DrawingFault::Wire, cell)

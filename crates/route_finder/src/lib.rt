@@ -3,23 +3,20 @@
 #![tactic(auto)]
 
 mod cells;
-mod crop;
 mod crossings;
-mod ends;
 mod error;
 mod finder;
 mod gates;
-mod groups;
 mod links;
 mod lone;
 mod near;
 mod periods;
 mod result;
-mod rings;
+mod table;
 mod templates;
 mod times;
+mod uses;
 mod ways;
 
-pub use crop::crop_of;
 pub use error::{DrawingFault, FindError};
 pub use finder::find;

@@ -1,8 +1,7 @@
 // The cells in and around a gate's drawing.
 
 use gate_library::GateDrawing;
-use route_board::STEPS;
-use std::alloc::{AllocError, Global};
+use route_board::{STEPS, port_of};
 use ww_rule::State;
 
 /// A cell near another one, from which it is so many columns east and rows south, modulo 2^32; and whether it is drawn.
@@ -34,27 +33,9 @@ fn is_drawn(drawing: &GateDrawing, cell: (u32, u32)) -> bool {
     }
 }
 
-fn is_input(drawing: &GateDrawing, cell: (u32, u32)) -> bool {
-    for input in drawing.ins.as_slice() {
-        if (input.x, input.y) == cell {
-            return true;
-        }
-    }
-    false
-}
-
-fn is_output(drawing: &GateDrawing, cell: (u32, u32)) -> bool {
-    for output in drawing.outs.as_slice() {
-        if (output.x, output.y) == cell {
-            return true;
-        }
-    }
-    false
-}
-
 // Whether a cell is drawn, and is no port.
 fn is_inner(drawing: &GateDrawing, cell: (u32, u32)) -> bool {
-    is_drawn(drawing, cell) && !is_input(drawing, cell) && !is_output(drawing, cell)
+    is_drawn(drawing, cell) && port_of(drawing, cell).is_none()
 }
 
 fn is_beside_inner(drawing: &GateDrawing, cell: (u32, u32)) -> bool {
@@ -68,18 +49,14 @@ fn is_beside_inner(drawing: &GateDrawing, cell: (u32, u32)) -> bool {
 
 fn height(drawing: &GateDrawing) -> u32 {
     let cells = u32::try_from(drawing.cells.len()).unwrap_or(0);
-    if drawing.width == 0 {
-        0
-    } else {
-        cells / drawing.width
-    }
+    cells / drawing.width.max(1)
 }
 
 /// Returns which cells beside one of a drawing are drawn, as `Board::surroundings` does.
-pub fn surroundings_of(drawing: &GateDrawing, x: u32, y: u32) -> u8 {
+pub fn surroundings_of(drawing: &GateDrawing, cell: (u32, u32)) -> u8 {
     let (mut bits, mut bit) = (0u8, 1u8);
     for step in STEPS {
-        if is_drawn(drawing, step.from((x, y))) {
+        if is_drawn(drawing, step.from(cell)) {
             bits |= bit;
         }
         bit = bit.wrapping_mul(2);
@@ -92,8 +69,8 @@ pub fn inner_cell(drawing: &GateDrawing) -> (u32, u32) {
     let (mut best, mut most) = ((0, 0), 0);
     for y in 0..height(drawing) {
         for x in 0..drawing.width {
-            let count = surroundings_of(drawing, x, y).count_ones();
-            if is_inner(drawing, (x, y)) && count > most {
+            let count = surroundings_of(drawing, (x, y)).count_ones();
+            if count > most && is_inner(drawing, (x, y)) {
                 (best, most) = ((x, y), count);
             }
         }
@@ -101,23 +78,19 @@ pub fn inner_cell(drawing: &GateDrawing) -> (u32, u32) {
     best
 }
 
-/// Returns all cells of a drawing, and all empty ones beside those that are no ports, as they are near a cell.
-pub fn nears_of(
-    alloc: Global,
-    drawing: &GateDrawing,
-    x: u32,
-    y: u32,
-) -> Result<Vec<Near>, AllocError> {
-    let mut nears = Vec::new(alloc);
+/// Adds all cells of a drawing, and all empty ones beside those that are no ports, as they are near a cell. Answers
+/// whether memory runs out.
+pub fn add_nears(nears: &mut Vec<Near>, drawing: &GateDrawing, cell: (u32, u32)) -> bool {
+    let mut is_short = false;
     for v in 0..height(drawing).saturating_add(2) {
         for u in 0..drawing.width.saturating_add(2) {
-            let cell = (u.wrapping_sub(1), v.wrapping_sub(1));
-            let is_drawn = is_drawn(drawing, cell);
-            if is_drawn || is_beside_inner(drawing, cell) {
-                let (x, y) = (cell.0.wrapping_sub(x), cell.1.wrapping_sub(y));
-                nears.push(Near { x, y, is_drawn })?;
+            let other = (u.wrapping_sub(1), v.wrapping_sub(1));
+            let is_drawn = is_drawn(drawing, other);
+            if is_drawn || is_beside_inner(drawing, other) {
+                let (x, y) = (other.0.wrapping_sub(cell.0), other.1.wrapping_sub(cell.1));
+                is_short |= nears.push(Near { x, y, is_drawn }).is_err();
             }
         }
     }
-    Ok(nears)
+    is_short
 }

@@ -31,8 +31,8 @@ fn is_gate_line(line: &[u8]) -> bool
     is_of_gate(line) && is_in_line(line)
 }
 
-// The first line without its line feed, and the bytes after it; `None` if there is no line feed.
-fn first_line(bytes: &[u8]) -> Option<(&[u8], &[u8])>
+/// Returns the first line without its line feed, and the bytes after it; `None` if there is no line feed.
+pub fn first_line(bytes: &[u8]) -> Option<(&[u8], &[u8])>
     ensures cut { IfSome result (λ parts. bytes.now ≡ parts.0.now ++ 10 ∷ parts.1.now) }
     ensures feedless { IfSome result (λ parts. All (λ b. b ≢ 10) parts.0.now) }
     ensures none { result ≡ None → All (λ b. b ≢ 10) bytes.now }

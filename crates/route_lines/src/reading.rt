@@ -1,13 +1,14 @@
 // Reading the lines of gates and wires.
 
+use crate::comments::first_line;
 use crate::words::{split_word, step_named};
 use gate_library::{GateLibrary, kind_named};
 use lists::{List, OutOfMemory};
 use pattern_lines::number_in;
-use pattern_reading::{PortLine, Ports};
+use pattern_reading::Ports;
 use route_board::{Board, Owner, Step, Traced, give_gate, port_at};
 use routed_core::{Drawing, DrawnGate, DrawnPort, DrawnWire, GatePort};
-use std::alloc::{AllocError, Global};
+use std::alloc::Global;
 use ww_rule::Pattern;
 
 // A line of a wire: the cells of its ports, the step from the first, and its start bits in order of arrival.
@@ -28,6 +29,9 @@ struct Named {
     wires: Vec<DrawnWire>,
     path: Vec<(u32, u32)>,
     starts: Vec<bool>,
+    ins: Vec<DrawnPort>,
+    outs: Vec<DrawnPort>,
+    nets: Vec<Option<DrawnPort>>,
 }
 
 fn number(line: &[u8]) -> Option<(u32, &[u8])> {
@@ -66,18 +70,19 @@ fn gate_in(line: &[u8]) -> Option<DrawnGate> {
     })
 }
 
-fn are_starts(word: &[u8]) -> bool {
-    word.iter().all(|byte| *byte == b'0' || *byte == b'1')
-}
-
 // The start bits in a word, which is `-` if there are none.
 fn starts_in(word: &[u8]) -> Option<&[u8]> {
     match word {
-        b"-" => Some(&[]),
-        [] => None,
-        _ if are_starts(word) => Some(word),
-        _ => None,
+        b"-" => return Some(&[]),
+        [] => return None,
+        _ => {}
     }
+    for byte in word {
+        if !matches!(byte, b'0' | b'1') {
+            return None;
+        }
+    }
+    Some(word)
 }
 
 fn wire_in(line: &[u8]) -> Option<WireLine<'_>> {
@@ -104,8 +109,23 @@ fn after<'a>(front: &[u8], line: &'a [u8]) -> Option<&'a [u8]> {
     line.strip_prefix(front)
 }
 
+// The first line of a text, and the lines after it.
+fn split_line(text: &[u8]) -> (&[u8], &[u8]) {
+    match first_line(text) {
+        Some(parts) => parts,
+        None => (text, &[]),
+    }
+}
+
+fn table_cell(x: u64, y: u64) -> (u32, u32) {
+    (
+        u32::try_from(x).unwrap_or(u32::MAX),
+        u32::try_from(y).unwrap_or(u32::MAX),
+    )
+}
+
 impl Named {
-    fn add_gate(&mut self, gate: DrawnGate) -> Result<(), AllocError> {
+    fn add_gate(&mut self, gate: DrawnGate) -> Result<(), OutOfMemory> {
         let number = u32::try_from(self.gates.len()).unwrap_or(u32::MAX);
         give_gate(
             &mut self.board,
@@ -128,7 +148,7 @@ impl Named {
         to: DrawnPort,
         start: usize,
         starts: &[u8],
-    ) -> Result<(), AllocError> {
+    ) -> Result<(), OutOfMemory> {
         let GatePort::In(input) = to.port else {
             return Ok(());
         };
@@ -142,14 +162,14 @@ impl Named {
             latch: u32::try_from(self.starts.len()).unwrap_or(u32::MAX),
             cycles: u32::try_from(starts.len()).unwrap_or(u32::MAX),
         })?;
-        for bit in starts.iter().rev() {
-            self.starts.push(*bit == b'1')?;
+        for i in (0..starts.len()).rev() {
+            self.starts.push(starts[i] == b'1')?;
         }
         Ok(())
     }
 
     // Follows the wire of a line. One that does not lead from a port to the named one is passed over.
-    fn follow(&mut self, line: WireLine<'_>) -> Result<(), AllocError> {
+    fn follow(&mut self, line: WireLine<'_>) -> Result<(), OutOfMemory> {
         let first = line.step.from(line.begin);
         let (Some(from), Owner::Open) = (self.port_at(line.begin), self.board.owner(first)) else {
             return Ok(());
@@ -164,70 +184,101 @@ impl Named {
         }
     }
 
-    fn read_gates(&mut self, text: &[u8]) -> Result<(), AllocError> {
-        for line in text.split(|byte| *byte == b'\n') {
-            if let Some(rest) = after(b"#C gate ", line) {
-                if let Some(gate) = gate_in(rest) {
+    fn read_gates(&mut self, text: &[u8]) -> Result<(), OutOfMemory> {
+        let mut rest = text;
+        for _ in 0..text.len() {
+            if rest.is_empty() {
+                break;
+            }
+            let (line, lines) = split_line(rest);
+            if let Some(words) = after(b"#C gate ", line) {
+                if let Some(gate) = gate_in(words) {
                     self.add_gate(gate)?;
                 }
             }
+            rest = lines;
         }
         Ok(())
     }
 
-    fn read_wires(&mut self, text: &[u8]) -> Result<(), AllocError> {
-        for line in text.split(|byte| *byte == b'\n') {
-            if let Some(rest) = after(b"#C wire ", line) {
-                if let Some(wire) = wire_in(rest) {
+    fn read_wires(&mut self, text: &[u8]) -> Result<(), OutOfMemory> {
+        let mut rest = text;
+        for _ in 0..text.len() {
+            if rest.is_empty() {
+                break;
+            }
+            let (line, lines) = split_line(rest);
+            if let Some(words) = after(b"#C wire ", line) {
+                if let Some(wire) = wire_in(words) {
                     self.follow(wire)?;
                 }
             }
+            rest = lines;
         }
         Ok(())
     }
 
-    // The ports at the cells of lines of the port table.
-    fn ports_at(
-        &self,
-        alloc: Global,
-        lines: &[PortLine],
-    ) -> Result<Option<List<DrawnPort>>, AllocError> {
-        let mut at = Vec::new(alloc);
-        for line in lines {
+    // Adds the ports at the cells of the port table, and answers whether each input and each output is at one.
+    fn add_ports(&mut self, ports: &Ports) -> Result<bool, OutOfMemory> {
+        for line in ports.ins.as_slice() {
             match self.port_at(table_cell(line.x, line.y)) {
-                Some(port) => at.push(port)?,
-                None => return Ok(None),
+                Some(port) => self.ins.push(port)?,
+                None => return Ok(false),
             }
         }
-        Ok(Some(List::of(at)))
+        for line in ports.outs.as_slice() {
+            match self.port_at(table_cell(line.x, line.y)) {
+                Some(port) => self.outs.push(port)?,
+                None => return Ok(false),
+            }
+        }
+        for line in ports.nets.as_slice() {
+            let port = self.port_at(table_cell(line.x, line.y));
+            self.nets.push(port)?;
+        }
+        Ok(true)
     }
 
-    fn nets_at(&self, alloc: Global, ports: &Ports) -> Result<List<Option<DrawnPort>>, AllocError> {
-        let mut at = Vec::new(alloc);
-        for line in ports.nets.as_slice() {
-            at.push(self.port_at(table_cell(line.x, line.y)))?;
+    // Reads a text, and answers whether it names a drawing.
+    fn read(&mut self, text: &[u8], ports: &Ports) -> Result<bool, OutOfMemory> {
+        self.read_gates(text)?;
+        if self.gates.is_empty() {
+            return Ok(false);
         }
-        Ok(List::of(at))
+        self.read_wires(text)?;
+        self.add_ports(ports)
     }
 }
 
-fn table_cell(x: u64, y: u64) -> (u32, u32) {
-    (
-        u32::try_from(x).unwrap_or(u32::MAX),
-        u32::try_from(y).unwrap_or(u32::MAX),
-    )
+fn drawing_of(named: Named, period: u32, latency: u32) -> Drawing {
+    Drawing {
+        width: named.board.width,
+        height: named.board.height,
+        period,
+        latency,
+        gates: List::of(named.gates),
+        wires: List::of(named.wires),
+        path: List::of(named.path),
+        starts: List::of(named.starts),
+        ins: List::of(named.ins),
+        outs: List::of(named.outs),
+        nets: List::of(named.nets),
+    }
 }
 
 /// Reads the gates and the wires that a pattern's text names in comments (`gate_lines` has their forms), as a hint: each
 /// wire is followed on the pattern. A line of another form, and a wire that does not lead to its end, is passed over.
-/// `None` if no gate is named, if an input or an output of the port table is at no port of a gate, or if the box has
-/// over 2^26 cells, or a period or a latency over 2^32.
+/// `None` if no gate is named, if an input or an output of the port table is at no port of a gate, or if a side of the
+/// box, the period or the latency is 2^32 or more.
 pub fn read(
     alloc: Global,
     text: &[u8],
     pattern: &Pattern,
     ports: &Ports,
 ) -> Result<Option<Drawing>, OutOfMemory> {
+    let (Ok(period), Ok(latency)) = (u32::try_from(ports.p), u32::try_from(ports.l)) else {
+        return Ok(None);
+    };
     let Some(board) = Board::new(alloc, pattern)? else {
         return Ok(None);
     };
@@ -238,37 +289,13 @@ pub fn read(
         wires: Vec::new(alloc),
         path: Vec::new(alloc),
         starts: Vec::new(alloc),
+        ins: Vec::new(alloc),
+        outs: Vec::new(alloc),
+        nets: Vec::new(alloc),
     };
-    named.read_gates(text)?;
-    if named.gates.is_empty() {
-        return Ok(None);
+    if named.read(text, ports)? {
+        Ok(Some(drawing_of(named, period, latency)))
+    } else {
+        Ok(None)
     }
-    named.read_wires(text)?;
-    drawing_of(alloc, named, ports)
-}
-
-fn drawing_of(alloc: Global, named: Named, ports: &Ports) -> Result<Option<Drawing>, OutOfMemory> {
-    let (Ok(period), Ok(latency)) = (u32::try_from(ports.p), u32::try_from(ports.l)) else {
-        return Ok(None);
-    };
-    let Some(ins) = named.ports_at(alloc, ports.ins.as_slice())? else {
-        return Ok(None);
-    };
-    let Some(outs) = named.ports_at(alloc, ports.outs.as_slice())? else {
-        return Ok(None);
-    };
-    let nets = named.nets_at(alloc, ports)?;
-    Ok(Some(Drawing {
-        width: named.board.width(),
-        height: named.board.height(),
-        period,
-        latency,
-        gates: List::of(named.gates),
-        wires: List::of(named.wires),
-        path: List::of(named.path),
-        starts: List::of(named.starts),
-        ins,
-        outs,
-        nets,
-    }))
 }

@@ -41,19 +41,24 @@ pub fn step_between(from: (u32, u32), to: (u32, u32)) -> Option<Step> {
     None
 }
 
-/// Returns the first word of a line and what follows it, without the spaces between them.
+/// Returns the first word of a line and what follows it, without the spaces before the word.
 pub fn split_word(line: &[u8]) -> (&[u8], &[u8]) {
-    let mut rest = line;
-    while let [b' ', after @ ..] = rest {
-        rest = after;
+    let (mut begin, mut end) = (0usize, 0usize);
+    for byte in line {
+        if *byte == b' ' {
+            if begin < end {
+                break;
+            }
+            begin = begin.saturating_add(1);
+        }
+        end = if *byte == b' ' {
+            begin
+        } else {
+            end.saturating_add(1)
+        };
     }
-    let size = rest
-        .iter()
-        .position(|byte| *byte == b' ')
-        .unwrap_or(rest.len());
-    if size <= rest.len() {
-        rest.split_at(size)
-    } else {
-        (rest, &[])
-    }
+    (
+        line.get(begin..end).unwrap_or(&[]),
+        line.get(end..).unwrap_or(&[]),
+    )
 }

@@ -39,8 +39,8 @@ fn push_starts(text: &mut Vec<u8>, starts: &[bool]) -> Result<(), AllocError> {
     if starts.is_empty() {
         text.push(b'-')?;
     }
-    for bit in starts.iter().rev() {
-        text.push(if *bit { b'1' } else { b'0' })?;
+    for i in (0..starts.len()).rev() {
+        text.push(if starts[i] { b'1' } else { b'0' })?;
     }
     text.push(b'\n')?;
     Ok(())
