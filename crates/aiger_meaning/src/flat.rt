@@ -29,19 +29,14 @@ pub fn flat_of(
 {
     let first_buffer = 1 + aig.inputs.len() + aig.latches.len() + aig.ands.len();
     let first_output = first_buffer + aig.latches.len();
-    let ins = ports_from(alloc, 1, aig.inputs.len())?;
-    let outs = ports_from(alloc, first_output, aig.outputs.len())?;
-    let inner = aig.latches.as_slice();
-    let latches = latches_from(alloc, first_buffer, 1 + aig.inputs.len(), inner)?;
-    let nets = nets_of(alloc, aig)?;
-    let nodes = nodes_of(alloc, aig, known)?;
+    let latches = aig.latches.as_slice();
     Ok(Flat {
-        nets: List::of(nets),
-        ins: List::of(ins),
-        outs: List::of(outs),
+        nets: List::of(nets_of(alloc, aig)?),
+        ins: List::of(ports_from(alloc, 1, aig.inputs.len())?),
+        outs: List::of(ports_from(alloc, first_output, aig.outputs.len())?),
         clocks: List::of(Vec::new(alloc)),
-        nodes: List::of(nodes),
-        latches: List::of(latches),
+        nodes: List::of(nodes_of(alloc, aig, known)?),
+        latches: List::of(latches_from(alloc, first_buffer, 1 + aig.inputs.len(), latches)?),
         control: None,
         weight,
         listed: false,

@@ -1,7 +1,5 @@
 // The rules on models, in the order of their numbers.
-ghost use Rattle.std.specs.Prelude.{◌≡◌, drop, IfOk, MatchOption};
-ghost use Rattle.std.specs.Option.{option_or};
-ghost use Rattle.model_words.specs.Placed.{KnowsPorts};
+ghost use Rattle.std.specs.Prelude.{◌≡◌, IfOk, MatchOption};
 ghost use Rattle.netlist_rules.specs.ModelFaults.{AreFaultless, HasModelFault, first_broken_by, model_rules, no_model};
 
 use lists::List;
@@ -28,42 +26,6 @@ fn no_model(alloc: Global, models: &[Model]) -> Result<Option<Fault>, AllocError
     }))
 }
 
-// The fault by the first rule on submodels and their pins that the models break.
-fn broken_by_pins<'a>(
-    alloc: Global,
-    models: &'a [Model],
-    named: &NamedModels<'a>,
-    placed: &PlacedPorts<'_, 'a>,
-) -> Result<Option<Fault>, AllocError>
-    requires named { named.now ≡ models.now }
-    requires placed { KnowsPorts placed.now models.now }
-    ensures { IfOk result (λ found. found ≡ first_broken_by (drop 3 model_rules) models.now) }
-{
-    if let Some(fault) = missing_model(alloc, models, named)? {
-        return Ok(Some(fault));
-    }
-    if let Some(fault) = unknown_formal(alloc, models, placed)? {
-        return Ok(Some(fault));
-    }
-    if let Some(fault) = pin_twice(alloc, models)? {
-        return Ok(Some(fault));
-    }
-    pin_missing(alloc, models, named)
-}
-
-// The first fault by the rules on ports and nets, if there is one.
-fn net_fault(faults: NetFaults) -> Option<Fault>
-    ensures { result ≡ option_or (option_or faults.duplicate_port faults.second_driver)
-        faults.undriven }
-{
-    let NetFaults {
-        duplicate_port,
-        second_driver,
-        undriven,
-    } = faults;
-    duplicate_port.or(second_driver).or(undriven)
-}
-
 // The fault by the first rule that the models break, other than the rule on circles.
 fn broken_rule<'a>(
     alloc: Global,
@@ -74,11 +36,30 @@ fn broken_rule<'a>(
     ensures { IfOk result (λ found. found ≡ first_broken_by model_rules models.now) }
 {
     let placed = PlacedPorts::new(alloc, models, named)?;
-    let faults = net_faults(alloc, models, &placed)?;
-    match net_fault(faults) {
-        Some(fault) => Ok(Some(fault)),
-        None => broken_by_pins(alloc, models, named, &placed),
+    let NetFaults {
+        duplicate_port,
+        second_driver,
+        undriven,
+    } = net_faults(alloc, models, &placed)?;
+    if let Some(fault) = duplicate_port {
+        return Ok(Some(fault));
     }
+    if let Some(fault) = second_driver {
+        return Ok(Some(fault));
+    }
+    if let Some(fault) = undriven {
+        return Ok(Some(fault));
+    }
+    if let Some(fault) = missing_model(alloc, models, named)? {
+        return Ok(Some(fault));
+    }
+    if let Some(fault) = unknown_formal(alloc, models, &placed)? {
+        return Ok(Some(fault));
+    }
+    if let Some(fault) = pin_twice(alloc, models)? {
+        return Ok(Some(fault));
+    }
+    pin_missing(alloc, models, named)
 }
 
 /// Returns the fault of models by the rules on models, if they have one.

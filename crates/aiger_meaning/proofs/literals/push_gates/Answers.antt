@@ -1,9 +1,0 @@
-use Rattle.std.proofs.Common.{refl}
-use Rattle.lists.proofs.Cuts.{added_more}
-use Rattle.aiger_text.specs.declared.aig.AigAnd.{AigAnd}
-use Rattle.aiger_meaning.proofs.literals.push_gates.Goals as goal
-
-pub loop-gate-preserved : goal.loop-gate-preserved
-loop-gate-preserved c =
-    added_more (λ (gate : AigAnd). gate.lhs) c.args.literals.now.items c.loop-gate.literals.items c.push.new.self.items c.args.gates.now c.loop-gate.gate-index _ _ c.loop-gate-test.true
-    c.in_ok-push.ensures.items refl c.loop-gate.invariant
