@@ -10,4 +10,4 @@ mod tables;
 pub use circuit::{East, End, Register, Strand, StrandCircuit, Tile, TileKind, West};
 pub use effort::Effort;
 pub use layout::Layout;
-pub use tables::{at, put};
+pub use tables::{add, at, put, set, widen};

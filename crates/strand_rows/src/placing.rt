@@ -1,226 +1,199 @@
 // A tile takes the place of its strands' nodes.
 
 use crate::plane::{Node, Plane};
-use crate::shapes::{Shape, in_column};
-use lists::OutOfMemory;
+use crate::shapes::{depth, lower_row, upper_row, wide};
 use strand_core::{Tile, TileKind};
 
-/// A strand's nodes in six columns, from the one of a tile's entries on.
-#[derive(Clone, Copy)]
-pub struct Chain {
-    nodes: [Option<u32>; 6],
-}
+/// Columns of nodes that a tile takes or changes, from that of its entries on.
+pub const COLUMNS: u32 = 6;
 
-impl Chain {
-    pub fn none() -> Chain {
-        Chain {
-            nodes: [None, None, None, None, None, None],
-        }
-    }
-
-    /// Returns the nodes of which this one is the easternmost.
-    pub fn of(plane: &Plane, last: Option<u32>) -> Chain {
-        let mut chain = Chain::none();
-        let mut number = last;
-        for later in 0..6u32 {
-            chain.set(5u32.saturating_sub(later), number);
-            number = match plane.node(number) {
-                Some(node) => node.west,
-                None => None,
-            };
-        }
-        chain
-    }
-
-    fn set(&mut self, column: u32, number: Option<u32>) {
-        if column < 6 {
-            self.nodes[column as usize] = number;
-        }
-    }
-
-    pub fn at(&self, column: u32) -> Option<u32> {
-        if column < 6 {
-            self.nodes[column as usize]
-        } else {
-            None
-        }
-    }
-}
-
-/// A tile and the nodes of its strands: the chain that goes on as its upper exit, and the other one if there is one.
+/// Where a tile was put: the nodes of its upper entry and of its lower one, and that of a fork's lower exit.
 #[derive(Clone, Copy)]
 pub struct Placing {
-    pub tile: Tile,
-    pub shape: Shape,
-    pub upper: Chain,
-    pub lower: Chain,
+    pub upper: Option<u32>,
+    pub lower: Option<u32>,
+    pub exit: Option<u32>,
 }
 
-impl Placing {
-    // How far south of the tile's row the cells of a chain are in a column, where a strand that has left goes north.
-    fn south(&self, rows: &[i32; 5], column: u32) -> i32 {
-        let beyond = column.saturating_sub(self.shape.wide);
-        in_column(rows, column.min(self.shape.wide)).saturating_sub_unsigned(beyond)
+// A strand's node in a column of a tile, so many rows south of the one before it, or behind the tile, where the strand
+// goes north.
+fn placed(old: Node, kind: TileKind, row: i32, step: i32, column: u32) -> Node {
+    let beyond = column.saturating_sub(wide(kind));
+    let mut node = old;
+    node.row = row.saturating_sub_unsigned(beyond).max(0);
+    if beyond > 0 {
+        node.least_step = -1;
+        node.most_step = 1;
+    } else if column > 0 {
+        node.least_step = step;
+        node.most_step = step;
     }
+    node
+}
 
-    // Makes the steps of a chain's node those of the tile.
-    fn fix_step(&self, node: &mut Node, rows: &[i32; 5], column: u32) {
-        if column > self.shape.wide {
-            (node.least_step, node.most_step) = (-1, 1);
-        } else if column > 0 {
-            let step = in_column(rows, column).saturating_sub(in_column(
-                rows,
-                column.saturating_sub(1),
-            ));
-            (node.least_step, node.most_step) = (step, step);
-        }
+fn upper_node(tile: Tile, old: Node, row: i32, column: u32) -> Node {
+    let south = upper_row(tile.kind, column.min(wide(tile.kind)));
+    let step = south.saturating_sub(upper_row(tile.kind, column.saturating_sub(1)));
+    let mut node = placed(old, tile.kind, row.saturating_add(south), step, column);
+    node.depth = depth(tile.kind, column);
+    if column == 0 && tile.ins[1].is_some() {
+        node.least_step = 0;
+        node.most_step = 1;
     }
-
-    // Lets a node wait, and the one above it, and both at the west.
-    fn wait(&self, plane: &mut Plane, number: Option<u32>) -> Result<(), OutOfMemory> {
-        plane.wait(number)?;
-        if let Some(node) = plane.node(number) {
-            plane.wait(node.up)?;
-        }
-        Ok(())
+    if column >= wide(tile.kind) {
+        node.strand = tile.outs[0].unwrap_or(node.strand);
     }
+    node
+}
 
-    fn place_upper(&self, plane: &mut Plane, row: i32, column: u32) -> Result<(), OutOfMemory> {
-        let Some(number) = self.upper.at(column) else {
-            return Ok(());
-        };
-        let Some(mut node) = plane.node(Some(number)) else {
-            return Ok(());
-        };
-        node.row = row
-            .saturating_add(self.south(&self.shape.upper, column))
-            .max(0);
-        node.depth = in_column(&self.shape.depth, column);
-        self.fix_step(&mut node, &self.shape.upper, column);
-        if column == 0 && self.tile.ins[1].is_some() {
-            (node.least_step, node.most_step) = (0, 1);
-        }
-        if column >= self.shape.wide {
-            node.strand = self.tile.outs[0].unwrap_or(node.strand);
-        }
-        plane.change(number, node)
+fn lower_node(tile: Tile, old: Node, row: i32, column: u32) -> Node {
+    let south = lower_row(tile.kind, column.min(wide(tile.kind)));
+    let step = south.saturating_sub(lower_row(tile.kind, column.saturating_sub(1)));
+    let mut node = placed(old, tile.kind, row.saturating_add(south), step, column);
+    if column == 0 {
+        node.least_step = -1;
+        node.most_step = 0;
+        node.tie = Some(south);
     }
-
-    fn place_lower(&self, plane: &mut Plane, row: i32, column: u32) -> Result<(), OutOfMemory> {
-        let Some(number) = self.lower.at(column) else {
-            return Ok(());
-        };
-        let Some(mut node) = plane.node(Some(number)) else {
-            return Ok(());
-        };
-        node.row = row
-            .saturating_add(self.south(&self.shape.lower, column))
-            .max(0);
-        self.fix_step(&mut node, &self.shape.lower, column);
-        if column == 0 {
-            (node.least_step, node.most_step) = (-1, 0);
-            node.tie = Some(in_column(&self.shape.lower, 0));
-        }
-        if column >= self.shape.wide {
-            node.strand = self.tile.outs[1].unwrap_or(node.strand);
-        }
-        plane.change(number, node)
+    if column >= wide(tile.kind) {
+        node.strand = tile.outs[1].unwrap_or(node.strand);
     }
+    node
+}
 
-    // Ends the lower chain before the exit.
-    fn end_lower(&mut self, plane: &mut Plane) -> Result<(), OutOfMemory> {
-        let before = self.lower.at(self.shape.wide.saturating_sub(1));
-        if let (Some(number), Some(mut node)) = (before, plane.node(before)) {
-            node.east = None;
-            plane.change(number, node)?;
-        }
-        for column in self.shape.wide..6 {
-            if let Some(node) = plane.node(self.lower.at(column)) {
-                plane.join(node.up, node.down)?;
-            }
-            self.lower.set(column, None);
-        }
-        Ok(())
-    }
-
-    // Begins a lower chain at the exits.
-    fn begin_lower(&mut self, plane: &mut Plane, strand: u32, row: i32) -> Result<(), OutOfMemory> {
-        let mut west = None;
-        for column in self.shape.wide..6 {
-            let above = self.upper.at(column);
-            let Some(node) = plane.node(above) else {
-                return Ok(());
+impl Plane {
+    fn place_upper(&mut self, tile: Tile, first: Option<u32>, row: i32) {
+        let mut number = first;
+        for column in 0..COLUMNS {
+            let Some(node) = self.node(number) else {
+                return;
             };
-            let number = plane.insert(Node {
-                strand,
-                row: row
-                    .saturating_add(self.south(&self.shape.lower, column))
-                    .max(0),
-                depth: 0,
-                least_step: -1,
-                most_step: 1,
-                tie: None,
-                up: above,
-                down: node.down,
-                west,
-                east: None,
-            })?;
-            self.lower.set(column, Some(number));
+            self.change(number, upper_node(tile, node, row, column));
+            number = node.east;
+        }
+    }
+
+    fn place_lower(&mut self, tile: Tile, first: Option<u32>, row: i32) {
+        let mut number = first;
+        for column in 0..COLUMNS {
+            let Some(node) = self.node(number) else {
+                return;
+            };
+            self.change(number, lower_node(tile, node, row, column));
+            number = node.east;
+        }
+    }
+
+    // Ends the lower strand of a tile before the exit.
+    fn end_lower(&mut self, kind: TileKind, first: Option<u32>) {
+        let last = self.east_of(first, wide(kind).saturating_sub(1));
+        let mut number = self.east_of(last, 1);
+        self.lead(last, None);
+        for _ in wide(kind)..COLUMNS {
+            let Some(node) = self.node(number) else {
+                return;
+            };
+            self.join(node.up, node.down);
+            number = node.east;
+        }
+    }
+
+    // Begins the lower strand of a fork at the exits, whose upper strand has a node in the column of the entry. Returns
+    // the node of the lower exit, which is tied to the upper one.
+    fn begin_lower(
+        &mut self,
+        kind: TileKind,
+        strand: u32,
+        upper: Option<u32>,
+        row: i32,
+    ) -> Option<u32> {
+        let south = lower_row(kind, wide(kind));
+        let mut above = self.east_of(upper, wide(kind));
+        let (mut west, mut exit) = (None, None);
+        for column in wide(kind)..COLUMNS {
+            let beyond = column.saturating_sub(wide(kind));
+            let row = row.saturating_add(south).saturating_sub_unsigned(beyond);
+            let number = self.insert(strand, row.max(0), above, west);
+            exit = exit.or(Some(number));
             west = Some(number);
+            above = self.east_of(above, 1);
         }
-        self.tie_exits(plane)
+        if let Some(node) = self.node(exit) {
+            let tie = Some(south.saturating_sub(upper_row(kind, wide(kind))));
+            self.change(exit, Node { tie, ..node });
+        }
+        exit
     }
 
-    // Ties the lower exit to the upper one.
-    fn tie_exits(&self, plane: &mut Plane) -> Result<(), OutOfMemory> {
-        let exit = self.lower.at(self.shape.wide);
-        if let (Some(number), Some(mut node)) = (exit, plane.node(exit)) {
-            let upper = in_column(&self.shape.upper, self.shape.wide);
-            let lower = in_column(&self.shape.lower, self.shape.wide);
-            node.tie = Some(lower.saturating_sub(upper));
-            plane.change(number, node)?;
+    // Lets a node wait, and the one above it.
+    fn wait_with_above(&mut self, number: Option<u32>) {
+        self.wait(number);
+        if let Some(node) = self.node(number) {
+            self.wait(node.up);
         }
-        Ok(())
     }
 
-    fn wait_all(&self, plane: &mut Plane) -> Result<(), OutOfMemory> {
-        if let Some(node) = plane.node(self.upper.at(0)) {
-            self.wait(plane, node.west)?;
+    // Lets all nodes wait that a tile took, and those at the west of them.
+    fn wait_all(&mut self, kind: TileKind, placing: Placing) {
+        let (mut upper, mut lower) = (placing.upper, placing.lower);
+        self.wait_with_above(self.west_of(upper, 1));
+        self.wait_with_above(self.west_of(lower, 1));
+        for column in 0..COLUMNS {
+            if column == wide(kind) {
+                lower = lower.or(placing.exit);
+            }
+            self.wait_with_above(upper);
+            self.wait_with_above(lower);
+            upper = self.east_of(upper, 1);
+            lower = self.east_of(lower, 1);
         }
-        if let Some(node) = plane.node(self.lower.at(0)) {
-            self.wait(plane, node.west)?;
-        }
-        for column in 0..6u32 {
-            self.wait(plane, self.upper.at(column))?;
-            self.wait(plane, self.lower.at(column))?;
-        }
-        Ok(())
     }
 
-    /// Puts the tile into the place of its strands' nodes, and lets all wait that may have to be pushed.
-    pub fn place(&mut self, plane: &mut Plane) -> Result<(), OutOfMemory> {
-        let Some(last) = plane.node(self.upper.at(5)) else {
-            return Ok(());
+    // Puts a tile into the place of its strands' nodes, and lets all wait that may have to be pushed. The easternmost
+    // node of the upper strand is told.
+    fn place(&mut self, tile: Tile, last: u32) -> Placing {
+        let last = Some(last);
+        let mut placing = Placing {
+            upper: self.west_of(last, COLUMNS - 1),
+            lower: None,
+            exit: None,
         };
-        let row = match plane.node(self.upper.at(0)) {
+        let row = match self.node(placing.upper) {
             Some(node) => node.row,
             None => 0,
         };
-        if self.tile.ins[1].is_some() {
-            self.lower = Chain::of(plane, last.down);
-            if self.tile.kind != TileKind::Cross {
-                self.end_lower(plane)?;
+        if tile.ins[1].is_some() {
+            placing.lower = self.west_of(self.down_of(last), COLUMNS - 1);
+            if !matches!(tile.kind, TileKind::Cross) {
+                self.end_lower(tile.kind, placing.lower);
             }
-            for column in 0..6u32 {
-                self.place_lower(plane, row, column)?;
-            }
+            self.place_lower(tile, placing.lower, row);
         }
-        for column in 0..6u32 {
-            self.place_upper(plane, row, column)?;
+        self.place_upper(tile, placing.upper, row);
+        if let (None, Some(strand)) = (tile.ins[1], tile.outs[1]) {
+            placing.exit = self.begin_lower(tile.kind, strand, placing.upper, row);
         }
-        if let (None, Some(strand)) = (self.tile.ins[1], self.tile.outs[1]) {
-            self.begin_lower(plane, strand, row)?;
+        self.wait_all(tile.kind, placing);
+        placing
+    }
+
+    /// Puts a tile into the place of its strands' nodes, of which the upper strand's easternmost one is told, if all
+    /// rows are north of row `most` then.
+    pub fn try_place(
+        &mut self,
+        tile: Tile,
+        last: u32,
+        most: i32,
+        patience: usize,
+    ) -> Option<Placing> {
+        let count = self.nodes.len();
+        let placing = self.place(tile, last);
+        if self.settle(most, patience) {
+            self.keep();
+            Some(placing)
+        } else {
+            self.undo(count);
+            None
         }
-        self.wait_all(plane)
     }
 }

@@ -1,7 +1,7 @@
 // Rows of cells under bounds: each as far north as the others let it.
 
-use lists::OutOfMemory;
 use std::alloc::Global;
+use strand_core::{add, set};
 
 // Rows from a cell to the one of another wire that is nearest to it, in the same column or in the next.
 const APART: i32 = 2;
@@ -24,55 +24,27 @@ pub struct Node {
     pub east: Option<u32>,
 }
 
-// A node, and the row where it has to be at least.
-#[derive(Clone, Copy)]
-struct Push {
-    node: Option<u32>,
-    row: i32,
-}
-
 /// Nodes in columns, and what has changed since the last change that was kept.
 #[derive(Drop)]
 pub struct Plane {
     pub nodes: Vec<Node>,
     is_waiting: Vec<bool>,
     waiting: Vec<u32>,
-    // nodes that were changed, and what they were; and then those that were pushed, and in which rows they were
+    // nodes that were changed or pushed, and what they were
     changed: Vec<(u32, Node)>,
-    pushed: Vec<(u32, i32)>,
+    // the southernmost row into which a node was pushed
+    south: i32,
     /// How many nodes have been looked at.
     pub work: u64,
-}
-
-fn set_flag(flags: &mut [bool], node: u32, flag: bool) {
-    if (node as usize) < flags.len() {
-        flags[node as usize] = flag;
-    }
-}
-
-fn set_node(nodes: &mut [Node], number: u32, node: Node) {
-    if (number as usize) < nodes.len() {
-        nodes[number as usize] = node;
-    }
-}
-
-/// Puts a node into a row.
-pub fn set_row(nodes: &mut [Node], number: u32, row: i32) {
-    if (number as usize) < nodes.len() {
-        nodes[number as usize].row = row;
-    }
+    /// Whether memory was refused: then something is missing here.
+    pub is_refused: bool,
 }
 
 /// Returns the node of a number, if there is one.
 pub fn node_at(nodes: &[Node], number: Option<u32>) -> Option<Node> {
-    nodes.get(number? as usize).copied()
-}
-
-// The row in which a node below another one is at least.
-fn below_row(node: Node, below: Node, free: i32) -> i32 {
-    match below.tie {
-        Some(tie) => node.row.saturating_add(tie),
-        None => free,
+    match number {
+        Some(number) => nodes.get(number as usize).copied(),
+        None => None,
     }
 }
 
@@ -83,8 +55,9 @@ impl Plane {
             is_waiting: Vec::new(alloc),
             waiting: Vec::new(alloc),
             changed: Vec::new(alloc),
-            pushed: Vec::new(alloc),
+            south: i32::MIN,
             work: 0,
+            is_refused: false,
         }
     }
 
@@ -92,180 +65,184 @@ impl Plane {
         node_at(&self.nodes, number)
     }
 
-    /// Adds a node between its neighbours, and returns its number.
-    pub fn insert(&mut self, node: Node) -> Result<u32, OutOfMemory> {
-        let number = u32::try_from(self.nodes.len()).unwrap_or(u32::MAX);
-        self.nodes.push(node)?;
-        self.is_waiting.push(false)?;
-        self.join(node.up, Some(number))?;
-        self.join(Some(number), node.down)?;
-        if let (Some(west), Some(mut before)) = (node.west, self.node(node.west)) {
-            before.east = Some(number);
-            self.change(west, before)?;
+    /// Returns the node so many columns west of one.
+    pub fn west_of(&self, number: Option<u32>, columns: u32) -> Option<u32> {
+        let mut found = number;
+        for _ in 0..columns {
+            found = match self.node(found) {
+                Some(node) => node.west,
+                None => None,
+            };
         }
-        Ok(number)
+        found
+    }
+
+    /// Returns the node so many columns east of one.
+    pub fn east_of(&self, number: Option<u32>, columns: u32) -> Option<u32> {
+        let mut found = number;
+        for _ in 0..columns {
+            found = match self.node(found) {
+                Some(node) => node.east,
+                None => None,
+            };
+        }
+        found
+    }
+
+    /// Returns the node below one in its column.
+    pub fn down_of(&self, number: Option<u32>) -> Option<u32> {
+        match self.node(number) {
+            Some(node) => node.down,
+            None => None,
+        }
+    }
+
+    /// Adds a node of a strand below one of its column and behind one, and returns its number.
+    pub fn insert(&mut self, strand: u32, row: i32, up: Option<u32>, west: Option<u32>) -> u32 {
+        let number = u32::try_from(self.nodes.len()).unwrap_or(u32::MAX);
+        let down = self.down_of(up);
+        let node = Node {
+            strand,
+            row,
+            depth: 0,
+            least_step: -1,
+            most_step: 1,
+            tie: None,
+            up,
+            down,
+            west,
+            east: None,
+        };
+        add(&mut self.nodes, node, &mut self.is_refused);
+        add(&mut self.is_waiting, false, &mut self.is_refused);
+        self.join(up, Some(number));
+        self.join(Some(number), down);
+        self.lead(west, Some(number));
+        number
     }
 
     /// Makes two nodes neighbours in their column.
-    pub fn join(&mut self, upper: Option<u32>, lower: Option<u32>) -> Result<(), OutOfMemory> {
-        if let (Some(number), Some(mut node)) = (upper, self.node(upper)) {
-            node.down = lower;
-            self.change(number, node)?;
+    pub fn join(&mut self, upper: Option<u32>, lower: Option<u32>) {
+        if let Some(node) = self.node(upper) {
+            self.change(
+                upper,
+                Node {
+                    down: lower,
+                    ..node
+                },
+            );
         }
-        if let (Some(number), Some(mut node)) = (lower, self.node(lower)) {
-            node.up = upper;
-            self.change(number, node)?;
+        if let Some(node) = self.node(lower) {
+            self.change(lower, Node { up: upper, ..node });
         }
-        Ok(())
+    }
+
+    /// Lets a strand go on from a node to another one, or to none.
+    pub fn lead(&mut self, number: Option<u32>, east: Option<u32>) {
+        if let Some(node) = self.node(number) {
+            self.change(number, Node { east, ..node });
+        }
     }
 
     /// Changes a node.
-    pub fn change(&mut self, number: u32, node: Node) -> Result<(), OutOfMemory> {
-        if let Some(old) = self.node(Some(number)) {
-            self.changed.push((number, old))?;
-            set_node(&mut self.nodes, number, node);
+    pub fn change(&mut self, number: Option<u32>, node: Node) {
+        if let (Some(place), Some(old)) = (number, self.node(number)) {
+            add(&mut self.changed, (place, old), &mut self.is_refused);
+            set(&mut self.nodes, place, node);
         }
-        Ok(())
     }
 
     /// Lets the bounds from a node be looked at.
-    pub fn wait(&mut self, number: Option<u32>) -> Result<(), OutOfMemory> {
+    pub fn wait(&mut self, number: Option<u32>) {
         let Some(number) = number else {
-            return Ok(());
+            return;
         };
         if let Some(false) = self.is_waiting.get(number as usize) {
-            self.waiting.push(number)?;
-            set_flag(&mut self.is_waiting, number, true);
+            add(&mut self.waiting, number, &mut self.is_refused);
+            set(&mut self.is_waiting, number, true);
         }
-        Ok(())
     }
 
-    // What a node asks of the one below and of those beside that.
-    fn pushes_below(&self, node: Node) -> [Push; 3] {
-        let free = node.row.saturating_add(node.depth).saturating_add(APART);
-        let none = Push {
-            node: None,
-            row: free,
+    // Pushes a node south if it is north of a row.
+    fn push(&mut self, number: Option<u32>, row: i32) {
+        if let Some(node) = self.node(number) {
+            if row > node.row {
+                self.change(number, Node { row, ..node });
+                self.wait(number);
+                self.south = self.south.max(row.saturating_add(node.depth));
+            }
+        }
+    }
+
+    // Pushes the node below one, and those beside that.
+    fn push_below(&mut self, node: Node) {
+        let Some(below) = self.node(node.down) else {
+            return;
         };
-        match self.node(node.down) {
-            Some(below) => [
-                Push {
-                    node: node.down,
-                    row: below_row(node, below, free),
-                },
-                Push {
-                    node: below.west,
-                    row: free,
-                },
-                Push {
-                    node: below.east,
-                    row: free,
-                },
-            ],
-            None => [none, none, none],
-        }
+        let free = node.row.saturating_add(node.depth).saturating_add(APART);
+        let row = match below.tie {
+            Some(tie) => node.row.saturating_add(tie),
+            None => free,
+        };
+        self.push(node.down, row);
+        self.push(below.west, free);
+        self.push(below.east, free);
     }
 
-    // What a node asks of its strand, and of the node above.
-    fn pushes_beside(&self, node: Node) -> [Push; 3] {
+    // Pushes a node's neighbours of its strand, and the node above if both are entries of one tile.
+    fn push_beside(&mut self, node: Node) {
         let step = match self.node(node.east) {
             Some(east) => east.least_step,
             None => 0,
         };
-        let tied = match node.tie {
-            Some(tie) => node.row.saturating_sub(tie),
-            None => i32::MIN,
-        };
-        [
-            Push {
-                node: node.east,
-                row: node.row.saturating_add(step),
-            },
-            Push {
-                node: node.west,
-                row: node.row.saturating_sub(node.most_step),
-            },
-            Push {
-                node: node.up,
-                row: tied,
-            },
-        ]
-    }
-
-    // Pushes a node south if it is not far enough. Returns whether it is north of row `most` then.
-    fn push(&mut self, push: Push, most: i32) -> Result<bool, OutOfMemory> {
-        let (Some(number), Some(node)) = (push.node, self.node(push.node)) else {
-            return Ok(true);
-        };
-        if push.row <= node.row {
-            return Ok(true);
+        self.push(node.east, node.row.saturating_add(step));
+        self.push(node.west, node.row.saturating_sub(node.most_step));
+        if let Some(tie) = node.tie {
+            self.push(node.up, node.row.saturating_sub(tie));
         }
-        self.pushed.push((number, node.row))?;
-        set_row(&mut self.nodes, number, push.row);
-        self.wait(push.node)?;
-        Ok(push.row.saturating_add(node.depth) < most)
-    }
-
-    // Pushes nodes. Returns whether all are north of row `most` then.
-    fn push_all(&mut self, pushes: &[Push], most: i32) -> Result<bool, OutOfMemory> {
-        let mut is_north = true;
-        for push in pushes.iter() {
-            is_north = self.push(*push, most)? && is_north;
-        }
-        Ok(is_north)
-    }
-
-    // Pushes what a node asks for.
-    fn push_from(&mut self, number: u32, most: i32) -> Result<bool, OutOfMemory> {
-        let Some(node) = self.node(Some(number)) else {
-            return Ok(true);
-        };
-        let (below, beside) = (self.pushes_below(node), self.pushes_beside(node));
-        Ok(self.push_all(&below, most)? && self.push_all(&beside, most)?)
     }
 
     // Looks at nodes that wait, and at those that these push, so many at most. Returns whether all are north of a row.
-    fn settle_waiting(&mut self, most: i32, patience: usize) -> Result<bool, OutOfMemory> {
+    fn settle_waiting(&mut self, most: i32, patience: usize) -> bool {
         for turn in 0..patience {
             let Some(number) = self.waiting.get(turn).copied() else {
-                return Ok(true);
+                return true;
             };
-            set_flag(&mut self.is_waiting, number, false);
+            set(&mut self.is_waiting, number, false);
             self.work = self.work.saturating_add(1);
-            if !self.push_from(number, most)? {
-                return Ok(false);
+            if let Some(node) = self.node(Some(number)) {
+                self.push_below(node);
+                self.push_beside(node);
+            }
+            if self.south >= most {
+                return false;
             }
         }
-        Ok(false)
+        false
     }
 
-    /// Pushes nodes south as the bounds of those that wait ask for. Returns whether all are north of row `most` then, and
-    /// not too many had to be looked at.
-    pub fn settle(&mut self, most: i32, patience: usize) -> Result<bool, OutOfMemory> {
-        let is_settled = self.settle_waiting(most, patience)?;
-        for number in self.waiting.iter() {
-            set_flag(&mut self.is_waiting, *number, false);
+    /// Pushes nodes south as the bounds of those that wait ask for. Returns whether all are north of row `most` then,
+    /// and not too many had to be looked at.
+    pub fn settle(&mut self, most: i32, patience: usize) -> bool {
+        self.south = i32::MIN;
+        let is_settled = self.settle_waiting(most, patience);
+        for number in &self.waiting {
+            set(&mut self.is_waiting, *number, false);
         }
         self.waiting.clear();
-        Ok(is_settled)
+        is_settled
     }
 
     /// Keeps all changes.
     pub fn keep(&mut self) {
         self.changed.clear();
-        self.pushed.clear();
     }
 
     /// Takes back what has changed since changes were kept, when there were so many nodes.
     pub fn undo(&mut self, count: usize) {
-        for _ in 0..self.pushed.len() {
-            if let Some((number, row)) = self.pushed.pop() {
-                set_row(&mut self.nodes, number, row);
-            }
-        }
         for _ in 0..self.changed.len() {
             if let Some((number, node)) = self.changed.pop() {
-                set_node(&mut self.nodes, number, node);
+                set(&mut self.nodes, number, node);
             }
         }
         self.nodes.truncate(count);

@@ -23,13 +23,10 @@ const MOST_COLUMNS: u32 = 6;
 
 const MORE_COLUMNS: u32 = 1000;
 
-// The search for the layout with the least cost, and what has been looked at for it. It has found nothing if the cost is
-// the greatest number.
+// The search for the layout with the least cost, and how many nodes have been looked at for it. It has found nothing if
+// the cost is the greatest number.
 #[derive(Drop)]
-struct Search<'a, 'b> {
-    alloc: Global,
-    circuit: &'a StrandCircuit,
-    tails: &'b [u32],
+struct Search {
     best: Layout,
     cost: u64,
     work: u64,
@@ -44,10 +41,27 @@ fn cost(width: u32, height: u32, registers: usize) -> u64 {
     wide.saturating_mul(high).saturating_mul(period)
 }
 
-impl<'a, 'b> Search<'a, 'b> {
+// Places all tiles, and fills the layout. Returns whether it could.
+fn fill(
+    sweep: &mut Sweep,
+    circuit: &StrandCircuit,
+    tails: &[u32],
+    layout: &mut Layout,
+) -> Result<bool, OutOfMemory> {
+    let columns = longest(tails)
+        .saturating_mul(MOST_COLUMNS)
+        .saturating_add(MORE_COLUMNS);
+    if !sweep.run(circuit, tails, columns)? {
+        return Ok(false);
+    }
+    lay_out(sweep, circuit, layout)?;
+    Ok(true)
+}
+
+impl Search {
     // Takes a layout if it costs less than the best one. Returns whether it costs at most an eighth more.
-    fn offer(&mut self, layout: Layout) -> bool {
-        let cost = cost(layout.width, layout.height, self.circuit.registers.len());
+    fn offer(&mut self, layout: Layout, registers: usize) -> bool {
+        let cost = cost(layout.width, layout.height, registers);
         if cost < self.cost {
             self.best = layout;
             self.cost = cost;
@@ -56,33 +70,48 @@ impl<'a, 'b> Search<'a, 'b> {
     }
 
     // Places all tiles by a plan, and fills the layout. Returns whether it could.
-    fn place(&mut self, plan: Plan, layout: &mut Layout) -> Result<bool, OutOfMemory> {
-        let columns = longest(self.tails)
-            .saturating_mul(MOST_COLUMNS)
-            .saturating_add(MORE_COLUMNS);
-        let mut sweep = Sweep::new(self.alloc, self.circuit, self.tails, plan);
-        let is_placed = sweep.run(columns)?;
+    fn place(
+        &mut self,
+        alloc: Global,
+        circuit: &StrandCircuit,
+        tails: &[u32],
+        plan: Plan,
+        layout: &mut Layout,
+    ) -> Result<bool, OutOfMemory> {
+        let mut sweep = Sweep::new(alloc, tails, plan);
+        let filled = fill(&mut sweep, circuit, tails, layout);
         self.work = self.work.saturating_add(sweep.plane.work);
-        if is_placed {
-            lay_out(&sweep, layout)?;
-        }
-        Ok(is_placed)
+        filled
     }
 
     // Tries a plan. Returns whether plans with fewer rows are worth a try.
-    fn try_plan(&mut self, plan: Plan) -> Result<bool, OutOfMemory> {
-        let mut layout = empty_layout(self.alloc);
-        if !self.place(plan, &mut layout)? {
+    fn try_plan(
+        &mut self,
+        alloc: Global,
+        circuit: &StrandCircuit,
+        tails: &[u32],
+        plan: Plan,
+    ) -> Result<bool, OutOfMemory> {
+        let mut layout = empty_layout(alloc);
+        if !self.place(alloc, circuit, tails, plan, &mut layout)? {
             return Ok(false);
         }
-        Ok(self.offer(layout) && self.work < MOST_WORK)
+        Ok(self.offer(layout, circuit.registers.len()) && self.work < MOST_WORK)
     }
 
     // Tries fewer and fewer rows, where forks come late if the columns are told.
-    fn try_fewer(&mut self, rows: i32, columns: Option<u32>) -> Result<(), OutOfMemory> {
+    fn try_fewer(
+        &mut self,
+        alloc: Global,
+        circuit: &StrandCircuit,
+        tails: &[u32],
+        rows: i32,
+        columns: Option<u32>,
+    ) -> Result<(), OutOfMemory> {
         for fewer in 0..FEWER {
             let most = rows.saturating_sub(rows.saturating_mul(fewer) / PARTS);
-            if !self.try_plan(Plan { most, columns })? {
+            let plan = Plan { most, columns };
+            if !self.try_plan(alloc, circuit, tails, plan)? {
                 break;
             }
         }
@@ -90,18 +119,35 @@ impl<'a, 'b> Search<'a, 'b> {
     }
 
     // Tries plans.
-    fn run(&mut self, effort: Effort) -> Result<(), OutOfMemory> {
+    fn run(
+        &mut self,
+        alloc: Global,
+        circuit: &StrandCircuit,
+        tails: &[u32],
+        effort: Effort,
+    ) -> Result<(), OutOfMemory> {
         let first = Plan {
             most: UNBOUNDED,
             columns: None,
         };
-        if !self.try_plan(first)? || matches!(effort, Effort::Brief) {
+        let is_found = self.try_plan(alloc, circuit, tails, first)?;
+        if !is_found || matches!(effort, Effort::Brief) {
             return Ok(());
         }
-        let width = self.best.width;
+        let columns = Some(self.best.width);
         let rows = i32::try_from(self.best.height).unwrap_or(UNBOUNDED);
-        self.try_fewer(rows, None)?;
-        self.try_fewer(rows, Some(width))
+        self.try_fewer(alloc, circuit, tails, rows, None)?;
+        self.try_fewer(alloc, circuit, tails, rows, columns)
+    }
+}
+
+fn empty_layout(alloc: Global) -> Layout {
+    Layout {
+        width: 0,
+        height: 0,
+        tiles: Vec::new(alloc),
+        path: Vec::new(alloc),
+        starts: Vec::new(alloc),
     }
 }
 
@@ -114,23 +160,10 @@ pub fn laid_out(
 ) -> Result<Layout, OutOfMemory> {
     let tails = tails_of(alloc, circuit)?;
     let mut search = Search {
-        alloc,
-        circuit,
-        tails: &tails,
         best: empty_layout(alloc),
         cost: u64::MAX,
         work: 0,
     };
-    search.run(effort)?;
+    search.run(alloc, circuit, &tails, effort)?;
     Ok(search.best)
-}
-
-fn empty_layout(alloc: Global) -> Layout {
-    Layout {
-        width: 0,
-        height: 0,
-        tiles: Vec::new(alloc),
-        path: Vec::new(alloc),
-        starts: Vec::new(alloc),
-    }
 }

@@ -1,66 +1,70 @@
-// The cells of tiles, column by column.
+// The cells of tiles, column by column: rows that count from that of the upper entry.
 
 use strand_core::TileKind;
 
-/// Columns from a tile's entries to its exits, at most.
-pub const WIDEST: u32 = 4;
-
-/// A tile's cells in each of its columns, from that of its entries to that of its exits, which is column `wide`: rows
-/// that count from that of the upper entry. `upper` are those of the northernmost cells. A tile with two entries has its
-/// southernmost cells in the rows of `lower`, but for the column of its exit if it has one alone; so has a tile with two
-/// exits, in the column of these. Another one's are `depth` rows south of the northernmost ones.
-#[derive(Clone, Copy)]
-pub struct Shape {
-    pub wide: u32,
-    pub upper: [i32; 5],
-    pub lower: [i32; 5],
-    pub depth: [i32; 5],
-}
-
-fn with_two_entries(upper: [i32; 5], lower: [i32; 5]) -> Shape {
-    Shape {
-        wide: WIDEST,
-        upper,
-        lower,
-        depth: [0, 0, 0, 0, 0],
-    }
-}
-
-fn bump(extra: u32) -> Shape {
-    let half = i32::try_from(extra / 2).unwrap_or(0).min(1 << 16);
-    let side = half.saturating_add(1).saturating_neg();
-    Shape {
-        wide: WIDEST,
-        upper: [0, side, side.saturating_sub(1), side, 0],
-        lower: [0, 0, 0, 0, 0],
-        depth: [0, half, 0, half, 0],
-    }
-}
-
-/// Returns the cells of a tile of a kind.
-pub fn shape_of(kind: TileKind) -> Shape {
+/// Returns how many columns the exits of a tile are east of its entries.
+pub fn wide(kind: TileKind) -> u32 {
     match kind {
-        TileKind::Cross => with_two_entries([0, 1, 2, 1, 2], [6, 5, 4, 5, 4]),
-        TileKind::Xor => with_two_entries([0, 1, 2, 2, 3], [6, 5, 4, 4, 3]),
-        TileKind::AndNot => with_two_entries([0, 1, 2, 3, 4], [6, 5, 5, 5, 4]),
-        TileKind::AndNotBelow => with_two_entries([0, 1, 1, 1, 2], [6, 5, 4, 3, 2]),
-        TileKind::Or => Shape {
-            wide: 2,
-            upper: [0, 1, 2, 0, 0],
-            lower: [4, 3, 2, 0, 0],
-            depth: [0, 0, 0, 0, 0],
-        },
-        TileKind::Fork => Shape {
-            wide: 2,
-            upper: [0, -1, -2, 0, 0],
-            lower: [0, 1, 2, 0, 0],
-            depth: [0, 2, 0, 0, 0],
-        },
-        TileKind::Bump(extra) => bump(extra),
+        TileKind::Or | TileKind::Fork => 2,
+        _ => 4,
     }
 }
 
-/// Returns a number of a column, or 0 outside.
-pub fn in_column(rows: &[i32; 5], column: u32) -> i32 {
-    if column < 5 { rows[column as usize] } else { 0 }
+// The row in a column, or 0 outside.
+fn row_at(rows: &[i32], column: u32) -> i32 {
+    if (column as usize) < rows.len() {
+        rows[column as usize]
+    } else {
+        0
+    }
+}
+
+// How many rows high the sides of a bump are, but for one.
+fn half_of(extra: u32) -> i32 {
+    i32::try_from(extra / 2).unwrap_or(0).min(1 << 16)
+}
+
+fn bump_row(extra: u32, column: u32) -> i32 {
+    let side = half_of(extra).saturating_add(1).saturating_neg();
+    match column {
+        1 | 3 => side,
+        2 => side.saturating_sub(1),
+        _ => 0,
+    }
+}
+
+/// Returns the row of a tile's northernmost cell in a column.
+pub fn upper_row(kind: TileKind, column: u32) -> i32 {
+    match kind {
+        TileKind::Cross => row_at(&[0, 1, 2, 1, 2], column),
+        TileKind::Xor => row_at(&[0, 1, 2, 2, 3], column),
+        TileKind::AndNot => row_at(&[0, 1, 2, 3, 4], column),
+        TileKind::AndNotBelow => row_at(&[0, 1, 1, 1, 2], column),
+        TileKind::Or => row_at(&[0, 1, 2], column),
+        TileKind::Fork => row_at(&[0, -1, -2], column),
+        TileKind::Bump(extra) => bump_row(extra, column),
+    }
+}
+
+/// Returns the row of the southernmost cell of a tile with two entries in a column, but for the column of its exit if
+/// it has one alone; and that of a fork's lower exit.
+pub fn lower_row(kind: TileKind, column: u32) -> i32 {
+    match kind {
+        TileKind::Cross => row_at(&[6, 5, 4, 5, 4], column),
+        TileKind::Xor => row_at(&[6, 5, 4, 4, 3], column),
+        TileKind::AndNot => row_at(&[6, 5, 5, 5, 4], column),
+        TileKind::AndNotBelow => row_at(&[6, 5, 4, 3, 2], column),
+        TileKind::Or => row_at(&[4, 3, 2], column),
+        TileKind::Fork => row_at(&[0, 1, 2], column),
+        TileKind::Bump(_) => 0,
+    }
+}
+
+/// Returns how many rows the southernmost cell of a tile with one entry is south of the northernmost one in a column.
+pub fn depth(kind: TileKind, column: u32) -> i32 {
+    match (kind, column) {
+        (TileKind::Fork, 1) => 2,
+        (TileKind::Bump(extra), 1 | 3) => half_of(extra),
+        _ => 0,
+    }
 }

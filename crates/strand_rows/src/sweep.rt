@@ -1,14 +1,11 @@
 // Tiles are placed column by column, each as soon as its strands come to it and the rows have room for it.
 
-use crate::placing::{Chain, Placing};
+use crate::placing::{COLUMNS, Placing};
 use crate::plane::{Node, Plane};
-use crate::shapes::shape_of;
+use crate::shapes::wide;
 use lists::OutOfMemory;
 use std::alloc::Global;
-use strand_core::{StrandCircuit, Tile, TileKind, at, put};
-
-/// Columns that are there already east of the one in which tiles are placed.
-pub const AHEAD: u32 = 5;
+use strand_core::{StrandCircuit, Tile, TileKind, add, at, put, set, widen};
 
 // How many nodes are looked at for a tile that is tried for the first time, at most; each time twice as many, so often.
 const PATIENCE: usize = 1024;
@@ -31,11 +28,9 @@ pub struct Plan {
     pub columns: Option<u32>,
 }
 
-/// A circuit whose tiles are being placed.
+/// The tiles of a circuit while they are placed.
 #[derive(Drop)]
-pub struct Sweep<'a, 'b> {
-    pub circuit: &'a StrandCircuit,
-    tails: &'b [u32],
+pub struct Sweep {
     pub plane: Plane,
     /// The northernmost node of the easternmost column.
     top: Option<u32>,
@@ -50,16 +45,7 @@ pub struct Sweep<'a, 'b> {
     left: usize,
     stalled: u32,
     ready: Vec<(u32, u32, u32)>,
-}
-
-fn set_place(places: &mut [(u32, u32)], number: u32, place: (u32, u32)) {
-    if (number as usize) < places.len() {
-        places[number as usize] = place;
-    }
-}
-
-fn is_bump(kind: TileKind) -> bool {
-    matches!(kind, TileKind::Bump(_))
+    is_refused: bool,
 }
 
 fn patience_after(tries: u32) -> usize {
@@ -74,31 +60,55 @@ fn patience_after(tries: u32) -> usize {
 /// Returns the longest tail.
 pub fn longest(tails: &[u32]) -> u32 {
     let mut longest = 0;
-    for tail in tails.iter() {
+    for tail in tails {
         longest = longest.max(*tail);
     }
     longest
 }
 
-// Columns from a strand's first cell to its last one, at least: a wire has a cell of its own.
-fn least_length(maker: Option<Tile>, user: TileKind) -> u32 {
-    match maker {
-        Some(tile) if is_bump(tile.kind) || is_bump(user) => 1,
-        _ => 2,
+/// Returns the column and the node at a place.
+pub fn place_at(places: &[(u32, u32)], number: u32) -> (u32, u32) {
+    if (number as usize) < places.len() {
+        places[number as usize]
+    } else {
+        (0, 0)
     }
 }
 
-impl<'a, 'b> Sweep<'a, 'b> {
-    /// Returns a circuit that is to be placed by a plan.
-    pub fn new(
-        alloc: Global,
-        circuit: &'a StrandCircuit,
-        tails: &'b [u32],
-        plan: Plan,
-    ) -> Sweep<'a, 'b> {
+fn is_bump(circuit: &StrandCircuit, tile: Option<u32>) -> bool {
+    let Some(tile) = tile else {
+        return false;
+    };
+    match circuit.tiles.get(tile as usize) {
+        Some(tile) => matches!(tile.kind, TileKind::Bump(_)),
+        None => false,
+    }
+}
+
+// Columns from a strand's first cell to its last one, at least: a wire has a cell of its own.
+fn least_length(circuit: &StrandCircuit, strand: u32) -> u32 {
+    let Some(own) = circuit.strands.get(strand as usize) else {
+        return 2;
+    };
+    if own.maker.is_some() && (is_bump(circuit, own.maker) || is_bump(circuit, own.user)) {
+        1
+    } else {
+        2
+    }
+}
+
+// The tile that uses a strand.
+fn user_of(circuit: &StrandCircuit, strand: u32) -> Option<u32> {
+    match circuit.strands.get(strand as usize) {
+        Some(own) => own.user,
+        None => None,
+    }
+}
+
+impl Sweep {
+    /// Returns a sweep that places tiles with these tails by a plan, and has placed none.
+    pub fn new(alloc: Global, tails: &[u32], plan: Plan) -> Sweep {
         Sweep {
-            circuit,
-            tails,
             plane: Plane::new(alloc),
             top: None,
             column: 0,
@@ -107,232 +117,224 @@ impl<'a, 'b> Sweep<'a, 'b> {
             tiles: Vec::new(alloc),
             strands: Vec::new(alloc),
             tries: Vec::new(alloc),
-            left: circuit.tiles.len(),
+            left: tails.len(),
             stalled: 0,
             ready: Vec::new(alloc),
+            is_refused: false,
         }
     }
 
-    // Adds a node below another one of its column.
+    fn make_room(&mut self, circuit: &StrandCircuit) {
+        let (tiles, strands) = (circuit.tiles.len(), circuit.strands.len());
+        widen(&mut self.tiles, tiles, (0, 0), &mut self.is_refused);
+        widen(&mut self.tries, tiles, 0, &mut self.is_refused);
+        widen(&mut self.strands, strands, (0, 0), &mut self.is_refused);
+    }
+
+    // Adds a node to the easternmost column, at its top or below another one, and returns its number.
     fn add_below(
         &mut self,
         above: Option<u32>,
         west: Option<u32>,
         strand: u32,
         row: i32,
-    ) -> Result<u32, OutOfMemory> {
-        let number = self.plane.insert(Node {
-            strand,
-            row,
-            depth: 0,
-            least_step: -1,
-            most_step: 1,
-            tie: None,
-            up: above,
-            down: None,
-            west,
-            east: None,
-        })?;
-        self.plane.wait(Some(number))?;
-        Ok(number)
+    ) -> Option<u32> {
+        let number = Some(self.plane.insert(strand, row, above, west));
+        self.plane.wait(number);
+        if above.is_none() {
+            self.top = number;
+        }
+        number
     }
 
-    // Places no tile yet, and puts the strands of the west into the first column.
-    fn begin(&mut self) -> Result<(), OutOfMemory> {
-        self.tiles.resize(self.circuit.tiles.len(), (0, 0))?;
-        self.tries.resize(self.circuit.tiles.len(), 0)?;
-        self.strands.resize(self.circuit.strands.len(), (0, 0))?;
+    // Pushes nodes south as the easternmost column asks for.
+    fn settle(&mut self) {
+        self.plane.settle(i32::MAX, usize::MAX);
+        self.plane.keep();
+    }
+
+    // Puts the strands of the west into the first column.
+    fn begin(&mut self, circuit: &StrandCircuit) {
         let mut above = None;
         let mut row = 0i32;
-        for end in self.circuit.west.iter() {
+        for end in &circuit.west {
             if let Some(strand) = end.strand {
-                let number = self.add_below(above, None, strand, row)?;
-                set_place(&mut self.strands, strand, (0, number));
-                self.top = self.top.or(Some(number));
-                above = Some(number);
+                above = self.add_below(above, None, strand, row);
+                set(&mut self.strands, strand, (0, above.unwrap_or(0)));
                 row = row.saturating_add(2);
             }
         }
         self.plan.most = self.plan.most.max(row.saturating_add(MORE_ROWS));
-        self.plane.settle(i32::MAX, usize::MAX)?;
-        self.plane.keep();
-        Ok(())
+        self.settle();
     }
 
     // Leads all strands a column further east.
-    fn extend(&mut self) -> Result<(), OutOfMemory> {
+    fn extend(&mut self) {
         let mut west = self.top;
         let mut above = None;
-        let mut top = None;
         let mut free = 0i32;
+        self.top = None;
         for _ in 0..self.plane.nodes.len() {
             let Some(node) = self.plane.node(west) else {
                 break;
             };
             let row = node.row.saturating_sub(1).max(free);
-            let number = self.add_below(above, west, node.strand, row)?;
+            above = self.add_below(above, west, node.strand, row);
             free = row.max(node.row).saturating_add(2);
-            top = top.or(Some(number));
-            above = Some(number);
             west = node.down;
         }
-        self.top = top;
-        self.plane.settle(i32::MAX, usize::MAX)?;
-        self.plane.keep();
-        Ok(())
+        self.settle();
     }
 
-    fn tile(&self, number: u32) -> Option<Tile> {
-        self.circuit.tiles.get(number as usize).copied()
+    // Whether a strand is long enough to enter the tile that uses it.
+    fn is_long(&self, circuit: &StrandCircuit, strand: u32) -> bool {
+        let (column, _) = place_at(&self.strands, strand);
+        column.saturating_add(least_length(circuit, strand)) <= self.column
     }
 
-    // Whether a strand is long enough to enter a tile.
-    fn is_long(&self, strand: u32, kind: TileKind) -> bool {
-        let Some(own) = self.circuit.strands.get(strand as usize) else {
+    // Whether the strands of a tile stand one below the other from a node on, and are long enough.
+    fn is_ready(&self, circuit: &StrandCircuit, tile: Tile, node: Node) -> bool {
+        if tile.ins[0] != Some(node.strand) || !self.is_long(circuit, node.strand) {
             return false;
-        };
-        let maker = match own.maker {
-            Some(maker) => self.tile(maker),
-            None => None,
-        };
-        let (column, _) = self.strands.get(strand as usize).copied().unwrap_or((0, 0));
-        column.saturating_add(least_length(maker, kind)) <= self.column
-    }
-
-    // The tile that uses the strand of a node and, if it uses two, that of the node below.
-    fn ready_tile(&self, node: Node) -> Option<u32> {
-        let number = self.circuit.strands.get(node.strand as usize)?.user?;
-        let tile = self.tile(number)?;
-        if tile.ins[0] != Some(node.strand) || !self.is_long(node.strand, tile.kind) {
-            return None;
         }
-        if let Some(lower) = tile.ins[1] {
-            let below = self.plane.node(node.down)?;
-            if below.strand != lower || !self.is_long(lower, tile.kind) {
-                return None;
-            }
+        match (tile.ins[1], self.plane.node(node.down)) {
+            (None, _) => true,
+            (Some(lower), Some(below)) => below.strand == lower && self.is_long(circuit, lower),
+            (Some(_), None) => false,
         }
-        Some(number)
     }
 
     // Finds the tiles whose strands are there, those with the longest tails first.
-    fn find_ready(&mut self) -> Result<(), OutOfMemory> {
+    fn find_ready(&mut self, circuit: &StrandCircuit, tails: &[u32]) {
         self.ready.clear();
-        let mut number = self.top;
+        let mut upper = self.top;
         for _ in 0..self.plane.nodes.len() {
-            let (Some(upper), Some(node)) = (number, self.plane.node(number)) else {
+            let (Some(last), Some(node)) = (upper, self.plane.node(upper)) else {
                 break;
             };
-            if let Some(tile) = self.ready_tile(node) {
-                let rank = u32::MAX.saturating_sub(at(self.tails, tile));
-                self.ready.push((rank, upper, tile))?;
-            }
-            number = node.down;
+            self.add_ready(circuit, tails, node, last);
+            upper = node.down;
         }
-        self.ready.sort()?;
-        Ok(())
+        self.ready.as_mut_slice().sort_unstable();
+    }
+
+    // Adds the tile that uses the strand of a node as its upper one, if its strands are there.
+    fn add_ready(&mut self, circuit: &StrandCircuit, tails: &[u32], node: Node, last: u32) {
+        let Some(number) = user_of(circuit, node.strand) else {
+            return;
+        };
+        let Some(tile) = circuit.tiles.get(number as usize).copied() else {
+            return;
+        };
+        if self.is_ready(circuit, tile, node) {
+            let rank = u32::MAX.saturating_sub(at(tails, number));
+            add(&mut self.ready, (rank, last, number), &mut self.is_refused);
+        }
+    }
+
+    // Notes the first cell of a strand.
+    fn note_strand(&mut self, strand: Option<u32>, column: u32, node: Option<u32>) {
+        if let (Some(strand), Some(node)) = (strand, node) {
+            set(&mut self.strands, strand, (column, node));
+        }
     }
 
     // Notes where a tile was placed, and where its strands begin.
-    fn note(&mut self, number: u32, tile: Tile, placing: &Placing) {
-        let entry = placing.upper.at(0).unwrap_or(0);
-        set_place(&mut self.tiles, number, (self.column, entry));
-        let wide = shape_of(tile.kind).wide;
+    fn note(&mut self, number: u32, tile: Tile, placing: Placing) {
+        let (wide, entry) = (wide(tile.kind), placing.upper.unwrap_or(0));
+        set(&mut self.tiles, number, (self.column, entry));
         let column = self.column.saturating_add(wide);
-        if let (Some(strand), Some(node)) = (tile.outs[0], placing.upper.at(wide)) {
-            set_place(&mut self.strands, strand, (column, node));
-        }
-        if let (Some(strand), Some(node)) = (tile.outs[1], placing.lower.at(wide)) {
-            set_place(&mut self.strands, strand, (column, node));
-        }
+        let upper = self.plane.east_of(placing.upper, wide);
+        let lower = self.plane.east_of(placing.lower, wide);
+        self.note_strand(tile.outs[0], column, upper);
+        self.note_strand(tile.outs[1], column, lower.or(placing.exit));
         self.left = self.left.saturating_sub(1);
         self.stalled = 0;
     }
 
     // Places a tile whose upper strand has this node in the easternmost column, if there is room.
-    fn try_tile(&mut self, number: u32, last: u32) -> Result<(), OutOfMemory> {
-        let Some(tile) = self.tile(number) else {
-            return Ok(());
-        };
-        let count = self.plane.nodes.len();
-        let mut placing = Placing {
-            tile,
-            shape: shape_of(tile.kind),
-            upper: Chain::of(&self.plane, Some(last)),
-            lower: Chain::none(),
-        };
-        placing.place(&mut self.plane)?;
+    fn try_tile(&mut self, number: u32, tile: Tile, last: u32) {
         let tries = at(&self.tries, number);
         put(&mut self.tries, number, tries.saturating_add(1));
-        if self.plane.settle(self.plan.most, patience_after(tries))? {
-            self.plane.keep();
-            self.note(number, tile, &placing);
-        } else {
-            self.plane.undo(count);
+        let (most, patience) = (self.plan.most, patience_after(tries));
+        if let Some(placing) = self.plane.try_place(tile, last, most, patience) {
+            self.note(number, tile, placing);
         }
-        Ok(())
     }
 
     // Whether a tile is tried in this column: if it was tried often already, only in every fourth one.
-    fn is_time(&self, number: u32) -> bool {
+    fn is_time(&self, number: u32, tile: Tile, tails: &[u32]) -> bool {
         let is_turn = at(&self.tries, number) <= MORE_PATIENCE || (number ^ self.column) % 4 == 0;
-        match (self.tile(number), self.plan.columns) {
-            (Some(tile), Some(columns)) if tile.kind == TileKind::Fork => is_turn
-                && self.is_due(number, columns),
+        match (tile.kind, self.plan.columns) {
+            (TileKind::Fork, Some(columns)) => is_turn && self.is_due(at(tails, number), columns),
             _ => is_turn,
         }
     }
 
-    // Whether a tile has to come soon, if there are about so many columns.
-    fn is_due(&self, number: u32, columns: u32) -> bool {
-        let tail = at(self.tails, number) as u64;
-        let left = tail.saturating_mul(columns as u64) / (self.longest as u64).max(1);
+    // Whether a tile with this tail has to come soon, if there are about so many columns.
+    fn is_due(&self, tail: u32, columns: u32) -> bool {
+        let left = (tail as u64).saturating_mul(columns as u64) / (self.longest as u64).max(1);
         let soon = left
             .saturating_add(self.column as u64)
             .saturating_add(EARLIER as u64);
         soon >= columns as u64
     }
 
+    // Places a tile whose strands are there, if it is time and there is room.
+    fn try_ready(&mut self, circuit: &StrandCircuit, tails: &[u32], number: u32, last: u32) {
+        if let Some(tile) = circuit.tiles.get(number as usize).copied() {
+            if self.is_time(number, tile, tails) {
+                self.try_tile(number, tile, last);
+            }
+        }
+    }
+
     // Places tiles in a column, as many as there is room for.
-    fn place_ready(&mut self) -> Result<(), OutOfMemory> {
-        self.find_ready()?;
+    fn place_ready(&mut self, circuit: &StrandCircuit, tails: &[u32]) {
+        self.find_ready(circuit, tails);
         for place in 0..self.ready.len() {
-            if let Some((_, last, tile)) = self.ready.get(place).copied() {
-                if self.is_time(tile) {
-                    self.try_tile(tile, last)?;
-                }
+            if let Some((_, last, number)) = self.ready.get(place).copied() {
+                self.try_ready(circuit, tails, number, last);
             }
         }
         self.stalled = self.stalled.saturating_add(1);
         if self.stalled > STALLED {
             self.plan.most = self.plan.most.saturating_add(MORE_ROWS);
         }
-        Ok(())
     }
 
     /// Places all tiles, in so many columns at most. Returns whether it could.
-    pub fn run(&mut self, columns: u32) -> Result<bool, OutOfMemory> {
-        self.begin()?;
-        for _ in 0..AHEAD {
-            self.extend()?;
+    pub fn run(
+        &mut self,
+        circuit: &StrandCircuit,
+        tails: &[u32],
+        columns: u32,
+    ) -> Result<bool, OutOfMemory> {
+        self.make_room(circuit);
+        self.begin(circuit);
+        for _ in 1..COLUMNS {
+            self.extend();
         }
         for _ in 0..columns {
+            if self.is_refused || self.plane.is_refused {
+                return Err(OutOfMemory::NoMemory);
+            }
             if self.left == 0 {
                 return Ok(true);
             }
-            self.place_ready()?;
-            self.extend()?;
+            self.place_ready(circuit, tails);
+            self.extend();
             self.column = self.column.saturating_add(1);
         }
         Ok(false)
     }
 
     /// Returns the column in which strands go out at the east.
-    pub fn last_column(&self) -> u32 {
+    pub fn last_column(&self, circuit: &StrandCircuit) -> u32 {
         let mut last = 0u32;
-        for end in self.circuit.east.iter() {
+        for end in &circuit.east {
             if let Some(strand) = end.strand {
-                let (column, _) = self.strands.get(strand as usize).copied().unwrap_or((0, 0));
+                let (column, _) = place_at(&self.strands, strand);
                 last = last.max(column.saturating_add(2));
             }
         }

@@ -9,7 +9,7 @@ use std::alloc::Global;
 use strand_core::{Effort, StrandCircuit, TileKind, West};
 
 // How late registers may begin.
-const STARTS: [u32; 11] = [0, 0, 2, 4, 6, 6, 8, 10, 12, 12, 18];
+const STARTS: &[u32] = &[0, 0, 2, 4, 6, 6, 8, 10, 12, 12, 18];
 
 const SEED: u64 = 1;
 
@@ -25,35 +25,33 @@ struct Search {
     draws: Draws,
     // the weight of the web
     cost: u64,
-    // tiles around a change, which may be rewritten
-    near: Vec<u32>,
 }
 
 impl Search {
     // Rewrites tiles as long as there are fewer crossings.
-    fn rewrite(&mut self) -> Result<(), OutOfMemory> {
+    fn rewrite(&mut self) {
         let most = self.web.nodes.len().saturating_mul(8).saturating_add(64);
         for _ in 0..most {
-            let Some(at) = self.near.pop() else {
-                break;
+            let Some(at) = self.web.near.pop() else {
+                return;
             };
             self.web.count(1);
-            self.web.rewrite(at, &mut self.near)?;
+            self.web.rewrite(at);
         }
-        self.near.clear();
-        Ok(())
+        self.web.near.clear();
     }
 
-    fn rewrite_all(&mut self) -> Result<(), OutOfMemory> {
+    fn rewrite_all(&mut self) {
         for i in 0..self.web.nodes.len() {
-            self.near.push(u32::try_from(i).unwrap_or(u32::MAX))?;
+            let at = u32::try_from(i).unwrap_or(u32::MAX);
+            self.web.note_near(Some(at));
         }
-        self.rewrite()
+        self.rewrite();
     }
 
     // Keeps or undoes what was changed.
-    fn decide(&mut self, more: u64) -> Result<(), OutOfMemory> {
-        let is_settled = self.web.settle()?;
+    fn decide(&mut self, more: u64) {
+        let is_settled = self.web.settle();
         let cost = self.web.cost();
         if is_settled && cost <= self.cost.saturating_add(more) {
             self.cost = cost;
@@ -61,7 +59,6 @@ impl Search {
         } else {
             self.web.undo();
         }
-        Ok(())
     }
 
     fn random_tile(&mut self) -> u32 {
@@ -77,7 +74,7 @@ impl Search {
     }
 
     // Changes something. Returns whether it did.
-    fn change(&mut self) -> Result<bool, OutOfMemory> {
+    fn change(&mut self) -> bool {
         let drawn = self.draws.below(20);
         if drawn < OF_CHOICES {
             self.change_choice()
@@ -88,73 +85,70 @@ impl Search {
         }
     }
 
-    fn change_choice(&mut self) -> Result<bool, OutOfMemory> {
+    fn change_choice(&mut self) -> bool {
         let at = self.random_tile();
         let Some(mut node) = self.web.node(at) else {
-            return Ok(false);
+            return false;
         };
         if !matches!(node.tile.kind, TileKind::Cross) {
-            return Ok(false);
+            return false;
         }
         node.choice = node.choice.other();
-        self.web.set_node(at, Some(node))?;
-        self.web.touch(at)?;
-        Ok(true)
+        self.web.set_node(at, Some(node));
+        self.web.touch(at);
+        true
     }
 
-    fn change_start(&mut self) -> Result<bool, OutOfMemory> {
+    fn change_start(&mut self) -> bool {
         let number = self.draws.below(self.web.west.len());
-        let late = STARTS
-            .get(self.draws.below(STARTS.len()))
-            .copied()
-            .unwrap_or(0);
-        let Some(end) = self.web.west.get(number) else {
-            return Ok(false);
+        let late = self.draws.below(STARTS.len());
+        let late = STARTS.get(late).copied().unwrap_or(0);
+        let Some(end) = self.web.west.get(number).copied() else {
+            return false;
         };
         match (end.is, end.strand) {
-            (West::Register(_), Some(strand)) => {
-                self.web.set_times(Some(strand), late, 0)?;
-                Ok(true)
+            (West::Register(_), Some(_)) => {
+                self.web.set_times(end.strand, late, 0);
+                true
             }
-            _ => Ok(false),
+            _ => false,
         }
     }
 
-    fn turn(&mut self) -> Result<bool, OutOfMemory> {
+    fn turn(&mut self) -> bool {
         let at = self.random_tile();
         let found = match self.web.braid_at(at, Side::Above) {
             Some(braid) => Some(braid),
             None => self.web.braid_at(at, Side::Below),
         };
         let Some(braid) = found else {
-            return Ok(false);
+            return false;
         };
-        let choices = [self.choice(), self.choice(), self.choice()];
-        self.web.turn(braid, choices)?;
-        self.web.look_around(braid.first.at, &mut self.near)?;
-        self.web.look_around(braid.second.at, &mut self.near)?;
-        self.web.look_around(braid.third.at, &mut self.near)?;
-        self.rewrite()?;
-        Ok(true)
+        let (one, two, three) = (self.choice(), self.choice(), self.choice());
+        self.web.turn(braid, one, two, three);
+        self.web.look_around(braid.first.at);
+        self.web.look_around(braid.second.at);
+        self.web.look_around(braid.third.at);
+        self.rewrite();
+        true
     }
 
     // Computes all times, rewrites all tiles, and then makes changes until the work is done.
-    fn run(&mut self, work: u64) -> Result<(), OutOfMemory> {
-        self.web.update_all()?;
-        self.decide(0)?;
-        self.rewrite_all()?;
-        self.decide(u64::MAX)?;
+    fn run(&mut self, work: u64) {
+        self.web.update_all();
+        self.decide(0);
+        self.rewrite_all();
+        self.decide(u64::MAX);
         for _ in 0..work {
-            if self.web.work >= work {
-                break;
+            if self.web.work >= work || self.web.is_refused {
+                return;
             }
             self.web.count(1);
-            if self.change()? {
+            if self.change() {
                 let more = most_more(&mut self.draws, self.web.work, work);
-                self.decide(more)?;
+                self.decide(more);
             }
         }
-        Ok(())
     }
 }
 
@@ -168,8 +162,11 @@ pub fn annealed(
         web: Web::of(alloc, circuit)?,
         draws: Draws::new(SEED),
         cost: u64::MAX,
-        near: Vec::new(alloc),
     };
-    search.run(effort.of(work_of(circuit.tiles.len())))?;
-    Ok(search.web)
+    search.run(effort.of(work_of(circuit.tiles.len())));
+    if search.web.is_refused {
+        Err(OutOfMemory::NoMemory)
+    } else {
+        Ok(search.web)
+    }
 }

@@ -1,7 +1,6 @@
 // When signals come, and what a circuit weighs.
 use crate::waits::{bumps_of, waits_at};
 use crate::web::{Node, Web, Wire};
-use lists::OutOfMemory;
 use std::cmp::Reverse;
 use strand_core::{East, End, Tile, TileKind};
 
@@ -41,31 +40,26 @@ impl Web {
     }
 
     /// Notes that a tile's times are to be computed.
-    pub fn touch(&mut self, at: u32) -> Result<(), OutOfMemory> {
+    pub fn touch(&mut self, at: u32) {
         if let Some(node) = self.node(at) {
             let level = self.wire_of(node.tile.outs[0]).level;
-            self.todo.push((Reverse(level), at))?;
+            if self.todo.push((Reverse(level), at)).is_err() {
+                self.is_refused = true;
+            }
         }
-        Ok(())
     }
 
     /// Sets how late a strand is, and how many columns there are before its end.
-    pub fn set_times(
-        &mut self,
-        strand: Option<u32>,
-        late: u32,
-        level: u32,
-    ) -> Result<(), OutOfMemory> {
+    pub fn set_times(&mut self, strand: Option<u32>, late: u32, level: u32) {
         let mut wire = self.wire_of(strand);
         if wire.strand.late == late && wire.level == level {
-            return Ok(());
+            return;
         }
         wire.strand.late = late;
         wire.level = level;
-        self.set_wire(strand, wire)?;
-        match wire.strand.user {
-            Some(user) => self.touch(user),
-            None => Ok(()),
+        self.set_wire(strand, wire);
+        if let Some(user) = wire.strand.user {
+            self.touch(user);
         }
     }
 
@@ -77,61 +71,60 @@ impl Web {
     }
 
     // Computes the times of the strands behind a tile.
-    fn update(&mut self, at: u32) -> Result<(), OutOfMemory> {
+    fn update(&mut self, at: u32) {
         self.count(1);
         let Some(mut node) = self.node(at) else {
-            return Ok(());
+            return;
         };
         let (first, second) = self.waits(node);
         let weight = weight_of(node.tile.kind, first, second);
         if weight != node.weight {
             node.weight = weight;
-            self.set_node(at, Some(node))?;
+            self.set_node(at, Some(node));
         }
         let upper = delayed(self.wire_of(node.tile.ins[0]), first);
         let lower = delayed(self.wire_of(node.tile.ins[1]), second);
-        self.pass(node.tile, upper, lower)
+        self.pass(node.tile, upper, lower);
     }
 
     // Computes the times of the strands behind a tile from those before it.
-    fn pass(&mut self, tile: Tile, upper: Wire, lower: Wire) -> Result<(), OutOfMemory> {
+    fn pass(&mut self, tile: Tile, upper: Wire, lower: Wire) {
         let level = upper.level.max(lower.level).saturating_add(1);
         let late = match tile.kind {
             TileKind::Cross => lower.strand.late,
             _ => upper.strand.late,
         };
-        self.set_times(tile.outs[0], late, level)?;
-        self.set_times(tile.outs[1], upper.strand.late, level)
+        self.set_times(tile.outs[0], late, level);
+        self.set_times(tile.outs[1], upper.strand.late, level);
     }
 
     /// Computes the times of all tiles, which stand in order.
-    pub fn update_all(&mut self) -> Result<(), OutOfMemory> {
+    pub fn update_all(&mut self) {
         for i in 0..self.nodes.len() {
-            self.update(u32::try_from(i).unwrap_or(u32::MAX))?;
+            self.update(u32::try_from(i).unwrap_or(u32::MAX));
         }
-        Ok(())
     }
 
     /// Computes all times that are to be computed. Returns whether these came to an end.
-    pub fn settle(&mut self) -> Result<bool, OutOfMemory> {
+    pub fn settle(&mut self) -> bool {
         let most = self.nodes.len().saturating_mul(8).saturating_add(64);
         let mut last = u32::MAX;
         for _ in 0..most {
             let Some((_, at)) = self.todo.pop() else {
-                return Ok(true);
+                return true;
             };
             if at != last {
-                self.update(at)?;
+                self.update(at);
                 last = at;
             }
         }
-        Ok(false)
+        false
     }
 
     /// Returns how late the latest output is.
     pub fn latest(&self) -> u32 {
         let mut latest = 0;
-        for end in self.east.iter() {
+        for end in &self.east {
             if let East::Output(_) = end.is {
                 latest = self.wire_of(end.strand).strand.late.max(latest);
             }
@@ -152,7 +145,7 @@ impl Web {
         let latest = self.latest();
         let mut columns = 0;
         let mut weight = self.weight;
-        for end in self.east.iter() {
+        for end in &self.east {
             let wait = self.wait_at_east(*end, latest);
             columns = delayed(self.wire_of(end.strand), wait).level.max(columns);
             weight = weight.saturating_add(weight_of(TileKind::Fork, wait, 0) as u64);

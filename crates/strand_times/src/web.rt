@@ -1,10 +1,9 @@
 // A circuit that changes, with the times of its signals, and what undoes the last change.
 use crate::waits::Choice;
-use lists::OutOfMemory;
-use std::alloc::Global;
+use std::alloc::{AllocError, Global};
 use std::cmp::Reverse;
 use std::collections::BinaryHeap;
-use strand_core::{East, End, Strand, StrandCircuit, Tile, TileKind, West};
+use strand_core::{East, End, Strand, StrandCircuit, Tile, TileKind, West, add, set};
 
 /// A tile, which signal waits if it is a Cross, and what it weighs with the bumps before it.
 #[derive(Clone, Copy)]
@@ -61,32 +60,23 @@ pub struct Web {
     old_weight: u64,
     /// The tiles whose times are to be computed, by the columns before their ends.
     pub todo: BinaryHeap<(Reverse<u32>, u32)>,
+    /// Tiles around a change, which may be rewritten.
+    pub near: Vec<u32>,
+    /// Whether memory was refused: then something is missing here.
+    pub is_refused: bool,
 }
 
-fn add_nodes(nodes: &mut Vec<Option<Node>>, tiles: &[Tile]) -> Result<(), OutOfMemory> {
-    for tile in tiles {
-        nodes.push(Some(Node {
-            tile: *tile,
-            choice: Choice::Later,
-            weight: 0,
-        }))?;
+/// Returns both strands of a side of a tile, if there are two.
+pub fn pair_of(ends: [Option<u32>; 2]) -> Option<[u32; 2]> {
+    match (ends[0], ends[1]) {
+        (Some(upper), Some(lower)) => Some([upper, lower]),
+        _ => None,
     }
-    Ok(())
-}
-
-fn add_wires(wires: &mut Vec<Wire>, strands: &[Strand]) -> Result<(), OutOfMemory> {
-    for strand in strands {
-        wires.push(Wire {
-            strand: *strand,
-            level: 0,
-        })?;
-    }
-    Ok(())
 }
 
 impl Web {
     /// Returns the web of a circuit. No times are computed yet.
-    pub fn of(alloc: Global, circuit: &StrandCircuit) -> Result<Web, OutOfMemory> {
+    pub fn of(alloc: Global, circuit: &StrandCircuit) -> Result<Web, AllocError> {
         let mut web = Web {
             nodes: Vec::new(alloc),
             wires: Vec::new(alloc),
@@ -97,17 +87,35 @@ impl Web {
             old: Vec::new(alloc),
             old_weight: 0,
             todo: BinaryHeap::new(alloc),
+            near: Vec::new(alloc),
+            is_refused: false,
         };
-        web.fill(circuit)?;
+        web.add_tiles(&circuit.tiles);
+        web.add_strands(&circuit.strands);
+        web.west.extend_from_slice(&circuit.west)?;
+        web.east.extend_from_slice(&circuit.east)?;
         Ok(web)
     }
 
-    fn fill(&mut self, circuit: &StrandCircuit) -> Result<(), OutOfMemory> {
-        add_nodes(&mut self.nodes, circuit.tiles.as_slice())?;
-        add_wires(&mut self.wires, circuit.strands.as_slice())?;
-        self.west.extend_from_slice(circuit.west.as_slice())?;
-        self.east.extend_from_slice(circuit.east.as_slice())?;
-        Ok(())
+    fn add_tiles(&mut self, tiles: &[Tile]) {
+        for tile in tiles {
+            let node = Node {
+                tile: *tile,
+                choice: Choice::Later,
+                weight: 0,
+            };
+            add(&mut self.nodes, Some(node), &mut self.is_refused);
+        }
+    }
+
+    fn add_strands(&mut self, strands: &[Strand]) {
+        for strand in strands {
+            let wire = Wire {
+                strand: *strand,
+                level: 0,
+            };
+            add(&mut self.wires, wire, &mut self.is_refused);
+        }
     }
 
     // What there is.
@@ -141,32 +149,35 @@ impl Web {
         self.wire(strand).strand.user
     }
 
-    /// Returns the strands of a tile that is a Cross.
-    pub fn crossing(&self, at: u32) -> Option<Crossing> {
-        let node = self.node(at)?;
-        let tile = node.tile;
-        if !matches!(tile.kind, TileKind::Cross) {
+    /// Returns the strands of a tile, if it is a Cross.
+    pub fn crossing(&self, at: Option<u32>) -> Option<Crossing> {
+        let Some(at) = at else {
             return None;
+        };
+        let Some(Node { tile, choice, .. }) = self.node(at) else {
+            return None;
+        };
+        match (tile.kind, pair_of(tile.ins), pair_of(tile.outs)) {
+            (TileKind::Cross, Some(ins), Some(outs)) => Some(Crossing {
+                at,
+                choice,
+                ins,
+                outs,
+            }),
+            _ => None,
         }
-        Some(Crossing {
-            at,
-            choice: node.choice,
-            ins: [tile.ins[0]?, tile.ins[1]?],
-            outs: [tile.outs[0]?, tile.outs[1]?],
-        })
     }
 
     // Changes.
 
     /// Sets what is at a tile's number.
-    pub fn set_node(&mut self, at: u32, node: Option<Node>) -> Result<(), OutOfMemory> {
+    pub fn set_node(&mut self, at: u32, node: Option<Node>) {
         if (at as usize) < self.nodes.len() {
             let old = self.node(at);
-            self.old.push(Old::Node(at, old))?;
+            add(&mut self.old, Old::Node(at, old), &mut self.is_refused);
             self.weigh(old, node);
-            self.restore(Old::Node(at, node));
+            set(&mut self.nodes, at, node);
         }
-        Ok(())
     }
 
     fn weigh(&mut self, old: Option<Node>, new: Option<Node>) {
@@ -179,36 +190,39 @@ impl Web {
     }
 
     /// Sets a strand, if it is there.
-    pub fn set_wire(&mut self, strand: Option<u32>, wire: Wire) -> Result<(), OutOfMemory> {
-        let Some(at) = strand else {
-            return Ok(());
-        };
-        if (at as usize) < self.wires.len() {
-            self.old.push(Old::Wire(at, self.wires[at as usize]))?;
-            self.wires[at as usize] = wire;
+    pub fn set_wire(&mut self, strand: Option<u32>, wire: Wire) {
+        if let Some(at) = strand {
+            let old = Old::Wire(at, self.wire(at));
+            add(&mut self.old, old, &mut self.is_refused);
+            set(&mut self.wires, at, wire);
         }
-        Ok(())
+    }
+
+    fn set_user(&mut self, strand: Option<u32>, at: u32) {
+        let mut wire = self.wire_of(strand);
+        wire.strand.user = Some(at);
+        self.set_wire(strand, wire);
+    }
+
+    fn set_maker(&mut self, strand: Option<u32>, at: u32) {
+        let mut wire = self.wire_of(strand);
+        wire.strand.maker = Some(at);
+        self.set_wire(strand, wire);
     }
 
     /// Puts a tile at a number.
-    pub fn put(&mut self, at: u32, tile: Tile, choice: Choice) -> Result<(), OutOfMemory> {
-        for strand in tile.ins {
-            let mut wire = self.wire_of(strand);
-            wire.strand.user = Some(at);
-            self.set_wire(strand, wire)?;
-        }
-        for strand in tile.outs {
-            let mut wire = self.wire_of(strand);
-            wire.strand.maker = Some(at);
-            self.set_wire(strand, wire)?;
-        }
+    pub fn put(&mut self, at: u32, tile: Tile, choice: Choice) {
+        self.set_user(tile.ins[0], at);
+        self.set_user(tile.ins[1], at);
+        self.set_maker(tile.outs[0], at);
+        self.set_maker(tile.outs[1], at);
         let node = Node {
             tile,
             choice,
             weight: 0,
         };
-        self.set_node(at, Some(node))?;
-        self.touch(at)
+        self.set_node(at, Some(node));
+        self.touch(at);
     }
 
     // Keeping and undoing.
@@ -222,26 +236,13 @@ impl Web {
     /// Undoes all changes since the last ones that were kept.
     pub fn undo(&mut self) {
         for _ in 0..self.old.len() {
-            if let Some(old) = self.old.pop() {
-                self.restore(old);
+            match self.old.pop() {
+                Some(Old::Node(at, node)) => set(&mut self.nodes, at, node),
+                Some(Old::Wire(at, wire)) => set(&mut self.wires, at, wire),
+                None => {}
             }
         }
         self.todo.clear();
         self.weight = self.old_weight;
-    }
-
-    fn restore(&mut self, old: Old) {
-        match old {
-            Old::Node(at, node) => {
-                if let Some(place) = self.nodes.get_mut(at as usize) {
-                    *place = node;
-                }
-            }
-            Old::Wire(at, wire) => {
-                if let Some(place) = self.wires.get_mut(at as usize) {
-                    *place = wire;
-                }
-            }
-        }
     }
 }

@@ -3,7 +3,7 @@ use crate::waits::MOST;
 use crate::web::{Node, Web};
 use lists::OutOfMemory;
 use std::alloc::Global;
-use strand_core::{East, End, Strand, StrandCircuit, Tile, TileKind, West, at, put};
+use strand_core::{East, End, Strand, StrandCircuit, Tile, TileKind, West, add, at, put};
 
 // What a circuit is made of, with the numbers that the web's strands have in it, each one more, by their numbers in the
 // web.
@@ -14,6 +14,9 @@ struct Writing {
     west: Vec<End<West>>,
     east: Vec<End<East>>,
     numbers: Vec<u32>,
+    // the web's tiles by the columns before their ends: each after those whose strands it takes
+    order: Vec<(u32, u32)>,
+    is_refused: bool,
 }
 
 fn small(number: usize) -> u32 {
@@ -36,67 +39,60 @@ fn set_maker(strands: &mut [Strand], strand: Option<u32>, tile: u32) {
     }
 }
 
-// Adds the tiles of a web, each after those whose strands it takes: by the columns before their ends.
-fn add_order(order: &mut Vec<(u32, u32)>, web: &Web) -> Result<(), OutOfMemory> {
-    for (i, node) in web.nodes.iter().enumerate() {
-        if let Some(node) = node {
-            order.push((web.wire_of(node.tile.outs[0]).level, small(i)))?;
-        }
-    }
-    order.sort()?;
-    Ok(())
-}
-
 impl Writing {
     // Returns the number that a strand of the web has here.
     fn number(&self, strand: Option<u32>) -> Option<u32> {
-        at(self.numbers.as_slice(), strand?).checked_sub(1)
+        match strand {
+            Some(strand) => at(&self.numbers, strand).checked_sub(1),
+            None => None,
+        }
     }
 
     // Adds a strand, and returns its number.
-    fn add(&mut self, late: u32) -> Result<u32, OutOfMemory> {
+    fn add(&mut self, late: u32) -> u32 {
         let number = small(self.strands.len());
-        self.strands.push(Strand {
+        let strand = Strand {
             maker: None,
             user: None,
             late,
-        })?;
-        Ok(number)
+        };
+        add(&mut self.strands, strand, &mut self.is_refused);
+        number
     }
 
     // Adds a strand of the web, and returns its number.
-    fn add_strand(&mut self, web: &Web, strand: Option<u32>) -> Result<Option<u32>, OutOfMemory> {
+    fn add_strand(&mut self, web: &Web, strand: Option<u32>) -> Option<u32> {
         let Some(strand) = strand else {
-            return Ok(None);
+            return None;
         };
-        let number = self.add(web.wire(strand).strand.late)?;
-        put(
-            self.numbers.as_mut_slice(),
-            strand,
-            number.saturating_add(1),
-        );
-        Ok(Some(number))
+        let number = self.add(web.wire(strand).strand.late);
+        put(&mut self.numbers, strand, number.saturating_add(1));
+        Some(number)
     }
 
     // Adds a tile between its strands.
-    fn add_tile(&mut self, tile: Tile) -> Result<(), OutOfMemory> {
+    fn add_tile(&mut self, tile: Tile) {
         let number = small(self.tiles.len());
-        let strands = self.strands.as_mut_slice();
-        set_user(strands, tile.ins[0], number);
-        set_user(strands, tile.ins[1], number);
-        set_maker(strands, tile.outs[0], number);
-        set_maker(strands, tile.outs[1], number);
-        self.tiles.push(tile)?;
-        Ok(())
+        set_user(&mut self.strands, tile.ins[0], number);
+        set_user(&mut self.strands, tile.ins[1], number);
+        set_maker(&mut self.strands, tile.outs[0], number);
+        set_maker(&mut self.strands, tile.outs[1], number);
+        add(&mut self.tiles, tile, &mut self.is_refused);
+    }
+
+    // Adds a bump that takes so many generations behind a strand. Returns the strand behind it.
+    fn add_bump(&mut self, before: Option<u32>, extra: u32, late: u32) -> Option<u32> {
+        let after = Some(self.add(late));
+        self.add_tile(Tile {
+            kind: TileKind::Bump(extra),
+            ins: [before, None],
+            outs: [after, None],
+        });
+        after
     }
 
     // Adds bumps behind a strand of the web. Returns the strand whose signal comes so many generations later.
-    fn wait(
-        &mut self,
-        web: &Web,
-        strand: Option<u32>,
-        wait: u32,
-    ) -> Result<Option<u32>, OutOfMemory> {
+    fn wait(&mut self, web: &Web, strand: Option<u32>, wait: u32) -> Option<u32> {
         let mut now = self.number(strand);
         let mut late = web.wire_of(strand).strand.late;
         let mut left = wait;
@@ -107,82 +103,90 @@ impl Writing {
             let extra = left.min(MOST);
             left = left.saturating_sub(extra);
             late = late.saturating_add(extra);
-            let after = Some(self.add(late)?);
-            self.add_tile(Tile {
-                kind: TileKind::Bump(extra),
-                ins: [now, None],
-                outs: [after, None],
-            })?;
-            now = after;
+            now = self.add_bump(now, extra, late);
         }
-        Ok(now)
+        now
     }
 
     // Adds a tile of the web, and the bumps before it.
-    fn add_node(&mut self, web: &Web, node: Node) -> Result<(), OutOfMemory> {
+    fn add_node(&mut self, web: &Web, node: Node) {
         let tile = node.tile;
         let (first, second) = web.waits(node);
-        let upper = self.wait(web, tile.ins[0], first)?;
-        let lower = self.wait(web, tile.ins[1], second)?;
-        let outs = [
-            self.add_strand(web, tile.outs[0])?,
-            self.add_strand(web, tile.outs[1])?,
-        ];
+        let upper = self.wait(web, tile.ins[0], first);
+        let lower = self.wait(web, tile.ins[1], second);
+        let north = self.add_strand(web, tile.outs[0]);
+        let south = self.add_strand(web, tile.outs[1]);
         self.add_tile(Tile {
             kind: tile.kind,
             ins: [upper, lower],
-            outs,
-        })
+            outs: [north, south],
+        });
     }
 
-    fn add_west(&mut self, web: &Web) -> Result<(), OutOfMemory> {
-        for end in web.west.iter() {
-            let strand = self.add_strand(web, end.strand)?;
-            self.west.push(End { strand, is: end.is })?;
+    fn add_west(&mut self, web: &Web) {
+        for end in &web.west {
+            let strand = self.add_strand(web, end.strand);
+            let end = End { strand, is: end.is };
+            add(&mut self.west, end, &mut self.is_refused);
         }
-        Ok(())
     }
 
     // Adds the ends at the east, where all outputs come at once.
-    fn add_east(&mut self, web: &Web) -> Result<(), OutOfMemory> {
+    fn add_east(&mut self, web: &Web) {
         let latest = web.latest();
-        for end in web.east.iter() {
+        for end in &web.east {
             let wait = web.wait_at_east(*end, latest);
-            let strand = self.wait(web, end.strand, wait)?;
-            self.east.push(End { strand, is: end.is })?;
+            let strand = self.wait(web, end.strand, wait);
+            let end = End { strand, is: end.is };
+            add(&mut self.east, end, &mut self.is_refused);
         }
-        Ok(())
     }
 
-    // Adds all ends and tiles of a web.
-    fn add_web(&mut self, web: &Web, order: &[(u32, u32)]) -> Result<(), OutOfMemory> {
-        self.add_west(web)?;
-        for (_, number) in order.iter() {
-            if let Some(node) = web.node(*number) {
-                self.add_node(web, node)?;
+    fn find_order(&mut self, web: &Web) {
+        for number in 0..small(web.nodes.len()) {
+            if let Some(node) = web.node(number) {
+                let level = web.wire_of(node.tile.outs[0]).level;
+                add(&mut self.order, (level, number), &mut self.is_refused);
             }
         }
-        self.add_east(web)
+        self.order.as_mut_slice().sort_unstable();
+    }
+
+    // Adds the tiles of a web in their order.
+    fn add_nodes(&mut self, web: &Web) {
+        for place in 0..self.order.len() {
+            if let Some((_, number)) = self.order.get(place).copied() {
+                if let Some(node) = web.node(number) {
+                    self.add_node(web, node);
+                }
+            }
+        }
     }
 }
 
 fn writing_of(alloc: Global, web: &Web) -> Result<Writing, OutOfMemory> {
-    let mut order = Vec::new(alloc);
-    add_order(&mut order, web)?;
     let mut writing = Writing {
         numbers: vec![in alloc; 0; web.wires.len()]?,
         strands: Vec::new(alloc),
         tiles: Vec::new(alloc),
         west: Vec::new(alloc),
         east: Vec::new(alloc),
+        order: Vec::new(alloc),
+        is_refused: false,
     };
-    writing.add_web(web, &order)?;
+    writing.find_order(web);
+    writing.add_west(web);
+    writing.add_nodes(web);
+    writing.add_east(web);
     Ok(writing)
 }
 
 /// Makes a circuit that of a web, with bumps.
 pub fn write(alloc: Global, web: &Web, circuit: &mut StrandCircuit) -> Result<(), OutOfMemory> {
     let writing = writing_of(alloc, web)?;
+    if writing.is_refused {
+        return Err(OutOfMemory::NoMemory);
+    }
     circuit.strands = writing.strands;
     circuit.tiles = writing.tiles;
     circuit.west = writing.west;
