@@ -1,8 +1,9 @@
-// Sources and sinks in memory, call by call.
+// Sources and sinks in memory, call by call, and the adapters over a real stream.
 use lists::Bytes;
 use std::alloc::Global;
+use std::io::{PipeReader, PipeWriter, pipe};
 use std::test::Fail;
-use ww_base::{MemSink, MemSource, ReadAllError, read_all, write_all};
+use ww_base::{Failed, MemSink, MemSource, ReadAllError, StdSink, StdSource, read_all, write_all};
 
 // The netlist of an OR gate: 61 bytes.
 const TEXT: &[u8] = b".model or\n.inputs a b\n.outputs y\n.names a b y\n1- 1\n-1 1\n.end\n";
@@ -89,4 +90,27 @@ fn a_sink_keeps_a_front_where_it_fails(rt: HostRuntime) -> Result<(), Fail> {
         expect_held(rt.alloc(), *sink)?;
     }
     Ok(())
+}
+
+// Writes the text into a stream and ends the stream.
+fn send(writer: PipeWriter) -> Result<(), Failed> {
+    let mut sink = StdSink::new(writer);
+    write_all(&mut sink, TEXT)
+}
+
+// Whether a read of a stream gives the whole text.
+fn receives(alloc: Global, reader: PipeReader) -> bool {
+    let mut src = StdSource::new(reader);
+    is_read(&read_all(alloc, &mut src, 61), None)
+}
+
+#[test]
+fn the_adapters_pass_the_bytes_of_a_stream(rt: HostRuntime) -> Result<(), Fail> {
+    let (reader, writer) = pipe(&rt)?;
+    send(writer)?;
+    if receives(rt.alloc(), reader) {
+        Ok(())
+    } else {
+        Err(Fail::new("another text comes out of the stream"))
+    }
 }
