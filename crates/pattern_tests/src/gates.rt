@@ -188,9 +188,19 @@ fn has_sections(alloc: Global, library: &GateLibrary) -> Result<bool, AllocError
     Ok(true)
 }
 
+// The failure that names a kind whose drawing is at fault.
+fn named(alloc: Global, kind: GateKind) -> Result<Fail, AllocError> {
+    let mut name = String::new(alloc);
+    for letter in word_of(kind.shape) {
+        name.push(char::from(*letter))?;
+    }
+    name.push(char::from(letter_of(kind.turn)))?;
+    Ok(Fail::new(name.as_str()))
+}
+
 fn expect_library(alloc: Global, library: &GateLibrary) -> Result<(), Fail> {
     if let Some(kind) = first_fault(library) {
-        return Err(Fail::new(format_args!("{kind:?}")));
+        return Err(named(alloc, kind)?);
     }
     expect_holds("the page", has_sections(alloc, library)?)
 }
