@@ -123,8 +123,8 @@ impl Graph {
         }
     }
 
-    /// Makes this the graph of a list, with forks near to the readers, which stand about in the layers that `readers` says.
-    /// Notes there in which layers they stand now.
+    /// Makes this the graph of a list, with forks near to the readers, which stand about in the layers that `readers`
+    /// says. Notes there in which layers they stand now.
     pub fn grow(
         &mut self,
         list: &CellList,
