@@ -1,6 +1,6 @@
 // The circuit of a list of cells.
 
-use crate::graph::{Graph, NodeKind};
+use crate::graph::{Graph, Node, NodeKind};
 use crate::parts::parts_of;
 use crate::readers::Readers;
 use crate::registers::Registers;
@@ -8,9 +8,9 @@ use crate::values::Values;
 use crate::weaving::{Running, Weaver};
 use cell_core::{CellList, Src};
 use lists::OutOfMemory;
-use std::alloc::{AllocError, Global};
-use strand_core::{East, Effort, End, Register, StrandCircuit, West};
-use strand_orders::{Layered, Ordered, few_crossings, small};
+use std::alloc::Global;
+use strand_core::{East, Effort, End, StrandCircuit, West, add};
+use strand_orders::{Layered, Ordered, few_crossings};
 
 // How often the forks' trees are made anew, for the layers in which their readers then stand.
 const ROUNDS: usize = 4;
@@ -21,76 +21,73 @@ const MOST_NODES: u64 = 3_000_000;
 const MOST_CROSSINGS: u64 = 1_000_000;
 
 // Adds the inputs that nothing reads.
-fn add_unread(west: &mut Vec<End<West>>, values: &Values) -> Result<(), AllocError> {
+fn add_unread(west: &mut Vec<End<West>>, values: &Values, is_refused: &mut bool) {
     for input in 0..values.inputs {
         if values.reads_of(input) == 0 {
-            west.push(End {
-                strand: None,
-                is: West::Input(input),
-            })?;
+            let is = West::Input(input);
+            add(west, End { strand: None, is }, is_refused);
         }
     }
-    Ok(())
 }
 
 // Adds the outputs that are constant 0.
-fn add_dark_outs(
-    east: &mut Vec<End<East>>,
-    values: &Values,
-    outs: &[Src],
-) -> Result<(), AllocError> {
-    for (number, src) in outs.iter().enumerate() {
+fn add_dark_outs(east: &mut Vec<End<East>>, values: &Values, outs: &[Src], is_refused: &mut bool) {
+    let mut number = 0u32;
+    for src in outs {
         if values.number(*src).is_none() {
-            east.push(End {
-                strand: None,
-                is: East::Output(small(number)),
-            })?;
+            let is = East::Output(number);
+            add(east, End { strand: None, is }, is_refused);
         }
+        number = number.saturating_add(1);
     }
-    Ok(())
 }
 
 // Makes a graph that of a list, with forks as late as may be.
-fn settle_forks(
-    alloc: Global,
+fn grow(
     graph: &mut Graph,
     list: &CellList,
     values: &Values,
     registers: &Registers,
-) -> Result<(), AllocError> {
-    let mut readers = Readers::of(alloc, list, values, registers)?;
+    readers: &mut Readers,
+) -> Result<(), OutOfMemory> {
     for _ in 0..ROUNDS {
-        graph.grow(list, values, registers, &mut readers)?;
+        graph.grow(list, values, registers, readers);
     }
-    Ok(())
+    if graph.is_refused {
+        Err(OutOfMemory::NoMemory)
+    } else {
+        Ok(())
+    }
 }
 
-// Makes a graph that of a list. Returns the list's registers.
-fn grown(
+// Makes a graph and the registers of a circuit those of a list.
+fn fill_graph(
     alloc: Global,
     graph: &mut Graph,
+    circuit: &mut StrandCircuit,
     list: &CellList,
     values: &Values,
-) -> Result<Vec<Register>, AllocError> {
+) -> Result<(), OutOfMemory> {
     let registers = Registers::of(alloc, list, values)?;
-    settle_forks(alloc, graph, list, values, &registers)?;
-    Ok(registers.registers)
+    let mut readers = Readers::of(alloc, list, values, &registers)?;
+    grow(graph, list, values, &registers, &mut readers)?;
+    circuit.registers = registers.registers;
+    Ok(())
 }
 
 // The layers of a graph in an order with few crossings, if it is not too large.
 fn ordered(
     alloc: Global,
-    graph: &Graph,
+    nodes: &[Node],
     registers: usize,
     seed: u64,
     effort: Effort,
-) -> Result<Option<Ordered>, AllocError> {
-    let parts = parts_of(alloc, graph, registers)?;
+) -> Result<Option<Ordered>, OutOfMemory> {
+    let parts = parts_of(alloc, nodes, registers)?;
     if parts.nodes() > MOST_NODES {
         return Ok(None);
     }
-    let layered = Layered::of(alloc, parts)?;
-    let found = few_crossings(alloc, layered, seed, effort)?;
+    let found = few_crossings(alloc, Layered::of(alloc, parts), seed, effort)?;
     if found.crossings > MOST_CROSSINGS {
         return Ok(None);
     }
@@ -98,59 +95,45 @@ fn ordered(
 }
 
 // Adds the ends of the strands that go out at the east.
-fn add_east(east: &mut Vec<End<East>>, graph: &Graph, state: &[Running]) -> Result<(), AllocError> {
+fn add_east(east: &mut Vec<End<East>>, nodes: &[Node], state: &[Running], is_refused: &mut bool) {
     for running in state {
-        if let Some(node) = graph.nodes.get(running.to as usize) {
+        if let Some(node) = nodes.get(running.to as usize) {
             if let NodeKind::East(is) = node.kind {
                 let strand = Some(running.strand);
-                east.push(End { strand, is })?;
+                add(east, End { strand, is }, is_refused);
             }
         }
     }
-    Ok(())
 }
 
-// Puts what is woven of a graph in this order into a circuit.
+// Puts what is woven of a graph in this order into a circuit, and then the ends that have no strand.
 fn put_woven(
     alloc: Global,
     circuit: &mut StrandCircuit,
-    graph: &Graph,
+    nodes: &[Node],
     found: &Ordered,
-) -> Result<(), AllocError> {
-    let mut weaver = Weaver::new(alloc, graph, found);
-    weaver.weave()?;
-    add_east(&mut circuit.east, graph, &weaver.state)?;
+    list: &CellList,
+    values: &Values,
+) -> Result<(), OutOfMemory> {
+    let mut weaver = Weaver::new(alloc);
+    weaver.weave(nodes, found);
+    let mut is_refused = weaver.is_refused;
+    add_east(&mut circuit.east, nodes, &weaver.state, &mut is_refused);
     circuit.strands = weaver.strands;
     circuit.tiles = weaver.tiles;
     circuit.west = weaver.west;
-    Ok(())
-}
-
-// Weaves a graph, if its circuit is not too large. Returns whether that is done.
-fn weave(
-    alloc: Global,
-    circuit: &mut StrandCircuit,
-    graph: &Graph,
-    seed: u64,
-    effort: Effort,
-) -> Result<bool, AllocError> {
-    match ordered(alloc, graph, circuit.registers.len(), seed, effort)? {
-        Some(found) => {
-            put_woven(alloc, circuit, graph, &found)?;
-            Ok(true)
-        }
-        None => Ok(false),
+    add_unread(&mut circuit.west, values, &mut is_refused);
+    add_dark_outs(
+        &mut circuit.east,
+        values,
+        list.outs.as_slice(),
+        &mut is_refused,
+    );
+    if is_refused {
+        Err(OutOfMemory::NoMemory)
+    } else {
+        Ok(())
     }
-}
-
-// Adds the ends that have no strand.
-fn add_ends(
-    circuit: &mut StrandCircuit,
-    list: &CellList,
-    values: &Values,
-) -> Result<(), AllocError> {
-    add_unread(&mut circuit.west, values)?;
-    add_dark_outs(&mut circuit.east, values, list.outs.as_slice())
 }
 
 // Makes a circuit that of a list, if it is not too large. Returns whether that is done.
@@ -160,15 +143,18 @@ fn fill(
     list: &CellList,
     seed: u64,
     effort: Effort,
-) -> Result<bool, AllocError> {
+) -> Result<bool, OutOfMemory> {
     let values = Values::of(alloc, list)?;
     let mut graph = Graph::new(alloc);
-    circuit.registers = grown(alloc, &mut graph, list, &values)?;
-    if !weave(alloc, circuit, &graph, seed, effort)? {
-        return Ok(false);
+    fill_graph(alloc, &mut graph, circuit, list, &values)?;
+    let registers = circuit.registers.len();
+    match ordered(alloc, &graph.nodes, registers, seed, effort)? {
+        Some(found) => {
+            put_woven(alloc, circuit, &graph.nodes, &found, list, &values)?;
+            Ok(true)
+        }
+        None => Ok(false),
     }
-    add_ends(circuit, list, &values)?;
-    Ok(true)
 }
 
 // The circuit of no strands.

@@ -1,11 +1,11 @@
 // What reads the values of a list.
 
-use crate::forks::Reading;
 use crate::registers::Registers;
 use crate::values::Values;
 use cell_core::{Cell, CellList, Src};
-use std::alloc::{AllocError, Global};
-use strand_core::at;
+use lists::OutOfMemory;
+use std::alloc::Global;
+use strand_core::{add, at};
 use strand_orders::{Links, small};
 
 /// The cells and ports that read values: the cells by their numbers, then the registers' data, and then the outputs.
@@ -23,60 +23,42 @@ pub fn entry_of(reader: u32) -> u32 {
     reader.saturating_mul(2)
 }
 
-// Adds that a source is read at an entry.
-fn add_entry(
-    pairs: &mut Vec<(u32, u32)>,
-    values: &Values,
-    entry: u32,
-    src: Src,
-) -> Result<(), AllocError> {
-    if let Some(value) = values.number(src) {
-        pairs.push((value, entry))?;
-    }
-    Ok(())
+// The values that are read, each with an entry.
+#[derive(Drop)]
+struct Reads {
+    pairs: Vec<(u32, u32)>,
+    is_refused: bool,
 }
 
-fn add_ports(
-    pairs: &mut Vec<(u32, u32)>,
-    values: &Values,
-    first: u32,
-    sources: &[Src],
-) -> Result<(), AllocError> {
-    for (number, src) in sources.iter().enumerate() {
-        let reader = first.saturating_add(small(number));
-        add_entry(pairs, values, entry_of(reader), *src)?;
-    }
-    Ok(())
-}
-
-fn add_cells(
-    pairs: &mut Vec<(u32, u32)>,
-    values: &Values,
-    cells: &[Cell],
-) -> Result<(), AllocError> {
-    for (number, cell) in cells.iter().enumerate() {
-        let number = small(number);
-        if values.is_made(number) {
-            let (first, second) = values.operands(*cell);
-            let entry = entry_of(number);
-            add_entry(pairs, values, entry, first)?;
-            add_entry(pairs, values, entry.saturating_add(1), second)?;
+impl Reads {
+    // Adds that a source is read at an entry.
+    fn add(&mut self, values: &Values, entry: u32, src: Src) {
+        if let Some(value) = values.number(src) {
+            add(&mut self.pairs, (value, entry), &mut self.is_refused);
         }
     }
-    Ok(())
-}
 
-// Adds the entries at which the values are read, each behind its value.
-fn add_all(
-    pairs: &mut Vec<(u32, u32)>,
-    list: &CellList,
-    values: &Values,
-    data: &[Src],
-) -> Result<(), AllocError> {
-    add_cells(pairs, values, list.cells.as_slice())?;
-    add_ports(pairs, values, values.cells, data)?;
-    let first = values.cells.saturating_add(small(data.len()));
-    add_ports(pairs, values, first, list.outs.as_slice())
+    // Adds that ports read sources, from a first one on.
+    fn add_ports(&mut self, values: &Values, first: u32, sources: &[Src]) {
+        let mut reader = first;
+        for src in sources {
+            self.add(values, entry_of(reader), *src);
+            reader = reader.saturating_add(1);
+        }
+    }
+
+    fn add_cells(&mut self, values: &Values, cells: &[Cell]) {
+        let mut number = 0u32;
+        for cell in cells {
+            if values.is_made(number) {
+                let (first, second) = values.operands(*cell);
+                let entry = entry_of(number);
+                self.add(values, entry, first);
+                self.add(values, entry.saturating_add(1), second);
+            }
+            number = number.saturating_add(1);
+        }
+    }
 }
 
 // The entries at which each value is read.
@@ -85,10 +67,22 @@ fn entries_of(
     list: &CellList,
     values: &Values,
     data: &[Src],
-) -> Result<Links, AllocError> {
-    let mut pairs = Vec::new(alloc);
-    add_all(&mut pairs, list, values, data)?;
-    Links::of(alloc, values.reads.len(), &pairs)
+) -> Result<Links, OutOfMemory> {
+    let mut reads = Reads {
+        pairs: Vec::new(alloc),
+        is_refused: false,
+    };
+    reads.add_cells(values, list.cells.as_slice());
+    reads.add_ports(values, values.cells, data);
+    let first = values.cells.saturating_add(small(data.len()));
+    reads.add_ports(values, first, list.outs.as_slice());
+    let mut entries = Links::new(alloc);
+    entries.fill(values.reads.len(), &reads.pairs, &mut reads.is_refused);
+    if reads.is_refused {
+        Err(OutOfMemory::NoMemory)
+    } else {
+        Ok(entries)
+    }
 }
 
 impl Readers {
@@ -98,24 +92,22 @@ impl Readers {
         list: &CellList,
         values: &Values,
         registers: &Registers,
-    ) -> Result<Readers, AllocError> {
+    ) -> Result<Readers, OutOfMemory> {
         let ports = small(registers.data.len()).saturating_add(small(list.outs.len()));
         let count = values.cells.saturating_add(ports);
+        let entries = entries_of(alloc, list, values, &registers.data)?;
         Ok(Readers {
             count,
             layers: vec![in alloc; 0u32; count as usize]?,
-            entries: entries_of(alloc, list, values, &registers.data)?,
+            entries,
         })
     }
 
-    /// Adds the readings of a value.
-    pub fn add_readings(&self, readings: &mut Vec<Reading>, value: u32) -> Result<(), AllocError> {
+    /// Adds the layers of a value's readers, and the entries at which they read it.
+    pub fn add_readings(&self, readings: &mut Vec<(u32, u32)>, value: u32, is_refused: &mut bool) {
         for entry in self.entries.of_node(value) {
-            readings.push(Reading {
-                layer: at(&self.layers, *entry / 2),
-                entry: *entry,
-            })?;
+            let layer = at(&self.layers, *entry / 2);
+            add(readings, (layer, *entry), is_refused);
         }
-        Ok(())
     }
 }

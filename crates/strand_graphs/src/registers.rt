@@ -2,15 +2,16 @@
 
 use crate::values::Values;
 use cell_core::{CellList, Src};
-use std::alloc::{AllocError, Global};
-use strand_core::Register;
-use strand_orders::small;
+use lists::OutOfMemory;
+use std::alloc::Global;
+use strand_core::{Register, add, set};
 
 /// Registers, and what each of them takes: the data of its first latch.
 #[derive(Drop)]
 pub struct Registers {
     pub registers: Vec<Register>,
     pub data: Vec<Src>,
+    is_refused: bool,
 }
 
 // The latch that a source is, if the latch's one reader reads it there.
@@ -21,29 +22,27 @@ fn joined(values: &Values, src: Src) -> Option<u32> {
     }
 }
 
-// The latches by those that they read, if they are their one reader.
-fn nexts(alloc: Global, values: &Values, latches: &[Src]) -> Result<Vec<Option<u32>>, AllocError> {
-    let mut nexts = vec![in alloc; None; latches.len()]?;
-    for latch in 0..values.latches {
+// Notes the latches by those that they read, if they are their one reader.
+fn note_nexts(nexts: &mut [Option<u32>], values: &Values, latches: &[Src]) {
+    let mut latch = 0u32;
+    for src in latches {
         if values.reads_of(values.latch(latch)) > 0 {
-            let src = latches.get(latch as usize).copied().unwrap_or(Src::Zero);
-            if let Some(before) = joined(values, src) {
-                if let Some(next) = nexts.get_mut(before as usize) {
-                    *next = Some(latch);
-                }
+            if let Some(before) = joined(values, *src) {
+                set(nexts, before, Some(latch));
             }
         }
+        latch = latch.saturating_add(1);
     }
-    Ok(nexts)
 }
 
-// The register that begins with a latch.
+// The register that begins with a latch. Notes if memory is refused.
 fn register_from(
     alloc: Global,
     nexts: &[Option<u32>],
     starts: &[bool],
     first: u32,
-) -> Result<Register, AllocError> {
+    is_refused: &mut bool,
+) -> Register {
     let mut register = Register {
         latches: Vec::new(alloc),
         starts: Vec::new(alloc),
@@ -53,51 +52,58 @@ fn register_from(
         let Some(latch) = next else {
             break;
         };
-        register.latches.push(latch)?;
-        register
-            .starts
-            .push(starts.get(latch as usize).copied().unwrap_or(false))?;
+        let start = starts.get(latch as usize).copied().unwrap_or(false);
+        add(&mut register.latches, latch, is_refused);
+        add(&mut register.starts, start, is_refused);
         next = nexts.get(latch as usize).copied().unwrap_or(None);
     }
-    Ok(register)
+    register
 }
 
 impl Registers {
     /// Returns the registers of a list. Constant 1 is one of them if there are others.
-    pub fn of(alloc: Global, list: &CellList, values: &Values) -> Result<Registers, AllocError> {
+    pub fn of(alloc: Global, list: &CellList, values: &Values) -> Result<Registers, OutOfMemory> {
+        let latches = list.latches.as_slice();
+        let mut nexts = vec![in alloc; None; latches.len()]?;
+        note_nexts(&mut nexts, values, latches);
         let mut found = Registers {
             registers: Vec::new(alloc),
             data: Vec::new(alloc),
+            is_refused: false,
         };
-        found.find(alloc, list, values)?;
-        Ok(found)
+        found.find(alloc, list, values, &nexts);
+        if found.is_refused {
+            Err(OutOfMemory::NoMemory)
+        } else {
+            Ok(found)
+        }
     }
 
-    fn find(&mut self, alloc: Global, list: &CellList, values: &Values) -> Result<(), AllocError> {
-        let nexts = nexts(alloc, values, list.latches.as_slice())?;
-        for (latch, src) in list.latches.as_slice().iter().enumerate() {
-            let latch = small(latch);
+    fn find(&mut self, alloc: Global, list: &CellList, values: &Values, nexts: &[Option<u32>]) {
+        let mut latch = 0u32;
+        for src in list.latches.as_slice() {
             let is_read = values.reads_of(values.latch(latch)) > 0;
             if is_read && joined(values, *src).is_none() {
-                let register = register_from(alloc, &nexts, list.starts.as_slice(), latch)?;
-                self.registers.push(register)?;
-                self.data.push(*src)?;
+                let starts = list.starts.as_slice();
+                let register = register_from(alloc, nexts, starts, latch, &mut self.is_refused);
+                add(&mut self.registers, register, &mut self.is_refused);
+                add(&mut self.data, *src, &mut self.is_refused);
             }
+            latch = latch.saturating_add(1);
         }
         if values.reads_of(values.one()) > 0 && !self.registers.is_empty() {
-            self.add_one(alloc)?;
+            self.add_one(alloc);
         }
-        Ok(())
     }
 
     // Adds constant 1.
-    fn add_one(&mut self, alloc: Global) -> Result<(), AllocError> {
+    fn add_one(&mut self, alloc: Global) {
         let mut starts = Vec::new(alloc);
-        starts.push(true)?;
+        add(&mut starts, true, &mut self.is_refused);
         let latches = Vec::new(alloc);
-        self.registers.push(Register { latches, starts })?;
-        self.data.push(Src::One)?;
-        Ok(())
+        let register = Register { latches, starts };
+        add(&mut self.registers, register, &mut self.is_refused);
+        add(&mut self.data, Src::One, &mut self.is_refused);
     }
 
     /// Returns the value that a register brings, which is that of its last latch.

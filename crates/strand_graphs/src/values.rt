@@ -1,8 +1,9 @@
 // The values of a list of cells: those that are read, and how often.
 
 use cell_core::{Cell, CellList, Src, is_same_src};
-use std::alloc::{AllocError, Global};
-use strand_core::{at, put};
+use lists::OutOfMemory;
+use std::alloc::Global;
+use strand_core::{add, at, put};
 use strand_orders::small;
 
 /// The values of a list, by numbers: the inputs, the latches, the cells and constant 1. Constant 0 is none of them.
@@ -15,6 +16,9 @@ pub struct Values {
     made: Vec<Src>,
     /// How often each value is read by what matters for an output.
     pub reads: Vec<u32>,
+    // the values for which what they read has still to be read
+    todo: Vec<u32>,
+    is_refused: bool,
 }
 
 // What a cell equals, over sources that are none of the cells that equal others.
@@ -32,37 +36,36 @@ fn simplified(cell: Cell) -> Option<Src> {
 
 impl Values {
     /// Returns the values of a list.
-    pub fn of(alloc: Global, list: &CellList) -> Result<Values, AllocError> {
+    pub fn of(alloc: Global, list: &CellList) -> Result<Values, OutOfMemory> {
+        let latches = small(list.latches.len());
+        let cells = small(list.cells.len());
+        let count = list.inputs.saturating_add(latches).saturating_add(cells);
         let mut values = Values {
             inputs: list.inputs,
-            latches: small(list.latches.len()),
-            cells: small(list.cells.len()),
+            latches,
+            cells,
             made: Vec::new(alloc),
-            reads: Vec::new(alloc),
+            reads: vec![in alloc; 0u32; count.saturating_add(1) as usize]?,
+            todo: Vec::new(alloc),
+            is_refused: false,
         };
-        values.count_reads(alloc, list)?;
-        Ok(values)
+        values.find_made(list.cells.as_slice());
+        values.read_all(list);
+        if values.is_refused {
+            Err(OutOfMemory::NoMemory)
+        } else {
+            Ok(values)
+        }
     }
 
-    fn count_reads(&mut self, alloc: Global, list: &CellList) -> Result<(), AllocError> {
-        self.find_made(list.cells.as_slice())?;
-        let count = self.one().saturating_add(1) as usize;
-        self.reads.resize(count, 0)?;
-        let mut todo = Vec::new(alloc);
-        self.read_all(&mut todo, list.outs.as_slice())?;
-        self.read_more(&mut todo, list)
-    }
-
-    fn find_made(&mut self, cells: &[Cell]) -> Result<(), AllocError> {
-        self.made.reserve(cells.len())?;
-        for (number, cell) in cells.iter().enumerate() {
+    fn find_made(&mut self, cells: &[Cell]) {
+        for cell in cells {
             let made = match simplified(self.over(*cell)) {
                 Some(src) => src,
-                None => Src::Cell(small(number)),
+                None => Src::Cell(small(self.made.len())),
             };
-            self.made.push(made)?;
+            add(&mut self.made, made, &mut self.is_refused);
         }
-        Ok(())
     }
 
     /// Returns what a source is, after all that reads constant 0 is gone.
@@ -132,61 +135,48 @@ impl Values {
     }
 
     // Counts that a source is read. If it is for the first time, what the value reads has still to be read.
-    fn read(&mut self, todo: &mut Vec<u32>, src: Src) -> Result<(), AllocError> {
+    fn read(&mut self, src: Src) {
         let Some(value) = self.number(src) else {
-            return Ok(());
+            return;
         };
         let count = at(&self.reads, value);
         put(&mut self.reads, value, count.saturating_add(1));
         if count == 0 {
-            todo.push(value)?;
+            add(&mut self.todo, value, &mut self.is_refused);
         }
-        Ok(())
     }
 
-    fn read_all(&mut self, todo: &mut Vec<u32>, sources: &[Src]) -> Result<(), AllocError> {
-        for src in sources {
-            self.read(todo, *src)?;
+    // Reads what matters for an output.
+    fn read_all(&mut self, list: &CellList) {
+        for src in list.outs.as_slice() {
+            self.read(*src);
         }
-        Ok(())
-    }
-
-    fn read_more(&mut self, todo: &mut Vec<u32>, list: &CellList) -> Result<(), AllocError> {
         for _ in 0..self.reads.len() {
-            let Some(value) = todo.pop() else {
-                break;
+            let Some(value) = self.todo.pop() else {
+                return;
             };
-            self.read_sources(todo, list, value)?;
+            self.read_sources(list, value);
         }
-        Ok(())
     }
 
-    // Reads what a latch or a cell reads.
-    fn read_sources(
-        &mut self,
-        todo: &mut Vec<u32>,
-        list: &CellList,
-        value: u32,
-    ) -> Result<(), AllocError> {
+    // Reads what a latch or a cell reads, or constant 1.
+    fn read_sources(&mut self, list: &CellList, value: u32) {
         if value >= self.one() {
-            return self.read(todo, Src::One);
+            self.read(Src::One);
+        } else if let Some(cell) = value.checked_sub(self.made_by(0)) {
+            self.read_cell(list.cells.as_slice(), cell);
+        } else if let Some(latch) = value.checked_sub(self.inputs) {
+            if let Some(src) = list.latches.as_slice().get(latch as usize) {
+                self.read(*src);
+            }
         }
-        if let Some(cell) = value.checked_sub(self.made_by(0)) {
-            return match list.cells.as_slice().get(cell as usize) {
-                Some(cell) => {
-                    let (first, second) = self.operands(*cell);
-                    self.read(todo, first)?;
-                    self.read(todo, second)
-                }
-                None => Ok(()),
-            };
-        }
-        let Some(latch) = value.checked_sub(self.inputs) else {
-            return Ok(());
-        };
-        match list.latches.as_slice().get(latch as usize) {
-            Some(src) => self.read(todo, *src),
-            None => Ok(()),
+    }
+
+    fn read_cell(&mut self, cells: &[Cell], number: u32) {
+        if let Some(cell) = cells.get(number as usize) {
+            let (first, second) = self.operands(*cell);
+            self.read(first);
+            self.read(second);
         }
     }
 }

@@ -1,8 +1,8 @@
 // Orders of the layers of a graph.
 
 use crate::layered::{Layered, small};
-use std::alloc::{AllocError, Global};
-use strand_core::{at, put};
+use std::alloc::Global;
+use strand_core::{at, put, widen};
 
 /// Orders of the layers of a graph, from north to south: one layer stands behind the other, and places are counted
 /// through all of them.
@@ -50,6 +50,17 @@ fn fill_heights(heights: &mut [u32], start: u32, end: u32) {
     }
 }
 
+// Moves the first of the nodes between two places behind the others, or the last one before them.
+fn rotate(order: &mut [u32], start: usize, end: usize, is_first: bool) {
+    if start < end && end <= order.len() {
+        if is_first {
+            order[start..end].rotate_left(1);
+        } else {
+            order[start..end].rotate_right(1);
+        }
+    }
+}
+
 impl Orders {
     // The orders of no layers.
     pub(crate) fn new(alloc: Global) -> Orders {
@@ -61,22 +72,25 @@ impl Orders {
         }
     }
 
-    // Takes the layers of a graph, and orders the nodes of each by their numbers.
-    pub(crate) fn fill(&mut self, graph: &Layered) -> Result<(), AllocError> {
-        let count = graph.layers.len();
-        self.starts
-            .resize((graph.depth() as usize).saturating_add(1), 0)?;
-        self.order.resize(count, 0)?;
-        self.places.resize(count, 0)?;
-        self.heights.resize(count, 0)?;
+    // Takes the layers of a graph, and orders the nodes of each by their numbers. Notes if memory is refused.
+    pub(crate) fn fill(&mut self, graph: &Layered, is_refused: &mut bool) {
+        let (count, depth) = (graph.layers.len(), graph.depth());
+        widen(
+            &mut self.starts,
+            depth.saturating_add(1) as usize,
+            0,
+            is_refused,
+        );
+        widen(&mut self.order, count, 0, is_refused);
+        widen(&mut self.places, count, 0, is_refused);
+        widen(&mut self.heights, count, 0, is_refused);
         add_up(&mut self.starts, &graph.layers);
         fill(&mut self.starts, &mut self.order, &graph.layers);
         self.renumber(0, small(count));
-        for layer in 0..self.depth() {
+        for layer in 0..depth {
             let (start, end) = self.range(layer);
             fill_heights(&mut self.heights, start, end);
         }
-        Ok(())
     }
 
     /// Returns how many layers there are.
@@ -115,11 +129,6 @@ impl Orders {
         &self.order
     }
 
-    // The places of the nodes.
-    pub(crate) fn places(&self) -> &[u32] {
-        &self.places
-    }
-
     // Puts a node at a place.
     pub(crate) fn stand(&mut self, place: u32, node: u32) {
         put(&mut self.order, place, node);
@@ -153,17 +162,7 @@ impl Orders {
     // Moves the node at a place to another one of its layer.
     pub(crate) fn shift(&mut self, from: u32, to: u32) {
         let (start, end) = (from.min(to), from.max(to).saturating_add(1));
-        if let Some(nodes) = self
-            .order
-            .as_mut_slice()
-            .get_mut(start as usize..end as usize)
-        {
-            if from < to {
-                nodes.rotate_left(1);
-            } else if to < from {
-                nodes.rotate_right(1);
-            }
-        }
+        rotate(&mut self.order, start as usize, end as usize, from < to);
         self.renumber(start, end);
     }
 }

@@ -5,8 +5,9 @@ use crate::orders::Orders;
 use crate::room::Room;
 use crate::sweeps::Weights;
 use cell_core::Draws;
-use std::alloc::{AllocError, Global};
-use strand_core::Effort;
+use lists::OutOfMemory;
+use std::alloc::Global;
+use strand_core::{Effort, set, widen};
 
 // For each node of a graph so many steps are made. A step compares two nodes of a layer, or passes one in a sweep.
 const WORK_OF_NODE: u64 = 6_000;
@@ -55,6 +56,7 @@ pub(crate) struct Search {
     work: u64,
     most: u64,
     patience: u64,
+    is_refused: bool,
 }
 
 // How many nodes the widest layer has.
@@ -89,10 +91,11 @@ fn reach_for(most: u64, nodes: u64) -> u32 {
 }
 
 impl Search {
-    fn new(alloc: Global, graph: Layered, seed: u64, effort: Effort) -> Result<Search, AllocError> {
+    fn new(alloc: Global, graph: Layered, seed: u64, effort: Effort) -> Search {
         let nodes = graph.layers.len() as u64;
         let most = effort.of(nodes.saturating_mul(WORK_OF_NODE));
-        let mut search = Search {
+        let is_refused = graph.is_refused;
+        Search {
             graph,
             now: Orders::new(alloc),
             room: Room::new(alloc),
@@ -106,21 +109,22 @@ impl Search {
             work: 0,
             most,
             patience: effort.of(nodes.saturating_mul(PATIENCE_OF_NODE)),
-        };
-        search.make_room()?;
-        Ok(search)
+            is_refused,
+        }
     }
 
     // Puts the nodes of each layer in order by their numbers, and makes room for the search.
-    fn make_room(&mut self) -> Result<(), AllocError> {
-        self.now.fill(&self.graph)?;
-        self.room.widen(widest(&self.now) as usize)?;
-        self.best.extend_from_slice(self.now.order())?;
-        self.found.extend_from_slice(self.now.order())?;
-        let depth = self.now.depth() as usize;
-        self.costs.resize(depth, 0)?;
-        self.is_due.resize(depth, false)?;
-        Ok(())
+    fn make_room(&mut self) {
+        self.now.fill(&self.graph, &mut self.is_refused);
+        self.room
+            .widen(widest(&self.now) as usize, &mut self.is_refused);
+        let (depth, count) = (self.now.depth() as usize, self.graph.layers.len());
+        widen(&mut self.best, count, 0, &mut self.is_refused);
+        widen(&mut self.found, count, 0, &mut self.is_refused);
+        widen(&mut self.costs, depth, 0, &mut self.is_refused);
+        widen(&mut self.is_due, depth, false, &mut self.is_refused);
+        copy(&mut self.best, self.now.order(), 0, small(count));
+        copy(&mut self.found, self.now.order(), 0, small(count));
     }
 
     // Counts steps.
@@ -130,9 +134,7 @@ impl Search {
 
     fn note_cost(&mut self, layer: u32) {
         let cost = self.cost(layer);
-        if let Some(noted) = self.costs.get_mut(layer as usize) {
-            *noted = cost;
-        }
+        set(&mut self.costs, layer, cost);
     }
 
     // The layer before one, which is the last one before the first.
@@ -316,6 +318,18 @@ impl Search {
             }
         }
     }
+
+    // Follows the beginnings one after the other, and then changes the best order of all.
+    fn run(&mut self) {
+        let share = self.most / 100 * OF_BEGINNINGS / BEGINNINGS;
+        for number in 1..BEGINNINGS + 1 {
+            if self.least > 0 && self.work < self.most {
+                let noise = if number == 1 { 1 } else { 1 << 30 };
+                self.follow(noise, share.saturating_mul(number));
+            }
+        }
+        self.change_best();
+    }
 }
 
 /// Returns orders of a graph's layers in which few edges cross. The same graph and seed give the same orders.
@@ -324,16 +338,13 @@ pub fn few_crossings(
     graph: Layered,
     seed: u64,
     effort: Effort,
-) -> Result<Ordered, AllocError> {
-    let mut search = Search::new(alloc, graph, seed, effort)?;
-    let share = search.most / 100 * OF_BEGINNINGS / BEGINNINGS;
-    for number in 1..BEGINNINGS + 1 {
-        if search.least > 0 && search.work < search.most {
-            let noise = if number == 1 { 1 } else { 1 << 30 };
-            search.follow(noise, share.saturating_mul(number));
-        }
+) -> Result<Ordered, OutOfMemory> {
+    let mut search = Search::new(alloc, graph, seed, effort);
+    search.make_room();
+    if search.is_refused {
+        return Err(OutOfMemory::NoMemory);
     }
-    search.change_best();
+    search.run();
     let crossings = sum_of(&search.costs);
     Ok(Ordered {
         graph: search.graph,

@@ -1,50 +1,7 @@
 // Single nodes moved within their layers.
 
-use crate::room::Key;
 use crate::search::Search;
-use std::mem;
-use strand_core::at;
-
-// Where nodes stand, and what runs along the edges that leave them.
-#[derive(Clone, Copy)]
-struct Ends<'a> {
-    places: &'a [u32],
-    signals: &'a [u32],
-}
-
-impl Ends<'_> {
-    // 1 if the first node stands behind the second one, and -1 if before.
-    fn order(self, first: u32, second: u32) -> i64 {
-        let (place, other) = (at(self.places, first), at(self.places, second));
-        if place > other {
-            1
-        } else if place < other {
-            -1
-        } else {
-            0
-        }
-    }
-
-    // How often a node stands behind others, less how often before.
-    fn behind(self, first: u32, others: &[u32]) -> i64 {
-        let mut sum = 0i64;
-        for other in others {
-            sum = sum.wrapping_add(self.order(first, *other));
-        }
-        sum
-    }
-
-    // The same, without others that have the same signal.
-    fn behind_others(self, first: u32, others: &[u32]) -> i64 {
-        let mut sum = 0i64;
-        for other in others {
-            if at(self.signals, first) != at(self.signals, *other) {
-                sum = sum.wrapping_add(self.order(first, *other));
-            }
-        }
-        sum
-    }
-}
+use strand_core::{at, set};
 
 // The place of a node, and what it costs there: crossings more than where it stands.
 #[derive(Clone, Copy)]
@@ -64,31 +21,61 @@ impl Choice {
 }
 
 impl Search {
-    fn ends(&self) -> Ends<'_> {
-        Ends {
-            places: self.now.places(),
-            signals: &self.graph.signals,
+    // 1 if the first node stands behind the second one, and -1 if before.
+    fn order(&self, first: u32, second: u32) -> i64 {
+        let (place, other) = (self.now.place(first), self.now.place(second));
+        if place > other {
+            1
+        } else if place < other {
+            -1
+        } else {
+            0
         }
+    }
+
+    // How often a node stands behind others, less how often before.
+    fn behind(&self, first: u32, others: &[u32]) -> i64 {
+        let mut sum = 0i64;
+        for other in others {
+            sum = sum.wrapping_add(self.order(first, *other));
+        }
+        sum
+    }
+
+    fn has_one_signal(&self, first: u32, second: u32) -> bool {
+        at(&self.graph.signals, first) == at(&self.graph.signals, second)
+    }
+
+    // How often a node stands behind others that have another signal, less how often before.
+    fn behind_others(&self, first: u32, others: &[u32]) -> i64 {
+        let mut sum = 0i64;
+        for other in others {
+            if !self.has_one_signal(first, *other) {
+                sum = sum.wrapping_add(self.order(first, *other));
+            }
+        }
+        sum
     }
 
     // How many crossings before two neighbours of a layer are gone if they change places.
     fn gain_before(&self, upper: u32, lower: u32) -> i64 {
-        let (ends, others) = (self.ends(), self.graph.ups.of_node(lower));
+        let others = self.graph.ups.of_node(lower);
         let mut sum = 0i64;
         for node in self.graph.ups.of_node(upper) {
-            sum = sum.wrapping_add(ends.behind_others(*node, others));
+            sum = sum.wrapping_add(self.behind_others(*node, others));
         }
         sum
     }
 
     // How many crossings behind two neighbours of a layer are gone if they change places.
     fn gain_behind(&self, upper: u32, lower: u32) -> i64 {
-        let (ends, others) = (self.ends(), self.graph.downs.of_node(lower));
+        if self.has_one_signal(upper, lower) {
+            return 0;
+        }
+        let others = self.graph.downs.of_node(lower);
         let mut sum = 0i64;
-        if at(ends.signals, upper) != at(ends.signals, lower) {
-            for node in self.graph.downs.of_node(upper) {
-                sum = sum.wrapping_add(ends.behind(*node, others));
-            }
+        for node in self.graph.downs.of_node(upper) {
+            sum = sum.wrapping_add(self.behind(*node, others));
         }
         sum
     }
@@ -98,42 +85,30 @@ impl Search {
         let before = self.gain_before(upper, lower);
         let sum = before.wrapping_add(self.gain_behind(upper, lower));
         match (self.graph.mate(upper), self.graph.mate(lower)) {
-            (Some(a), Some(b)) => sum.wrapping_add(self.ends().order(a, b)),
+            (Some(first), Some(second)) => sum.wrapping_add(self.order(first, second)),
             _ => sum,
-        }
-    }
-
-    fn mark_one(&mut self, layer: u32) {
-        if let Some(is_due) = self.is_due.get_mut(layer as usize) {
-            *is_due = true;
         }
     }
 
     // Marks a layer and those beside it, in which neighbours are to be compared. The last layer is beside the first.
     pub(crate) fn mark(&mut self, layer: u32) {
-        let after = if layer < self.now.last() {
+        let (before, last) = (self.before(layer), self.now.last());
+        let after = if layer < last {
             layer.saturating_add(1)
         } else {
             0
         };
-        self.mark_one(layer);
-        self.mark_one(after);
-        self.mark_one(self.before(layer));
-    }
-
-    // Whether neighbours in a layer are to be compared. From now on they are not.
-    fn take_mark(&mut self, layer: u32) -> bool {
-        match self.is_due.get_mut(layer as usize) {
-            Some(is_due) => mem::replace(is_due, false),
-            None => false,
-        }
+        set(&mut self.is_due, layer, true);
+        set(&mut self.is_due, after, true);
+        set(&mut self.is_due, before, true);
     }
 
     // Exchanges neighbours in a layer where that spares crossings. Returns whether it does anywhere.
     fn exchange_in(&mut self, layer: u32) -> bool {
-        if !self.take_mark(layer) {
+        if !matches!(self.is_due.get(layer as usize), Some(true)) {
             return false;
         }
+        set(&mut self.is_due, layer, false);
         let (start, end) = self.now.range(layer);
         let mut has_changed = false;
         for place in start.saturating_add(1)..end {
@@ -207,12 +182,7 @@ impl Search {
         let (start, end) = self.now.range(layer);
         for place in start..end {
             let node = self.now.node(place);
-            let key = Key {
-                height: 0,
-                place,
-                node,
-            };
-            self.note_key(place.saturating_sub(start), key);
+            self.note_key(place.saturating_sub(start), (0, place, node));
         }
         let mut has_changed = false;
         for number in 0..end.saturating_sub(start) {
