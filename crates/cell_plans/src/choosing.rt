@@ -92,11 +92,20 @@ fn push_starts(
     Ok(())
 }
 
-// The orders of all lists that are tried, the first list's own at the front.
+// Whether the orders of a list are tried: of lists without cells only the first one's are.
+fn is_tried(lists: &[CellList], number: usize) -> bool
+    requires { number < length lists.now }
+{
+    number == 0 || lists[0].cells.len() > 0 || lists[number].cells.len() > 0
+}
+
+// The orders of the lists that are tried, the first list's own at the front.
 fn starts_of(alloc: Global, lists: &[CellList]) -> Result<Vec<Start>, PlanError> {
     let mut starts = Vec::new(alloc);
     for number in 0..lists.len() {
-        push_starts(alloc, &lists[number], number, &mut starts)?;
+        if is_tried(lists, number) {
+            push_starts(alloc, &lists[number], number, &mut starts)?;
+        }
     }
     Ok(starts)
 }
