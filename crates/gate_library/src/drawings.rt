@@ -1,22 +1,15 @@
 // The drawings of all kinds of gates.
-ghost use Rattle.std.specs.Prelude.{◌≡◌, ◌<◌, ◌≤◌, length, IfOk};
+ghost use Rattle.std.specs.Prelude.{◌≡◌, length, IfOk};
 
 use crate::gate::{Answer, GateDrawing};
 use crate::sketch::{Sketch, sketch_of};
 use crate::tables::table_of;
-use crate::turning::{Letters, turned};
+use crate::turning::{find, letter_at, size_of, width_of};
 use gate_laws::{InCell, OutCell};
 use lists::{List, OutOfMemory};
-use routed_core::GateKind;
+use routed_core::{GateKind, Turn};
 use std::alloc::{AllocError, Global};
 use ww_rule::State;
-
-fn cells_of(alloc: Global, letters: &[u8]) -> Result<Vec<State>, AllocError> {
-    letters
-        .iter()
-        .map(|letter| state_of(*letter))
-        .collect(alloc)
-}
 
 fn state_of(letter: u8) -> State {
     if letter == b'.' {
@@ -26,47 +19,57 @@ fn state_of(letter: u8) -> State {
     }
 }
 
+fn cells_of(alloc: Global, sketch: &Sketch, turn: Turn) -> Result<Vec<State>, AllocError> {
+    let mut cells = Vec::new(alloc);
+    for cell in 0..size_of(sketch) {
+        cells.push(state_of(letter_at(sketch, turn, cell)))?;
+    }
+    Ok(cells)
+}
+
 // The inputs of a sketch, which are the letters from `a` on.
-fn ins_of(alloc: Global, sketch: Sketch, letters: &Letters) -> Result<Vec<InCell>, AllocError> {
+fn ins_of(alloc: Global, sketch: &Sketch, turn: Turn) -> Result<Vec<InCell>, AllocError> {
     let mut ins = Vec::new(alloc);
     let mut letter = b'a';
     for time in sketch.ins {
-        let (x, y) = letters.place_of(letter);
-        ins.push(InCell {
-            x,
-            y,
-            generation: *time,
-        })?;
+        let (x, y) = find(sketch, turn, letter);
+        let generation = *time;
+        ins.push(InCell { x, y, generation })?;
         letter = letter.saturating_add(1);
     }
     Ok(ins)
 }
 
-fn outs_of(alloc: Global, sketch: Sketch, letters: &Letters) -> Result<Vec<OutCell>, AllocError>
-    ensures { IfOk result (λ outs. length outs.items ≡ length sketch.outs.now) }
-{
-    sketch
-        .outs
-        .iter()
-        .map(|out| out_of(letters, *out))
-        .collect(alloc)
-}
-
-fn out_of(letters: &Letters, out: (u8, u32, Answer)) -> OutCell {
-    let (letter, delay, answer) = out;
-    let (x, y) = letters.place_of(letter);
+fn out_of(sketch: &Sketch, turn: Turn, out: (u8, Answer)) -> OutCell {
+    let (letter, answer) = out;
+    let (x, y) = find(sketch, turn, letter);
     OutCell {
         x,
         y,
-        delay,
+        delay: sketch.delay,
         table: table_of(answer),
     }
 }
 
-fn answers_of(alloc: Global, sketch: Sketch) -> Result<Vec<Answer>, AllocError>
-    ensures { IfOk result (λ answers. length answers.items ≡ length sketch.outs.now) }
+// The outputs of a sketch.
+fn outs_of(alloc: Global, sketch: &Sketch, turn: Turn) -> Result<Vec<OutCell>, AllocError>
+    ensures { IfOk result (λ outs. length outs.items ≡ length sketch.now.outs.now) }
 {
-    sketch.outs.iter().map(|out| out.2).collect(alloc)
+    let mut outs = Vec::new(alloc);
+    for out in sketch.outs {
+        outs.push(out_of(sketch, turn, *out))?;
+    }
+    Ok(outs)
+}
+
+fn answers_of(alloc: Global, sketch: &Sketch) -> Result<Vec<Answer>, AllocError>
+    ensures { IfOk result (λ answers. length answers.items ≡ length sketch.now.outs.now) }
+{
+    let mut answers = Vec::new(alloc);
+    for out in sketch.outs {
+        answers.push(out.1)?;
+    }
+    Ok(answers)
 }
 
 /// Makes the drawing of a kind of gate, with one answer for each output.
@@ -74,13 +77,12 @@ pub fn drawing_of(alloc: Global, kind: GateKind) -> Result<GateDrawing, OutOfMem
     ensures { IfOk result (λ drawing. length drawing.answers ≡ length drawing.outs) }
 {
     let sketch = sketch_of(kind.shape);
-    let letters = turned(alloc, sketch, kind.turn)?;
-    let cells = cells_of(alloc, letters.letters.as_slice())?;
-    let ins = ins_of(alloc, sketch, &letters)?;
-    let outs = outs_of(alloc, sketch, &letters)?;
+    let cells = cells_of(alloc, sketch, kind.turn)?;
+    let ins = ins_of(alloc, sketch, kind.turn)?;
+    let outs = outs_of(alloc, sketch, kind.turn)?;
     let answers = answers_of(alloc, sketch)?;
     Ok(GateDrawing {
-        width: letters.width,
+        width: width_of(sketch, kind.turn),
         cells: List::of(cells),
         ins: List::of(ins),
         outs: List::of(outs),

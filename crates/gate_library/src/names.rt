@@ -60,33 +60,21 @@ pub fn letter_of(turn: Turn) -> u8 {
 }
 
 fn turn_of(letter: u8) -> Option<Turn> {
-    match letter {
-        b'E' => Some(Turn::East),
-        b'e' => Some(Turn::EastMirrored),
-        b'S' => Some(Turn::South),
-        b's' => Some(Turn::SouthMirrored),
-        b'W' => Some(Turn::West),
-        b'w' => Some(Turn::WestMirrored),
-        b'N' => Some(Turn::North),
-        b'n' => Some(Turn::NorthMirrored),
-        _ => None,
+    for turn in TURNS {
+        if letter_of(*turn) == letter {
+            return Some(*turn);
+        }
     }
+    None
 }
 
 fn shape_of(word: &[u8]) -> Option<Shape> {
-    match word {
-        b"LONE" => Some(Shape::Lone),
-        b"FORK" => Some(Shape::Fork),
-        b"OR" => Some(Shape::Or),
-        b"XOR" => Some(Shape::Xor),
-        b"XOR2" => Some(Shape::XorTwice),
-        b"ANDNOT" => Some(Shape::AndNot),
-        b"ANDNOT-LEVEL" => Some(Shape::AndNotLevel),
-        b"CROSS" => Some(Shape::Cross),
-        b"TAP" => Some(Shape::Tap),
-        b"TAP2" => Some(Shape::TapTwice),
-        _ => None,
+    for shape in SHAPES {
+        if word_of(*shape) == word {
+            return Some(*shape);
+        }
     }
+    None
 }
 
 /// Returns the kind with this name: the word of its shape, a hyphen, and the letter of its turn.

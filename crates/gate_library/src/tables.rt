@@ -4,7 +4,7 @@ use crate::gate::Answer;
 
 // The bit of the input `i` in a number that the bits of three inputs make, the first of them
 // lowest.
-fn bit_of(number: u32, i: u32) -> bool {
+fn bit_of(number: usize, i: u32) -> bool {
     match i {
         0 => number % 2 == 1,
         1 => number / 2 % 2 == 1,
@@ -13,7 +13,7 @@ fn bit_of(number: u32, i: u32) -> bool {
     }
 }
 
-fn answered(answer: Answer, number: u32) -> bool {
+fn answered(answer: Answer, number: usize) -> bool {
     match answer {
         Answer::Copy(i) => bit_of(number, i),
         Answer::Or(i, j) => bit_of(number, i) || bit_of(number, j),
@@ -25,14 +25,9 @@ fn answered(answer: Answer, number: u32) -> bool {
 /// Returns the table of an answer: its bit for each number that the bits of three inputs make, the
 /// first of them lowest.
 pub fn table_of(answer: Answer) -> [bool; 8] {
-    [
-        answered(answer, 0),
-        answered(answer, 1),
-        answered(answer, 2),
-        answered(answer, 3),
-        answered(answer, 4),
-        answered(answer, 5),
-        answered(answer, 6),
-        answered(answer, 7),
-    ]
+    let mut table = [false; 8];
+    for number in 0..8 {
+        table[number] = answered(answer, number);
+    }
+    table
 }

@@ -1,25 +1,7 @@
-// Drawings in eight turns.
-ghost use Rattle.std.specs.Prelude.{◌<◌};
+// Sketches in eight turns.
 
 use crate::sketch::Sketch;
 use routed_core::Turn;
-use std::alloc::{AllocError, Global};
-
-/// A turned drawing: its rows of `width` letters, one after the other.
-#[derive(Drop)]
-pub struct Letters {
-    pub width: u32,
-    pub letters: Vec<u8>,
-    ghost wide: { 0 < width },
-}
-
-// The letter of a cell of a drawing whose signals run east.
-fn letter_at(sketch: Sketch, x: u32, y: u32) -> u8 {
-    match sketch.rows.get(y as usize) {
-        Some(row) => row.get(x as usize).copied().unwrap_or(b'.'),
-        None => b'.',
-    }
-}
 
 fn is_upright(turn: Turn) -> bool {
     match turn {
@@ -44,41 +26,50 @@ fn before_turning(turn: Turn, right: u32, low: u32, x: u32, y: u32) -> (u32, u32
     }
 }
 
-/// Returns the letters of a sketch in a turn.
-pub fn turned(alloc: Global, sketch: Sketch, turn: Turn) -> Result<Letters, AllocError> {
-    let right = sketch.width.saturating_sub(1);
-    let low = sketch.height.saturating_sub(1);
-    let (last_x, last_y) = if is_upright(turn) {
-        (low, right)
+/// Returns how many cells a row of a turned sketch has.
+pub fn width_of(sketch: &Sketch, turn: Turn) -> u32 {
+    if is_upright(turn) {
+        sketch.height
     } else {
-        (right, low)
-    };
-    let mut letters = Vec::new(alloc);
-    for y in 0..=last_y {
-        for x in 0..=last_x {
-            let (u, v) = before_turning(turn, right, low, x, y);
-            letters.push(letter_at(sketch, u, v))?;
-        }
+        sketch.width
     }
-    Ok(Letters {
-        width: last_x.saturating_add(1),
-        letters,
-    })
 }
 
-impl Letters {
-    /// Returns the column and the row of a letter, or those of the first cell if it does not occur.
-    pub fn place_of(&self, letter: u8) -> (u32, u32) {
-        let (mut x, mut y) = (0u32, 0u32);
-        for found in &self.letters {
-            if *found == letter {
-                return (x, y);
-            }
-            x = x.saturating_add(1);
-            if x == self.width {
-                (x, y) = (0, y.saturating_add(1));
-            }
-        }
-        (0, 0)
+/// Returns the column and the row of a cell of a turned sketch, by its number.
+pub fn place_of(sketch: &Sketch, turn: Turn, cell: u32) -> (u32, u32) {
+    let width = width_of(sketch, turn).max(1);
+    (cell % width, cell / width)
+}
+
+/// Returns the letter of a cell of a turned sketch, by its number.
+pub fn letter_at(sketch: &Sketch, turn: Turn, cell: u32) -> u8 {
+    let (x, y) = place_of(sketch, turn, cell);
+    let right = sketch.width.saturating_sub(1);
+    let low = sketch.height.saturating_sub(1);
+    let (u, v) = before_turning(turn, right, low, x, y);
+    let place = sketch
+        .width
+        .saturating_add(1)
+        .saturating_mul(v)
+        .saturating_add(u);
+    match sketch.rows.get(place as usize) {
+        Some(letter) => *letter,
+        None => b'.',
     }
+}
+
+/// Returns how many cells a sketch has.
+pub fn size_of(sketch: &Sketch) -> u32 {
+    sketch.width.saturating_mul(sketch.height)
+}
+
+/// Returns the column and the row of a letter of a turned sketch, or those of the first cell if it
+/// does not occur.
+pub fn find(sketch: &Sketch, turn: Turn, letter: u8) -> (u32, u32) {
+    for cell in 0..size_of(sketch) {
+        if letter_at(sketch, turn, cell) == letter {
+            return place_of(sketch, turn, cell);
+        }
+    }
+    (0, 0)
 }
