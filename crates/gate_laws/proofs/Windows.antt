@@ -27,6 +27,7 @@ use Rattle.gate_laws.specs.declared.window.TheConstants.{CHOICES}
 use Rattle.gate_laws.specs.Gates.{Gate, is_lit_input, used, IsCalmCell, AnswersInTime, IsGateDrawn, KeepsGateLaw}
 use Rattle.gate_laws.specs.Drawings.{in_port_of, no_in, in_at, out_port_of, out_table, number_of_bits, window_gate, is_beside, IsCalmAt, IsDarkBeside, IsReadyInput, AreInputsReady, next_time, ArePortsInTime, IsInside, HasCells, IsSized}
 use Rattle.gate_laws.proofs.Calm.{lit_in}
+use Rattle.gate_laws.proofs.Rows.{no_out}
 
 -- a cell of the window: its column and its row
 pub record InWindow (cells : List State) (width : ℕ) (c : ℤ × ℤ) : Type 0 where
@@ -225,9 +226,6 @@ module _ (base : List State) (width : ℕ) (ins : List InCell) (outs : List OutC
     calm = calm;
   }
     where
-      no_out : OutCell
-      no_out = record { x = 0; y = 0; delay = 0; table = [] }
-
       entry_at : (i : ℕ) (port : Port) → slice_get (map in_port_of ins) i ≡ Some port → (i < length ins) × (in_port_of (in_at ins i) ≡ port)
       entry_at i port has =
           let low : i < length (map in_port_of ins) = slice_get_within (map in_port_of ins) i port has in

@@ -1,11 +1,11 @@
 // The law of gates, tested for each choice of the bits of up to three inputs.
-ghost use Rattle.std.specs.Prelude.{◌≡◌, ◌≢◌, ◌⊎◌, ◌↔◌, ◌<◌, ◌≤◌, ◌+◌, ◌-◌, ◌%◌, ◌/◌, ◌&&◌, ◌||◌, ◌==◌, ◌^◌, pos, ℕ, Bool, length, map, get_or, take, drop, cond, All, IsTrue, List, true, false};
+ghost use Rattle.std.specs.Prelude.{◌≡◌, ◌≢◌, ◌⊎◌, ◌↔◌, ◌<◌, ◌≤◌, ◌+◌, ◌-◌, ◌%◌, ◌/◌, ◌&&◌, ◌||◌, ◌==◌, ◌^◌, pos, ℕ, Bool, length, map, get_or, cond, All, IsTrue, List, true, false};
 ghost use Rattle.std.specs.List.{list_any};
 ghost use Rattle.ww_rule.specs.Wireworld.{injected};
 ghost use Rattle.lists.specs.Items.{flag_at};
 ghost use Rattle.tile_timing.specs.Window.{shown};
 ghost use Rattle.gate_laws.specs.Gates.{is_lit_input, AnswersInTime, KeepsGateLaw};
-ghost use Rattle.gate_laws.specs.Drawings.{in_port_of, number_of_bits, window_gate, is_beside, IsCalmAt, IsDarkBeside, Conducts, IsReadyInput, next_time, IsInputInTime, IsOutputInTime, IsInside, HasInputs, ArePortsInTime, AreInputsReady, HasCells, IsSized};
+ghost use Rattle.gate_laws.specs.Drawings.{in_port_of, number_of_bits, window_gate, is_beside, IsCalmAt, IsDarkBeside, Conducts, IsReadyInput, next_time, IsInputInTime, IsOutputInTime, IsInside, ArePortsInTime, AreInputsReady, in_at, HasCells, IsSized};
 
 use tile_timing::window_step;
 use ww_rule::State;
@@ -69,9 +69,23 @@ fn is_beside(cell: InCell, x: usize, y: usize) -> bool
 fn is_beside_any(ins: &[InCell], x: usize, y: usize) -> bool
     requires near { x < 2 ^ 32 }
     requires low { y < 2 ^ 32 }
-    ensures { result ≡ list_any (is_beside x y) ins.now }
+    ensures { result ≡ false → list_any (is_beside x y) ins.now ≡ false }
 {
-    ins.iter().any(|cell| is_beside(*cell, x, y))
+    for cell in ins {
+        if is_beside(*cell, x, y) {
+            return true;
+        }
+    }
+    false
+}
+
+fn bit_at(bits: &[bool], i: usize) -> bool
+    ensures { result ≡ flag_at bits.now i }
+{
+    match bits.get(i) {
+        Some(bit) => *bit,
+        None => false,
+    }
 }
 
 // Whether the input with this number is the cell x, y, its generation is this, and its bit is 1.
@@ -83,39 +97,26 @@ fn is_lit_number(
     x: usize,
     y: usize,
 ) -> bool
-    requires near { x < 2 ^ 32 }
-    requires low { y < 2 ^ 32 }
-    ensures { result ≡ is_lit_input (map in_port_of (take 1 (drop number ins.now)))
-        (take 1 (drop number bits.now)) generation (pos x) (pos y) }
+    requires inside { number < length ins.now }
+    ensures { result ≡ (flag_at bits.now number && generation == (in_at ins.now number).generation
+        && (in_at ins.now number).x == x && (in_at ins.now number).y == y) }
 {
-    match (ins.get(number), bits.get(number)) {
-        (Some(cell), Some(bit)) => {
-            *bit && generation == cell.generation as usize
-                && cell.x as usize == x
-                && cell.y as usize == y
-        }
-        _ => false,
-    }
+    bit_at(bits, number)
+        && generation == ins[number].generation as usize
+        && ins[number].x as usize == x
+        && ins[number].y as usize == y
 }
 
-fn any_of(first: bool, second: bool, third: bool) -> bool
-    ensures { result ≡ ((first || second) || third) }
-{
-    first || second || third
-}
-
-// Whether an input with one of three numbers is the cell x, y, its generation is this, and its bit
-// is 1.
+// Whether an input is the cell x, y, its generation is this, and its bit is 1.
 fn is_lit(ins: &[InCell], bits: &[bool], generation: usize, x: usize, y: usize) -> bool
-    requires few { length ins.now ≤ 3 }
-    requires near { x < 2 ^ 32 }
-    requires low { y < 2 ^ 32 }
     ensures { result ≡ is_lit_input (map in_port_of ins.now) bits.now generation (pos x) (pos y) }
 {
-    let first = is_lit_number(ins, bits, generation, 0, x, y);
-    let second = is_lit_number(ins, bits, generation, 1, x, y);
-    let third = is_lit_number(ins, bits, generation, 2, x, y);
-    any_of(first, second, third)
+    for i in 0..ins.len() {
+        if is_lit_number(ins, bits, generation, i, x, y) {
+            return true;
+        }
+    }
+    false
 }
 
 // The cell with number `i` of a window, with the inputs lit whose generation this is and whose bits
@@ -130,7 +131,6 @@ fn lit_at(
 ) -> State
     requires sized { length from.now ≤ 1024 }
     requires wide { 0 < width }
-    requires few { length ins.now ≤ 3 }
     requires inside { i < length from.now }
     ensures { result ≡ cond (is_lit_input (map in_port_of ins.now) bits.now generation
         (pos (i % width)) (pos (i / width))) State.Head (get_or from.now i State.Empty) }
@@ -153,7 +153,6 @@ fn light(
 )
     requires sized { length from.now ≤ 1024 }
     requires wide { 0 < width }
-    requires few { length ins.now ≤ 3 }
     requires inside { All (IsInside (length from.now) width) ins.now }
     requires same_length { length cells.old ≡ length from.now }
     ensures shows { shown cells.new width ≡ injected (is_lit_input (map in_port_of ins.now) bits.now
@@ -202,16 +201,20 @@ fn outs_in_time(
 ) -> bool
     requires narrow { width < 65536 }
     requires few { number < 8 }
-    ensures { IsTrue result
-        ↔ All (λ out. IsOutputInTime (shown now.now width) number generation out) outs.now }
+    ensures { IsTrue result → All (IsOutputInTime (shown now.now width) number generation) outs.now }
 {
-    outs.iter().all(|out| shows(
-        now,
-        width,
-        out.x,
-        out.y,
-        generation == out.delay as usize && out.table[number],
-    ))
+    for out in outs {
+        if !shows(
+            now,
+            width,
+            out.x,
+            out.y,
+            generation == out.delay as usize && out.table[number],
+        ) {
+            return false;
+        }
+    }
+    true
 }
 
 fn is_calm_cell(base: State, now: State, beside: bool) -> bool
@@ -267,7 +270,7 @@ fn is_alone(now: &[State], width: usize, input: InCell) -> bool
 
 fn conducts(cells: &[State], width: usize, input: InCell) -> bool
     requires narrow { width < 65536 }
-    ensures { IsTrue result ↔ Conducts cells.now width input }
+    ensures { IsTrue result → Conducts cells.now width input }
 {
     is_same(state_at(cells, width, input.x, input.y), State::Conductor)
 }
@@ -310,19 +313,6 @@ fn are_ready(now: &[State], width: usize, ins: &[InCell], generation: usize) -> 
     true
 }
 
-// Whether the inputs' cells are conductors.
-fn has_inputs(cells: &[State], width: usize, ins: &[InCell]) -> bool
-    requires narrow { width < 65536 }
-    ensures { IsTrue result → HasInputs cells.now width ins.now }
-{
-    for input in ins {
-        if !conducts(cells, width, *input) {
-            return false;
-        }
-    }
-    true
-}
-
 /// Returns the number that up to three bits make, the first of them lowest.
 #[tactic(auto, using(crate::proofs::Rows::number_of_three))]
 pub fn number_of_bits(bits: &[bool]) -> usize
@@ -337,10 +327,7 @@ fn bit_value(bits: &[bool], i: usize) -> usize
     ensures is { result ≡ cond (flag_at bits.now i) 1 0 }
     ensures few { result ≤ 1 }
 {
-    match bits.get(i) {
-        Some(true) => 1,
-        _ => 0,
-    }
+    if bit_at(bits, i) { 1 } else { 0 }
 }
 
 // Whether all ports are in time at a generation.
@@ -457,16 +444,27 @@ pub fn is_sized(cells: &[State], width: usize, ins: &[InCell], time: usize) -> b
         && 3 <= time
 }
 
+fn is_unlit_cell(cell: State) -> bool
+    ensures { IsTrue result → ((cell ≡ State.Empty) ⊎ (cell ≡ State.Conductor)) }
+{
+    is_same(cell, State::Empty) || is_same(cell, State::Conductor)
+}
+
 fn is_unlit(cells: &[State]) -> bool
-    ensures { IsTrue result ↔ All (λ cell. (cell ≡ State.Empty) ⊎
+    ensures { IsTrue result → All (λ cell. (cell ≡ State.Empty) ⊎
         (cell ≡ State.Conductor)) cells.now }
 {
-    cells.iter().all(|cell| is_same(*cell, State::Empty) || is_same(*cell, State::Conductor))
+    for cell in cells {
+        if !is_unlit_cell(*cell) {
+            return false;
+        }
+    }
+    true
 }
 
 fn has_output(cells: &[State], width: usize, out: OutCell, time: usize) -> bool
     requires narrow { width < 65536 }
-    ensures { IsTrue result ↔ ((shown cells.now width (pos out.x) (pos out.y) ≡ State.Conductor)
+    ensures { IsTrue result → ((shown cells.now width (pos out.x) (pos out.y) ≡ State.Conductor)
         × (out.delay < time)) }
 {
     is_same(state_at(cells, width, out.x, out.y), State::Conductor) && (out.delay as usize) < time
@@ -474,31 +472,48 @@ fn has_output(cells: &[State], width: usize, out: OutCell, time: usize) -> bool
 
 fn has_outputs(cells: &[State], width: usize, outs: &[OutCell], time: usize) -> bool
     requires narrow { width < 65536 }
-    ensures { IsTrue result ↔ All (λ (out : OutCell). (shown cells.now width (pos out.x)
+    ensures { IsTrue result → All (λ (out : OutCell). (shown cells.now width (pos out.x)
         (pos out.y) ≡ State.Conductor) × (out.delay < time)) outs.now }
 {
-    outs.iter().all(|out| has_output(cells, width, *out, time))
+    for out in outs {
+        if !has_output(cells, width, *out, time) {
+            return false;
+        }
+    }
+    true
 }
 
 fn is_inside(size: usize, width: usize, input: InCell) -> bool
     requires narrow { width < 65536 }
-    ensures { IsTrue result ↔ IsInside size width input }
+    ensures { IsTrue result → IsInside size width input }
 {
     let (x, y) = (input.x as usize, input.y as usize);
     x < width && y * width + x < size
 }
 
-fn are_inside(size: usize, width: usize, ins: &[InCell]) -> bool
+// Whether the input's cell is a conductor of the drawing, and its generation below the time.
+fn has_input(cells: &[State], width: usize, input: InCell, time: usize) -> bool
     requires narrow { width < 65536 }
-    ensures { IsTrue result ↔ All (IsInside size width) ins.now }
+    ensures { IsTrue result → (Conducts cells.now width input × IsInside (length cells.now) width
+        input × (input.generation < time)) }
 {
-    ins.iter().all(|input| is_inside(size, width, *input))
+    conducts(cells, width, input)
+        && is_inside(cells.len(), width, input)
+        && (input.generation as usize) < time
 }
 
-fn are_early(ins: &[InCell], time: usize) -> bool
-    ensures { IsTrue result ↔ All (λ (input : InCell). input.generation < time) ins.now }
+fn has_inputs(cells: &[State], width: usize, ins: &[InCell], time: usize) -> bool
+    requires narrow { width < 65536 }
+    ensures { IsTrue result → ((i : ℕ) → i < length ins.now →
+        (Conducts cells.now width (in_at ins.now i) × IsInside (length cells.now) width
+        (in_at ins.now i) × ((in_at ins.now i).generation < time))) }
 {
-    ins.iter().all(|input| (input.generation as usize) < time)
+    for input in ins {
+        if !has_input(cells, width, *input, time) {
+            return false;
+        }
+    }
+    true
 }
 
 /// Returns whether the cells are conductors or empty, and conductors at the ports, whose
@@ -513,11 +528,13 @@ pub fn has_cells(
     requires narrow { width < 65536 }
     ensures { IsTrue result → HasCells cells.now width ins.now outs.now time }
 {
-    is_unlit(cells)
-        && has_inputs(cells, width, ins)
-        && are_inside(cells.len(), width, ins)
-        && are_early(ins, time)
-        && has_outputs(cells, width, outs, time)
+    if !is_unlit(cells) {
+        return false;
+    }
+    if !has_inputs(cells, width, ins, time) {
+        return false;
+    }
+    has_outputs(cells, width, outs, time)
 }
 
 /// Returns whether a drawing keeps the law of gates: rows of `width` cells, at most 1,024 in all,
