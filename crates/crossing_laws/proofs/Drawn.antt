@@ -9,6 +9,7 @@ use Rattle.ww_rule.specs.declared.pattern.State.{State}
 use Rattle.gate_laws.specs.declared.window.OutCell.{OutCell}
 use Rattle.gate_laws.specs.Gates.{AnswersInTime}
 use Rattle.gate_laws.specs.Drawings.{out_table, out_port_of, window_gate, HasCells, IsSized}
+use Rattle.gate_laws.proofs.Rows.{no_out}
 use Rattle.gate_laws.proofs.Windows.{drawn_from}
 use Rattle.crossing_laws.specs.Crossings.{KeepsCrossingLaw}
 use Rattle.crossing_laws.specs.Drawn.{window_crossing, two_inputs, IsOfOne}
@@ -16,9 +17,6 @@ use Rattle.crossing_laws.specs.Drawn.{window_crossing, two_inputs, IsOfOne}
 module _ (cells : List State) (width : ℕ) (first second : ℕ × ℕ) (outs : List OutCell) (time : ℕ) where
   abbrev Answers : List Bool → Type 0
   Answers bits = AnswersInTime (window_gate cells width (two_inputs first second) outs time) bits
-
-  no_out : OutCell
-  no_out = record { x = 0; y = 0; delay = 0; table = [] }
 
   table_is : (o : ℕ) → o < length outs → list_at (map out_table outs) o ≡ out_table (get_or outs o no_out)
   table_is o low = get_or-map out_table outs o no_out [] low

@@ -1,5 +1,5 @@
 // The law of crossings, tested for each input alone.
-ghost use Rattle.std.specs.Prelude.{◌↔◌, All, IsTrue};
+ghost use Rattle.std.specs.Prelude.{All, IsTrue};
 ghost use Rattle.crossing_laws.specs.Crossings.{KeepsCrossingLaw};
 ghost use Rattle.crossing_laws.specs.Drawn.{window_crossing, IsOfOne};
 
@@ -7,15 +7,20 @@ use gate_laws::{InCell, OutCell, answers_in_time, has_cells, is_sized};
 use ww_rule::State;
 
 fn is_of_one(out: OutCell) -> bool
-    ensures { IsTrue result ↔ IsOfOne out }
+    ensures { IsTrue result → IsOfOne out }
 {
     !out.table[0] && !(out.table[1] && out.table[2])
 }
 
 fn are_of_one(outs: &[OutCell]) -> bool
-    ensures { IsTrue result ↔ All IsOfOne outs.now }
+    ensures { IsTrue result → All IsOfOne outs.now }
 {
-    outs.iter().all(|out| is_of_one(*out))
+    for out in outs {
+        if !is_of_one(*out) {
+            return false;
+        }
+    }
+    true
 }
 
 /// Returns whether a drawing keeps the law of crossings: rows of `width` cells, at most 1,024 in

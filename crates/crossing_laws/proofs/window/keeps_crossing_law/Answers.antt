@@ -9,4 +9,4 @@ returns c = λ t.
     (c.answers_in_time-none.ensures c.if-not-none.false)
     (c.answers_in_time-by_first.ensures c.if-not-by_first.false)
     (c.answers_in_time-by_second.ensures c.if-not-by_second.false)
-    (c.are_of_one.ensures.0 t)
+    (c.are_of_one.ensures t)
