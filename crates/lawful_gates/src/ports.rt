@@ -25,13 +25,14 @@ fn input_together(ins: &[InCell], i: usize) -> Option<PortCell>
         Some(cell) => Some(PortCell {
             x: cell.x,
             y: cell.y,
-            generation: u64::from(cell.generation),
+            generation: cell.generation as u64,
         }),
         None => None,
     }
 }
 
-fn in_at(ins: &[InCell], i: usize) -> InCell
+/// Returns an input, or one at the first cell if it is not there.
+pub fn in_at(ins: &[InCell], i: usize) -> InCell
     ensures { result ≡ in_at ins.now i }
 {
     match ins.get(i) {
@@ -50,7 +51,7 @@ fn lit_at(cell: InCell, generation: u32) -> PortCell
     PortCell {
         x: cell.x,
         y: cell.y,
-        generation: u64::from(generation),
+        generation: generation as u64,
     }
 }
 
@@ -73,7 +74,7 @@ fn output_together(outs: &[OutCell], o: usize) -> Option<PortCell>
         Some(out) => Some(PortCell {
             x: out.x,
             y: out.y,
-            generation: u64::from(out.delay),
+            generation: out.delay as u64,
         }),
         None => None,
     }
@@ -84,9 +85,9 @@ fn spread_delay(out: OutCell, later: u32) -> u64
     ensures { result ≡ cond (flag_at out.table 2) later 0 + out.delay }
 {
     if out.table[2] {
-        u64::from(later) + u64::from(out.delay)
+        later as u64 + out.delay as u64
     } else {
-        u64::from(out.delay)
+        out.delay as u64
     }
 }
 

@@ -6,6 +6,7 @@ ghost use Rattle.gate_laws.specs.Drawings.{number_of_bits, in_at};
 ghost use Rattle.crossing_laws.specs.Crossings.{KeepsCrossingLaw};
 ghost use Rattle.lawful_gates.specs.Lawful.{own_cell, gate_together, crossing_apart, answer_bit, no_out, KeepsLawOf, SaysAnswer, IsLawful};
 
+use crate::ports::in_at;
 use crossing_laws::keeps_crossing_law;
 use gate_laws::{CHOICES, InCell, OutCell, keeps_law, number_of_bits};
 use gate_library::{Answer, GateDrawing, Timing};
@@ -24,12 +25,12 @@ fn answer_of(bits: &[bool], answer: Answer) -> bool
 {
     match answer {
         Answer::Copy(i) => bit_at(bits, i),
-        Answer::Or(i, j) => bit_at(bits, i) || bit_at(bits, j),
+        Answer::Or(i, j) => bit_at(bits, i) | bit_at(bits, j),
         Answer::Xor(i, j) => {
             let (a, b) = (bit_at(bits, i), bit_at(bits, j));
-            (a || b) && !(a && b)
+            (a | b) & !(a & b)
         }
-        Answer::AndNot(i, j) => bit_at(bits, i) && !bit_at(bits, j),
+        Answer::AndNot(i, j) => bit_at(bits, i) & !bit_at(bits, j),
     }
 }
 
@@ -139,28 +140,19 @@ fn keeps_together(d: &GateDrawing) -> bool
     keeps_law(cells, d.width as usize, ins, outs, d.time as usize)
 }
 
-fn cell_of(ins: &[InCell], i: usize) -> (u32, u32)
-    ensures { result ≡ own_cell (in_at ins.now i) }
-{
-    match ins.get(i) {
-        Some(cell) => (cell.x, cell.y),
-        None => (0, 0),
-    }
-}
-
 fn keeps_apart(d: &GateDrawing) -> bool
     ensures { IsTrue result → KeepsCrossingLaw (crossing_apart d.now) }
 {
     let cells = d.cells.as_slice();
     let ins = d.ins.as_slice();
     let outs = d.outs.as_slice();
-    let first = cell_of(ins, 0);
-    let second = cell_of(ins, 1);
+    let first = in_at(ins, 0);
+    let second = in_at(ins, 1);
     keeps_crossing_law(
         cells,
         d.width as usize,
-        first,
-        second,
+        (first.x, first.y),
+        (second.x, second.y),
         outs,
         d.time as usize,
     )

@@ -6,6 +6,6 @@ use Rattle.lawful_gates.proofs.testing.keeps_apart.Goals as goal
 
 pub returns : goal.returns
 returns c = λ t.
-    let first = c.cell_of-first.ensures ∙ ap (λ ins. own_cell (in_at ins 0)) c.as_slice-ins.ensures in
-    let second = c.cell_of-second.ensures ∙ ap (λ ins. own_cell (in_at ins 1)) c.as_slice-ins.ensures in
-    kept_apart c.args.d.now c.as_slice-cells.result.now c.cell_of-first.result c.cell_of-second.result c.as_slice-outs.result.now c.as_slice-cells.ensures first second c.as_slice-outs.ensures (c.keeps_crossing_law.ensures t)
+    let first = ap own_cell (c.in_at-first.ensures ∙ ap (λ ins. in_at ins 0) c.as_slice-ins.ensures) in
+    let second = ap own_cell (c.in_at-second.ensures ∙ ap (λ ins. in_at ins 1) c.as_slice-ins.ensures) in
+    kept_apart c.args.d.now c.as_slice-cells.result.now (own_cell c.in_at-first.result) (own_cell c.in_at-second.result) c.as_slice-outs.result.now c.as_slice-cells.ensures first second c.as_slice-outs.ensures (c.keeps_crossing_law.ensures t)
