@@ -5,5 +5,6 @@ pub mod Lefts
 pub mod PlanLefts
 pub mod DarkRows
 pub mod StretchCells
+pub mod CopiedTags
 pub mod Wholes
 pub mod KeptBlocks

@@ -66,17 +66,6 @@ row_more slot y x state count is =
 
 -- Stretches.
 
-pub repeated_run : (n count tag : ℕ) → count ≡ 32 → repeated n (replicate count tag ++ []) ≡ replicate (32 * n) tag
-repeated_run zero count tag e = refl
-repeated_run (suc n) count tag e =
-    let k : count + 32 * n ≡ 32 * suc n = omega (arith, e) in
-    ap₂ (λ a b. a ++ b) (append-nil (replicate count tag)) (repeated_run n count tag e)
-    ∙ replicate-append-replicate count (32 * n) tag ∙ ap (λ m. replicate m tag) k
-
-pub repeated_next : (n i : ℕ) (tags : List ℕ) → i < n → repeated (n - i) tags ≡ tags ++ repeated (n - (i + 1)) tags
-repeated_next n i tags lt =
-    let e : n - i ≡ suc (n - (i + 1)) = omega (arith, lt) in ap (λ m. repeated m tags) e
-
 -- the rest of a row begins with the cells of a block
 block_next : (plan : Plan) (y k : ℕ) (slot : Slot) → IsDark plan y → slot ≡ drawn_tiling plan k (y / 16) → 32 * k + 32 ≤ (size_of plan).0
     → map tag_of (drop (32 * k) (start_row plan y)) ≡ map tag_of (bare_row slot (y % 16)) ++ map tag_of (drop (32 * (k + 1)) (start_row plan y))
@@ -131,13 +120,3 @@ spelled_long runs i d lt =
 
 pub spelled_none : (runs : List Run) (i : ℕ) → length runs ≤ i → spelled (drop i runs) ≡ []
 spelled_none runs i past = ap spelled (drop_of_length-le runs past)
-
--- a run that fills the row of each block
-pub repeated_one : (runs : List Run) (d : Run) (n : ℕ) → length runs ≡ 1 → length (spelled runs) ≡ 32
-    → repeated n (spelled runs) ≡ replicate (32 * n) (get_or runs 0 d).tag
-repeated_one [] d n one long = absurd (omega (arith, one))
-repeated_one (run ∷ []) d n one long =
-    let whole : run.count ≡ 32 =
-    sym (length-replicate run.count run.tag) ∙ ap length (sym (append-nil (replicate run.count run.tag))) ∙ long in
-    repeated_run n run.count run.tag whole
-repeated_one (run ∷ other ∷ runs) d n one long = absurd (omega (arith, one))

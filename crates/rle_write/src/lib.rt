@@ -5,8 +5,10 @@
 
 mod bare;
 mod blocks;
+mod copies;
 mod dark;
 mod items;
+mod laps;
 mod pattern_rows;
 mod plan_rows;
 mod rows;

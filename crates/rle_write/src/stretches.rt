@@ -14,44 +14,12 @@ ghost use Rattle.ww_base.specs.Progress.{Wrote, Broke};
 
 use crate::bare::runs_of_row;
 use crate::blocks::Stretch;
+use crate::laps::add_many;
 use crate::rows::{EMPTY, Kept, Run, add_run};
 use lane_core::Plan;
 use ww_base::{Failed, Page, Sink};
 
-// Takes runs of more cells one by one.
-fn add_runs<O: Sink>(
-    sink: &mut O,
-    page: &mut Page,
-    kept: Kept,
-    runs: &[Run],
-) -> Result<Kept, Failed>
-    requires cell { kept.run.tag ≢ row_end }
-    requires runs { All IsCellRun runs.now }
-    requires short { kept.run.count + length (spelled runs.now) < 2 ^ 64 }
-    ensures cell { IfOk result (λ k. k.run.tag ≢ row_end) }
-    ensures fewer { IfOk result (λ k. k.due ≤ kept.due) }
-    ensures short { IfOk result (λ k. k.run.count ≤ kept.run.count + length (spelled runs.now)) }
-    ensures ok { IfOk result (λ k. (more : List ℕ) (rows : List (List State)) →
-        Wrote (O.written sink.old) (O.written sink.new) (O.faults sink.old) (O.faults sink.new)
-        (text_left (held page.old) (column_of page.old)
-        (row_left kept.due (replicate kept.run.count kept.run.tag ++
-        (spelled runs.now ++ more)) rows))
-        (text_left (held page.new) (column_of page.new)
-        (row_left k.due (replicate k.run.count k.run.tag ++ more) rows))) }
-    ensures err { OnErr result ((more : List ℕ) (rows : List (List State)) →
-        Broke (O.written sink.old) (O.written sink.new) (O.faults sink.old) (O.faults sink.new)
-        (text_left (held page.old) (column_of page.old)
-        (row_left kept.due (replicate kept.run.count kept.run.tag ++
-        (spelled runs.now ++ more)) rows))) }
-{
-    let mut kept = kept;
-    for run in runs {
-        kept = add_run(sink, page, kept, *run)?;
-    }
-    Ok(kept)
-}
-
-// Takes the cells of a block's row, which these runs spell, `count` times.
+// Takes the cells of a motif's row, which these runs spell, `count` times.
 fn add_stretch<O: Sink>(
     sink: &mut O,
     page: &mut Page,
@@ -61,12 +29,11 @@ fn add_stretch<O: Sink>(
 ) -> Result<Kept, Failed>
     requires cell { kept.run.tag ≢ row_end }
     requires runs { All IsCellRun runs.now }
-    requires block { length (spelled runs.now) ≡ 32 }
     requires some { 1 ≤ count }
-    requires short { kept.run.count + 32 * count < 2 ^ 64 }
+    requires short { kept.run.count + length (repeated count (spelled runs.now)) < 2 ^ 64 }
     ensures cell { IfOk result (λ k. k.run.tag ≢ row_end) }
     ensures fewer { IfOk result (λ k. k.due ≤ kept.due) }
-    ensures short { IfOk result (λ k. k.run.count ≤ kept.run.count + 32 * count) }
+    ensures short { IfOk result (λ k. k.run.count ≤ kept.run.count + length (repeated count (spelled runs.now))) }
     ensures ok { IfOk result (λ k. (more : List ℕ) (rows : List (List State)) →
         Wrote (O.written sink.old) (O.written sink.new) (O.faults sink.old) (O.faults sink.new)
         (text_left (held page.old) (column_of page.old)
@@ -82,16 +49,12 @@ fn add_stretch<O: Sink>(
 {
     if runs.len() == 1 {
         let run = Run {
-            count: 32 * count,
+            count: runs[0].count * count,
             tag: runs[0].tag,
         };
         return add_run(sink, page, kept, run);
     }
-    let mut kept = kept;
-    for _ in 0..count {
-        kept = add_runs(sink, page, kept, runs)?;
-    }
-    Ok(kept)
+    add_many(sink, page, kept, runs, count)
 }
 
 /// Writes row `y` as far as these blocks reach, stretch by stretch, but for what is returned: what

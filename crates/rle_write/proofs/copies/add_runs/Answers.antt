@@ -7,7 +7,7 @@ use Rattle.rle_write.proofs.Lefts.{left_by}
 use Rattle.rle_write.proofs.StretchCells.{spelled_next, spelled_long, spelled_none}
 use Rattle.lists.proofs.Results.{on_err}
 use Rattle.ww_base.proofs.Steps.{wrote_then, wrote_broke, wrote_to}
-use Rattle.rle_write.proofs.stretches.add_runs.Goals as goal
+use Rattle.rle_write.proofs.copies.add_runs.Goals as goal
 
 abbrev no_run : Run
 no_run = record { count = 0; tag = 0 }

@@ -5,7 +5,7 @@ use Rattle.rle_write.specs.Left.{row_left, text_left}
 use Rattle.rle_write.specs.Runs.{spelled}
 use Rattle.ww_base.specs.Pages.{held, column_of}
 use Rattle.ww_base.specs.Progress.{Wrote}
-use Rattle.rle_write.proofs.stretches.add_runs.Given as goal
+use Rattle.rle_write.proofs.copies.add_runs.Given as goal
 
 abbrev pub invariant-loop-run : goal.invariant-loop-run
 invariant-loop-run g l = record {

@@ -1,37 +1,12 @@
 use Rattle.std.proofs.Common.{◌≡◌, ◌+◌, ◌-◌, ◌∙◌, ℕ, List, ◌++◌, ap, arith, append_assoc}
-use Rattle.std.proofs.lemmas.Result.{IfOk-weaker, on_err_weaker}
 use Rattle.ww_rule.specs.declared.pattern.State.{State}
-use Rattle.rle_write.specs.declared.rows.Run.{Run}
 use Rattle.rle_write.specs.Runs.{repeated, spelled}
 use Rattle.ww_base.specs.Pages.{held, column_of}
 use Rattle.rle_write.proofs.Lefts.{left_by}
-use Rattle.rle_write.proofs.StretchCells.{repeated_next, repeated_one}
+use Rattle.rle_write.proofs.CopiedTags.{repeated_next, repeated_long}
 use Rattle.lists.proofs.Results.{on_err}
-use Rattle.ww_base.proofs.Steps.{wrote_as, wrote_then, wrote_broke, wrote_to, broke_as}
-use Rattle.rle_write.proofs.stretches.add_stretch.Goals as goal
-
-abbrev no_run : Run
-no_run = record { count = 0; tag = 0 }
-
-pub returns-then-runs-eq1-clause-ok : goal.returns-then-runs-eq1-clause-ok
-returns-then-runs-eq1-clause-ok g c =
-    let whole = repeated_one c.args.runs.now no_run c.args.count (omega (arith, c.if-runs-eq1.true)) c.requires.block in
-    let kept = c.args.kept in
-    IfOk-weaker c.add_run.result _ _ (λ k wrote more rows.
-    wrote_as
-    (left_by (held c.args.page.now) (column_of c.args.page.now) kept.due kept.run.count kept.run.tag rows (ap (λ l. l ++ more) whole))
-    (wrote more rows))
-    c.add_run.ensures.ok
-
-pub returns-then-runs-eq1-clause-err : goal.returns-then-runs-eq1-clause-err
-returns-then-runs-eq1-clause-err g c =
-    let whole = repeated_one c.args.runs.now no_run c.args.count (omega (arith, c.if-runs-eq1.true)) c.requires.block in
-    let kept = c.args.kept in
-    on_err_weaker c.add_run.result (λ broke more rows.
-    broke_as
-    (left_by (held c.args.page.now) (column_of c.args.page.now) kept.due kept.run.count kept.run.tag rows (ap (λ l. l ++ more) whole))
-    (broke more rows))
-    c.add_run.ensures.err
+use Rattle.ww_base.proofs.Steps.{wrote_then, wrote_broke, wrote_to}
+use Rattle.rle_write.proofs.copies.add_copies.Goals as goal
 
 pub loop-preserved : goal.loop-preserved
 loop-preserved g c =
@@ -43,7 +18,7 @@ loop-preserved g c =
     let kept = c.loop.kept in
     record {
       fewer = omega (arith, c.in_ok-kept.ensures.fewer, c.loop.invariant.fewer);
-      short = omega (arith, c.in_ok-kept.ensures.short, c.loop.invariant.short, c.requires.block);
+      short = omega (arith, c.in_ok-kept.ensures.short, c.loop.invariant.short, repeated_long n i tags c.loop-test.true);
       cell = c.in_ok-kept.ensures.cell;
       wrote = λ more rows.
           wrote_then

@@ -1,0 +1,227 @@
+// Laps: copies of the same cells after which the column on the line and the kept run are again what
+// they were. So the bytes of the next lap are the same, and are put on the page at once.
+ghost use Rattle.std.specs.Prelude.{◌≡◌, ◌≢◌, ◌≤◌, ◌<◌, ◌+◌, ◌^◌, ℕ, List, [], Some, ◌++◌, replicate, length, All, IfOk, IfSome, OnErr, IsTrue};
+ghost use Rattle.ww_rule.specs.declared.pattern.State.{State};
+ghost use Rattle.pattern_writing.specs.Writer.{row_end};
+ghost use Rattle.rle_write.specs.Laps.{IsLap};
+ghost use Rattle.rle_write.specs.Left.{row_left, text_left};
+ghost use Rattle.rle_write.specs.Runs.{IsCellRun, repeated, spelled};
+ghost use Rattle.ww_base.specs.Pages.{held, column_of};
+ghost use Rattle.ww_base.specs.Progress.{Wrote, Broke};
+
+use crate::copies::{add_copies, add_runs};
+use crate::rows::{Kept, Run};
+use ww_base::{Failed, Page, Sink};
+
+// The most bytes of a lap.
+const LAP: usize = 4096;
+
+// The most copies of a lap, as many as there are columns: by then one has come again. So many copies
+// are also enough for the columns to begin to come again.
+const COPIES: usize = 71;
+
+// How many copies are worth the search for a lap.
+const MANY: usize = 4 * COPIES;
+
+// The bytes of a lap. A piece that has no room there is refused.
+#[derive(Drop)]
+struct Lap {
+    bytes: [u8; LAP],
+    used: usize,
+    faults: u64,
+    ghost room: { used ≤ 4096 },
+}
+
+impl Lap {
+    ghost use Rattle.rle_write.specs.Laps.{bytes_of};
+
+    // A lap of no bytes.
+    fn new() -> Lap
+        ensures { bytes_of result ≡ [] }
+    {
+        Lap {
+            bytes: [0; LAP],
+            used: 0,
+            faults: 0,
+        }
+    }
+
+    // The bytes of the lap.
+    fn bytes(&self) -> &[u8]
+        ensures { result.now ≡ bytes_of self.now }
+    {
+        &self.bytes[..self.used]
+    }
+
+    // Takes a piece for which there is room.
+    fn push(&mut self, piece: &[u8])
+        requires { length (bytes_of self.old) + length piece.now ≤ 4096 }
+        ensures bytes { bytes_of self.new ≡ bytes_of self.old ++ piece.now }
+        ensures faults { self.new.faults ≡ self.old.faults }
+    {
+        let end = self.used + piece.len();
+        self.bytes[self.used..end].copy_from_slice(piece);
+        self.used = end;
+    }
+}
+
+impl Sink for Lap {
+    ghost use Rattle.rle_write.specs.Laps.{bytes_of};
+
+    ghost written = { λ lap. Some (bytes_of lap) };
+
+    ghost faults = { λ lap. lap.faults };
+
+    fn write(&mut self, piece: &[u8]) -> Result<usize, Failed> {
+        if piece.len() > LAP - self.used {
+            self.faults = self.faults.saturating_add(1);
+            return Err(Failed);
+        }
+        self.push(piece);
+        Ok(piece.len())
+    }
+}
+
+// Whether the same is kept.
+fn is_same(a: Kept, b: Kept) -> bool
+    ensures { IsTrue result → a ≡ b }
+{
+    a.due == b.due && a.run.count == b.run.count && a.run.tag == b.run.tag
+}
+
+// Finds the lap that begins at this column and with this run, puts its bytes into `lap`, and returns
+// how many copies of the cells it has, if it has at most `most`.
+fn find_lap(lap: &mut Lap, column: usize, kept: Kept, runs: &[Run], most: usize) -> Option<usize>
+    requires short_line { column ≤ 70 }
+    requires cell { kept.run.tag ≢ row_end }
+    requires runs { All IsCellRun runs.now }
+    requires short { kept.run.count + length (repeated most (spelled runs.now)) < 2 ^ 64 }
+    requires empty { bytes_of lap.old ≡ [] }
+    ensures { IfSome result (λ copies. (1 ≤ copies) × IsLap column kept runs.now copies (bytes_of lap.new)) }
+{
+    let mut page = Page::new();
+    page.advance(column);
+    let mut now = kept;
+    for before in 0..most {
+        let Ok(next) = add_runs(lap, &mut page, now, runs) else {
+            return None;
+        };
+        now = next;
+        if page.column() == column && is_same(now, kept) {
+            let Ok(()) = page.flush(lap) else {
+                return None;
+            };
+            return Some(before + 1);
+        }
+    }
+    None
+}
+
+// Takes `count` copies of the cells that these runs spell: the bytes of the lap as often as its
+// copies are among them, and then those that are left.
+fn write_laps<O: Sink>(
+    sink: &mut O,
+    page: &mut Page,
+    kept: Kept,
+    runs: &[Run],
+    lap: &[u8],
+    copies: usize,
+    count: usize,
+) -> Result<Kept, Failed>
+    requires cell { kept.run.tag ≢ row_end }
+    requires runs { All IsCellRun runs.now }
+    requires short { kept.run.count + length (repeated count (spelled runs.now)) < 2 ^ 64 }
+    requires some { 1 ≤ copies }
+    requires lap { IsLap (column_of page.old) kept runs.now copies lap.now }
+    ensures cell { IfOk result (λ k. k.run.tag ≢ row_end) }
+    ensures fewer { IfOk result (λ k. k.due ≤ kept.due) }
+    ensures short { IfOk result (λ k. k.run.count ≤ kept.run.count + length (repeated count (spelled runs.now))) }
+    ensures ok { IfOk result (λ k. (more : List ℕ) (rows : List (List State)) →
+        Wrote (O.written sink.old) (O.written sink.new) (O.faults sink.old) (O.faults sink.new)
+        (text_left (held page.old) (column_of page.old)
+        (row_left kept.due (replicate kept.run.count kept.run.tag ++
+        (repeated count (spelled runs.now) ++ more)) rows))
+        (text_left (held page.new) (column_of page.new)
+        (row_left k.due (replicate k.run.count k.run.tag ++ more) rows))) }
+    ensures err { OnErr result ((more : List ℕ) (rows : List (List State)) →
+        Broke (O.written sink.old) (O.written sink.new) (O.faults sink.old) (O.faults sink.new)
+        (text_left (held page.old) (column_of page.old)
+        (row_left kept.due (replicate kept.run.count kept.run.tag ++
+        (repeated count (spelled runs.now) ++ more)) rows))) }
+{
+    let mut left = count;
+    'laps: while copies <= left {
+        page.put(sink, lap)?;
+        left -= copies;
+    }
+    add_copies(sink, page, kept, runs, left)
+}
+
+// Takes `count` copies of the cells that these runs spell, lap by lap if a lap begins here.
+fn add_laps<O: Sink>(
+    sink: &mut O,
+    page: &mut Page,
+    kept: Kept,
+    runs: &[Run],
+    count: usize,
+) -> Result<Kept, Failed>
+    requires cell { kept.run.tag ≢ row_end }
+    requires runs { All IsCellRun runs.now }
+    requires short { kept.run.count + length (repeated count (spelled runs.now)) < 2 ^ 64 }
+    ensures cell { IfOk result (λ k. k.run.tag ≢ row_end) }
+    ensures fewer { IfOk result (λ k. k.due ≤ kept.due) }
+    ensures short { IfOk result (λ k. k.run.count ≤ kept.run.count + length (repeated count (spelled runs.now))) }
+    ensures ok { IfOk result (λ k. (more : List ℕ) (rows : List (List State)) →
+        Wrote (O.written sink.old) (O.written sink.new) (O.faults sink.old) (O.faults sink.new)
+        (text_left (held page.old) (column_of page.old)
+        (row_left kept.due (replicate kept.run.count kept.run.tag ++
+        (repeated count (spelled runs.now) ++ more)) rows))
+        (text_left (held page.new) (column_of page.new)
+        (row_left k.due (replicate k.run.count k.run.tag ++ more) rows))) }
+    ensures err { OnErr result ((more : List ℕ) (rows : List (List State)) →
+        Broke (O.written sink.old) (O.written sink.new) (O.faults sink.old) (O.faults sink.new)
+        (text_left (held page.old) (column_of page.old)
+        (row_left kept.due (replicate kept.run.count kept.run.tag ++
+        (repeated count (spelled runs.now) ++ more)) rows))) }
+{
+    let mut lap = Lap::new();
+    let most = count.min(COPIES);
+    let Some(copies) = find_lap(&mut lap, page.column(), kept, runs, most) else {
+        return add_copies(sink, page, kept, runs, count);
+    };
+    write_laps(sink, page, kept, runs, lap.bytes(), copies, count)
+}
+
+/// Takes `count` copies of the cells that these runs spell, lap by lap if they are many.
+pub fn add_many<O: Sink>(
+    sink: &mut O,
+    page: &mut Page,
+    kept: Kept,
+    runs: &[Run],
+    count: usize,
+) -> Result<Kept, Failed>
+    requires cell { kept.run.tag ≢ row_end }
+    requires runs { All IsCellRun runs.now }
+    requires short { kept.run.count + length (repeated count (spelled runs.now)) < 2 ^ 64 }
+    ensures cell { IfOk result (λ k. k.run.tag ≢ row_end) }
+    ensures fewer { IfOk result (λ k. k.due ≤ kept.due) }
+    ensures short { IfOk result (λ k. k.run.count ≤ kept.run.count + length (repeated count (spelled runs.now))) }
+    ensures ok { IfOk result (λ k. (more : List ℕ) (rows : List (List State)) →
+        Wrote (O.written sink.old) (O.written sink.new) (O.faults sink.old) (O.faults sink.new)
+        (text_left (held page.old) (column_of page.old)
+        (row_left kept.due (replicate kept.run.count kept.run.tag ++
+        (repeated count (spelled runs.now) ++ more)) rows))
+        (text_left (held page.new) (column_of page.new)
+        (row_left k.due (replicate k.run.count k.run.tag ++ more) rows))) }
+    ensures err { OnErr result ((more : List ℕ) (rows : List (List State)) →
+        Broke (O.written sink.old) (O.written sink.new) (O.faults sink.old) (O.faults sink.new)
+        (text_left (held page.old) (column_of page.old)
+        (row_left kept.due (replicate kept.run.count kept.run.tag ++
+        (repeated count (spelled runs.now) ++ more)) rows))) }
+{
+    if count < MANY {
+        return add_copies(sink, page, kept, runs, count);
+    }
+    let begun = add_copies(sink, page, kept, runs, COPIES)?;
+    add_laps(sink, page, begun, runs, count - COPIES)
+}
