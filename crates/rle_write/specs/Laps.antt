@@ -1,15 +1,10 @@
--- Laps, and the sink that holds the bytes of one.
-use Rattle.std.specs.Prelude.{ℕ, List, [], ◌≡◌, ◌++◌, replicate, take}
+-- Laps: copies of the same cells after which the column and the kept run are what they were.
+use Rattle.std.specs.Prelude.{ℕ, List, [], ◌≡◌, ◌++◌, replicate}
 use Rattle.ww_rule.specs.declared.pattern.State.{State}
-use Rattle.rle_write.specs.declared.laps.Lap.{Lap}
 use Rattle.rle_write.specs.declared.rows.Kept.{Kept}
 use Rattle.rle_write.specs.declared.rows.Run.{Run}
 use Rattle.rle_write.specs.Left.{row_left, text_left}
 use Rattle.rle_write.specs.Runs.{repeated, spelled}
-
--- the bytes that a lap holds
-abbrev pub bytes_of : Lap → List ℕ
-bytes_of lap = take lap.used lap.bytes
 
 -- with this column on the line and this run kept, so many copies of the cells that runs spell have
 -- these bytes, and the column and the run are then the same

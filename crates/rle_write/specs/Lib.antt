@@ -1,5 +1,6 @@
 pub mod Blocks
 pub mod Dark
+pub mod LapBytes
 pub mod Laps
 pub mod Left
 pub mod Opening

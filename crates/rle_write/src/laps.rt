@@ -1,8 +1,9 @@
 // Laps: copies of the same cells after which the column on the line and the kept run are again what
 // they were. So the bytes of the next lap are the same, and are put on the page at once.
-ghost use Rattle.std.specs.Prelude.{◌≡◌, ◌≢◌, ◌≤◌, ◌<◌, ◌+◌, ◌^◌, ℕ, List, [], Some, ◌++◌, replicate, length, All, IfOk, IfSome, OnErr, IsTrue};
+ghost use Rattle.std.specs.Prelude.{◌≡◌, ◌≢◌, ◌≤◌, ◌<◌, ◌+◌, ◌^◌, ℕ, List, [], ◌++◌, replicate, length, All, IfOk, IfSome, OnErr, IsTrue};
 ghost use Rattle.ww_rule.specs.declared.pattern.State.{State};
 ghost use Rattle.pattern_writing.specs.Writer.{row_end};
+ghost use Rattle.rle_write.specs.LapBytes.{bytes_of};
 ghost use Rattle.rle_write.specs.Laps.{IsLap};
 ghost use Rattle.rle_write.specs.Left.{row_left, text_left};
 ghost use Rattle.rle_write.specs.Runs.{IsCellRun, repeated, spelled};
@@ -10,11 +11,9 @@ ghost use Rattle.ww_base.specs.Pages.{held, column_of};
 ghost use Rattle.ww_base.specs.Progress.{Wrote, Broke};
 
 use crate::copies::{add_copies, add_runs};
+use crate::lap_sink::Lap;
 use crate::rows::{Kept, Run};
 use ww_base::{Failed, Page, Sink};
-
-// The most bytes of a lap.
-const LAP: usize = 4096;
 
 // The most copies of a lap, as many as there are columns: by then one has come again. So many copies
 // are also enough for the columns to begin to come again.
@@ -22,65 +21,6 @@ const COPIES: usize = 71;
 
 // How many copies are worth the search for a lap.
 const MANY: usize = 4 * COPIES;
-
-// The bytes of a lap. A piece that has no room there is refused.
-#[derive(Drop)]
-struct Lap {
-    bytes: [u8; LAP],
-    used: usize,
-    faults: u64,
-    ghost room: { used ≤ 4096 },
-}
-
-impl Lap {
-    ghost use Rattle.rle_write.specs.Laps.{bytes_of};
-
-    // A lap of no bytes.
-    fn new() -> Lap
-        ensures { bytes_of result ≡ [] }
-    {
-        Lap {
-            bytes: [0; LAP],
-            used: 0,
-            faults: 0,
-        }
-    }
-
-    // The bytes of the lap.
-    fn bytes(&self) -> &[u8]
-        ensures { result.now ≡ bytes_of self.now }
-    {
-        &self.bytes[..self.used]
-    }
-
-    // Takes a piece for which there is room.
-    fn push(&mut self, piece: &[u8])
-        requires { length (bytes_of self.old) + length piece.now ≤ 4096 }
-        ensures bytes { bytes_of self.new ≡ bytes_of self.old ++ piece.now }
-        ensures faults { self.new.faults ≡ self.old.faults }
-    {
-        let end = self.used + piece.len();
-        self.bytes[self.used..end].copy_from_slice(piece);
-        self.used = end;
-    }
-}
-
-impl Sink for Lap {
-    ghost use Rattle.rle_write.specs.Laps.{bytes_of};
-
-    ghost written = { λ lap. Some (bytes_of lap) };
-
-    ghost faults = { λ lap. lap.faults };
-
-    fn write(&mut self, piece: &[u8]) -> Result<usize, Failed> {
-        if piece.len() > LAP - self.used {
-            self.faults = self.faults.saturating_add(1);
-            return Err(Failed);
-        }
-        self.push(piece);
-        Ok(piece.len())
-    }
-}
 
 // Whether the same is kept.
 fn is_same(a: Kept, b: Kept) -> bool

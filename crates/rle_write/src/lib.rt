@@ -8,6 +8,7 @@ mod blocks;
 mod copies;
 mod dark;
 mod items;
+mod lap_sink;
 mod laps;
 mod pattern_rows;
 mod plan_rows;
