@@ -1,5 +1,6 @@
 -- The stretches of a lane's blocks, from east to west.
-use Rattle.std.proofs.Common.{◌≡◌, ◌∙◌, sym, ap, subst, inl, inr, ℕ, zero, suc, ◌+◌, ◌<◌, List, set, length, get_or, arith}
+use Rattle.std.proofs.Common.{◌≡◌, ◌∙◌, sym, ap, subst, inl, inr, ℕ, zero, suc, Bool, IsTrue, ◌+◌, ◌<◌, ◌≤◌, List, set, length, get_or, arith}
+use Rattle.std.proofs.lemmas.Bool.{cases_lt}
 use Rattle.std.proofs.lemmas.Bool.Decides.{eqb_tells}
 use Rattle.std.proofs.lemmas.List.{length-set, get_or-set_same, get_or-set_other}
 use Rattle.lane_core.specs.declared.plan.Plan.{Plan}
@@ -7,31 +8,93 @@ use Rattle.plan_layout.specs.declared.slot.Slot.{Slot}
 use Rattle.plan_layout.specs.Slots.{slot_of}
 use Rattle.plan_layout.specs.Tape.{drawn_tiling}
 use Rattle.rle_write.specs.declared.blocks.Stretch.{Stretch}
-use Rattle.rle_write.specs.Blocks.{IsStretch, AreBlocksFrom, no_stretch}
+use Rattle.rle_write.specs.Blocks.{IsMotif, IsNextMotif, IsStretch, AreBlocksFrom, no_stretch}
+
+-- a motif of a block alone
+motif_alone : (plan : Plan) (lane size k : ℕ) → k < size → IsMotif plan lane size k 1 1
+motif_alone plan lane size k inside = record {
+  some = omega arith;
+  few = omega arith;
+  once = omega arith;
+  within = omega (arith, inside);
+  again = λ i lt. absurd (omega (arith, lt));
+}
+
+-- a motif that is longer by a block
+motif_longer : (plan : Plan) (lane size k motif : ℕ) → motif < 4 → k + 1 + motif ≤ size → IsMotif plan lane size k (motif + 1) (motif + 1)
+motif_longer plan lane size k motif few inside = record {
+  some = omega arith;
+  few = omega (arith, few);
+  once = omega arith;
+  within = omega (arith, inside);
+  again = λ i lt. absurd (omega (arith, lt));
+}
+
+-- a motif that goes on
+motif_goes_on : (plan : Plan) (lane size k motif reach more : ℕ) → IsMotif plan lane size (k + 1) motif reach
+    → drawn_tiling plan (k + motif) lane ≡ drawn_tiling plan k lane → reach ≤ more → more ≤ reach + 1 → IsMotif plan lane size k motif more
+motif_goes_on plan lane size k motif reach more is same least most = record {
+  some = is.some;
+  few = is.few;
+  once = omega (arith, is.once, least);
+  within = omega (arith, is.within, most);
+  again = each;
+}
+  where
+    each : (i : ℕ) → i + motif < more → drawn_tiling plan (k + i + motif) lane ≡ drawn_tiling plan (k + i) lane
+    each zero lt =
+        let here : k + 0 + motif ≡ k + motif = omega arith in
+        let west : k ≡ k + 0 = omega arith in
+        ap (λ n. drawn_tiling plan n lane) here ∙ same ∙ ap (λ n. drawn_tiling plan n lane) west
+    each (suc i) lt =
+        let here : k + suc i + motif ≡ k + 1 + i + motif = omega arith in
+        let west : k + 1 + i ≡ k + suc i = omega arith in
+        ap (λ n. drawn_tiling plan n lane) here ∙ is.again i (omega (arith, lt, most)) ∙ ap (λ n. drawn_tiling plan n lane) west
+
+-- the motif of a block, by that east of it
+motif_next : (plan : Plan) (lane size k : ℕ) (east : Stretch) (goes_on : Bool) (next : ℕ × ℕ) → IsMotif plan lane size (k + 1) east.motif east.reach
+    → (IsTrue goes_on → drawn_tiling plan (k + east.motif) lane ≡ drawn_tiling plan k lane) → IsNextMotif east goes_on next
+    → IsMotif plan lane size k next.0 next.1
+motif_next plan lane size k east goes_on next is same (inl one) =
+    subst (λ (n : ℕ × ℕ). IsMotif plan lane size k n.0 n.1) (sym one) (motif_alone plan lane size k (omega (arith, is.some, is.once, is.within)))
+motif_next plan lane size k east goes_on next is same (inr (inl longer)) =
+    subst (λ (n : ℕ × ℕ). IsMotif plan lane size k n.0 n.1) (sym longer.0)
+    (motif_longer plan lane size k east.motif longer.1.1 (omega (arith, is.within, longer.1.0)))
+motif_next plan lane size k east goes_on next is same (inr (inr on)) =
+    subst (λ m. IsMotif plan lane size k m next.1) (sym on.1.0)
+    (motif_goes_on plan lane size k east.motif east.reach next.1 is (same on.0) on.1.1.0 on.1.1.1)
 
 -- a block alone
 pub alone : (plan : Plan) (lane size k : ℕ) (slot : Slot) → k < size → slot_of slot ≡ drawn_tiling plan k lane
-    → IsStretch plan lane size k (record { slot = slot; count = 1 })
+    → IsStretch plan lane size k (record { slot = slot; motif = 1; count = 1; reach = 1 })
 alone plan lane size k slot inside stands = record {
   some = omega arith;
   within = omega (arith, inside);
   alike = λ i lt. (let here : k ≡ k + i = omega (arith, lt) in stands ∙ ap (λ n. drawn_tiling plan n lane) here);
+  repeats = motif_alone plan lane size k inside;
 }
 
--- a block west of a stretch in which the same stands
-pub longer : (plan : Plan) (lane size k : ℕ) (slot : Slot) (east : Stretch) → IsStretch plan lane size (k + 1) east → slot ≡ east.slot
-    → slot_of slot ≡ drawn_tiling plan k lane → IsStretch plan lane size k (record { slot = slot; count = east.count + 1 })
-longer plan lane size k slot east is same stands = record {
-  some = omega arith;
-  within = omega (arith, is.within);
+-- a block west of a stretch
+pub longer : (plan : Plan) (lane size k : ℕ) (slot : Slot) (east : Stretch) (count : ℕ) (goes_on : Bool) (next : ℕ × ℕ) → IsStretch plan lane size (k + 1) east
+    → slot_of slot ≡ drawn_tiling plan k lane → 1 ≤ count → (2 ≤ count → (slot ≡ east.slot) × (count ≤ east.count + 1))
+    → (IsTrue goes_on → drawn_tiling plan (k + east.motif) lane ≡ drawn_tiling plan k lane) → IsNextMotif east goes_on next
+    → IsStretch plan lane size k (record { slot = slot; motif = next.0; count = count; reach = next.1 })
+longer plan lane size k slot east count goes_on next is stands some alike same motif = record {
+  some = some;
+  within = elim (cases_lt count 2) [
+    | inl one ↦ omega (arith, one, is.some, is.within)
+    | inr more ↦ omega (arith, more, (alike (omega (arith, more))).1, is.within)
+  ];
   alike = each;
+  repeats = motif_next plan lane size k east goes_on next is.repeats same motif;
 }
   where
-    each : (i : ℕ) → i < east.count + 1 → slot_of slot ≡ drawn_tiling plan (k + i) lane
+    each : (i : ℕ) → i < count → slot_of slot ≡ drawn_tiling plan (k + i) lane
     each zero lt = let here : k ≡ k + 0 = omega arith in stands ∙ ap (λ n. drawn_tiling plan n lane) here
     each (suc i) lt =
         let here : k + 1 + i ≡ k + suc i = omega arith in
-        ap slot_of same ∙ is.alike i (omega (arith, lt)) ∙ ap (λ n. drawn_tiling plan n lane) here
+        let goes = alike (omega (arith, lt)) in
+        ap slot_of goes.0 ∙ is.alike i (omega (arith, lt, goes.1)) ∙ ap (λ n. drawn_tiling plan n lane) here
 
 -- one more block, west of the others
 pub blocks_more : (plan : Plan) (lane i : ℕ) (blocks : List Stretch) (stretch : Stretch) → i < length blocks

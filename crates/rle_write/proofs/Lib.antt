@@ -5,6 +5,8 @@ pub mod Lefts
 pub mod PlanLefts
 pub mod DarkRows
 pub mod StretchCells
+pub mod FigureCells
 pub mod CopiedTags
+pub mod LapTexts
 pub mod Wholes
 pub mod KeptBlocks

@@ -16,7 +16,8 @@ use Rattle.rle_write.specs.Left.{rows_left, text_left}
 use Rattle.rle_write.proofs.Lefts.{cells_none, past_rows}
 use Rattle.rle_write.proofs.Tags.{run_tags}
 
-row_long : (plan : Plan) (y : ℕ) → length (start_row plan y) ≡ (size_of plan).0
+-- a row is as long as the drawing is wide
+pub row_long : (plan : Plan) (y : ℕ) → length (start_row plan y) ≡ (size_of plan).0
 row_long plan y = length-map-range_with_len (λ x. drawn_plane shipped_drawing plan (pos x) (pos y)) 0 (size_of plan).0
 
 -- the rest of a row begins with a piece that has its cells

@@ -1,4 +1,4 @@
--- The cells of a stretch of blocks, by the runs of one of them.
+-- The cells of a block's row, by its runs.
 use Rattle.std.proofs.Common.{◌≡◌, refl, sym, ◌∙◌, ap, ap₂, ℕ, zero, suc, ◌+◌, ◌-◌, ◌*◌, ◌/◌, ◌%◌, ◌<◌, ◌≤◌, List, [], ◌∷◌, ◌++◌, map, take, drop, set, length, replicate, get_or, All, subst, arith, append_assoc, length-drop, length-take-le, drop_of_length-le}
 use Rattle.std.proofs.lemmas.List.{append-nil, drop_more, ext_get_or, get_or-take, get_or-drop, get_or-replicate, length-append, length-replicate, map-append, replicate-append-replicate, take_more_set}
 use Rattle.std.proofs.lemmas.List.Elements.{All-append}
@@ -15,7 +15,7 @@ use Rattle.grid_assembly.specs.PlanDrawing.{AreCellsOfRow, start_row}
 use Rattle.pattern_writing.specs.Writer.{tag_of}
 use Rattle.rle_write.specs.declared.rows.Run.{Run}
 use Rattle.rle_write.specs.Dark.{IsDark, bare_slot, bare_row}
-use Rattle.rle_write.specs.Runs.{IsCellRun, spelled, repeated}
+use Rattle.rle_write.specs.Runs.{IsCellRun, spelled}
 use Rattle.rle_write.proofs.PlanLefts.{piece_next}
 use Rattle.rle_write.proofs.Tags.{run_tags}
 
@@ -64,10 +64,8 @@ row_more slot y x state count is =
     ∙ map-append tag_of (take x row) (replicate count state)
     ∙ ap (λ l. map tag_of (take x row) ++ l) (run_tags count state)
 
--- Stretches.
-
 -- the rest of a row begins with the cells of a block
-block_next : (plan : Plan) (y k : ℕ) (slot : Slot) → IsDark plan y → slot ≡ drawn_tiling plan k (y / 16) → 32 * k + 32 ≤ (size_of plan).0
+pub block_next : (plan : Plan) (y k : ℕ) (slot : Slot) → IsDark plan y → slot ≡ drawn_tiling plan k (y / 16) → 32 * k + 32 ≤ (size_of plan).0
     → map tag_of (drop (32 * k) (start_row plan y)) ≡ map tag_of (bare_row slot (y % 16)) ++ map tag_of (drop (32 * (k + 1)) (start_row plan y))
 block_next plan y k slot dark stands inside =
     let row : List State = start_row plan y in
@@ -79,31 +77,6 @@ block_next plan y k slot dark stands inside =
     let next : 32 * k + length cells ≡ 32 * (k + 1) = omega (arith, long) in
     ap (map tag_of) (piece_next plan y (32 * k) cells are (omega (arith, long, inside)) ∙ ap (λ x. cells ++ drop x row) next)
     ∙ map-append tag_of cells (drop (32 * (k + 1)) row)
-
--- and with those of the rest of a stretch, from its i-th block on
-stretch_from : (plan : Plan) (y k n : ℕ) (slot : Slot) → IsDark plan y → ((i : ℕ) → i < n → slot ≡ drawn_tiling plan (k + i) (y / 16))
-    → 32 * (k + n) ≤ (size_of plan).0 → (j i : ℕ) → i + j ≡ n
-    → map tag_of (drop (32 * (k + i)) (start_row plan y))
-    ≡ repeated j (map tag_of (bare_row slot (y % 16))) ++ map tag_of (drop (32 * (k + n)) (start_row plan y))
-stretch_from plan y k n slot dark alike inside zero i e =
-    let here : i ≡ n = omega (arith, e) in ap (λ m. map tag_of (drop (32 * (k + m)) (start_row plan y))) here
-stretch_from plan y k n slot dark alike inside (suc j) i e =
-    let row : List State = start_row plan y in
-    let tags : List ℕ = map tag_of (bare_row slot (y % 16)) in
-    let next : k + i + 1 ≡ k + (i + 1) = omega arith in
-    block_next plan y (k + i) slot dark (alike i (omega (arith, e))) (omega (arith, inside, e))
-    ∙ ap (λ l. tags ++ l)
-    (ap (λ m. map tag_of (drop (32 * m) row)) next ∙ stretch_from plan y k n slot dark alike inside j (i + 1) (omega (arith, e)))
-    ∙ sym (append_assoc tags (repeated j tags) (map tag_of (drop (32 * (k + n)) row)))
-
--- and with those of a stretch
-pub stretch_next : (plan : Plan) (y k n : ℕ) (slot : Slot) → IsDark plan y → ((i : ℕ) → i < n → slot ≡ drawn_tiling plan (k + i) (y / 16))
-    → 32 * (k + n) ≤ (size_of plan).0
-    → map tag_of (drop (32 * k) (start_row plan y))
-    ≡ repeated n (map tag_of (bare_row slot (y % 16))) ++ map tag_of (drop (32 * (k + n)) (start_row plan y))
-stretch_next plan y k n slot dark alike inside =
-    let start : k + 0 ≡ k = omega arith in
-    ap (λ m. map tag_of (drop (32 * m) (start_row plan y))) (sym start) ∙ stretch_from plan y k n slot dark alike inside n 0 (omega arith)
 
 -- Runs one by one.
 

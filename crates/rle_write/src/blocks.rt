@@ -1,20 +1,26 @@
 // The first blocks of a lane, looked up once for the sixteen rows of cells that cross them.
-ghost use Rattle.std.specs.Prelude.{◌≡◌, ◌≢◌, ◌<◌, ◌+◌, ◌/◌, ◌%◌, IsTrue, length};
+ghost use Rattle.std.specs.Prelude.{◌≡◌, ◌≢◌, ◌≤◌, ◌<◌, ◌+◌, ◌/◌, ◌%◌, IsTrue, length};
 ghost use Rattle.lane_core.specs.Plans.{IsAdmissible};
 ghost use Rattle.plan_layout.specs.Tape.{drawn_tiling};
 ghost use Rattle.plan_layout.specs.Slots.{slot_of};
-ghost use Rattle.rle_write.specs.Blocks.{AreBlocks, AreBlocksFrom, IsStretch};
+ghost use Rattle.rle_write.specs.Blocks.{AreBlocks, AreBlocksFrom, IsNextMotif, IsStretch};
 
 use lane_core::Plan;
 use plan_layout::{Piece, Slot, slot_at, slot_drawn_at};
 
-/// What stands in a block, and in how many blocks from it eastward the same stands, itself among
-/// them.
+/// What stands in a block, and in how many blocks from it eastward, itself among them, the same
+/// stands. The motif is so many blocks from it eastward as stand again and again, as far as the
+/// reach: so many blocks, those of the motif among them.
 #[derive(Clone, Copy)]
 pub struct Stretch {
     pub slot: Slot,
-    pub count: usize,
+    pub motif: u8,
+    pub count: u32,
+    pub reach: u32,
 }
+
+// The most blocks of a motif.
+const MOTIF: u8 = 4;
 
 // Whether two pieces are the same.
 fn is_same_piece(a: Piece, b: Piece) -> bool
@@ -52,6 +58,32 @@ fn block_at(plan: &Plan, column: u64, lane: u64) -> Slot
     }
 }
 
+// In how many blocks from a block eastward the same stands as in it, if this stands east of it.
+fn next_count(slot: Slot, east: Stretch) -> u32
+    ensures some { 1 ≤ result }
+    ensures longer { 2 ≤ result → (slot ≡ east.slot) × (result ≤ east.count + 1) }
+{
+    if is_same(slot, east.slot) {
+        east.count.saturating_add(1)
+    } else {
+        1
+    }
+}
+
+// How many blocks the motif has that begins with a block, and its reach. The motif east of the block
+// goes on with it, or grows by it if it stands there once, or a motif of one block begins.
+fn next_motif(east: Stretch, goes_on: bool) -> (u8, u32)
+    ensures { IsNextMotif east goes_on result }
+{
+    if goes_on {
+        return (east.motif, east.reach.saturating_add(1));
+    }
+    if east.motif < MOTIF && east.reach == east.motif as u32 {
+        return (east.motif + 1, east.reach + 1);
+    }
+    (1, 1)
+}
+
 // The stretch of blocks that begins with the i-th block of a lane. Those that begin with the blocks
 // east of it are known.
 fn stretch_at(plan: &Plan, lane: u64, blocks: &[Stretch], i: usize) -> Stretch
@@ -61,17 +93,22 @@ fn stretch_at(plan: &Plan, lane: u64, blocks: &[Stretch], i: usize) -> Stretch
     ensures { IsStretch plan.now lane (length blocks.now) i result }
 {
     let slot = block_at(plan, i as u64, lane);
-    let alone = Stretch { slot, count: 1 };
     if i + 1 == blocks.len() {
-        return alone;
+        return Stretch {
+            slot,
+            motif: 1,
+            count: 1,
+            reach: 1,
+        };
     }
     let east = blocks[i + 1];
-    if !is_same(slot, east.slot) {
-        return alone;
-    }
+    let goes_on = is_same(slot, blocks[i + east.motif as usize].slot);
+    let (motif, reach) = next_motif(east, goes_on);
     Stretch {
         slot,
-        count: east.count + 1,
+        motif,
+        count: next_count(slot, east),
+        reach,
     }
 }
 

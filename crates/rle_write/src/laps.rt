@@ -132,6 +132,39 @@ fn add_laps<O: Sink>(
     write_laps(sink, page, kept, runs, lap.bytes(), copies, count)
 }
 
+// Takes `count` copies of the cells that these runs spell, the first of them one by one.
+fn add_after<O: Sink>(
+    sink: &mut O,
+    page: &mut Page,
+    kept: Kept,
+    runs: &[Run],
+    first: usize,
+    count: usize,
+) -> Result<Kept, Failed>
+    requires cell { kept.run.tag ≢ row_end }
+    requires runs { All IsCellRun runs.now }
+    requires first { first ≤ count }
+    requires short { kept.run.count + length (repeated count (spelled runs.now)) < 2 ^ 64 }
+    ensures cell { IfOk result (λ k. k.run.tag ≢ row_end) }
+    ensures fewer { IfOk result (λ k. k.due ≤ kept.due) }
+    ensures short { IfOk result (λ k. k.run.count ≤ kept.run.count + length (repeated count (spelled runs.now))) }
+    ensures ok { IfOk result (λ k. (more : List ℕ) (rows : List (List State)) →
+        Wrote (O.written sink.old) (O.written sink.new) (O.faults sink.old) (O.faults sink.new)
+        (text_left (held page.old) (column_of page.old)
+        (row_left kept.due (replicate kept.run.count kept.run.tag ++
+        (repeated count (spelled runs.now) ++ more)) rows))
+        (text_left (held page.new) (column_of page.new)
+        (row_left k.due (replicate k.run.count k.run.tag ++ more) rows))) }
+    ensures err { OnErr result ((more : List ℕ) (rows : List (List State)) →
+        Broke (O.written sink.old) (O.written sink.new) (O.faults sink.old) (O.faults sink.new)
+        (text_left (held page.old) (column_of page.old)
+        (row_left kept.due (replicate kept.run.count kept.run.tag ++
+        (repeated count (spelled runs.now) ++ more)) rows))) }
+{
+    let begun = add_copies(sink, page, kept, runs, first)?;
+    add_laps(sink, page, begun, runs, count - first)
+}
+
 /// Takes `count` copies of the cells that these runs spell, lap by lap if they are many.
 pub fn add_many<O: Sink>(
     sink: &mut O,
@@ -162,6 +195,5 @@ pub fn add_many<O: Sink>(
     if count < MANY {
         return add_copies(sink, page, kept, runs, count);
     }
-    let begun = add_copies(sink, page, kept, runs, COPIES)?;
-    add_laps(sink, page, begun, runs, count - COPIES)
+    add_after(sink, page, kept, runs, COPIES, count)
 }

@@ -1,11 +1,11 @@
 // The rows of stretches of blocks in which the same stands, where no electron does. The runs of such
 // a row are those of what stands in the blocks, so they are found once, and written for each block.
-ghost use Rattle.std.specs.Prelude.{◌≡◌, ◌≢◌, ◌≤◌, ◌<◌, ◌+◌, ◌*◌, ◌^◌, ◌/◌, ℕ, List, ◌∷◌, ◌++◌, map, drop, replicate, length, All, IfOk, OnErr};
+ghost use Rattle.std.specs.Prelude.{◌≡◌, ◌≢◌, ◌≤◌, ◌<◌, ◌+◌, ◌*◌, ◌^◌, ◌/◌, ℕ, List, ◌∷◌, ◌++◌, map, drop, replicate, take, length, All, IfOk, OnErr};
 ghost use Rattle.ww_rule.specs.declared.pattern.State.{State};
 ghost use Rattle.lane_core.specs.Plans.{IsAdmissible, size_of};
 ghost use Rattle.grid_assembly.specs.PlanDrawing.{start_row};
 ghost use Rattle.pattern_writing.specs.Writer.{tag_of, row_end};
-ghost use Rattle.rle_write.specs.Blocks.{AreBlocks};
+ghost use Rattle.rle_write.specs.Blocks.{AreBlocks, IsFigure, IsStretch, tags_of_blocks};
 ghost use Rattle.rle_write.specs.Dark.{IsDark};
 ghost use Rattle.rle_write.specs.Left.{rows_left, row_left, text_left};
 ghost use Rattle.rle_write.specs.Runs.{IsCellRun, repeated, spelled};
@@ -19,7 +19,13 @@ use crate::rows::{EMPTY, Kept, Run, add_run};
 use lane_core::Plan;
 use ww_base::{Failed, Page, Sink};
 
-// Takes the cells of a motif's row, which these runs spell, `count` times.
+// The most runs in a row of blocks that are written as one: four blocks of 32 cells.
+const RUNS: usize = 128;
+
+// How many blocks farther than the same stands another motif is to reach, if it is taken.
+const MUCH: u32 = 4;
+
+// Takes `count` copies of the cells that these runs spell.
 fn add_stretch<O: Sink>(
     sink: &mut O,
     page: &mut Page,
@@ -57,6 +63,38 @@ fn add_stretch<O: Sink>(
     add_many(sink, page, kept, runs, count)
 }
 
+// How many blocks are written as one from where a stretch begins, and how often they stand there:
+// one, if its motif does not reach much farther than the same stands.
+fn figure_of(stretch: Stretch) -> (usize, usize)
+    requires { 1 ≤ stretch.motif }
+    ensures { (plan : Plan) (lane size k : ℕ) → IsStretch plan lane size k stretch →
+        IsFigure plan lane size k result.0 result.1 }
+{
+    if stretch.reach < stretch.count.saturating_add(MUCH) {
+        return (1, stretch.count as usize);
+    }
+    let often = stretch.reach / stretch.motif as u32;
+    (stretch.motif as usize, often as usize)
+}
+
+// Puts the runs of row `y` of a lane's blocks into `runs`, of so many blocks from this column on, and
+// returns how many runs there are.
+fn runs_of_blocks(blocks: &[Stretch], column: usize, count: usize, y: u32, runs: &mut [Run]) -> usize
+    requires in_block { y < 16 }
+    requires inside { column + count ≤ length blocks.now }
+    requires room { 32 * count ≤ length runs.old }
+    ensures size { length runs.new ≡ length runs.old }
+    ensures few { result ≤ 32 * count }
+    ensures cells { All IsCellRun (take result runs.new) }
+    ensures runs { spelled (take result runs.new) ≡ tags_of_blocks blocks.now column count y }
+{
+    let mut found = 0;
+    for i in 0..count {
+        found = runs_of_row(blocks[column + i].slot, y, runs, found);
+    }
+    found
+}
+
 /// Writes row `y` as far as these blocks reach, stretch by stretch, but for what is returned: what
 /// is kept then.
 pub fn write_stretches<O: Sink>(
@@ -89,14 +127,14 @@ pub fn write_stretches<O: Sink>(
     let mut runs = [Run {
         count: 0,
         tag: EMPTY,
-    }; 32];
+    }; RUNS];
     let mut kept = Kept::begin(ends);
     let mut column = 0;
     'stretches: while column < blocks.len() {
-        let stretch = blocks[column];
-        let found = runs_of_row(stretch.slot, (y % 16) as u32, &mut runs);
-        kept = add_stretch(sink, page, kept, &runs[..found], stretch.count)?;
-        column += stretch.count;
+        let (figure, often) = figure_of(blocks[column]);
+        let found = runs_of_blocks(blocks, column, figure, (y % 16) as u32, &mut runs);
+        kept = add_stretch(sink, page, kept, &runs[..found], often)?;
+        column += figure * often;
     }
     Ok(kept)
 }

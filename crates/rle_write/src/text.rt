@@ -23,11 +23,11 @@ use ww_base::{Failed, Page, Sink};
 use ww_rule::Pattern;
 
 // The greatest number of blocks of a lane that are kept for its rows: 32 columns of cells each.
-const KEPT: usize = 16384;
+const KEPT: usize = 32768;
 
 // How many blocks are kept for a drawing of this width: only those that lie wholly within it.
 fn kept_blocks(width: u64) -> usize
-    ensures room { result ≤ 16384 }
+    ensures room { result ≤ 32768 }
     ensures inside { 32 * result ≤ width }
 {
     (width / 32).min(KEPT as u64) as usize
@@ -109,7 +109,9 @@ pub fn write<O: Sink>(plan: &Plan, ports: &Ports, sink: &mut O) -> Result<(), Fa
     write_opening(sink, &mut page, ports, width, height)?;
     let mut blocks = [Stretch {
         slot: Slot::Nothing,
+        motif: 0,
         count: 0,
+        reach: 0,
     }; KEPT];
     let kept = &mut blocks[..kept_blocks(width)];
     write_plan_rows(sink, &mut page, plan, kept, width, height)?;
