@@ -92,10 +92,19 @@ pub figures_next : (plan : Plan) (y p k q : ℕ) (blocks : List Stretch) → IsD
     ≡ repeated q (tags_of_blocks blocks k p (y % 16)) ++ map tag_of (drop (32 * (k + p * q)) (start_row plan y))
 figures_next plan y p k q blocks dark are inside is = figures_from plan y p k q blocks dark are inside is.again is.within
 
+-- the blocks that stand again and again lie among the kept ones, and they are some
+pub figure_inside : (plan : Plan) (lane size k figure often : ℕ) → IsFigure plan lane size k figure often → k + figure ≤ size
+figure_inside plan lane size k figure zero is = absurd (omega (arith, is.once))
+figure_inside plan lane size k figure (suc q) is = omega (arith, is.within, mul-suc figure q)
+
+pub figure_some : (plan : Plan) (lane size k figure often : ℕ) → IsFigure plan lane size k figure often → 1 ≤ figure * often
+figure_some plan lane size k figure zero is = absurd (omega (arith, is.once))
+figure_some plan lane size k figure (suc q) is = omega (arith, is.some, mul-suc figure q)
+
 -- they have so many cells
 pub cells_long : (plan : Plan) (y x z : ℕ) (tags : List ℕ) → x ≤ z → z ≤ (size_of plan).0
     → map tag_of (drop x (start_row plan y)) ≡ tags ++ map tag_of (drop z (start_row plan y)) → x + length tags ≡ z
 cells_long plan y x z tags le inside e =
     let row : List State = start_row plan y in
     let all : length (map tag_of (drop x row)) ≡ length tags + length (map tag_of (drop z row)) = ap length e ∙ length-append tags (map tag_of (drop z row)) in
-    omega (arith, le, inside, all, length-map tag_of (drop x row), length-map tag_of (drop z row), length-drop x row, length-drop z row, row_long plan y)
+    omega (arith, le, inside, all, length-map (drop x row) tag_of, length-map (drop z row) tag_of, length-drop x row, length-drop z row, row_long plan y)

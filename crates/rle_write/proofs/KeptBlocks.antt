@@ -1,5 +1,5 @@
 -- The stretches of a lane's blocks, from east to west.
-use Rattle.std.proofs.Common.{◌≡◌, ◌∙◌, sym, ap, subst, inl, inr, ℕ, zero, suc, Bool, IsTrue, ◌+◌, ◌<◌, ◌≤◌, List, set, length, get_or, arith}
+use Rattle.std.proofs.Common.{◌≡◌, ◌∙◌, sym, ap, subst, inl, inr, ℕ, zero, suc, Bool, IsTrue, ◌+◌, ◌<◌, ◌≤◌, List, set, take, length, get_or, arith, ◌*◌, length-take}
 use Rattle.std.proofs.lemmas.Bool.{cases_lt}
 use Rattle.std.proofs.lemmas.Bool.Decides.{eqb_tells}
 use Rattle.std.proofs.lemmas.List.{length-set, get_or-set_same, get_or-set_other}
@@ -111,3 +111,7 @@ blocks_more plan lane i blocks stretch inside east here k from below =
           subst (IsStretch plan lane (length blocks) k) (sym (get_or-set_other blocks i k stretch no_stretch other.1))
           (east k (omega (arith, from, other.1)) (omega (arith, below, size)))
     ])
+
+-- the first blocks of a list reach no farther than those that there may be
+pub few_taken : {A : Type 0} (n width : ℕ) (blocks : List A) → 32 * n ≤ width → 32 * length (take n blocks) ≤ width
+few_taken n width blocks inside = omega (arith, inside, length-take n blocks)

@@ -30,3 +30,16 @@ returns-then-runs-eq1-clause-err g c =
     (broke more rows))
     c.add_run.ensures.err
 
+
+pub overflow_mul-run : goal.overflow_mul-run
+overflow_mul-run g c =
+    omega (arith, c.requires.short, repeated_one_long c.args.runs.now no_run c.args.count (omega (arith, c.if-runs-eq1.true)))
+
+pub add_run-requires-clause-short : goal.add_run-requires-clause-short
+add_run-requires-clause-short g c =
+    omega (arith, c.requires.short, repeated_one_long c.args.runs.now no_run c.args.count (omega (arith, c.if-runs-eq1.true)))
+
+pub returns-then-runs-eq1-clause-short : goal.returns-then-runs-eq1-clause-short
+returns-then-runs-eq1-clause-short g c =
+    let long = repeated_one_long c.args.runs.now no_run c.args.count (omega (arith, c.if-runs-eq1.true)) in
+    IfOk-weaker c.add_run.result _ _ (λ k short. omega (arith, short, long)) c.add_run.ensures.short

@@ -1,36 +1,150 @@
-use Rattle.std.proofs.Common.{◌≡◌, ◌+◌, ◌*◌, ◌∙◌, ℕ, List, ◌++◌, map, drop, get_or, length, sym, ap, arith}
+use Rattle.std.proofs.Common.{◌≡◌, ◌<◌, ◌+◌, ◌-◌, ◌*◌, ◌/◌, ◌∙◌, ℕ, List, ◌++◌, map, take, drop, length, length-take-le, sym, ap, arith}
 use Rattle.ww_rule.specs.declared.pattern.State.{State}
-use Rattle.plan_layout.specs.Slots.{slot_of}
 use Rattle.grid_assembly.specs.PlanDrawing.{start_row}
+use Rattle.grid_assembly.proofs.Near.{size_near}
 use Rattle.pattern_writing.specs.Writer.{tag_of}
 use Rattle.ww_base.specs.Pages.{held, column_of}
 use Rattle.rle_write.specs.declared.blocks.Stretch.{Stretch}
-use Rattle.rle_write.specs.Blocks.{no_stretch}
-use Rattle.rle_write.specs.Runs.{repeated}
+use Rattle.rle_write.specs.Runs.{repeated, spelled}
 use Rattle.rle_write.proofs.Lefts.{left_by}
-use Rattle.rle_write.proofs.StretchCells.{stretch_next}
+use Rattle.rle_write.proofs.FigureCells.{figures_next, figure_inside, figure_some, cells_long}
 use Rattle.lists.proofs.Results.{on_err}
 use Rattle.ww_base.proofs.Steps.{wrote_then, wrote_broke, wrote_to}
 use Rattle.rle_write.proofs.stretches.write_stretches.Goals as goal
+
+pub runs_of_blocks-found-requires-clause-inside : goal.runs_of_blocks-found-requires-clause-inside
+runs_of_blocks-found-requires-clause-inside g c =
+    let plan = c.args.plan.now in
+    let lane : ℕ = c.args.y / 16 in
+    let k : ℕ = c.stretches.column in
+    let size : ℕ = length c.args.blocks.now in
+    let figure : ℕ = c.figure_of-figure.result.0 in
+    let often : ℕ = c.figure_of-figure.result.1 in
+    let is = c.figure_of-figure.ensures plan lane size k (c.requires.kept k (omega arith) c.stretches-test.true) in
+    figure_inside plan lane size k figure often is
+
+pub runs_of_blocks-found-requires-clause-room : goal.runs_of_blocks-found-requires-clause-room
+runs_of_blocks-found-requires-clause-room g c =
+    let plan = c.args.plan.now in
+    let lane : ℕ = c.args.y / 16 in
+    let k : ℕ = c.stretches.column in
+    let size : ℕ = length c.args.blocks.now in
+    let figure : ℕ = c.figure_of-figure.result.0 in
+    let often : ℕ = c.figure_of-figure.result.1 in
+    let is = c.figure_of-figure.ensures plan lane size k (c.requires.kept k (omega arith) c.stretches-test.true) in
+    omega (arith, is.few, c.stretches.invariant.room)
+
+pub slice_bounds-runs-end : goal.slice_bounds-runs-end
+slice_bounds-runs-end g c =
+    let plan = c.args.plan.now in
+    let lane : ℕ = c.args.y / 16 in
+    let k : ℕ = c.stretches.column in
+    let size : ℕ = length c.args.blocks.now in
+    let figure : ℕ = c.figure_of-figure.result.0 in
+    let often : ℕ = c.figure_of-figure.result.1 in
+    let is = c.figure_of-figure.ensures plan lane size k (c.requires.kept k (omega arith) c.stretches-test.true) in
+    omega (arith, c.runs_of_blocks-found.ensures.few, c.runs_of_blocks-found.ensures.size, is.few, c.stretches.invariant.room)
+
+pub slice_bounds-add_stretch-end : goal.slice_bounds-add_stretch-end
+slice_bounds-add_stretch-end g c =
+    let plan = c.args.plan.now in
+    let lane : ℕ = c.args.y / 16 in
+    let k : ℕ = c.stretches.column in
+    let size : ℕ = length c.args.blocks.now in
+    let figure : ℕ = c.figure_of-figure.result.0 in
+    let often : ℕ = c.figure_of-figure.result.1 in
+    let is = c.figure_of-figure.ensures plan lane size k (c.requires.kept k (omega arith) c.stretches-test.true) in
+    let found : ℕ = c.runs_of_blocks-found.result in
+    let runs = c.runs_of_blocks-found.new.runs in
+    sym (length-take-le found runs
+    (omega (arith, c.runs_of_blocks-found.ensures.few, c.runs_of_blocks-found.ensures.size, is.few, c.stretches.invariant.room)))
+
+pub add_stretch-requires-clause-some : goal.add_stretch-requires-clause-some
+add_stretch-requires-clause-some g c =
+    let plan = c.args.plan.now in
+    let lane : ℕ = c.args.y / 16 in
+    let k : ℕ = c.stretches.column in
+    let size : ℕ = length c.args.blocks.now in
+    let figure : ℕ = c.figure_of-figure.result.0 in
+    let often : ℕ = c.figure_of-figure.result.1 in
+    let is = c.figure_of-figure.ensures plan lane size k (c.requires.kept k (omega arith) c.stretches-test.true) in
+    is.once
+
+pub add_stretch-requires-clause-short : goal.add_stretch-requires-clause-short
+add_stretch-requires-clause-short g c =
+    let plan = c.args.plan.now in
+    let y : ℕ = c.args.y in
+    let k : ℕ = c.stretches.column in
+    let blocks : List Stretch = c.args.blocks.now in
+    let figure : ℕ = c.figure_of-figure.result.0 in
+    let often : ℕ = c.figure_of-figure.result.1 in
+    let is = c.figure_of-figure.ensures plan (y / 16) (length blocks) k (c.requires.kept k (omega arith) c.stretches-test.true) in
+    let rest : List ℕ = map tag_of (drop (32 * (k + figure * often)) (start_row plan y)) in
+    let next =
+    figures_next plan y figure k often blocks (c.requires.dark (omega (arith, c.stretches-test.true))) c.requires.kept c.requires.inside is
+    ∙ ap (λ tags. repeated often tags ++ rest) (sym c.runs_of_blocks-found.ensures.runs) in
+    let kept = c.stretches.kept in
+    let copies : List ℕ = repeated often (spelled (take c.runs_of_blocks-found.result c.runs_of_blocks-found.new.runs)) in
+    let long =
+    cells_long plan y (32 * k) (32 * (k + figure * often)) copies (omega arith) (omega (arith, is.within, c.requires.inside)) next in
+    omega (arith, c.stretches.invariant.short, long, is.within, c.requires.inside, (size_near c.args.plan.now c.requires.admissible).0)
+
+pub overflow_mul-column : goal.overflow_mul-column
+overflow_mul-column g c =
+    let plan = c.args.plan.now in
+    let lane : ℕ = c.args.y / 16 in
+    let k : ℕ = c.stretches.column in
+    let size : ℕ = length c.args.blocks.now in
+    let figure : ℕ = c.figure_of-figure.result.0 in
+    let often : ℕ = c.figure_of-figure.result.1 in
+    let is = c.figure_of-figure.ensures plan lane size k (c.requires.kept k (omega arith) c.stretches-test.true) in
+    omega (arith, is.within, c.requires.inside, (size_near c.args.plan.now c.requires.admissible).0)
+
+pub overflow_add-column : goal.overflow_add-column
+overflow_add-column g c =
+    let plan = c.args.plan.now in
+    let lane : ℕ = c.args.y / 16 in
+    let k : ℕ = c.stretches.column in
+    let size : ℕ = length c.args.blocks.now in
+    let figure : ℕ = c.figure_of-figure.result.0 in
+    let often : ℕ = c.figure_of-figure.result.1 in
+    let is = c.figure_of-figure.ensures plan lane size k (c.requires.kept k (omega arith) c.stretches-test.true) in
+    omega (arith, is.within, c.requires.inside, (size_near c.args.plan.now c.requires.admissible).0)
+
+pub stretches-smaller : goal.stretches-smaller
+stretches-smaller g c =
+    let plan = c.args.plan.now in
+    let lane : ℕ = c.args.y / 16 in
+    let k : ℕ = c.stretches.column in
+    let size : ℕ = length c.args.blocks.now in
+    let figure : ℕ = c.figure_of-figure.result.0 in
+    let often : ℕ = c.figure_of-figure.result.1 in
+    let is = c.figure_of-figure.ensures plan lane size k (c.requires.kept k (omega arith) c.stretches-test.true) in
+    let less : size - (k + figure * often) < size - k =
+    omega (arith, figure_some plan lane size k figure often is, c.stretches-test.true) in less
 
 pub stretches-preserved : goal.stretches-preserved
 stretches-preserved g c =
     let plan = c.args.plan.now in
     let y : ℕ = c.args.y in
     let k : ℕ = c.stretches.column in
-    let stretch : Stretch = get_or c.args.blocks.now k no_stretch in
-    let is = c.requires.kept k (omega arith) c.stretches-test.true in
-    let rest : List ℕ = map tag_of (drop (32 * (k + stretch.count)) (start_row plan y)) in
+    let blocks : List Stretch = c.args.blocks.now in
+    let figure : ℕ = c.figure_of-figure.result.0 in
+    let often : ℕ = c.figure_of-figure.result.1 in
+    let is = c.figure_of-figure.ensures plan (y / 16) (length blocks) k (c.requires.kept k (omega arith) c.stretches-test.true) in
+    let rest : List ℕ = map tag_of (drop (32 * (k + figure * often)) (start_row plan y)) in
     let next =
-    stretch_next plan y k stretch.count (slot_of stretch.slot) (c.requires.dark (omega (arith, c.stretches-test.true))) is.alike
-    (omega (arith, is.within, c.requires.inside))
-    ∙ ap (λ tags. repeated stretch.count tags ++ rest) (sym c.runs_of_row-found.ensures.runs) in
+    figures_next plan y figure k often blocks (c.requires.dark (omega (arith, c.stretches-test.true))) c.requires.kept c.requires.inside is
+    ∙ ap (λ tags. repeated often tags ++ rest) (sym c.runs_of_blocks-found.ensures.runs) in
     let kept = c.stretches.kept in
+    let copies : List ℕ = repeated often (spelled (take c.runs_of_blocks-found.result c.runs_of_blocks-found.new.runs)) in
+    let long =
+    cells_long plan y (32 * k) (32 * (k + figure * often)) copies (omega arith) (omega (arith, is.within, c.requires.inside)) next in
     record {
       within = omega (arith, is.within);
-      room = c.runs_of_row-found.ensures.size ∙ c.stretches.invariant.room;
+      room = c.runs_of_blocks-found.ensures.size ∙ c.stretches.invariant.room;
       fewer = omega (arith, c.in_ok-kept.ensures.fewer, c.stretches.invariant.fewer);
-      short = omega (arith, c.in_ok-kept.ensures.short, c.stretches.invariant.short);
+      short = omega (arith, c.in_ok-kept.ensures.short, c.stretches.invariant.short, long);
       cell = c.in_ok-kept.ensures.cell;
       wrote = λ rows.
           wrote_then
@@ -43,13 +157,14 @@ returns-in_err-kept-clause-err g c =
     let plan = c.args.plan.now in
     let y : ℕ = c.args.y in
     let k : ℕ = c.stretches.column in
-    let stretch : Stretch = get_or c.args.blocks.now k no_stretch in
-    let is = c.requires.kept k (omega arith) c.stretches-test.true in
-    let rest : List ℕ = map tag_of (drop (32 * (k + stretch.count)) (start_row plan y)) in
+    let blocks : List Stretch = c.args.blocks.now in
+    let figure : ℕ = c.figure_of-figure.result.0 in
+    let often : ℕ = c.figure_of-figure.result.1 in
+    let is = c.figure_of-figure.ensures plan (y / 16) (length blocks) k (c.requires.kept k (omega arith) c.stretches-test.true) in
+    let rest : List ℕ = map tag_of (drop (32 * (k + figure * often)) (start_row plan y)) in
     let next =
-    stretch_next plan y k stretch.count (slot_of stretch.slot) (c.requires.dark (omega (arith, c.stretches-test.true))) is.alike
-    (omega (arith, is.within, c.requires.inside))
-    ∙ ap (λ tags. repeated stretch.count tags ++ rest) (sym c.runs_of_row-found.ensures.runs) in
+    figures_next plan y figure k often blocks (c.requires.dark (omega (arith, c.stretches-test.true))) c.requires.kept c.requires.inside is
+    ∙ ap (λ tags. repeated often tags ++ rest) (sym c.runs_of_blocks-found.ensures.runs) in
     let kept = c.stretches.kept in
     let f = λ (rows : List (List State)).
     wrote_broke

@@ -10,7 +10,7 @@ use Rattle.rle_write.proofs.stretches.write_stretches.Given as goal
 abbrev pub invariant-stretches : goal.invariant-stretches
 invariant-stretches g l = record {
   within : l.column ≤ length l.blocks;
-  room : length l.runs ≡ 32;
+  room : length l.runs ≡ 128;
   fewer : l.kept.due ≤ l.ends;
   short : l.kept.run.count ≤ 32 * l.column;
   cell : l.kept.run.tag ≢ row_end;

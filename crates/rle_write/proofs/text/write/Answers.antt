@@ -5,6 +5,7 @@ use Rattle.ww_base.specs.Pages.{held}
 use Rattle.lists.proofs.Results.{on_err}
 use Rattle.ww_base.proofs.Steps.{wrote_then, wrote_broke, wrote_as, wrote_whole, broke_as, front_of, broke_cause, cause_of}
 use Rattle.rle_write.proofs.Wholes.{items_text, whole_text}
+use Rattle.rle_write.proofs.KeptBlocks.{few_taken}
 use Rattle.rle_write.proofs.text.write.Goals as goal
 
 pub returns-in_err-write_opening : goal.returns-in_err-write_opening
@@ -40,3 +41,6 @@ returns g c =
       cause = cause_of c.flush.result (λ last. (wrote_then done (last [])).kept) (λ last. (wrote_broke done (last [])).rose)
           c.flush.ensures.ok c.flush.ensures.err;
     }
+
+pub write_plan_rows-requires-clause-inside : goal.write_plan_rows-requires-clause-inside
+write_plan_rows-requires-clause-inside g c = few_taken c.kept_blocks.result _ _ c.kept_blocks.ensures.inside
