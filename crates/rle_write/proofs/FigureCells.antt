@@ -1,5 +1,5 @@
 -- The cells of blocks that stand again and again, by the runs of some of them.
-use Rattle.std.proofs.Common.{◌≡◌, refl, sym, ◌∙◌, ap, ap₂, ℕ, zero, suc, ◌+◌, ◌-◌, ◌*◌, ◌/◌, ◌%◌, ◌<◌, ◌≤◌, List, ◌++◌, map, drop, length, get_or, arith, append_assoc, length-drop, mul-suc, mul-zero}
+use Rattle.std.proofs.Common.{◌≡◌, refl, sym, ◌∙◌, ap, ap₂, ℕ, zero, suc, ◌+◌, ◌*◌, ◌/◌, ◌%◌, ◌<◌, ◌≤◌, List, ◌++◌, map, drop, length, get_or, arith, append_assoc, length-drop, mul-suc, mul-zero}
 use Rattle.std.proofs.lemmas.List.{length-append, length-map}
 use Rattle.ww_rule.specs.declared.pattern.State.{State}
 use Rattle.tiling.specs.Tiling.{Slot}

@@ -1,5 +1,5 @@
 -- The text of laps.
-use Rattle.std.proofs.Common.{◌≡◌, sym, ◌∙◌, ap, ℕ, ◌+◌, ◌-◌, ◌≤◌, List, [], ◌++◌, replicate, subst, append_assoc}
+use Rattle.std.proofs.Common.{◌≡◌, sym, ◌∙◌, ap, ℕ, ◌-◌, ◌≤◌, List, [], ◌++◌, replicate, append_assoc}
 use Rattle.std.specs.Prelude.{Some}
 use Rattle.ww_rule.specs.declared.pattern.State.{State}
 use Rattle.ww_base.specs.Progress.{Wrote}

@@ -79,7 +79,13 @@ fn figure_of(stretch: Stretch) -> (usize, usize)
 
 // Puts the runs of row `y` of a lane's blocks into `runs`, of so many blocks from this column on, and
 // returns how many runs there are.
-fn runs_of_blocks(blocks: &[Stretch], column: usize, count: usize, y: u32, runs: &mut [Run]) -> usize
+fn runs_of_blocks(
+    blocks: &[Stretch],
+    column: usize,
+    count: usize,
+    y: u32,
+    runs: &mut [Run],
+) -> usize
     requires in_block { y < 16 }
     requires inside { column + count ≤ length blocks.now }
     requires room { 32 * count ≤ length runs.old }

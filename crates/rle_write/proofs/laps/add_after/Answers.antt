@@ -1,4 +1,4 @@
-use Rattle.std.proofs.Common.{◌≡◌, ◌+◌, ◌-◌, ◌∙◌, ℕ, List, ◌++◌, ap, arith, append_assoc}
+use Rattle.std.proofs.Common.{◌-◌, ◌∙◌, ℕ, List, ◌++◌, ap, arith, append_assoc}
 use Rattle.std.proofs.lemmas.Result.{IfOk-weaker, on_err_weaker}
 use Rattle.ww_rule.specs.declared.pattern.State.{State}
 use Rattle.rle_write.specs.Runs.{repeated, spelled}

@@ -1,5 +1,5 @@
-use Rattle.std.proofs.Common.{◌+◌, length, arith}
-use Rattle.rle_write.specs.Runs.{repeated, spelled}
+use Rattle.std.proofs.Common.{arith}
+use Rattle.rle_write.specs.Runs.{spelled}
 use Rattle.rle_write.proofs.CopiedTags.{repeated_parts}
 use Rattle.rle_write.proofs.laps.add_laps.Goals as goal
 

@@ -1,9 +1,9 @@
-use Rattle.std.proofs.Common.{◌≡◌, ◌+◌, ◌-◌, ◌∙◌, ℕ, List, [], ◌++◌, replicate, refl, sym, ap₂, arith}
+use Rattle.std.proofs.Common.{◌≡◌, ◌∙◌, ℕ, List, [], ◌++◌, replicate, refl, sym, ap₂, arith}
 use Rattle.rle_write.specs.declared.rows.Kept.{Kept}
 use Rattle.rle_write.specs.LapBytes.{bytes_of}
 use Rattle.rle_write.specs.Left.{row_left, text_left}
-use Rattle.rle_write.specs.Runs.{repeated, spelled}
-use Rattle.ww_base.specs.Pages.{held, column_of}
+use Rattle.rle_write.specs.Runs.{spelled}
+use Rattle.ww_base.specs.Pages.{column_of}
 use Rattle.rle_write.proofs.CopiedTags.{repeated_long, repeated_last}
 use Rattle.rle_write.proofs.Lefts.{left_by}
 use Rattle.rle_write.proofs.LapTexts.{taken_of}

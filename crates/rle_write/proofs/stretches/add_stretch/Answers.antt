@@ -1,4 +1,4 @@
-use Rattle.std.proofs.Common.{◌≡◌, ◌+◌, ◌*◌, ◌++◌, length, get_or, ap, arith}
+use Rattle.std.proofs.Common.{◌++◌, ap, arith}
 use Rattle.std.proofs.lemmas.Result.{IfOk-weaker, on_err_weaker}
 use Rattle.rle_write.specs.declared.rows.Run.{Run}
 use Rattle.ww_base.specs.Pages.{held, column_of}
@@ -29,7 +29,6 @@ returns-then-runs-eq1-clause-err g c =
     (left_by (held c.args.page.now) (column_of c.args.page.now) kept.due kept.run.count kept.run.tag rows (ap (λ l. l ++ more) whole))
     (broke more rows))
     c.add_run.ensures.err
-
 
 pub overflow_mul-run : goal.overflow_mul-run
 overflow_mul-run g c =

@@ -1,4 +1,4 @@
-use Rattle.std.proofs.Common.{◌≡◌, ◌+◌, ◌*◌, ◌∙◌, sym, ap, arith}
+use Rattle.std.proofs.Common.{◌≡◌, ◌+◌, ◌∙◌, sym, ap, arith}
 use Rattle.plan_layout.specs.Tape.{drawn_tiling}
 use Rattle.rle_write.proofs.stretches.figure_of.Goals as goal
 
@@ -9,6 +9,6 @@ returns-then-stretch-saturating_add c = λ plan lane size k is. record {
   once = is.some;
   within = omega (arith, is.within);
   again = λ i lt. (
-  let next : k + i + 1 ≡ k + (i + 1) = omega arith in
-  ap (λ m. drawn_tiling plan m lane) next ∙ sym (is.alike (i + 1) (omega (arith, lt))) ∙ is.alike i (omega (arith, lt)));
+      let next : k + i + 1 ≡ k + (i + 1) = omega arith in
+      ap (λ m. drawn_tiling plan m lane) next ∙ sym (is.alike (i + 1) (omega (arith, lt))) ∙ is.alike i (omega (arith, lt)));
 }
