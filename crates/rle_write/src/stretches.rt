@@ -1,5 +1,6 @@
-// The rows of stretches of blocks in which the same stands, where no electron does. The runs of such
-// a row are those of what stands in the blocks, so they are found once, and written for each block.
+// The rows of stretches of blocks, where no electron stands. The runs of such a row are those of what
+// stands in the blocks. Where the same stands again and again, in each block or in a motif of some
+// blocks, they are found once, and copies of their cells are written.
 ghost use Rattle.std.specs.Prelude.{◌≡◌, ◌≢◌, ◌≤◌, ◌<◌, ◌+◌, ◌*◌, ◌^◌, ◌/◌, ℕ, List, ◌∷◌, ◌++◌, map, drop, replicate, take, length, All, IfOk, OnErr};
 ghost use Rattle.ww_rule.specs.declared.pattern.State.{State};
 ghost use Rattle.lane_core.specs.Plans.{IsAdmissible, size_of};
