@@ -1,8 +1,10 @@
 // A pattern's cells, with what each belongs to.
-ghost use Rattle.std.specs.Prelude.{◌≡◌};
 
 use crate::steps::STEPS;
+use gate_library::GateLibrary;
 use lists::OutOfMemory;
+use pattern_reading::Ports;
+use routed_core::{DrawnGate, DrawnPort, DrawnWire};
 use std::alloc::Global;
 use ww_rule::{Pattern, State};
 
@@ -19,73 +21,120 @@ pub enum Owner {
     Wire,
 }
 
-/// The end of a wire that is followed: the cell of a gate, or the wire's last cell, after which no
-/// single cell is next.
-#[derive(Clone, Copy)]
-pub enum Traced {
-    To((u32, u32)),
-    Lost((u32, u32)),
-}
-
-/// The cells of a box, by columns and rows.
+/// The cells of a box, by columns and rows, and the parts of the drawing that are known. It is noted whether memory
+/// ran out.
 #[derive(Drop)]
 pub struct Board {
     pub width: u32,
     pub height: u32,
+    pub period: u32,
+    pub latency: u32,
     owners: Vec<Owner>,
+    pub library: GateLibrary,
+    pub gates: Vec<DrawnGate>,
+    pub wires: Vec<DrawnWire>,
+    pub path: Vec<(u32, u32)>,
+    pub starts: Vec<bool>,
+    pub ins: Vec<DrawnPort>,
+    pub outs: Vec<DrawnPort>,
+    pub nets: Vec<Option<DrawnPort>>,
+    pub is_short: bool,
 }
 
-fn owner_of(state: State) -> Owner {
-    match state {
-        State::Empty => Owner::Nobody,
-        _ => Owner::Open,
+// The number of a cell of a box with so many columns and so many cells. It is past the last cell's if the
+// cell is outside.
+fn number_of(width: u32, count: usize, cell: (u32, u32)) -> usize {
+    let (x, y) = cell;
+    if x >= width {
+        return count;
     }
+    (y as usize)
+        .saturating_mul(width as usize)
+        .saturating_add(x as usize)
 }
 
-fn add_row(owners: &mut Vec<Owner>, row: &[State]) -> Result<(), OutOfMemory> {
-    for state in row {
-        owners.push(owner_of(*state))?;
+// Gives a cell of a box with so many columns to an owner.
+fn give(owners: &mut [Owner], width: u32, cell: (u32, u32), owner: Owner) {
+    let number = number_of(width, owners.len(), cell);
+    if number < owners.len() {
+        owners[number] = owner;
     }
-    Ok(())
 }
 
 impl Board {
-    /// Makes the board of a pattern, of whose drawn cells all are open, or `None` if a side of its box is 2^32 or more.
-    pub fn new(alloc: Global, pattern: &Pattern) -> Result<Option<Board>, OutOfMemory> {
-        let (Ok(width), Ok(height)) = (u32::try_from(pattern.width), u32::try_from(pattern.height))
-        else {
+    /// Makes the board of a pattern, of whose drawn cells all are open, or `None` if a side of its box, the period or
+    /// the latency is 2^32 or more.
+    pub fn new(
+        alloc: Global,
+        pattern: &Pattern,
+        ports: &Ports,
+    ) -> Result<Option<Board>, OutOfMemory> {
+        let (Ok(width), Ok(height), Ok(period), Ok(latency)) = (
+            u32::try_from(pattern.width),
+            u32::try_from(pattern.height),
+            u32::try_from(ports.p),
+            u32::try_from(ports.l),
+        ) else {
             return Ok(None);
         };
-        let mut owners = Vec::with_capacity(
-            alloc,
-            (width as usize).saturating_mul(height as usize),
-        )?;
-        for y in 0..pattern.rows.len() {
-            add_row(&mut owners, pattern.rows.row(y))?;
-        }
-        Ok(Some(Board {
+        let mut board = Board {
             width,
             height,
-            owners,
-        }))
+            period,
+            latency,
+            library: GateLibrary::new(alloc)?,
+            owners: Vec::new(alloc),
+            gates: Vec::new(alloc),
+            wires: Vec::new(alloc),
+            path: Vec::new(alloc),
+            starts: Vec::new(alloc),
+            ins: Vec::new(alloc),
+            outs: Vec::new(alloc),
+            nets: Vec::new(alloc),
+            is_short: false,
+        };
+        board.add_cells(pattern);
+        Ok(Some(board))
     }
 
-    // The number of a cell, which is past the last one's if the cell is outside.
-    fn number(&self, cell: (u32, u32)) -> usize {
-        let (x, y) = cell;
-        if x >= self.width {
-            return self.owners.len();
+    // Adds the cells of a pattern, row by row.
+    fn add_cells(&mut self, pattern: &Pattern) {
+        for y in 0..pattern.rows.len() {
+            for state in pattern.rows.row(y) {
+                let owner = match state {
+                    State::Empty => Owner::Nobody,
+                    _ => Owner::Open,
+                };
+                self.is_short |= self.owners.push(owner).is_err();
+            }
         }
-        (y as usize)
-            .saturating_mul(self.width as usize)
-            .saturating_add(x as usize)
+    }
+
+    /// Adds a gate, to which the cells of its drawing go.
+    pub fn add_gate(&mut self, gate: DrawnGate) {
+        let number = u32::try_from(self.gates.len()).unwrap_or(u32::MAX);
+        let drawing = self.library.drawing(gate.kind);
+        let (mut x, mut y) = (0u32, 0u32);
+        for state in drawing.cells.as_slice() {
+            if *state != State::Empty {
+                let cell = (gate.x.saturating_add(x), gate.y.saturating_add(y));
+                give(&mut self.owners, self.width, cell, Owner::Gate(number));
+            }
+            x = x.saturating_add(1);
+            if x == drawing.width {
+                (x, y) = (0, y.saturating_add(1));
+            }
+        }
+        self.is_short |= self.gates.push(gate).is_err();
     }
 
     /// Returns what a cell belongs to. A cell outside the box is empty.
     pub fn owner(&self, cell: (u32, u32)) -> Owner {
-        match self.owners.get(self.number(cell)) {
-            Some(owner) => *owner,
-            None => Owner::Nobody,
+        let number = number_of(self.width, self.owners.len(), cell);
+        if number < self.owners.len() {
+            self.owners[number]
+        } else {
+            Owner::Nobody
         }
     }
 
@@ -94,62 +143,46 @@ impl Board {
         self.owner(cell) != Owner::Nobody
     }
 
-    /// Gives a cell of the box to an owner.
-    pub fn give(&mut self, cell: (u32, u32), owner: Owner) {
-        let number = self.number(cell);
-        if let Some(place) = self.owners.get_mut(number) {
-            *place = owner;
-        }
-    }
-
-    /// Returns which cells beside one are drawn: a bit for each step in the order of `STEPS`, the first lowest.
-    pub fn surroundings(&self, cell: (u32, u32)) -> u8 {
-        let (mut bits, mut bit) = (0u8, 1u8);
+    /// Returns how many cells beside one are drawn.
+    pub fn drawn_beside(&self, cell: (u32, u32)) -> u32 {
+        let mut count = 0u32;
         for step in STEPS {
             if self.is_drawn(step.from(cell)) {
-                bits |= bit;
+                count = count.saturating_add(1);
             }
-            bit = bit.wrapping_mul(2);
         }
-        bits
+        count
     }
 
-    // The one drawn cell beside a cell but the one before.
-    fn next_cell(&self, cell: (u32, u32), before: (u32, u32)) -> Option<(u32, u32)> {
-        let mut next = None;
+    // The one drawn cell beside a cell but the one before, or the cell itself if there is none, or more than one.
+    fn next_cell(&self, cell: (u32, u32), before: (u32, u32)) -> (u32, u32) {
+        let mut next = cell;
         for step in STEPS {
             let beside = step.from(cell);
             if beside != before && self.is_drawn(beside) {
-                if next.is_some() {
-                    return None;
+                if next != cell {
+                    return cell;
                 }
-                next = Some(beside);
+                next = beside;
             }
         }
         next
     }
 
-    /// Follows a wire from its first cell, which is open and beside the cell `before`, up to a cell of a gate. Its
-    /// cells are given to it and are added to the path.
-    pub fn trace(
-        &mut self,
-        before: (u32, u32),
-        first: (u32, u32),
-        path: &mut Vec<(u32, u32)>,
-    ) -> Result<Traced, OutOfMemory> {
+    /// Follows a wire from its first cell, which is open and beside the cell `before`, and returns the cell of a gate
+    /// to which it leads, or its last cell if it leads to none. Its cells are given to it and are added to the path.
+    pub fn trace(&mut self, before: (u32, u32), first: (u32, u32)) -> (u32, u32) {
         let (mut last, mut cell) = (before, first);
         for _ in 0..self.owners.len() {
-            self.give(cell, Owner::Wire);
-            path.push(cell)?;
-            let Some(next) = self.next_cell(cell, last) else {
-                break;
-            };
+            give(self.owners.as_mut_slice(), self.width, cell, Owner::Wire);
+            self.is_short |= self.path.push(cell).is_err();
+            let next = self.next_cell(cell, last);
             match self.owner(next) {
                 Owner::Open => (last, cell) = (cell, next),
-                Owner::Gate(_) => return Ok(Traced::To(next)),
+                Owner::Gate(_) => return next,
                 _ => break,
             }
         }
-        Ok(Traced::Lost(cell))
+        cell
     }
 }

@@ -1,11 +1,14 @@
-//! The board of a routed circuit: a pattern's cells, with what each belongs to, for what reads and finds gates and wires.
-//! Nothing but safety is proved of it, since a check tests what is found.
+//! The board of a routed circuit: a pattern's cells, with what each belongs to, and the parts of the drawing that are
+//! known, for what reads and finds gates and wires. Nothing but safety is proved of it, since a check tests the drawing.
 #![tactic(auto)]
 
 mod board;
+mod drawing;
 mod ports;
 mod steps;
+mod table;
 
-pub use board::{Board, Owner, Traced};
-pub use ports::{give_gate, port_at, port_cell, port_of};
+pub use board::{Board, Owner};
+pub use ports::{port_cell, port_of};
 pub use steps::{STEPS, Step};
+pub use table::{LineKind, TableCell, add_cells};

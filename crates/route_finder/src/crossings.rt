@@ -6,7 +6,7 @@ use routed_core::{DrawnPort, GatePort, Shape, Turn};
 /// Returns whether a gate is such a crossing.
 pub fn is_mirrored(found: &Found, gate: u32) -> bool {
     let first = gate.saturating_mul(2);
-    match found.gates.get(gate as usize) {
+    match found.board.gates.get(gate as usize) {
         Some(drawn) => {
             matches!(drawn.kind.shape, Shape::Cross | Shape::TapTwice)
                 && found.generation(first.saturating_add(1)) < found.generation(first)

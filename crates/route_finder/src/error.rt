@@ -1,8 +1,4 @@
 // Why no gates and wires are found.
-ghost use Rattle.std.specs.Prelude.{◌≡◌};
-ghost use Rattle.route_finder.specs.declared.error.FindError.TheVariants.{NoMemory};
-
-use lists::OutOfMemory;
 
 /// What is at fault at a cell.
 #[derive(Clone, Copy, Debug)]
@@ -34,13 +30,5 @@ impl FindError {
             x: cell.0,
             y: cell.1,
         }
-    }
-}
-
-impl From<OutOfMemory> for FindError {
-    ghost from_gives = { λ _ e. e ≡ NoMemory };
-
-    fn from(_: OutOfMemory) -> Self {
-        FindError::NoMemory
     }
 }

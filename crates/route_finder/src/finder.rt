@@ -1,153 +1,114 @@
 // The search.
 
-use crate::cells::{Found, GateTime, Use};
+use crate::cells::{Found, Use};
 use crate::error::FindError;
 use crate::gates::find_gates;
 use crate::links::{follow_rings, follow_wires};
 use crate::lone::{add_ends, add_table_cells, fault_of_lone_cells, fault_of_table};
 use crate::periods::find_periods;
-use crate::result::{Parts, add_ports, add_wires, drawing_of, time_gates};
-use crate::table::{TableCell, add_cells};
+use crate::result::{add_wires, time_gates};
 use crate::templates::Templates;
 use crate::times::find_times;
 use crate::uses::{chain_links, fault_of_ends, note_table};
 use crate::ways::direct_wires;
-use gate_library::GateLibrary;
-use lists::OutOfMemory;
 use pattern_reading::Ports;
-use route_board::Board;
+use route_board::{Board, TableCell, add_cells};
 use routed_core::Drawing;
 use std::alloc::Global;
 use ww_rule::Pattern;
 
-// Finds all gates, lone cells among them.
-fn find_all_gates(alloc: Global, found: &mut Found, table: &[TableCell]) {
+// The most generations of a period or a latency.
+const MOST_GENERATIONS: u32 = 2147483648;
+
+// Finds all gates, lone cells among them, and returns the first fault of these.
+fn find_all_gates(alloc: Global, board: &mut Board, table: &[TableCell]) -> Option<FindError> {
     let mut templates = Templates {
         all: Vec::new(alloc),
         nears: Vec::new(alloc),
+        is_short: false,
     };
-    found.is_short |= templates.add_all(&found.library);
-    find_gates(found, &templates);
-    add_table_cells(found, table);
-    add_ends(found);
-    found.fault = fault_of_lone_cells(found, &templates);
+    templates.add_all(&board.library);
+    board.is_short |= templates.is_short;
+    find_gates(board, &templates);
+    add_table_cells(board, table);
+    add_ends(board);
+    match fault_of_lone_cells(board, &templates) {
+        Some(fault) => Some(fault),
+        None => fault_of_table(board, table),
+    }
 }
 
 // Makes room for what is known of each gate.
-fn add_uses(alloc: Global, found: &mut Found) -> Result<(), OutOfMemory> {
+fn add_uses(found: &mut Found) {
     let none = Use {
         link: u32::MAX,
-        wires: 0,
-        is_named: false,
+        count: 0,
     };
-    let unknown = GateTime {
-        known: None,
-        periods: 0,
-    };
-    let gates = found.gates.len();
-    found.uses = vec![in alloc; none; gates]?;
-    found.are_fed = vec![in alloc; false; gates.saturating_mul(2)]?;
-    found.times = vec![in alloc; unknown; gates.saturating_mul(2)]?;
-    Ok(())
+    let gates = found.board.gates.len();
+    let count = gates.saturating_mul(2);
+    found.board.is_short |= found.uses.resize(gates, none).is_err();
+    found.board.is_short |= found.are_fed.resize(count, false).is_err();
+    found.board.is_short |= found.times.resize(count, None).is_err();
 }
 
-// Finds gates, lone cells, and the wires between them.
-fn find_cells(alloc: Global, found: &mut Found, pattern: &Pattern, table: &[TableCell]) {
-    find_all_gates(alloc, found, table);
-    if let Some(fault) = fault_of_table(found, table) {
-        found.note(fault);
-    }
+// Finds gates and the wires between them, and when each gate is lit, on a board on which nothing is found yet.
+fn search(alloc: Global, found: &mut Found, pattern: &Pattern, ports: &Ports) {
+    let mut table = Vec::new(alloc);
+    found.board.is_short |= add_cells(&mut table, ports);
+    found.fault = find_all_gates(alloc, &mut found.board, table.as_slice());
     if found.fault.is_some() {
         return;
     }
-    follow_wires(found, pattern);
+    follow_wires(found, pattern, 0);
     follow_rings(found, pattern);
-    found.is_short |= add_uses(alloc, found).is_err();
+    add_uses(found);
     chain_links(found.uses.as_mut_slice(), found.links.as_mut_slice());
-    note_table(found, table);
+    note_table(found, table.as_slice());
     direct_wires(alloc, found, pattern);
-    if let Some(fault) = fault_of_ends(found, pattern) {
-        found.note(fault);
-    }
-}
-
-// Finds when each gate is lit, and makes what is left of the drawing.
-fn add_parts(
-    alloc: Global,
-    parts: &mut Parts,
-    found: &mut Found,
-    pattern: &Pattern,
-    table: &[TableCell],
-) {
-    find_times(alloc, found, pattern, table);
-    find_periods(alloc, found, table);
-    if let Some(fault) = add_wires(parts, found, pattern) {
-        found.note(fault);
-    }
+    found.note(fault_of_ends(found, pattern));
+    find_times(alloc, found, pattern, table.as_slice());
+    find_periods(alloc, found, table.as_slice());
+    add_wires(found, pattern);
     time_gates(found);
-    add_ports(parts, found, table);
+    found.board.add_ports(table.as_slice());
 }
 
 // The drawing of a pattern on whose board nothing is found yet.
 fn drawn_on(
     alloc: Global,
-    mut found: Found,
+    board: Board,
     pattern: &Pattern,
     ports: &Ports,
 ) -> Result<Drawing, FindError> {
-    let mut table = Vec::new(alloc);
-    found.is_short |= add_cells(&mut table, ports);
-    find_cells(alloc, &mut found, pattern, table.as_slice());
-    let mut parts = Parts {
-        wires: Vec::new(alloc),
-        path: Vec::new(alloc),
-        starts: Vec::new(alloc),
-        ins: Vec::new(alloc),
-        outs: Vec::new(alloc),
-        nets: Vec::new(alloc),
-        is_short: false,
+    let mut found = Found {
+        board,
+        links: Vec::new(alloc),
+        uses: Vec::new(alloc),
+        are_fed: Vec::new(alloc),
+        times: Vec::new(alloc),
+        fault: None,
     };
-    add_parts(alloc, &mut parts, &mut found, pattern, table.as_slice());
-    if found.is_short || parts.is_short {
-        return Err(FindError::NoMemory);
+    search(alloc, &mut found, pattern, ports);
+    let (fault, is_short) = (found.fault, found.board.is_short);
+    if fault.is_none() && !is_short {
+        return Ok(found.board.into_drawing());
     }
-    match found.fault {
-        Some(fault) => Err(fault),
-        None => Ok(drawing_of(found, parts)),
+    drop(found);
+    match fault {
+        Some(fault) if !is_short => Err(fault),
+        _ => Err(FindError::NoMemory),
     }
-}
-
-// A period or a latency, which is at most 2^31.
-fn moderate(number: u64) -> Option<u32> {
-    if number > 2147483648 {
-        return None;
-    }
-    u32::try_from(number).ok()
 }
 
 /// Finds the gates and the wires of a routed circuit in its cells, and when each gate is lit first, from the cells of
 /// the port table and from the electrons. Gates are the library's drawings in all turns; wires are rows of cells with
 /// two cells beside each; and cells at which wires end or meet are lone cells.
 pub fn find(alloc: Global, pattern: &Pattern, ports: &Ports) -> Result<Drawing, FindError> {
-    let (Some(period), Some(latency)) = (moderate(ports.p), moderate(ports.l)) else {
-        return Err(FindError::TooLarge);
-    };
-    let Some(board) = Board::new(alloc, pattern)? else {
-        return Err(FindError::TooLarge);
-    };
-    let found = Found {
-        period,
-        latency,
-        board,
-        library: GateLibrary::new(alloc)?,
-        gates: Vec::new(alloc),
-        links: Vec::new(alloc),
-        path: Vec::new(alloc),
-        uses: Vec::new(alloc),
-        are_fed: Vec::new(alloc),
-        times: Vec::new(alloc),
-        fault: None,
-        is_short: false,
-    };
-    drawn_on(alloc, found, pattern, ports)
+    match Board::new(alloc, pattern, ports) {
+        Ok(Some(board)) if board.period.max(board.latency) <= MOST_GENERATIONS => {
+            drawn_on(alloc, board, pattern, ports)
+        }
+        Ok(_) => Err(FindError::TooLarge),
+        Err(_) => Err(FindError::NoMemory),
+    }
 }

@@ -1,71 +1,15 @@
-// Gates are found by the surroundings of their cells.
+// Gates are found by the cells around one of theirs.
 
-use crate::cells::Found;
 use crate::error::{DrawingFault, FindError};
 use crate::near::Near;
 use crate::templates::{Template, Templates};
-use route_board::{Board, Owner, give_gate};
-use routed_core::{DrawnGate, GateKind, Shape};
-
-fn fits(board: &Board, nears: &[Near], cell: (u32, u32)) -> bool {
-    for near in nears {
-        let wanted = if near.is_drawn {
-            Owner::Open
-        } else {
-            Owner::Nobody
-        };
-        if board.owner(near.from(cell)) != wanted {
-            return false;
-        }
-    }
-    true
-}
-
-// The first template that fits at a cell.
-fn fitting<'a>(board: &Board, templates: &'a Templates, cell: (u32, u32)) -> Option<&'a Template> {
-    let surroundings = board.surroundings(cell);
-    for template in &templates.all {
-        if template.surroundings == surroundings
-            && fits(board, templates.nears_of(template), cell)
-        {
-            return Some(template);
-        }
-    }
-    None
-}
-
-/// Adds a gate at a place of its north-west corner.
-pub fn add_gate(found: &mut Found, kind: GateKind, x: u32, y: u32) {
-    let gate = DrawnGate {
-        kind,
-        x,
-        y,
-        first: 0,
-        later: 0,
-    };
-    let number = u32::try_from(found.gates.len()).unwrap_or(u32::MAX);
-    give_gate(&mut found.board, found.library.drawing(kind), gate, number);
-    found.is_short |= found.gates.push(gate).is_err();
-}
-
-/// Finds all gates but lone cells.
-pub fn find_gates(found: &mut Found, templates: &Templates) {
-    for y in 0..found.board.height {
-        for x in 0..found.board.width {
-            if found.board.owner((x, y)) == Owner::Open {
-                if let Some(template) = fitting(&found.board, templates, (x, y)) {
-                    let (x, y) = (x.wrapping_sub(template.x), y.wrapping_sub(template.y));
-                    add_gate(found, template.kind, x, y);
-                }
-            }
-        }
-    }
-}
+use route_board::{Board, Owner};
+use routed_core::{DrawnGate, Shape};
 
 // Whether a cell is of a gate that is no lone cell.
-fn is_of_whole_gate(found: &Found, cell: (u32, u32)) -> bool {
-    match found.board.owner(cell) {
-        Owner::Gate(number) => match found.gates.get(number as usize) {
+fn is_of_whole_gate(board: &Board, cell: (u32, u32)) -> bool {
+    match board.owner(cell) {
+        Owner::Gate(number) => match board.gates.get(number as usize) {
             Some(gate) => gate.kind.shape != Shape::Lone,
             None => false,
         },
@@ -73,32 +17,67 @@ fn is_of_whole_gate(found: &Found, cell: (u32, u32)) -> bool {
     }
 }
 
-// The one cell at which a template does not fit, if none of its cells is of another gate.
-fn misfit(found: &Found, nears: &[Near], at: (u32, u32)) -> Option<(u32, u32)> {
-    let mut misfit = None;
+// How many cells in and around a template are not as drawn, of which two are counted at most, and the last of these. A
+// cell of another gate counts for two.
+fn misfits(board: &Board, nears: &[Near], at: (u32, u32)) -> (u32, (u32, u32)) {
+    let (mut count, mut last) = (0u32, at);
     for near in nears {
         let cell = near.from(at);
-        if near.is_drawn && is_of_whole_gate(found, cell) {
-            return None;
+        if near.is_drawn && is_of_whole_gate(board, cell) {
+            return (2, cell);
         }
-        if found.board.is_drawn(cell) != near.is_drawn {
-            if misfit.is_some() {
-                return None;
+        if board.is_drawn(cell) != near.is_drawn {
+            if count > 0 {
+                return (2, cell);
             }
-            misfit = Some(cell);
+            (count, last) = (1, cell);
         }
     }
-    misfit
+    (count, last)
+}
+
+// The first template that fits at a cell.
+fn fitting<'a>(board: &Board, templates: &'a Templates, cell: (u32, u32)) -> Option<&'a Template> {
+    let beside = board.drawn_beside(cell);
+    for template in &templates.all {
+        if template.beside == beside {
+            let (count, _) = misfits(board, templates.nears_of(template), cell);
+            if count == 0 {
+                return Some(template);
+            }
+        }
+    }
+    None
+}
+
+/// Finds all gates but lone cells.
+pub fn find_gates(board: &mut Board, templates: &Templates) {
+    for y in 0..board.height {
+        for x in 0..board.width {
+            if board.owner((x, y)) == Owner::Open {
+                if let Some(template) = fitting(board, templates, (x, y)) {
+                    board.add_gate(DrawnGate {
+                        kind: template.kind,
+                        x: x.wrapping_sub(template.x),
+                        y: y.wrapping_sub(template.y),
+                        first: 0,
+                        later: 0,
+                    });
+                }
+            }
+        }
+    }
 }
 
 /// Returns the fault at a cell that is of no gate and of no wire: if all but one of the cells of a gate around it are
 /// as drawn, that one.
-pub fn fault_near(found: &Found, templates: &Templates, cell: (u32, u32)) -> FindError {
+pub fn fault_near(board: &Board, templates: &Templates, cell: (u32, u32)) -> FindError {
     for template in &templates.all {
         let nears = templates.nears_of(template);
         for near in nears {
             let at = (cell.0.wrapping_sub(near.x), cell.1.wrapping_sub(near.y));
-            if let Some(wrong) = misfit(found, nears, at) {
+            let (count, wrong) = misfits(board, nears, at);
+            if count == 1 {
                 return FindError::at(DrawingFault::Gate, wrong);
             }
         }

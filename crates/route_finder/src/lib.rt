@@ -12,7 +12,6 @@ mod lone;
 mod near;
 mod periods;
 mod result;
-mod table;
 mod templates;
 mod times;
 mod uses;

@@ -19,7 +19,8 @@ impl Near {
     }
 }
 
-fn is_drawn(drawing: &GateDrawing, cell: (u32, u32)) -> bool {
+/// Returns whether a cell of a drawing is drawn.
+pub fn is_drawn(drawing: &GateDrawing, cell: (u32, u32)) -> bool {
     let (x, y) = cell;
     if x >= drawing.width {
         return false;
@@ -38,7 +39,8 @@ fn is_inner(drawing: &GateDrawing, cell: (u32, u32)) -> bool {
     is_drawn(drawing, cell) && port_of(drawing, cell).is_none()
 }
 
-fn is_beside_inner(drawing: &GateDrawing, cell: (u32, u32)) -> bool {
+/// Returns whether a cell is beside a drawn one that is no port.
+pub fn is_beside_inner(drawing: &GateDrawing, cell: (u32, u32)) -> bool {
     for step in STEPS {
         if is_inner(drawing, step.from(cell)) {
             return true;
@@ -47,21 +49,21 @@ fn is_beside_inner(drawing: &GateDrawing, cell: (u32, u32)) -> bool {
     false
 }
 
-fn height(drawing: &GateDrawing) -> u32 {
+/// Returns the number of a drawing's rows.
+pub fn height(drawing: &GateDrawing) -> u32 {
     let cells = u32::try_from(drawing.cells.len()).unwrap_or(0);
     cells / drawing.width.max(1)
 }
 
-/// Returns which cells beside one of a drawing are drawn, as `Board::surroundings` does.
-pub fn surroundings_of(drawing: &GateDrawing, cell: (u32, u32)) -> u8 {
-    let (mut bits, mut bit) = (0u8, 1u8);
+/// Returns how many cells beside one of a drawing are drawn.
+pub fn drawn_beside(drawing: &GateDrawing, cell: (u32, u32)) -> u32 {
+    let mut count = 0u32;
     for step in STEPS {
         if is_drawn(drawing, step.from(cell)) {
-            bits |= bit;
+            count = count.saturating_add(1);
         }
-        bit = bit.wrapping_mul(2);
     }
-    bits
+    count
 }
 
 /// Returns the cell of a drawing that is no port and has the most cells beside it.
@@ -69,28 +71,11 @@ pub fn inner_cell(drawing: &GateDrawing) -> (u32, u32) {
     let (mut best, mut most) = ((0, 0), 0);
     for y in 0..height(drawing) {
         for x in 0..drawing.width {
-            let count = surroundings_of(drawing, (x, y)).count_ones();
+            let count = drawn_beside(drawing, (x, y));
             if count > most && is_inner(drawing, (x, y)) {
                 (best, most) = ((x, y), count);
             }
         }
     }
     best
-}
-
-/// Adds all cells of a drawing, and all empty ones beside those that are no ports, as they are near a cell. Answers
-/// whether memory runs out.
-pub fn add_nears(nears: &mut Vec<Near>, drawing: &GateDrawing, cell: (u32, u32)) -> bool {
-    let mut is_short = false;
-    for v in 0..height(drawing).saturating_add(2) {
-        for u in 0..drawing.width.saturating_add(2) {
-            let other = (u.wrapping_sub(1), v.wrapping_sub(1));
-            let is_drawn = is_drawn(drawing, other);
-            if is_drawn || is_beside_inner(drawing, other) {
-                let (x, y) = (other.0.wrapping_sub(cell.0), other.1.wrapping_sub(cell.1));
-                is_short |= nears.push(Near { x, y, is_drawn }).is_err();
-            }
-        }
-    }
-    is_short
 }

@@ -1,29 +1,29 @@
 // How many whole periods after its time modulo the period each gate begins: as few as the outputs and nets ask for.
 
 use crate::cells::Found;
-use crate::table::{LineKind, TableCell};
 use crate::times::{port_time, span_of};
+use route_board::{LineKind, TableCell};
 use std::alloc::Global;
 use std::collections::BinaryHeap;
 
 // Lets a time be no earlier than a generation, as far as whole periods go.
-fn raise(found: &mut Found, todo: &mut BinaryHeap<(u32, u32)>, number: u32, least: i64) {
-    if let Some(time) = found.times.get_mut(number as usize) {
-        let wait = least.saturating_sub(i64::from(time.known.unwrap_or(0)));
-        let periods = wait.checked_div(i64::from(found.period)).unwrap_or(0);
-        let periods = u32::try_from(periods).unwrap_or(0);
-        if time.periods < periods {
-            time.periods = periods;
-            found.is_short |= todo.push((periods, number)).is_err();
-        }
+fn raise(found: &mut Found, todo: &mut BinaryHeap<(i64, u32)>, number: u32, least: i64) {
+    let (time, period) = (found.generation(number), i64::from(found.board.period));
+    let periods = least.saturating_sub(time).checked_div(period).unwrap_or(0);
+    let periods = i64::from(u32::try_from(periods).unwrap_or(0));
+    let place = number as usize;
+    if periods > 0 && place < found.times.len() {
+        let raised = time.saturating_add(periods.saturating_mul(period));
+        found.times[place] = Some(raised);
+        found.board.is_short |= todo.push((raised, number)).is_err();
     }
 }
 
 // The outputs and nets of the table are lit at their generations.
-fn begin_at_table(found: &mut Found, todo: &mut BinaryHeap<(u32, u32)>, table: &[TableCell]) {
+fn begin_at_table(found: &mut Found, todo: &mut BinaryHeap<(i64, u32)>, table: &[TableCell]) {
     for line in table {
         if !matches!(line.kind, LineKind::In) {
-            if let Some(port) = found.port_at(line.cell) {
+            if let Some(port) = found.board.port_at(line.cell) {
                 let at = port_time(found, port);
                 let generation = i64::try_from(line.generation).unwrap_or(i64::MAX);
                 let least = generation.saturating_sub(i64::from(at.after));
@@ -34,7 +34,7 @@ fn begin_at_table(found: &mut Found, todo: &mut BinaryHeap<(u32, u32)>, table: &
 }
 
 // The wires to a gate are no less than 0 periods long.
-fn spread(found: &mut Found, todo: &mut BinaryHeap<(u32, u32)>, time: u32) {
+fn spread(found: &mut Found, todo: &mut BinaryHeap<(i64, u32)>, time: u32) {
     let (gate, generation) = (time / 2, found.generation(time));
     let mut number = found.first_link(gate);
     for _ in 0..found.links.len() {

@@ -1,8 +1,8 @@
 // When each gate is lit, modulo the period.
 
-use crate::cells::{Found, Link};
-use crate::table::{LineKind, TableCell};
+use crate::cells::{Found, Link, state_at};
 use gate_library::{Answer, GateDrawing, Timing};
+use route_board::{LineKind, TableCell};
 use routed_core::{DrawnPort, GatePort};
 use std::alloc::Global;
 use ww_rule::{Pattern, State};
@@ -48,10 +48,10 @@ fn input_and_delay(drawing: &GateDrawing, port: GatePort) -> (u32, u32) {
 /// Returns the time of a port.
 pub fn port_time(found: &Found, port: DrawnPort) -> PortTime {
     let number = port.gate.saturating_mul(2);
-    let Some(gate) = found.gates.get(port.gate as usize) else {
+    let Some(gate) = found.board.gates.get(port.gate as usize) else {
         return PortTime { number, after: 0 };
     };
-    let drawing = found.library.drawing(gate.kind);
+    let drawing = found.board.library.drawing(gate.kind);
     let (input, after) = input_and_delay(drawing, port.port);
     let number = match drawing.timing {
         Timing::Together => number,
@@ -73,30 +73,21 @@ pub fn span_of(found: &Found, link: &Link) -> Span {
 
 /// Returns how many generations before the end of a wire its nearest head is.
 pub fn nearest_head(found: &Found, pattern: &Pattern, link: &Link) -> Option<u32> {
-    for distance in 1..=link.size {
-        if found.state_before(pattern, link, distance) == State::Head {
-            return Some(distance);
+    let cells = found.cells_of(link);
+    for place in (0..cells.len()).rev() {
+        if state_at(pattern, cells[place]) == State::Head {
+            return u32::try_from(cells.len() - place).ok();
         }
     }
     None
 }
 
-// A number modulo the period.
-fn modulo(number: i64, period: u32) -> u32 {
-    if period == 0 {
-        return 0;
-    }
-    u32::try_from(number.rem_euclid(i64::from(period))).unwrap_or(0)
-}
-
-// Notes a time that is not yet known.
+// Notes a time that is not yet known, modulo the period.
 fn note(found: &mut Found, todo: &mut Vec<u32>, number: u32, generation: i64) {
-    let time = modulo(generation, found.period);
-    if let Some(place) = found.times.get_mut(number as usize) {
-        if place.known.is_none() {
-            place.known = Some(time);
-            found.is_short |= todo.push(number).is_err();
-        }
+    let (place, period) = (number as usize, i64::from(found.board.period.max(1)));
+    if place < found.times.len() && found.times[place].is_none() {
+        found.times[place] = Some(generation.rem_euclid(period));
+        found.board.is_short |= todo.push(number).is_err();
     }
 }
 
@@ -140,7 +131,7 @@ fn begin(found: &mut Found, todo: &mut Vec<u32>, port: DrawnPort, generation: u3
 fn begin_at_table(found: &mut Found, todo: &mut Vec<u32>, table: &[TableCell]) {
     for line in table {
         if !matches!(line.kind, LineKind::Net) {
-            if let Some(port) = found.port_at(line.cell) {
+            if let Some(port) = found.board.port_at(line.cell) {
                 let generation = u32::try_from(line.generation).unwrap_or(0);
                 begin(found, todo, port, generation);
             }

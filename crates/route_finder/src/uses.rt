@@ -2,9 +2,9 @@
 
 use crate::cells::{Found, Link, Use};
 use crate::error::{DrawingFault, FindError};
-use crate::table::{LineKind, TableCell};
 use crate::times::nearest_head;
 use crate::ways::feed;
+use route_board::{LineKind, TableCell};
 use routed_core::{DrawnPort, Shape};
 use ww_rule::Pattern;
 
@@ -14,7 +14,7 @@ fn put_first(uses: &mut [Use], gate: u32, number: u32) -> u32 {
         Some(used) => {
             let next = used.link;
             used.link = number;
-            used.wires = used.wires.saturating_add(1);
+            used.count = used.count.saturating_add(1);
             next
         }
         None => u32::MAX,
@@ -35,12 +35,13 @@ pub fn chain_links(uses: &mut [Use], links: &mut [Link]) {
     }
 }
 
-/// Notes which gates the port table names, and which inputs it drives.
+/// Notes at which gates the cells of the port table are, and which inputs it drives.
 pub fn note_table(found: &mut Found, table: &[TableCell]) {
     for line in table {
-        if let Some(port) = found.port_at(line.cell) {
-            if let Some(used) = found.uses.get_mut(port.gate as usize) {
-                used.is_named = true;
+        if let Some(port) = found.board.port_at(line.cell) {
+            let gate = port.gate as usize;
+            if gate < found.uses.len() {
+                found.uses[gate].count = found.uses[gate].count.saturating_add(1);
             }
             if matches!(line.kind, LineKind::In) {
                 feed(found.are_fed.as_mut_slice(), port);
@@ -51,13 +52,13 @@ pub fn note_table(found: &mut Found, table: &[TableCell]) {
 
 // The cell of one end of a wire, if it is alone there and the port table does not name it.
 fn loose_end(found: &Found, link: &Link, end: DrawnPort) -> Option<(u32, u32)> {
-    let used = found.uses.get(end.gate as usize)?;
-    let gate = found.gates.get(end.gate as usize)?;
-    let is_alone = used.wires == 1 && link.from.gate != link.to.gate;
-    if gate.kind.shape == Shape::Lone && is_alone && !used.is_named {
-        Some((gate.x, gate.y))
-    } else {
-        None
+    let number = end.gate as usize;
+    match (found.uses.get(number), found.board.gates.get(number)) {
+        (Some(used), Some(gate))
+            if used.count == 1
+                && link.from.gate != link.to.gate
+                && gate.kind.shape == Shape::Lone => { Some((gate.x, gate.y)) }
+        _ => None,
     }
 }
 

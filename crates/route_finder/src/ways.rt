@@ -1,9 +1,17 @@
 // In which direction each wire runs.
 
-use crate::cells::{Found, Link, Way};
+use crate::cells::{Found, Link, state_at};
 use routed_core::{DrawnPort, GatePort};
 use std::alloc::Global;
 use ww_rule::{Pattern, State};
+
+// Which way a wire runs.
+#[derive(Clone, Copy)]
+enum Way {
+    Unknown,
+    Onward,
+    Back,
+}
 
 // The number of an input among those of all gates.
 fn input_number(gate: u32, input: u32) -> usize {
@@ -35,8 +43,8 @@ fn is_source(found: &Found, port: DrawnPort) -> bool {
 // The direction that an electron on the wire tells.
 fn way_of_electrons(found: &Found, pattern: &Pattern, link: &Link) -> Way {
     let mut last = State::Empty;
-    for place in 0..link.size {
-        let state = found.state_before(pattern, link, link.size.saturating_sub(place));
+    for cell in found.cells_of(link) {
+        let state = state_at(pattern, *cell);
         match (last, state) {
             (State::Tail, State::Head) => return Way::Onward,
             (State::Head, State::Tail) => return Way::Back,
@@ -57,14 +65,36 @@ fn way_at_once(found: &Found, pattern: &Pattern, link: &Link) -> Way {
     }
 }
 
+// Turns so many cells of the path about, from a place on.
+fn turn_about(path: &mut [(u32, u32)], start: u32, size: u32) {
+    let begin = start as usize;
+    let end = begin.saturating_add(size as usize);
+    if begin <= end && end <= path.len() {
+        path[begin..end].reverse();
+    }
+}
+
+// Lets a wire run in this direction: if it runs back, its ends change places, and its cells are turned about.
+fn run(found: &mut Found, number: usize, way: Way) {
+    if number >= found.links.len() {
+        return;
+    }
+    let mut link = found.links[number];
+    link.is_directed = !matches!(way, Way::Unknown);
+    if matches!(way, Way::Back) {
+        (link.from, link.to) = (link.to, link.from);
+        (link.next_from, link.next_to) = (link.next_to, link.next_from);
+        turn_about(found.board.path.as_mut_slice(), link.start, link.size);
+    }
+    found.links[number] = link;
+}
+
 // Directs the wires whose directions are known at once.
 fn direct_at_once(found: &mut Found, pattern: &Pattern) {
     for number in 0..found.links.len() {
         if let Some(link) = found.links.get(number).copied() {
             let way = way_at_once(found, pattern, &link);
-            if let Some(place) = found.links.get_mut(number) {
-                *place = link.in_way(way);
-            }
+            run(found, number, way);
         }
     }
 }
@@ -72,7 +102,7 @@ fn direct_at_once(found: &mut Found, pattern: &Pattern) {
 // Feeds the inputs to which wires lead.
 fn feed_ends(found: &mut Found) {
     for link in &found.links {
-        if link.way != Way::Unknown {
+        if link.is_directed {
             feed(found.are_fed.as_mut_slice(), link.to);
         }
     }
@@ -80,15 +110,15 @@ fn feed_ends(found: &mut Found) {
 
 // Lets a wire run in this direction, if none is known yet, and looks at its ports again.
 fn direct(found: &mut Found, todo: &mut Vec<DrawnPort>, number: u32, way: Way) {
-    let Some(link) = found.links.get_mut(number as usize) else {
+    let number = number as usize;
+    if number >= found.links.len() || found.links[number].is_directed {
         return;
-    };
-    if link.way == Way::Unknown {
-        let directed = link.in_way(way);
-        *link = directed;
-        feed(found.are_fed.as_mut_slice(), directed.to);
-        found.is_short |= todo.push(directed.from).is_err();
-        found.is_short |= todo.push(directed.to).is_err();
+    }
+    run(found, number, way);
+    if let Some(link) = found.links.get(number) {
+        feed(found.are_fed.as_mut_slice(), link.to);
+        found.board.is_short |= todo.push(link.from).is_err();
+        found.board.is_short |= todo.push(link.to).is_err();
     }
 }
 
@@ -99,7 +129,7 @@ fn open_count(found: &Found, port: DrawnPort) -> u32 {
         let Some(link) = found.links.get(number as usize) else {
             break;
         };
-        if link.way == Way::Unknown {
+        if !link.is_directed {
             let (at_from, at_to) = (link.from == port, link.to == port);
             count = count.saturating_add(u32::from(at_from) + u32::from(at_to));
         }
@@ -135,7 +165,7 @@ fn settle(found: &mut Found, todo: &mut Vec<DrawnPort>, port: DrawnPort) {
 
 // Settles the ports that are to be looked at: two of each gate, and those of each wire that is directed.
 fn settle_all(found: &mut Found, todo: &mut Vec<DrawnPort>) {
-    let most = found.links.len().saturating_add(found.gates.len());
+    let most = found.links.len().saturating_add(found.board.gates.len());
     for _ in 0..most.saturating_mul(2) {
         let Some(port) = todo.pop() else {
             break;
@@ -144,12 +174,12 @@ fn settle_all(found: &mut Found, todo: &mut Vec<DrawnPort>) {
     }
 }
 
-// Looks at each input.
+// Looks at the inputs of each gate, of which there are two at most.
 fn add_inputs(found: &mut Found, todo: &mut Vec<DrawnPort>) {
-    for gate in 0..u32::try_from(found.gates.len()).unwrap_or(u32::MAX) {
+    for gate in 0..u32::try_from(found.board.gates.len()).unwrap_or(u32::MAX) {
         for input in 0..2 {
             let port = GatePort::In(input);
-            found.is_short |= todo.push(DrawnPort { gate, port }).is_err();
+            found.board.is_short |= todo.push(DrawnPort { gate, port }).is_err();
         }
     }
 }

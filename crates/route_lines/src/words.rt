@@ -2,63 +2,48 @@
 
 use route_board::{STEPS, Step};
 
-/// Returns the word of a step.
-pub fn step_word(step: Step) -> &'static [u8] {
-    match step {
-        Step::North => b"N",
-        Step::NorthEast => b"NE",
-        Step::East => b"E",
-        Step::SouthEast => b"SE",
-        Step::South => b"S",
-        Step::SouthWest => b"SW",
-        Step::West => b"W",
-        Step::NorthWest => b"NW",
-    }
-}
+// The words of all steps, in the order of `STEPS`.
+const STEP_WORDS: &[&[u8]] = &[b"N", b"NE", b"E", b"SE", b"S", b"SW", b"W", b"NW"];
 
 /// Returns the step with a word.
 pub fn step_named(word: &[u8]) -> Option<Step> {
-    match word {
-        b"N" => Some(Step::North),
-        b"NE" => Some(Step::NorthEast),
-        b"E" => Some(Step::East),
-        b"SE" => Some(Step::SouthEast),
-        b"S" => Some(Step::South),
-        b"SW" => Some(Step::SouthWest),
-        b"W" => Some(Step::West),
-        b"NW" => Some(Step::NorthWest),
-        _ => None,
-    }
-}
-
-/// Returns the step from one cell to another beside it.
-pub fn step_between(from: (u32, u32), to: (u32, u32)) -> Option<Step> {
-    for step in STEPS {
-        if step.from(from) == to {
-            return Some(*step);
+    for i in 0..STEP_WORDS.len() {
+        if STEP_WORDS[i] == word {
+            return STEPS.get(i).copied();
         }
     }
     None
 }
 
-/// Returns the first word of a line and what follows it, without the spaces before the word.
-pub fn split_word(line: &[u8]) -> (&[u8], &[u8]) {
-    let (mut begin, mut end) = (0usize, 0usize);
+/// Returns the word of the step from one cell to another beside it.
+pub fn step_word(from: (u32, u32), to: (u32, u32)) -> Option<&'static [u8]> {
+    for i in 0..STEPS.len() {
+        if STEPS[i].from(from) == to {
+            return STEP_WORDS.get(i).copied();
+        }
+    }
+    None
+}
+
+/// Returns a word of a line by its number from 0, without the spaces around it, or no bytes if there is none.
+pub fn word(line: &[u8], number: usize) -> &[u8] {
+    let (mut begin, mut end, mut before) = (0usize, 0usize, 0usize);
     for byte in line {
-        if *byte == b' ' {
-            if begin < end {
+        let is_space = *byte == b' ';
+        if is_space && begin < end {
+            if before == number {
                 break;
             }
-            begin = begin.saturating_add(1);
+            before = before.saturating_add(1);
         }
-        end = if *byte == b' ' {
-            begin
-        } else {
-            end.saturating_add(1)
-        };
+        end = end.saturating_add(1);
+        if is_space {
+            begin = end;
+        }
     }
-    (
-        line.get(begin..end).unwrap_or(&[]),
-        line.get(end..).unwrap_or(&[]),
-    )
+    if before == number {
+        line.get(begin..end).unwrap_or(&[])
+    } else {
+        &[]
+    }
 }

@@ -1,49 +1,81 @@
 // Writing the lines of gates and wires.
 
-use crate::words::{step_between, step_word};
+use crate::words::step_word;
 use gate_library::{GateLibrary, letter_of, word_of};
 use itoa::Buffer;
 use lists::{Bytes, List, OutOfMemory};
 use route_board::port_cell;
 use routed_core::{Drawing, DrawnGate, DrawnPort, DrawnWire, GatePort};
-use std::alloc::{AllocError, Global};
+use std::alloc::Global;
 
-fn push_number(text: &mut Vec<u8>, number: u32) -> Result<(), AllocError> {
-    let mut buffer = Buffer::new();
-    text.push(b' ')?;
-    text.extend_from_slice(buffer.format(number).as_bytes())
+// Lines that are written. It is noted whether memory ran out.
+#[derive(Drop)]
+struct Lines {
+    text: Vec<u8>,
+    is_short: bool,
 }
 
-fn push_cell(text: &mut Vec<u8>, cell: (u32, u32)) -> Result<(), AllocError> {
-    push_number(text, cell.0)?;
-    push_number(text, cell.1)
-}
+impl Lines {
+    fn add(&mut self, bytes: &[u8]) {
+        self.is_short |= self.text.extend_from_slice(bytes).is_err();
+    }
 
-fn push_gate(text: &mut Vec<u8>, gate: &DrawnGate) -> Result<(), AllocError> {
-    text.extend_from_slice(b"#C gate ")?;
-    text.extend_from_slice(word_of(gate.kind.shape))?;
-    text.push(b'-')?;
-    text.push(letter_of(gate.kind.turn))?;
-    push_cell(text, (gate.x, gate.y))?;
-    push_number(text, gate.first)?;
-    if gate.later > 0 {
-        push_number(text, gate.later)?;
+    fn add_number(&mut self, number: u32) {
+        let mut buffer = Buffer::new();
+        self.add(b" ");
+        self.add(buffer.format(number).as_bytes());
     }
-    text.push(b'\n')?;
-    Ok(())
-}
 
-// The start bits of a wire, that which arrives first at its end before the others.
-fn push_starts(text: &mut Vec<u8>, starts: &[bool]) -> Result<(), AllocError> {
-    text.push(b' ')?;
-    if starts.is_empty() {
-        text.push(b'-')?;
+    fn add_cell(&mut self, cell: (u32, u32)) {
+        self.add_number(cell.0);
+        self.add_number(cell.1);
     }
-    for i in (0..starts.len()).rev() {
-        text.push(if starts[i] { b'1' } else { b'0' })?;
+
+    fn add_gate(&mut self, gate: &DrawnGate) {
+        self.add(b"#C gate ");
+        self.add(word_of(gate.kind.shape));
+        self.add(b"-");
+        self.add(&[letter_of(gate.kind.turn)]);
+        self.add_cell((gate.x, gate.y));
+        self.add_number(gate.first);
+        if gate.later > 0 {
+            self.add_number(gate.later);
+        }
+        self.add(b"\n");
     }
-    text.push(b'\n')?;
-    Ok(())
+
+    // Adds the start bits of a wire, that which arrives first at its end before the others.
+    fn add_starts(&mut self, starts: &[bool]) {
+        self.add(b" ");
+        if starts.is_empty() {
+            self.add(b"-");
+        }
+        for i in (0..starts.len()).rev() {
+            self.add(if starts[i] { b"1" } else { b"0" });
+        }
+        self.add(b"\n");
+    }
+
+    // Adds a wire between ports at these cells, unless its first cell is not beside that at which it begins.
+    fn add_wire(
+        &mut self,
+        drawing: &Drawing,
+        wire: &DrawnWire,
+        begin: (u32, u32),
+        end: (u32, u32),
+    ) {
+        let Some(first) = drawing.path.as_slice().get(wire.start as usize) else {
+            return;
+        };
+        if let Some(step) = step_word(begin, *first) {
+            self.add(b"#C wire");
+            self.add_cell(begin);
+            self.add(b" ");
+            self.add(step);
+            self.add_cell(end);
+            self.add_starts(starts_of(drawing, wire));
+        }
+    }
 }
 
 fn cell_of(library: &GateLibrary, gates: &[DrawnGate], port: DrawnPort) -> Option<(u32, u32)> {
@@ -51,44 +83,26 @@ fn cell_of(library: &GateLibrary, gates: &[DrawnGate], port: DrawnPort) -> Optio
 }
 
 fn starts_of<'a>(drawing: &'a Drawing, wire: &DrawnWire) -> &'a [bool] {
-    let end = (wire.latch as usize).saturating_add(wire.cycles as usize);
-    drawing
-        .starts
-        .as_slice()
-        .get(wire.latch as usize..end)
-        .unwrap_or(&[])
+    let begin = wire.latch as usize;
+    let end = begin.saturating_add(wire.cycles as usize);
+    drawing.starts.as_slice().get(begin..end).unwrap_or(&[])
 }
 
-// A wire that begins or ends at no port, or at no cell beside its path, is not written.
-fn push_wire(
-    text: &mut Vec<u8>,
-    library: &GateLibrary,
-    drawing: &Drawing,
-    wire: &DrawnWire,
-) -> Result<(), AllocError> {
+// Adds all wires. One that begins or ends at no port is not written.
+fn add_wires(lines: &mut Lines, library: &GateLibrary, drawing: &Drawing) {
     let gates = drawing.gates.as_slice();
-    let to = DrawnPort {
-        gate: wire.gate,
-        port: GatePort::In(wire.input),
-    };
-    let (Some(begin), Some(end)) = (
-        cell_of(library, gates, wire.from),
-        cell_of(library, gates, to),
-    ) else {
-        return Ok(());
-    };
-    let Some(first) = drawing.path.as_slice().get(wire.start as usize) else {
-        return Ok(());
-    };
-    let Some(step) = step_between(begin, *first) else {
-        return Ok(());
-    };
-    text.extend_from_slice(b"#C wire")?;
-    push_cell(text, begin)?;
-    text.push(b' ')?;
-    text.extend_from_slice(step_word(step))?;
-    push_cell(text, end)?;
-    push_starts(text, starts_of(drawing, wire))
+    for wire in drawing.wires.as_slice() {
+        let to = DrawnPort {
+            gate: wire.gate,
+            port: GatePort::In(wire.input),
+        };
+        if let (Some(begin), Some(end)) = (
+            cell_of(library, gates, wire.from),
+            cell_of(library, gates, to),
+        ) {
+            lines.add_wire(drawing, wire, begin, end);
+        }
+    }
 }
 
 /// Writes a line for each gate of a drawing, and then one for each wire:
@@ -102,12 +116,16 @@ fn push_wire(
 /// STARTS has a bit for each period that the wire is long, in order of arrival, or is `-`.
 pub fn gate_lines(alloc: Global, drawing: &Drawing) -> Result<Bytes, OutOfMemory> {
     let library = GateLibrary::new(alloc)?;
-    let mut text = Vec::new(alloc);
+    let mut lines = Lines {
+        text: Vec::new(alloc),
+        is_short: false,
+    };
     for gate in drawing.gates.as_slice() {
-        push_gate(&mut text, gate)?;
+        lines.add_gate(gate);
     }
-    for wire in drawing.wires.as_slice() {
-        push_wire(&mut text, &library, drawing, wire)?;
+    add_wires(&mut lines, &library, drawing);
+    if lines.is_short {
+        return Err(OutOfMemory::NoMemory);
     }
-    Ok(List::of(text))
+    Ok(List::of(lines.text))
 }
