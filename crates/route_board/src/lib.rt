@@ -1,5 +1,5 @@
 //! The board of a routed circuit: a pattern's cells, with what each belongs to, and the parts of the drawing that are
-//! known, for what reads and finds gates and wires. Nothing but safety is proved of it, since a check tests the drawing.
+//! known, for what reads and finds gates and wires. Nothing but safety is proved of it: a check tests the drawing.
 #![tactic(auto)]
 
 mod board;

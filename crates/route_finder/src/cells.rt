@@ -27,8 +27,8 @@ pub struct Use {
     pub count: u32,
 }
 
-/// The board with its gates, and the wires that are found so far. Each gate has one use, two inputs that may be fed, and
-/// the generations of two times. The first fault is noted.
+/// The board with its gates, and the wires that are found so far. Each gate has one use, two inputs that may be fed,
+/// and the generations of two times. The first fault is noted.
 #[derive(Drop)]
 pub struct Found {
     pub board: Board,

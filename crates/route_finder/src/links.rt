@@ -26,8 +26,8 @@ fn add_link(found: &mut Found, from: DrawnPort, to: DrawnPort, start: usize, end
     found.board.is_short |= found.links.push(link).is_err();
 }
 
-// Adds the ring whose cells are those of the path from a place on. Its first conductor that has a cell before it and one
-// after it becomes a lone cell, between two wires.
+// Adds the ring whose cells are those of the path from a place on. Its first conductor that has a cell before it and
+// one after it becomes a lone cell, between two wires.
 fn add_ring(found: &mut Found, pattern: &Pattern, port: DrawnPort, start: usize) {
     let end = found.board.path.len();
     for place in start.saturating_add(1)..end.saturating_sub(1) {

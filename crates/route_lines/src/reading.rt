@@ -154,8 +154,8 @@ fn read_wires(alloc: Global, board: &mut Board, text: &[u8], ports: &Ports) -> b
     board.add_ports(table.as_slice())
 }
 
-/// Reads the gates and the wires that a pattern's text names in comments (`gate_lines` has their forms), as a hint: each
-/// wire is followed on the pattern. A line of another form, and a wire that does not lead to its end, is passed over.
+/// Reads the gates and the wires that a pattern's text names in comments (`gate_lines` has their forms), as a hint:
+/// each wire is followed on the pattern. A line of another form, and a wire that does not lead to its end, is passed over.
 /// `None` if no gate is named, if an input or an output of the port table is at no port of a gate, or if a side of the
 /// box, the period or the latency is 2^32 or more.
 pub fn read(
