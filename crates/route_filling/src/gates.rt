@@ -1,19 +1,11 @@
-// The gates of a drawing, their kinds, and the ports of all gates in one row.
+// The gates of a drawing, their kinds, and the numbers of their ports.
 
-use cell_core::Src;
-use gate_library::drawing_of;
+use gate_library::{GateDrawing, drawing_of};
 use lawful_gates::LawfulGate;
 use lists::OutOfMemory;
-use route_tables::{CellFault, FaultWord, Feed, GateInput};
-use routed_core::{DrawnGate, DrawnPort, DrawnWire, GateKind, GatePort};
+use route_tables::{CellFault, FaultWord, GateInput, input_port};
+use routed_core::{Drawing, DrawnGate, DrawnPort, DrawnWire, GateKind, GatePort};
 use std::alloc::Global;
-
-/// The kinds that a drawing uses, and their drawings up to the first that keeps no law.
-#[derive(Drop)]
-pub struct Kinds {
-    pub names: Vec<GateKind>,
-    pub drawings: Vec<LawfulGate>,
-}
 
 /// The number of a gate's kind, and those of its ports among the ports of all gates: its inputs are those from `ins`
 /// on, its outputs those from `outs` on, and `end` is the number after its last one.
@@ -25,14 +17,15 @@ pub struct GateRow {
     pub end: usize,
 }
 
-/// A port with what feeds it, if it is an input, the source of its bits, and the first wire that begins there, as far
-/// as these are known.
-#[derive(Clone, Copy)]
-pub struct PortRow {
-    pub at: DrawnPort,
-    pub feed: Option<Feed>,
-    pub source: Option<Src>,
-    pub wire: Option<u32>,
+/// The rows of a drawing's gates, and the kinds that these use, with their drawings. `fault` is at the first gate
+/// whose kind keeps no law, and `is_short` says whether memory ran out.
+#[derive(Drop)]
+pub struct GateRows {
+    pub names: Vec<GateKind>,
+    pub kinds: Vec<LawfulGate>,
+    pub rows: Vec<GateRow>,
+    pub fault: Option<CellFault>,
+    pub is_short: bool,
 }
 
 /// Returns a number as a `u32`, or the greatest one if it is greater.
@@ -40,124 +33,115 @@ pub fn small(number: usize) -> u32 {
     u32::try_from(number).unwrap_or(u32::MAX)
 }
 
-// The number of a kind among these, or how many they are if it is none of them.
-fn kind_number(names: &[GateKind], kind: GateKind) -> usize {
-    for number in 0..names.len() {
-        if names[number] == kind {
-            return number;
-        }
-    }
-    names.len()
-}
-
-fn names_of(alloc: Global, gates: &[DrawnGate]) -> Result<Vec<GateKind>, OutOfMemory> {
-    let mut names = Vec::new(alloc);
-    for gate in gates {
-        if kind_number(&names, gate.kind) == names.len() {
-            names.push(gate.kind)?;
-        }
-    }
-    Ok(names)
-}
-
-// The drawings of kinds, up to the first that keeps no law.
-fn drawings_of(alloc: Global, names: &[GateKind]) -> Result<Vec<LawfulGate>, OutOfMemory> {
-    let mut drawings = Vec::new(alloc);
-    for name in names {
-        match LawfulGate::of(drawing_of(alloc, *name)?) {
-            Some(drawing) => drawings.push(drawing)?,
-            None => break,
-        }
-    }
-    Ok(drawings)
-}
-
-/// Returns the kinds of gates.
-pub fn kinds_of(alloc: Global, gates: &[DrawnGate]) -> Result<Kinds, OutOfMemory> {
-    let names = names_of(alloc, gates)?;
-    let drawings = drawings_of(alloc, &names)?;
-    Ok(Kinds { names, drawings })
-}
-
-// The row of a gate whose ports are those from this number on. It has none if its kind keeps no law.
-fn row_of(kinds: &Kinds, kind: GateKind, first: usize) -> GateRow {
-    let number = kind_number(&kinds.names, kind);
-    let (mut ins, mut outs) = (0, 0);
-    if let Some(lawful) = kinds.drawings.get(number) {
-        (ins, outs) = (lawful.drawing().ins.len(), lawful.drawing().outs.len());
-    }
-    GateRow {
-        kind: small(number),
-        ins: first,
-        outs: first.saturating_add(ins),
-        end: first.saturating_add(ins).saturating_add(outs),
-    }
-}
-
-/// Returns the rows of gates. Their ports are numbered one gate after the other.
-pub fn rows_of(
-    alloc: Global,
-    kinds: &Kinds,
-    gates: &[DrawnGate],
-) -> Result<Vec<GateRow>, OutOfMemory> {
-    let mut rows = Vec::with_capacity(alloc, gates.len())?;
-    let mut end = 0;
-    for gate in gates {
-        let row = row_of(kinds, gate.kind, end);
-        rows.push(row)?;
-        end = row.end;
-    }
-    Ok(rows)
-}
-
-// Names the ports of the gate with this number.
-fn name_ports(ports: &mut [PortRow], gate: u32, row: &GateRow) {
-    for number in row.ins..row.end {
-        let port = if number < row.outs {
-            GatePort::In(small(number.saturating_sub(row.ins)))
-        } else {
-            GatePort::Out(small(number.saturating_sub(row.outs)))
-        };
-        if number < ports.len() {
-            ports[number].at = DrawnPort { gate, port };
-        }
-    }
-}
-
-/// Returns the ports of all gates, of which nothing is known.
-pub fn ports_of(alloc: Global, rows: &[GateRow]) -> Result<Vec<PortRow>, OutOfMemory> {
-    let unknown = PortRow {
-        at: DrawnPort {
-            gate: 0,
-            port: GatePort::In(0),
+/// Returns a fault at the gate with this number.
+pub fn at_gate(drawing: &Drawing, number: u32, word: FaultWord) -> CellFault {
+    match drawing.gates.as_slice().get(number as usize) {
+        Some(gate) => CellFault {
+            word,
+            x: gate.x,
+            y: gate.y,
         },
-        feed: None,
-        source: None,
-        wire: None,
-    };
-    let count = match rows.last() {
-        Some(row) => row.end,
-        None => 0,
-    };
-    let mut ports = vec![in alloc; unknown; count]?;
-    let mut gate = 0u32;
-    for row in rows {
-        name_ports(&mut ports, gate, row);
-        gate = gate.saturating_add(1);
+        None => CellFault { word, x: 0, y: 0 },
     }
-    Ok(ports)
 }
 
-/// Returns the number of a port among those of all gates, which is past the last one's if the port is not there.
-pub fn port_number(rows: &[GateRow], at: DrawnPort) -> usize {
-    let Some(row) = rows.get(at.gate as usize) else {
-        return usize::MAX;
-    };
-    let (number, end) = match at.port {
-        GatePort::In(i) => (row.ins.saturating_add(i as usize), row.outs),
-        GatePort::Out(o) => (row.outs.saturating_add(o as usize), row.end),
-    };
-    if number < end { number } else { usize::MAX }
+impl GateRows {
+    /// Returns the rows of no gates.
+    pub fn new(alloc: Global) -> GateRows {
+        GateRows {
+            names: Vec::new(alloc),
+            kinds: Vec::new(alloc),
+            rows: Vec::new(alloc),
+            fault: None,
+            is_short: false,
+        }
+    }
+
+    // The number of a kind, or how many there are if it is none of them.
+    fn kind_number(&self, kind: GateKind) -> usize {
+        for number in 0..self.names.len() {
+            if self.names[number] == kind {
+                return number;
+            }
+        }
+        self.names.len()
+    }
+
+    // Adds a kind, unless its drawing keeps no law.
+    fn add_kind(&mut self, alloc: Global, kind: GateKind) -> Result<(), OutOfMemory> {
+        if let Some(lawful) = LawfulGate::of(drawing_of(alloc, kind)?) {
+            self.kinds.push(lawful)?;
+            self.names.push(kind)?;
+        }
+        Ok(())
+    }
+
+    // The row of the next gate, which is of the kind with this number.
+    fn next_row(&self, kind: usize) -> GateRow {
+        let first = match self.rows.last() {
+            Some(row) => row.end,
+            None => 0,
+        };
+        let (mut ins, mut outs) = (0, 0);
+        if let Some(lawful) = self.kinds.get(kind) {
+            (ins, outs) = (lawful.drawing().ins.len(), lawful.drawing().outs.len());
+        }
+        GateRow {
+            kind: small(kind),
+            ins: first,
+            outs: first.saturating_add(ins),
+            end: first.saturating_add(ins).saturating_add(outs),
+        }
+    }
+
+    // Adds a gate, whose ports are numbered after those of the gates before it.
+    fn add(&mut self, alloc: Global, gate: &DrawnGate) {
+        let kind = self.kind_number(gate.kind);
+        if kind == self.names.len() {
+            self.is_short |= self.add_kind(alloc, gate.kind).is_err();
+        }
+        if kind >= self.kinds.len() && self.fault.is_none() {
+            self.fault = Some(CellFault {
+                word: FaultWord::Kind,
+                x: gate.x,
+                y: gate.y,
+            });
+        }
+        let row = self.next_row(kind);
+        self.is_short |= self.rows.push(row).is_err();
+    }
+
+    /// Adds gates.
+    pub fn fill(&mut self, alloc: Global, gates: &[DrawnGate]) {
+        for gate in gates {
+            self.add(alloc, gate);
+        }
+    }
+
+    /// Returns the drawing of a gate's kind, if it keeps its law.
+    pub fn drawing(&self, row: &GateRow) -> Option<&GateDrawing> {
+        match self.kinds.get(row.kind as usize) {
+            Some(lawful) => Some(lawful.drawing()),
+            None => None,
+        }
+    }
+
+    /// Returns the number of a port among those of all gates, which is past the last one's if the port is not there.
+    pub fn port_number(&self, at: DrawnPort) -> usize {
+        let Some(row) = self.rows.get(at.gate as usize) else {
+            return usize::MAX;
+        };
+        let (number, end) = match at.port {
+            GatePort::In(i) => (row.ins.saturating_add(i as usize), row.outs),
+            GatePort::Out(o) => (row.outs.saturating_add(o as usize), row.end),
+        };
+        if number < end { number } else { usize::MAX }
+    }
+
+    /// Returns the number of the port at which a wire ends.
+    pub fn wire_end(&self, wire: &DrawnWire) -> usize {
+        self.port_number(input_port(end_of(wire)))
+    }
 }
 
 /// Returns the input at which a wire ends.
@@ -165,27 +149,5 @@ pub fn end_of(wire: &DrawnWire) -> GateInput {
     GateInput {
         gate: wire.gate,
         input: wire.input,
-    }
-}
-
-/// Tests that the kinds of all gates keep their laws.
-pub fn test_kinds(kinds: &Kinds, rows: &[GateRow], gates: &[DrawnGate]) -> Result<(), CellFault> {
-    for number in 0..rows.len() {
-        if rows[number].kind as usize >= kinds.drawings.len() {
-            return Err(at_gate(gates, number, FaultWord::Kind));
-        }
-    }
-    Ok(())
-}
-
-/// Returns a fault at the gate with this number.
-pub fn at_gate(gates: &[DrawnGate], number: usize, word: FaultWord) -> CellFault {
-    match gates.get(number) {
-        Some(gate) => CellFault {
-            word,
-            x: gate.x,
-            y: gate.y,
-        },
-        None => CellFault { word, x: 0, y: 0 },
     }
 }

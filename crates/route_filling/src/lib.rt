@@ -1,7 +1,7 @@
 //! Fills the tables of a routed circuit from its drawing. What stands in them is tested elsewhere.
 #![tactic(auto)]
 
-mod feeding;
+mod circuit;
 mod gates;
 mod listing;
 mod lists_of;
