@@ -1,5 +1,5 @@
 // Electrons on wires.
-ghost use Rattle.std.specs.Prelude.{◌≡◌, ◌<◌, ◌≤◌, ◌+◌, ◌*◌, ◌^◌, suc, pos, false, ℕ, length, if◌then◌else◌, IsTrue};
+ghost use Rattle.std.specs.Prelude.{◌≡◌, ◌<◌, ◌≤◌, ◌+◌, ◌*◌, ◌^◌, suc, pos, false, ℕ, length, if◌then◌else◌, IsTrue, IfNone};
 ghost use Rattle.lists.specs.Items.{flag_at};
 ghost use Rattle.wire_laws.specs.Signals.{cell_state};
 ghost use Rattle.route_tables.specs.Serials.{listed_cell};
@@ -50,8 +50,8 @@ fn state_before(first: u64, period: u64, bits: &[bool], after: u64) -> State
     }
 }
 
-/// Returns whether cell `i` of a wire has the state of the bits that come out at its end.
-pub fn shows_cell(
+// Whether cell `i` of a wire has the state of the bits that come out at its end.
+fn shows_cell(
     t: &Tables,
     states: &[State],
     wire: TableWire,
@@ -74,27 +74,27 @@ pub fn shows_cell(
     )
 }
 
-/// Returns whether a wire's cells have the states of the bits that come out at its end, the first of
-/// them at generation `first`.
-pub fn show_bits(
+/// Returns the number of a wire's first cell that has not the state of the bits that come out at the
+/// wire's end, the first of them at generation `first`.
+pub fn wrong_cell(
     t: &Tables,
     states: &[State],
     wire: TableWire,
     first: u64,
     period: u64,
     bits: &[bool],
-) -> bool
+) -> Option<u32>
     requires some { 0 < period }
-    ensures { IsTrue result → ((i : ℕ) → i < wire.size → (rest : ℕ) → i + suc rest ≡ wire.size →
+    ensures { IfNone result ((i : ℕ) → i < wire.size → (rest : ℕ) → i + suc rest ≡ wire.size →
         cell_state (box_plane t.now states.now) (listed_cell t.now.cells (wire.start + i))
         ≡ state_before first period bits.now rest) }
 {
     for i in 0..wire.size {
         if !shows_cell(t, states, wire, i, first, period, bits) {
-            return false;
+            return Some(i);
         }
     }
-    true
+    None
 }
 
 /// Returns whether an input at the end of a wire is a head at generation 0 exactly if a bit comes

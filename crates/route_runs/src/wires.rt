@@ -6,7 +6,7 @@ ghost use Rattle.route_tables.specs.Tables.{input_port};
 ghost use Rattle.route_runs.specs.Wires.{CarriesBits, WireKeepsTime};
 
 use crate::chains::start_bits;
-use crate::electrons::{are_clear, show_bits, shows_cell, shows_end};
+use crate::electrons::{are_clear, shows_end, wrong_cell};
 use crate::error::RunError;
 use lawful_gates::PortCell;
 use lists::OutOfMemory;
@@ -39,68 +39,41 @@ fn takes(from: u64, size: u32, to: u64, cycles: u32, period: u64) -> bool
         == u128::from(to) + u128::from(cycles) * u128::from(period)
 }
 
-// Whether the electrons on a wire are the bits that come out at its end.
-fn carries(
-    t: &Tables,
-    states: &[State],
-    period: u64,
-    wire: TableWire,
-    to: PortCell,
-    bits: &[bool],
-) -> bool
-    requires some { 0 < period }
-    requires few { length bits.now < 2 ^ 32 }
-    ensures { IsTrue result → CarriesBits t.now states.now period wire to bits.now }
-{
-    if !are_clear(wire.size, to.generation, period, bits) {
-        return false;
-    }
-    if !shows_end(
-        state_at(states, t.width, to.x, to.y),
-        to.generation,
-        period,
-        bits,
-    ) {
-        return false;
-    }
-    show_bits(t, states, wire, to.generation, period, bits)
-}
-
 // A fault at a wire's first cell.
 fn at_start(t: &Tables, wire: TableWire, word: FaultWord) -> CellFault {
     t.fault_at_cell(word, wire.start as usize)
 }
 
-// The first cell of a wire that has not the state of the bits that come out at its end, or else the
-// input there; or the wire's first cell, if no wire of its size has room for these bits.
-fn wrong_cell(
+// A fault if the electrons on a wire are not the bits that come out at its end: at the first cell that has another
+// state, or else at the input there; or at the wire's first cell, if no wire of its size has room for these bits.
+fn electron_fault(
     t: &Tables,
     states: &[State],
     period: u64,
     wire: TableWire,
     to: PortCell,
     bits: &[bool],
-) -> CellFault
+) -> Option<CellFault>
     requires some { 0 < period }
+    requires few { length bits.now < 2 ^ 32 }
+    ensures { result ≡ None → CarriesBits t.now states.now period wire to bits.now }
 {
-    for i in 0..wire.size {
-        if !shows_cell(t, states, wire, i, to.generation, period, bits) {
-            return t.fault_at_cell(FaultWord::Electron, wire.start as usize + i as usize);
-        }
+    let word = FaultWord::Electron;
+    if let Some(i) = wrong_cell(t, states, wire, to.generation, period, bits) {
+        return Some(t.fault_at_cell(word, wire.start as usize + i as usize));
     }
-    if shows_end(
-        state_at(states, t.width, to.x, to.y),
-        to.generation,
-        period,
-        bits,
-    ) {
-        return at_start(t, wire, FaultWord::Electron);
+    let end = state_at(states, t.width, to.x, to.y);
+    if !shows_end(end, to.generation, period, bits) {
+        return Some(CellFault {
+            word,
+            x: to.x,
+            y: to.y,
+        });
     }
-    CellFault {
-        word: FaultWord::Electron,
-        x: to.x,
-        y: to.y,
+    if !are_clear(wire.size, to.generation, period, bits) {
+        return Some(at_start(t, wire, word));
     }
+    None
 }
 
 // Tests a wire from its beginning to its end.
@@ -129,12 +102,7 @@ fn wire_between(
     let Some(bits) = start_bits(alloc, &t.list, from, to, wire.cycles)? else {
         return Ok(Some(at_start(t, wire, FaultWord::Order)));
     };
-    if carries(t, states, period, wire, ends.to, &bits) {
-        Ok(None)
-    } else {
-        let fault = wrong_cell(t, states, period, wire, ends.to, &bits);
-        Ok(Some(fault))
-    }
+    Ok(electron_fault(t, states, period, wire, ends.to, &bits))
 }
 
 /// Tests that a wire's length fits its latches, and that it has the electrons of their start bits.

@@ -3,7 +3,7 @@ use Rattle.wire_laws.specs.Signals.{cell_state}
 use Rattle.route_tables.specs.Serials.{listed_cell}
 use Rattle.route_tables.specs.Tables.{box_plane}
 use Rattle.route_runs.specs.Electrons.{state_before}
-use Rattle.route_runs.proofs.electrons.show_bits.Given as goal
+use Rattle.route_runs.proofs.electrons.wrong_cell.Given as goal
 
 abbrev pub invariant-loop-i : goal.invariant-loop-i
 invariant-loop-i l =
