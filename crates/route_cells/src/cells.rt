@@ -1,7 +1,6 @@
 // The list of cells of a routed circuit.
 ghost use Rattle.std.specs.Prelude.{◌≡◌, ◌≤◌, IfOk, IsTrue};
 ghost use Rattle.ww_rule.specs.Grid.{plane_of};
-ghost use Rattle.tile_timing.specs.Window.{shown};
 ghost use Rattle.routed_texts.specs.Tables.{ShowsListRuns};
 ghost use Rattle.route_tables.specs.Checked.{IsChecked};
 ghost use Rattle.route_cells.specs.Fits.{FitsPorts};
@@ -66,27 +65,44 @@ fn fits(list: &CellList, ports: &Ports) -> bool
     true
 }
 
-// The list of tables that were tested.
-fn list_of(
+// Tests that tables, all of them, are those of a pattern, and that their list fits the port table.
+fn test_tables(
+    alloc: Global,
     pattern: &Pattern,
     ports: &Ports,
-    states: &[State],
-    tables: Tables,
-) -> Result<CellList, RouteError>
-    requires checked { IsChecked tables states.now ports.now }
-    requires flat { shown states.now pattern.now.width ≡ plane_of pattern.now.rows }
+    tables: &Tables,
+) -> Result<(), RouteError>
+    requires long { 3 ≤ ports.now.p }
     requires one { ports.now.c ≡ 1 }
-    ensures shows { IfOk result (λ list. ShowsListRuns (plane_of pattern.now.rows) ports.now list) }
-    ensures fits { IfOk result (FitsPorts ports.now) }
+    ensures shows { IfOk result (λ _. ShowsListRuns (plane_of pattern.now.rows) ports.now
+        tables.now.list) }
+    ensures fits { IfOk result (λ _. FitsPorts ports.now tables.now.list) }
 {
+    let cells = flat_cells(alloc, pattern)?;
+    test_all(alloc, tables, &cells, ports)?;
     if u64::from(tables.width) != pattern.width {
         return Err(at_header(FaultWord::Touches));
     }
     if !fits(&tables.list, ports) {
         return Err(at_header(FaultWord::Port));
     }
-    let Tables { list, .. } = tables;
-    Ok(list)
+    Ok(())
+}
+
+// The list of tables, if they are those of a pattern.
+fn list_of(
+    alloc: Global,
+    pattern: &Pattern,
+    ports: &Ports,
+    tables: Tables,
+) -> Result<CellList, RouteError>
+    requires long { 3 ≤ ports.now.p }
+    requires one { ports.now.c ≡ 1 }
+    ensures shows { IfOk result (λ list. ShowsListRuns (plane_of pattern.now.rows) ports.now list) }
+    ensures fits { IfOk result (FitsPorts ports.now) }
+{
+    test_tables(alloc, pattern, ports, &tables)?;
+    Ok(tables.list)
 }
 
 /// Returns a list of cells whose runs a pattern shows at the cells of its port table, if it is the
@@ -112,9 +128,8 @@ pub fn cells_of(
     if ports.p < 3 || ports.c != 1 {
         return Err(at_header(FaultWord::Port));
     }
-    let tables = tables_of(alloc, drawing, width, size)??;
-    let cells = flat_cells(alloc, pattern)?;
-    let states = cells.as_slice();
-    test_all(alloc, &tables, states, ports)?;
-    list_of(pattern, ports, states, tables)
+    match tables_of(alloc, drawing, width, size)? {
+        Ok(tables) => list_of(alloc, pattern, ports, tables),
+        Err(fault) => Err(RouteError::Fault(fault)),
+    }
 }

@@ -1,9 +1,9 @@
 // The ports of all gates, and what feeds their inputs.
 
-use crate::gates::{GateRow, GateRows, at_gate, small};
-use cell_core::{Cell, Src};
-use route_tables::{CellFault, FaultWord, Feed, GateInput};
-use routed_core::{Drawing, DrawnPort, GatePort};
+use crate::gates::{GateRow, at_gate, end_of, port_number, small};
+use cell_core::Src;
+use route_tables::{CellFault, FaultWord, Feed, GateInput, input_port};
+use routed_core::{Drawing, DrawnPort, DrawnWire, GatePort};
 use std::alloc::Global;
 
 /// A port with what feeds it, if it is an input, the source of its bits, and the first wire that begins there, as far
@@ -16,23 +16,22 @@ pub struct PortRow {
     pub wire: Option<u32>,
 }
 
-/// A port, by its number, whose source is known.
+/// The number of the port at which a wire ends, the source of its last latch, if it has latches, and the next wire that
+/// begins at its port.
 #[derive(Clone, Copy)]
-pub struct Known {
-    pub port: usize,
-    pub source: Src,
+pub struct WireRow {
+    pub end: usize,
+    pub latch: Option<Src>,
+    pub next: Option<u32>,
 }
 
-/// The ports of all gates, of each wire the next one that begins at its port, and the inputs that are driven, by the
-/// numbers of their drives. `cells` are those that gates were found to compute, and `waiting` the ports from which the
-/// search for sources goes on. `fault` is the first fault that was found, and `is_short` says whether memory ran out.
+/// The ports of all gates, the wires, and the inputs that are driven, by the numbers of their drives. `fault` is the
+/// first fault that was found, and `is_short` says whether memory ran out.
 #[derive(Drop)]
-pub struct Circuit {
+pub struct FedPorts {
     pub ports: Vec<PortRow>,
-    pub next: Vec<Option<u32>>,
+    pub wires: Vec<WireRow>,
     pub driven: Vec<GateInput>,
-    pub cells: Vec<Cell>,
-    pub waiting: Vec<Known>,
     pub fault: Option<CellFault>,
     pub is_short: bool,
 }
@@ -67,63 +66,81 @@ fn input_at(port: DrawnPort) -> DrawnPort {
     }
 }
 
-impl Circuit {
-    /// Returns a circuit of no gates.
-    pub fn new(alloc: Global) -> Circuit {
-        Circuit {
+// Adds the ports of the gate with this number; returns whether memory ran out.
+fn add_ports(ports: &mut Vec<PortRow>, gate: u32, row: &GateRow) -> bool {
+    let mut is_short = false;
+    for number in row.ins..row.end {
+        let port = if number < row.outs {
+            GatePort::In(small(number.saturating_sub(row.ins)))
+        } else {
+            GatePort::Out(small(number.saturating_sub(row.outs)))
+        };
+        let unknown = PortRow {
+            at: DrawnPort { gate, port },
+            feed: None,
+            source: None,
+            wire: None,
+        };
+        is_short |= ports.push(unknown).is_err();
+    }
+    is_short
+}
+
+// Adds the ports of all gates; returns whether memory ran out.
+fn add_all_ports(ports: &mut Vec<PortRow>, rows: &[GateRow]) -> bool {
+    let (mut gate, mut is_short) = (0u32, false);
+    for row in rows {
+        is_short |= add_ports(ports, gate, row);
+        gate = gate.saturating_add(1);
+    }
+    is_short
+}
+
+// The source of a wire's last latch, if it has latches.
+fn last_latch(wire: &DrawnWire) -> Option<Src> {
+    if wire.cycles > 0 {
+        Some(Src::Latch(wire.latch.saturating_add(wire.cycles - 1)))
+    } else {
+        None
+    }
+}
+
+impl FedPorts {
+    /// Returns the ports of no gates.
+    pub fn new(alloc: Global) -> FedPorts {
+        FedPorts {
             ports: Vec::new(alloc),
-            next: Vec::new(alloc),
+            wires: Vec::new(alloc),
             driven: Vec::new(alloc),
-            cells: Vec::new(alloc),
-            waiting: Vec::new(alloc),
             fault: None,
             is_short: false,
         }
     }
 
-    /// Notes a fault at the gate with this number, unless one was found before.
-    pub fn refuse(&mut self, drawing: &Drawing, gate: u32, word: FaultWord) {
+    // Notes a fault at the gate with this number, unless one was found before.
+    fn refuse(&mut self, drawing: &Drawing, gate: u32, word: FaultWord) {
         if self.fault.is_none() {
             self.fault = Some(at_gate(drawing, gate, word));
         }
     }
 
-    // Adds the ports of the gate with this number.
-    fn add_ports(&mut self, gate: u32, row: &GateRow) {
-        for number in row.ins..row.end {
-            let port = if number < row.outs {
-                GatePort::In(small(number.saturating_sub(row.ins)))
-            } else {
-                GatePort::Out(small(number.saturating_sub(row.outs)))
-            };
-            let unknown = PortRow {
-                at: DrawnPort { gate, port },
-                feed: None,
-                source: None,
-                wire: None,
-            };
-            self.is_short |= self.ports.push(unknown).is_err();
-        }
+    // Adds the wire with this number, and feeds the input at its end; returns whether it did.
+    fn add_wire(&mut self, rows: &[GateRow], wire: &DrawnWire, number: u32) -> bool {
+        let end = port_number(rows, input_port(end_of(wire)));
+        let row = WireRow {
+            end,
+            latch: last_latch(wire),
+            next: put_first(&mut self.ports, port_number(rows, wire.from), number),
+        };
+        self.is_short |= self.wires.push(row).is_err();
+        feed(&mut self.ports, end, Feed::Wire(number))
     }
 
-    // Adds the ports of all gates.
-    fn add_all_ports(&mut self, rows: &[GateRow]) {
-        let mut gate = 0u32;
-        for row in rows {
-            self.add_ports(gate, row);
-            gate = gate.saturating_add(1);
-        }
-    }
-
-    // Notes at which port each wire begins, and feeds the input at its end. An input with two wires, and one that is
-    // not there, are at fault.
-    fn feed_by_wires(&mut self, gates: &GateRows, drawing: &Drawing) {
+    // Adds all wires. An input with two wires, and one that is not there, are at fault.
+    fn add_wires(&mut self, rows: &[GateRow], drawing: &Drawing) {
         let mut number = 0u32;
         for wire in drawing.wires.as_slice() {
-            let (begin, end) = (gates.port_number(wire.from), gates.wire_end(wire));
-            let before = put_first(&mut self.ports, begin, number);
-            self.is_short |= self.next.push(before).is_err();
-            if !feed(&mut self.ports, end, Feed::Wire(number)) {
+            if !self.add_wire(rows, wire, number) {
                 self.refuse(drawing, wire.gate, FaultWord::Fed);
             }
             number = number.saturating_add(1);
@@ -149,9 +166,9 @@ impl Circuit {
     }
 
     // Drives the circuit's inputs. One that is not there, and one that is fed already, are at fault.
-    fn drive_inputs(&mut self, gates: &GateRows, drawing: &Drawing) {
+    fn drive_inputs(&mut self, rows: &[GateRow], drawing: &Drawing) {
         for port in drawing.ins.as_slice() {
-            if !self.drive(gates.port_number(input_at(*port))) {
+            if !self.drive(port_number(rows, input_at(*port))) {
                 self.refuse(drawing, port.gate, FaultWord::Port);
             }
         }
@@ -165,10 +182,10 @@ impl Circuit {
     }
 
     /// Adds the ports of a drawing's gates, and feeds all inputs: by wires, and the others by drives.
-    pub fn feed_all(&mut self, gates: &GateRows, drawing: &Drawing) {
-        self.add_all_ports(&gates.rows);
-        self.feed_by_wires(gates, drawing);
-        self.drive_inputs(gates, drawing);
+    pub fn fill(&mut self, rows: &[GateRow], drawing: &Drawing) {
+        self.is_short |= add_all_ports(&mut self.ports, rows);
+        self.add_wires(rows, drawing);
+        self.drive_inputs(rows, drawing);
         self.drive_rest();
     }
 }

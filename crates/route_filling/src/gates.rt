@@ -3,7 +3,7 @@
 use gate_library::{GateDrawing, drawing_of};
 use lawful_gates::LawfulGate;
 use lists::OutOfMemory;
-use route_tables::{CellFault, FaultWord, GateInput, input_port};
+use route_tables::{CellFault, FaultWord, GateInput};
 use routed_core::{Drawing, DrawnGate, DrawnPort, DrawnWire, GateKind, GatePort};
 use std::alloc::Global;
 
@@ -45,6 +45,38 @@ pub fn at_gate(drawing: &Drawing, number: u32, word: FaultWord) -> CellFault {
     }
 }
 
+// The number of a kind among these, or how many they are if it is none of them.
+fn kind_number(names: &[GateKind], kind: GateKind) -> usize {
+    for number in 0..names.len() {
+        if names[number] == kind {
+            return number;
+        }
+    }
+    names.len()
+}
+
+// The row of a gate of the kind with this number, whose ports are those from `first` on.
+fn row_of(kinds: &[LawfulGate], kind: usize, first: usize) -> GateRow {
+    let (mut ins, mut outs) = (0, 0);
+    if let Some(lawful) = kinds.get(kind) {
+        (ins, outs) = (lawful.drawing().ins.len(), lawful.drawing().outs.len());
+    }
+    GateRow {
+        kind: small(kind),
+        ins: first,
+        outs: first.saturating_add(ins),
+        end: first.saturating_add(ins).saturating_add(outs),
+    }
+}
+
+// The number of the next gate's first port.
+fn end_of_ports(rows: &[GateRow]) -> usize {
+    match rows.last() {
+        Some(row) => row.end,
+        None => 0,
+    }
+}
+
 impl GateRows {
     /// Returns the rows of no gates.
     pub fn new(alloc: Global) -> GateRows {
@@ -57,16 +89,6 @@ impl GateRows {
         }
     }
 
-    // The number of a kind, or how many there are if it is none of them.
-    fn kind_number(&self, kind: GateKind) -> usize {
-        for number in 0..self.names.len() {
-            if self.names[number] == kind {
-                return number;
-            }
-        }
-        self.names.len()
-    }
-
     // Adds a kind, unless its drawing keeps no law.
     fn add_kind(&mut self, alloc: Global, kind: GateKind) -> Result<(), OutOfMemory> {
         if let Some(lawful) = LawfulGate::of(drawing_of(alloc, kind)?) {
@@ -76,27 +98,9 @@ impl GateRows {
         Ok(())
     }
 
-    // The row of the next gate, which is of the kind with this number.
-    fn next_row(&self, kind: usize) -> GateRow {
-        let first = match self.rows.last() {
-            Some(row) => row.end,
-            None => 0,
-        };
-        let (mut ins, mut outs) = (0, 0);
-        if let Some(lawful) = self.kinds.get(kind) {
-            (ins, outs) = (lawful.drawing().ins.len(), lawful.drawing().outs.len());
-        }
-        GateRow {
-            kind: small(kind),
-            ins: first,
-            outs: first.saturating_add(ins),
-            end: first.saturating_add(ins).saturating_add(outs),
-        }
-    }
-
     // Adds a gate, whose ports are numbered after those of the gates before it.
     fn add(&mut self, alloc: Global, gate: &DrawnGate) {
-        let kind = self.kind_number(gate.kind);
+        let kind = kind_number(&self.names, gate.kind);
         if kind == self.names.len() {
             self.is_short |= self.add_kind(alloc, gate.kind).is_err();
         }
@@ -107,7 +111,7 @@ impl GateRows {
                 y: gate.y,
             });
         }
-        let row = self.next_row(kind);
+        let row = row_of(&self.kinds, kind, end_of_ports(&self.rows));
         self.is_short |= self.rows.push(row).is_err();
     }
 
@@ -118,30 +122,26 @@ impl GateRows {
         }
     }
 
-    /// Returns the drawing of a gate's kind, if it keeps its law.
-    pub fn drawing(&self, row: &GateRow) -> Option<&GateDrawing> {
+    /// Returns the drawing of the gate with this number, if its kind keeps its law.
+    pub fn drawing_of(&self, number: usize) -> Option<&GateDrawing> {
+        let row = self.rows.get(number)?;
         match self.kinds.get(row.kind as usize) {
             Some(lawful) => Some(lawful.drawing()),
             None => None,
         }
     }
+}
 
-    /// Returns the number of a port among those of all gates, which is past the last one's if the port is not there.
-    pub fn port_number(&self, at: DrawnPort) -> usize {
-        let Some(row) = self.rows.get(at.gate as usize) else {
-            return usize::MAX;
-        };
-        let (number, end) = match at.port {
-            GatePort::In(i) => (row.ins.saturating_add(i as usize), row.outs),
-            GatePort::Out(o) => (row.outs.saturating_add(o as usize), row.end),
-        };
-        if number < end { number } else { usize::MAX }
-    }
-
-    /// Returns the number of the port at which a wire ends.
-    pub fn wire_end(&self, wire: &DrawnWire) -> usize {
-        self.port_number(input_port(end_of(wire)))
-    }
+/// Returns the number of a port among those of all gates, which is past the last one's if the port is not there.
+pub fn port_number(rows: &[GateRow], at: DrawnPort) -> usize {
+    let Some(row) = rows.get(at.gate as usize) else {
+        return usize::MAX;
+    };
+    let (number, end) = match at.port {
+        GatePort::In(i) => (row.ins.saturating_add(i as usize), row.outs),
+        GatePort::Out(o) => (row.outs.saturating_add(o as usize), row.end),
+    };
+    if number < end { number } else { usize::MAX }
 }
 
 /// Returns the input at which a wire ends.

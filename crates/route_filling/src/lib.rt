@@ -1,7 +1,7 @@
 //! Fills the tables of a routed circuit from its drawing. What stands in them is tested elsewhere.
 #![tactic(auto)]
 
-mod circuit;
+mod feeding;
 mod gates;
 mod listing;
 mod lists_of;

@@ -3,8 +3,9 @@ ghost use Rattle.std.specs.Prelude.{◌≡◌, IsTrue};
 ghost use Rattle.cell_core.specs.Sources.{are_in_order, are_there};
 ghost use Rattle.route_filling.specs.Ends.{FitsCells};
 
-use crate::circuit::Circuit;
-use crate::gates::GateRows;
+use crate::feeding::PortRow;
+use crate::gates::GateRow;
+use crate::solving::source_of;
 use cell_core::{Cell, CellList, Src};
 use lists::List;
 use routed_core::{Drawing, DrawnPort, DrawnWire};
@@ -33,18 +34,25 @@ fn put_latches(latches: &mut [Src], wire: &DrawnWire, source: Src) {
     }
 }
 
-// Adds the sources at ports; returns whether memory ran out.
+// Adds the sources at named ports; returns whether memory ran out.
 fn add_sources_at(
     sources: &mut Vec<Src>,
-    gates: &GateRows,
-    circuit: &Circuit,
-    ports: &[DrawnPort],
+    rows: &[GateRow],
+    ports: &[PortRow],
+    named: &[DrawnPort],
 ) -> bool {
     let mut is_short = false;
-    for at in ports {
-        is_short |= sources.push(circuit.source_of(gates, *at)).is_err();
+    for at in named {
+        is_short |= sources.push(source_of(rows, ports, *at)).is_err();
     }
     is_short
+}
+
+// Has the latches of all wires read what they should.
+fn put_all_latches(latches: &mut [Src], rows: &[GateRow], ports: &[PortRow], wires: &[DrawnWire]) {
+    for wire in wires {
+        put_latches(latches, wire, source_of(rows, ports, wire.from));
+    }
 }
 
 impl Ends {
@@ -59,28 +67,20 @@ impl Ends {
         }
     }
 
-    // Adds what the latches of a drawing's wires read, and their start bits.
-    fn add_latches(&mut self, gates: &GateRows, circuit: &Circuit, drawing: &Drawing) {
-        let starts = drawing.starts.as_slice();
-        self.is_short |= self.starts.extend_from_slice(starts).is_err();
-        self.is_short |= self.latches.resize(starts.len(), Src::Zero).is_err();
-        for wire in drawing.wires.as_slice() {
-            let source = circuit.source_of(gates, wire.from);
-            put_latches(&mut self.latches, wire, source);
-        }
-    }
-
     /// Adds the ends of a drawing, of which these are the nets' ports.
     pub fn fill(
         &mut self,
-        gates: &GateRows,
-        circuit: &Circuit,
+        rows: &[GateRow],
+        ports: &[PortRow],
         drawing: &Drawing,
         nets: &[DrawnPort],
     ) {
-        self.is_short |= add_sources_at(&mut self.outs, gates, circuit, drawing.outs.as_slice());
-        self.is_short |= add_sources_at(&mut self.nets, gates, circuit, nets);
-        self.add_latches(gates, circuit, drawing);
+        let starts = drawing.starts.as_slice();
+        self.is_short |= add_sources_at(&mut self.outs, rows, ports, drawing.outs.as_slice());
+        self.is_short |= add_sources_at(&mut self.nets, rows, ports, nets);
+        self.is_short |= self.starts.extend_from_slice(starts).is_err();
+        self.is_short |= self.latches.resize(starts.len(), Src::Zero).is_err();
+        put_all_latches(&mut self.latches, rows, ports, drawing.wires.as_slice());
     }
 }
 
@@ -108,7 +108,8 @@ fn are_there(sources: &[Src], inputs: usize, latches: usize, cells: usize) -> bo
     true
 }
 
-fn fit(ends: &Ends, inputs: usize, cells: &[Cell]) -> bool
+/// Returns whether cells and ends read what is there, and each latch has a start bit.
+pub fn fit(ends: &Ends, inputs: usize, cells: &[Cell]) -> bool
     ensures { IsTrue result → FitsCells inputs cells.now ends.now }
 {
     let (latches, made) = (ends.starts.len(), cells.len());
@@ -127,17 +128,16 @@ fn fit(ends: &Ends, inputs: usize, cells: &[Cell]) -> bool
     are_there(&ends.latches, inputs, latches, made)
 }
 
-/// Returns the list with these inputs, cells and ends, or none if what they read is not there.
-pub fn list_of(inputs: u32, cells: Vec<Cell>, ends: Ends) -> Option<CellList> {
-    if !fit(&ends, inputs as usize, &cells) {
-        return None;
-    }
-    Some(CellList {
+/// Returns the list with these inputs, cells and ends.
+pub fn list_of(inputs: u32, cells: Vec<Cell>, ends: Ends) -> CellList
+    requires { FitsCells inputs cells.items ends }
+{
+    CellList {
         inputs,
         cells: List::of(cells),
         outs: List::of(ends.outs),
         latches: List::of(ends.latches),
         starts: List::of(ends.starts),
         nets: List::of(ends.nets),
-    })
+    }
 }

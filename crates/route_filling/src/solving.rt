@@ -1,22 +1,38 @@
 // The sources of all ports, found from the circuit's inputs and latches on.
 
-use crate::circuit::{Circuit, Known, PortRow};
-use crate::gates::{GateRow, GateRows, small};
+use crate::feeding::{PortRow, WireRow};
+use crate::gates::{GateRow, GateRows, port_number, small};
+use crate::listing::part;
 use cell_core::{Cell, Src};
 use gate_library::Answer;
-use route_tables::{FaultWord, Feed};
-use routed_core::{Drawing, DrawnPort, DrawnWire, GatePort};
+use route_tables::Feed;
+use routed_core::{DrawnPort, GatePort};
+use std::alloc::Global;
+
+/// A port, by its number, whose source is known.
+#[derive(Clone, Copy)]
+struct Known {
+    port: usize,
+    source: Src,
+}
+
+/// The cells that were made so far, and the ports from which the search goes on. `is_short` says whether memory ran
+/// out.
+#[derive(Drop)]
+pub struct Search {
+    pub cells: Vec<Cell>,
+    waiting: Vec<Known>,
+    pub is_short: bool,
+}
 
 // The source with which an input begins, if it is driven or at the end of a wire with latches.
-fn first_source(feed: Feed, wires: &[DrawnWire], inputs: u32) -> Option<Src> {
+fn first_source(feed: Feed, wires: &[WireRow], inputs: u32) -> Option<Src> {
     match feed {
         Feed::Driven(d) if d < inputs => Some(Src::Input(d)),
         Feed::Driven(_) => Some(Src::Zero),
         Feed::Wire(w) => match wires.get(w as usize) {
-            Some(wire) if wire.cycles > 0 => {
-                Some(Src::Latch(wire.latch.saturating_add(wire.cycles - 1)))
-            }
-            _ => None,
+            Some(wire) => wire.latch,
+            None => None,
         },
     }
 }
@@ -39,39 +55,37 @@ fn cell_of(answer: Answer, a: Src, b: Src) -> Option<Cell> {
     }
 }
 
-// The gate of the first input that has no source, if there is one.
-fn unsolved(ports: &[PortRow]) -> Option<u32> {
-    for port in ports {
-        if port.feed.is_some() && port.source.is_none() {
-            return Some(port.at.gate);
-        }
+// The source of the port with this number, if it is known.
+fn source_at(ports: &[PortRow], number: u32) -> Option<Src> {
+    match ports.get(number as usize) {
+        Some(port) => port.source,
+        None => None,
     }
-    None
 }
 
-impl Circuit {
-    // Begins at the port with this number, if its source is known at once.
-    fn begin_at(&mut self, port: usize, wires: &[DrawnWire], inputs: u32) {
-        let Some(row) = self.ports.get(port) else {
-            return;
-        };
-        let Some(feed) = row.feed else {
-            return;
-        };
-        if let Some(source) = first_source(feed, wires, inputs) {
-            self.is_short |= self.waiting.push(Known { port, source }).is_err();
+impl Search {
+    /// Returns a search that has not begun.
+    pub fn new(alloc: Global) -> Search {
+        Search {
+            cells: Vec::new(alloc),
+            waiting: Vec::new(alloc),
+            is_short: false,
         }
     }
 
     // Begins at the inputs that are driven, and at those at the ends of wires with latches.
-    fn begin(&mut self, wires: &[DrawnWire], inputs: u32) {
-        for port in 0..self.ports.len() {
-            self.begin_at(port, wires, inputs);
+    fn begin(&mut self, ports: &[PortRow], wires: &[WireRow], inputs: u32) {
+        for port in 0..ports.len() {
+            if let Some(feed) = ports[port].feed {
+                if let Some(source) = first_source(feed, wires, inputs) {
+                    self.is_short |= self.waiting.push(Known { port, source }).is_err();
+                }
+            }
         }
     }
 
     // Leads a source along the wires that begin at its port, of which this is the first. A wire with latches ends it.
-    fn lead(&mut self, gates: &GateRows, wires: &[DrawnWire], first: Option<u32>, source: Src) {
+    fn lead(&mut self, wires: &[WireRow], first: Option<u32>, source: Src) {
         let mut at = first;
         for _ in 0..wires.len() {
             let Some(number) = at else {
@@ -80,33 +94,21 @@ impl Circuit {
             let Some(wire) = wires.get(number as usize) else {
                 break;
             };
-            if wire.cycles == 0 {
-                let port = gates.wire_end(wire);
+            if wire.latch.is_none() {
+                let port = wire.end;
                 self.is_short |= self.waiting.push(Known { port, source }).is_err();
             }
-            at = match self.next.get(number as usize) {
-                Some(next) => *next,
-                None => None,
-            };
-        }
-    }
-
-    // The source of a gate's input, if the input is there and the source known.
-    fn input_source(&self, row: &GateRow, input: u32) -> Option<Src> {
-        let number = row.ins.saturating_add(input as usize);
-        match self.ports.get(number) {
-            Some(port) if number < row.outs => port.source,
-            _ => None,
+            at = wire.next;
         }
     }
 
     // The source that answers inputs, if the given one is the last of them that became known.
-    fn answer_of(&mut self, row: &GateRow, input: u32, answer: Answer) -> Option<Src> {
+    fn answer_of(&mut self, ins: &[PortRow], input: u32, answer: Answer) -> Option<Src> {
         let (i, j) = inputs_of(answer);
         if i != input && j != input {
             return None;
         }
-        let (Some(a), Some(b)) = (self.input_source(row, i), self.input_source(row, j)) else {
+        let (Some(a), Some(b)) = (source_at(ins, i), source_at(ins, j)) else {
             return None;
         };
         let Some(cell) = cell_of(answer, a, b) else {
@@ -118,16 +120,17 @@ impl Circuit {
     }
 
     // Answers what can be answered of a gate, of which this input became known.
-    fn answer_gate(&mut self, gates: &GateRows, gate: u32, input: u32) {
+    fn answer_gate(&mut self, gates: &GateRows, ports: &[PortRow], gate: u32, input: u32) {
         let Some(row) = gates.rows.get(gate as usize) else {
             return;
         };
-        let Some(drawing) = gates.drawing(row) else {
+        let Some(drawing) = gates.drawing_of(gate as usize) else {
             return;
         };
+        let ins = part(ports, row.ins, row.outs);
         let mut port = row.outs;
         for answer in drawing.answers.as_slice() {
-            if let Some(source) = self.answer_of(row, input, *answer) {
+            if let Some(source) = self.answer_of(ins, input, *answer) {
                 self.is_short |= self.waiting.push(Known { port, source }).is_err();
             }
             port = port.saturating_add(1);
@@ -135,44 +138,50 @@ impl Circuit {
     }
 
     // Goes on from a port whose source is known.
-    fn go_on(&mut self, gates: &GateRows, wires: &[DrawnWire], known: Known) {
-        let Some(port) = self.ports.get_mut(known.port) else {
+    fn go_on(&mut self, gates: &GateRows, ports: &mut [PortRow], wires: &[WireRow], known: Known) {
+        if known.port >= ports.len() {
             return;
-        };
-        port.source = Some(known.source);
-        let PortRow { at, wire, .. } = *port;
-        self.lead(gates, wires, wire, known.source);
+        }
+        ports[known.port].source = Some(known.source);
+        let PortRow { at, wire, .. } = ports[known.port];
+        self.lead(wires, wire, known.source);
         if let GatePort::In(input) = at.port {
-            self.answer_gate(gates, at.gate, input);
+            self.answer_gate(gates, ports, at.gate, input);
         }
     }
 
-    // Goes on from the ports that wait, the last one first.
-    fn go_on_all(&mut self, gates: &GateRows, wires: &[DrawnWire]) {
-        for _ in 0..self.ports.len() {
+    /// Finds the sources of all ports that can be known, and the cells that they are of.
+    pub fn solve(
+        &mut self,
+        gates: &GateRows,
+        ports: &mut [PortRow],
+        wires: &[WireRow],
+        inputs: u32,
+    ) {
+        self.begin(ports, wires, inputs);
+        for _ in 0..ports.len() {
             let Some(known) = self.waiting.pop() else {
                 break;
             };
-            self.go_on(gates, wires, known);
+            self.go_on(gates, ports, wires, known);
         }
     }
+}
 
-    /// Finds the sources of all ports that can be known, and the cells that they are of. A gate of which an input has
-    /// no source is at fault: then gates read each other in a circle.
-    pub fn solve(&mut self, gates: &GateRows, drawing: &Drawing) {
-        let wires = drawing.wires.as_slice();
-        self.begin(wires, small(drawing.ins.len()));
-        self.go_on_all(gates, wires);
-        if let Some(gate) = unsolved(&self.ports) {
-            self.refuse(drawing, gate, FaultWord::Order);
+/// Returns a gate of which an input has no source, if there is one: then gates read each other in a circle.
+pub fn unsolved(ports: &[PortRow]) -> Option<u32> {
+    for port in ports {
+        if port.feed.is_some() && port.source.is_none() {
+            return Some(port.at.gate);
         }
     }
+    None
+}
 
-    /// Returns the source of a port, or constant 0 if none is known.
-    pub fn source_of(&self, gates: &GateRows, at: DrawnPort) -> Src {
-        match self.ports.get(gates.port_number(at)) {
-            Some(port) => port.source.unwrap_or(Src::Zero),
-            None => Src::Zero,
-        }
+/// Returns the source of a port, or constant 0 if none is known.
+pub fn source_of(rows: &[GateRow], ports: &[PortRow], at: DrawnPort) -> Src {
+    match ports.get(port_number(rows, at)) {
+        Some(port) => port.source.unwrap_or(Src::Zero),
+        None => Src::Zero,
     }
 }

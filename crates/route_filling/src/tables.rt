@@ -1,83 +1,147 @@
 // Tables of a drawing.
 
-use crate::circuit::Circuit;
+use crate::feeding::FedPorts;
 use crate::gates::{GateRows, at_gate, small};
-use crate::listing::Listing;
-use crate::lists_of::{Ends, list_of};
+use crate::listing::{Listing, add_gates, add_nets, put_serials};
+use crate::lists_of::{Ends, fit, list_of};
+use crate::solving::{Search, unsolved};
 use lists::{List, OutOfMemory};
-use route_tables::{CellFault, FaultWord, Tables};
-use routed_core::Drawing;
+use route_tables::{CellFault, FaultWord, TableGate, Tables};
+use routed_core::{Drawing, DrawnPort};
 use std::alloc::Global;
 
-/// What is found of a drawing.
+/// What is found of a drawing, and whether memory ran out.
 #[derive(Drop)]
 struct Filling {
     gates: GateRows,
-    circuit: Circuit,
+    fed: FedPorts,
+    search: Search,
     listing: Listing,
     ends: Ends,
+    table: Vec<TableGate>,
+    outs: Vec<DrawnPort>,
+    nets: Vec<DrawnPort>,
+    serials: Vec<u32>,
+    is_short: bool,
 }
 
 impl Filling {
     fn new(alloc: Global) -> Filling {
         Filling {
             gates: GateRows::new(alloc),
-            circuit: Circuit::new(alloc),
+            fed: FedPorts::new(alloc),
+            search: Search::new(alloc),
             listing: Listing::new(alloc),
             ends: Ends::new(alloc),
+            table: Vec::new(alloc),
+            outs: Vec::new(alloc),
+            nets: Vec::new(alloc),
+            serials: Vec::new(alloc),
+            is_short: false,
         }
     }
 
     // The first fault that was found.
-    fn fault(&self) -> Option<CellFault> {
-        match self.gates.fault {
-            Some(fault) => Some(fault),
-            None => self.circuit.fault,
+    fn fault(&self, drawing: &Drawing) -> Option<CellFault> {
+        if self.gates.fault.is_some() {
+            return self.gates.fault;
+        }
+        if self.fed.fault.is_some() {
+            return self.fed.fault;
+        }
+        match unsolved(&self.fed.ports) {
+            Some(gate) => Some(at_gate(drawing, gate, FaultWord::Order)),
+            None => None,
         }
     }
 
     // Whether memory ran out.
-    fn is_short(&self) -> bool {
-        self.gates.is_short || self.circuit.is_short || self.listing.is_short || self.ends.is_short
+    fn ran_short(&self) -> bool {
+        let found = self.gates.is_short || self.fed.is_short || self.search.is_short;
+        found || self.listing.is_short || self.ends.is_short || self.is_short
     }
 
-    // Finds all that the tables have beside their serials.
-    fn fill(&mut self, alloc: Global, drawing: &Drawing) {
+    // Finds the sources of all ports.
+    fn solve(&mut self, alloc: Global, drawing: &Drawing) {
         self.gates.fill(alloc, drawing.gates.as_slice());
-        self.circuit.feed_all(&self.gates, drawing);
-        self.circuit.solve(&self.gates, drawing);
-        self.listing
-            .fill(alloc, &self.gates, &self.circuit, drawing);
-        self.ends
-            .fill(&self.gates, &self.circuit, drawing, &self.listing.nets);
+        self.fed.fill(&self.gates.rows, drawing);
+        self.search.solve(
+            &self.gates,
+            &mut self.fed.ports,
+            &self.fed.wires,
+            small(drawing.ins.len()),
+        );
     }
 
-    // Makes the tables of what was found, unless a fault was found, or what the cells read is not there.
+    // Lists the gates, the wires and the named ports of a drawing that was solved.
+    fn list(&mut self, alloc: Global, drawing: &Drawing) {
+        self.listing.fill(&self.gates, drawing);
+        let (rows, ports) = (&self.gates.rows, &self.fed.ports);
+        let gates = drawing.gates.as_slice();
+        self.is_short |= add_gates(&mut self.table, alloc, gates, rows, ports);
+        self.is_short |= add_nets(&mut self.nets, drawing.nets.as_slice());
+        let outs = drawing.outs.as_slice();
+        self.is_short |= self.outs.extend_from_slice(outs).is_err();
+        self.ends.fill(rows, ports, drawing, &self.nets);
+    }
+
+    // Makes the table of the serials of listed cells, of so many columns and cells.
+    fn number(&mut self, width: u32, size: usize) {
+        self.is_short |= self.serials.resize(size, 0).is_err();
+        put_serials(&mut self.serials, width, &self.listing.cells);
+    }
+
+    // Finds all that the tables of a box have; returns the first fault.
+    fn fill(
+        &mut self,
+        alloc: Global,
+        drawing: &Drawing,
+        width: u32,
+        size: usize,
+    ) -> Result<Option<CellFault>, OutOfMemory> {
+        self.solve(alloc, drawing);
+        let fault = self.fault(drawing);
+        if fault.is_none() {
+            self.list(alloc, drawing);
+            self.number(width, size);
+        }
+        if self.ran_short() {
+            return Err(OutOfMemory::NoMemory);
+        }
+        Ok(fault)
+    }
+
+    // Makes the tables of what was found, if the cells and the ends read what is there.
     fn into_tables(self, drawing: &Drawing, width: u32) -> Result<Tables, CellFault> {
-        if let Some(fault) = self.fault() {
-            return Err(fault);
+        let inputs = small(drawing.ins.len());
+        if !fit(&self.ends, inputs as usize, &self.search.cells) {
+            drop(self);
+            return Err(at_gate(drawing, 0, FaultWord::Order));
         }
         let Filling {
             gates,
-            circuit,
+            fed,
+            search,
             listing,
             ends,
+            table,
+            outs,
+            nets,
+            serials,
+            ..
         } = self;
-        let Some(list) = list_of(small(drawing.ins.len()), circuit.cells, ends) else {
-            return Err(at_gate(drawing, 0, FaultWord::Order));
-        };
         Ok(Tables {
             width,
             kinds: List::of(gates.kinds),
-            gates: List::of(listing.gates),
+            gates: List::of(table),
             wires: List::of(listing.wires),
-            driven: List::of(circuit.driven),
+            driven: List::of(fed.driven),
             cells: List::of(listing.cells),
             groups: List::of(listing.groups),
-            serials: List::of(listing.serials),
-            list,
-            outs: List::of(listing.outs),
-            nets: List::of(listing.nets),
+            serials: List::of(serials),
+            list: list_of(inputs, search.cells, ends),
+            outs: List::of(outs),
+            nets: List::of(nets),
         })
     }
 }
@@ -91,12 +155,15 @@ pub fn tables_of(
     size: usize,
 ) -> Result<Result<Tables, CellFault>, OutOfMemory> {
     let mut filling = Filling::new(alloc);
-    filling.fill(alloc, drawing);
-    if filling.fault().is_none() {
-        filling.listing.add_serials(width, size);
+    match filling.fill(alloc, drawing, width, size) {
+        Ok(None) => Ok(filling.into_tables(drawing, width)),
+        Ok(Some(fault)) => {
+            drop(filling);
+            Ok(Err(fault))
+        }
+        Err(error) => {
+            drop(filling);
+            Err(error)
+        }
     }
-    if filling.is_short() {
-        return Err(OutOfMemory::NoMemory);
-    }
-    Ok(filling.into_tables(drawing, width))
 }
