@@ -101,8 +101,13 @@ fn list_of(
     ensures shows { IfOk result (λ list. ShowsListRuns (plane_of pattern.now.rows) ports.now list) }
     ensures fits { IfOk result (FitsPorts ports.now) }
 {
-    test_tables(alloc, pattern, ports, &tables)?;
-    Ok(tables.list)
+    match test_tables(alloc, pattern, ports, &tables) {
+        Ok(()) => Ok(tables.list),
+        Err(error) => {
+            drop(tables);
+            Err(error)
+        }
+    }
 }
 
 /// Returns a list of cells whose runs a pattern shows at the cells of its port table, if it is the
