@@ -1,5 +1,5 @@
 // What the lines of the sections say.
-ghost use Rattle.std.specs.Prelude.{◌≡◌, map, IfOk};
+ghost use Rattle.std.specs.Prelude.{◌≡◌, ◌∷◌, [], map, IfOk};
 ghost use Rattle.aiger_text.specs.Entries.{and_of_fields, entry_in, entry_of_fields, latch_of_fields, lit_of_fields, section_at};
 
 use crate::fields::first_fields;
@@ -54,16 +54,23 @@ fn latch_of_fields(fields: &[&[u8]]) -> Option<AigLatch>
     }
 }
 
+// The AND gate of three fields.
+fn gate_from(lhs: &[u8], rhs0: &[u8], rhs1: &[u8]) -> Option<AigAnd>
+    ensures { result ≡ and_of_fields (lhs.now ∷ rhs0.now ∷ rhs1.now ∷ []) }
+{
+    Some(AigAnd {
+        lhs: number_in(lhs)?,
+        rhs0: number_in(rhs0)?,
+        rhs1: number_in(rhs1)?,
+    })
+}
+
 // The AND gate of a line.
 fn and_of_fields(fields: &[&[u8]]) -> Option<AigAnd>
     ensures { result ≡ and_of_fields (map (λ f. f.now) fields.now) }
 {
     match *fields {
-        [lhs, rhs0, rhs1] => Some(AigAnd {
-            lhs: number_in(lhs)?,
-            rhs0: number_in(rhs0)?,
-            rhs1: number_in(rhs1)?,
-        }),
+        [lhs, rhs0, rhs1] => gate_from(lhs, rhs0, rhs1),
         _ => None,
     }
 }

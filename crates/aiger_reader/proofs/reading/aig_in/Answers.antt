@@ -43,3 +43,20 @@ returns-clause-no_fault c = λ text r.
     let symbols = symbols_are counts text sections s tables y in
     no_faults counts text s.no_fault (no_symbol_fault counts text sections s tables y) none
     (ap (name_faults counts) symbols ∙ c.in_ok-names.ensures.apart later y.known)
+
+pub returns-in_err-names-clause-aig : goal.returns-in_err-names-clause-aig
+returns-in_err-names-clause-aig c = rw ((err_from_is_err_and c.from_residual.result c.from_residual.ensures.1).1) tt
+
+pub returns-in_err-names-clause-no_fault : goal.returns-in_err-names-clause-no_fault
+returns-in_err-names-clause-no_fault c = rw ((err_from_is_err_and c.from_residual.result c.from_residual.ensures.1).1) tt
+
+pub returns-in_err-aig_of-clause-aig : goal.returns-in_err-aig_of-clause-aig
+returns-in_err-aig_of-clause-aig c = rw ((err_from_is_err_and c.from_residual-in_err-aig_of.result c.from_residual-in_err-aig_of.ensures.1).1) tt
+
+pub returns-in_err-aig_of-clause-no_fault : goal.returns-in_err-aig_of-clause-no_fault
+returns-in_err-aig_of-clause-no_fault c = rw ((err_from_is_err_and c.from_residual-in_err-aig_of.result c.from_residual-in_err-aig_of.ensures.1).1) tt
+
+pub returns-in_err-aig_of-clause-refused : goal.returns-in_err-aig_of-clause-refused
+returns-in_err-aig_of-clause-refused c =
+    let p = err_from_is_err_and c.from_residual-in_err-aig_of.result c.from_residual-in_err-aig_of.ensures.1 in
+    rw (p.1, p.2) (λ text k. tt)

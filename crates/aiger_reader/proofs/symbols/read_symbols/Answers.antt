@@ -1,4 +1,5 @@
 use Rattle.std.proofs.Common.{◌+◌, ◌∙◌, sym, arith, ◌++◌, ◌∷◌, []}
+use Rattle.std.proofs.lemmas.Result.{err_from_is_err_and}
 use Rattle.pattern_lines.specs.Lines.{line_of}
 use Rattle.aiger_reader.specs.Read.{lines_after}
 use Rattle.aiger_reader.proofs.SymbolWalk.{goes_on, at_fault}
@@ -23,3 +24,11 @@ loop-rest-preserved c =
             read.2 c.split_line.ensures.lines (sym c.is_symbol_line.ensures ∙ c.if-not-is_symbol_line.false) put.says put.sound,
       ),
     )
+
+pub returns-in_err-tables-clause-symbols : goal.returns-in_err-tables-clause-symbols
+returns-in_err-tables-clause-symbols c = rw ((err_from_is_err_and c.from_residual.result c.from_residual.ensures.1).1) tt
+
+pub returns-in_err-tables-clause-refused : goal.returns-in_err-tables-clause-refused
+returns-in_err-tables-clause-refused c =
+    let p = err_from_is_err_and c.from_residual.result c.from_residual.ensures.1 in
+    rw (p.1, p.2) tt
