@@ -3,7 +3,7 @@ ghost use Rattle.std.specs.Prelude.{◌≡◌};
 ghost use Rattle.aiger_meaning.specs.declared.error.LowerError.TheVariants.{NoMemory};
 
 use lists::List;
-use std::alloc::{AllocError, AllocFailed};
+use std::alloc::AllocError;
 use std::fmt;
 use thiserror::Error;
 
@@ -30,22 +30,12 @@ impl From<AllocError> for LowerError {
     }
 }
 
-impl<T: Drop> From<AllocFailed<T>> for LowerError {
-    ghost from_gives = { λ _ e. e ≡ NoMemory };
-
-    fn from(_: AllocFailed<T>) -> Self {
-        LowerError::NoMemory
-    }
-}
-
 impl fmt::Debug for LowerError {
     fn fmt<W: fmt::Write>(&self, f: &mut fmt::Formatter<W>) -> fmt::Result {
-        match self {
-            LowerError::TooLarge { weight } => {
-                f.debug_struct("TooLarge").field("weight", weight).finish()
-            }
-            LowerError::Loop(_) => f.write_str("Loop"),
-            LowerError::NoMemory => f.write_str("NoMemory"),
-        }
+        f.write_str(match self {
+            LowerError::TooLarge { .. } => "TooLarge",
+            LowerError::Loop(_) => "Loop",
+            LowerError::NoMemory => "NoMemory",
+        })
     }
 }

@@ -29,14 +29,19 @@ pub fn flat_of(
 {
     let first_buffer = 1 + aig.inputs.len() + aig.latches.len() + aig.ands.len();
     let first_output = first_buffer + aig.latches.len();
-    let latches = aig.latches.as_slice();
+    let ins = ports_from(alloc, 1, aig.inputs.len())?;
+    let outs = ports_from(alloc, first_output, aig.outputs.len())?;
+    let inner = aig.latches.as_slice();
+    let latches = latches_from(alloc, first_buffer, 1 + aig.inputs.len(), inner)?;
+    let nets = nets_of(alloc, aig)?;
+    let nodes = nodes_of(alloc, aig, known)?;
     Ok(Flat {
-        nets: List::of(nets_of(alloc, aig)?),
-        ins: List::of(ports_from(alloc, 1, aig.inputs.len())?),
-        outs: List::of(ports_from(alloc, first_output, aig.outputs.len())?),
+        nets: List::of(nets),
+        ins: List::of(ins),
+        outs: List::of(outs),
         clocks: List::of(Vec::new(alloc)),
-        nodes: List::of(nodes_of(alloc, aig, known)?),
-        latches: List::of(latches_from(alloc, first_buffer, 1 + aig.inputs.len(), latches)?),
+        nodes: List::of(nodes),
+        latches: List::of(latches),
         control: None,
         weight,
         listed: false,

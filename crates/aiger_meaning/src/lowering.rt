@@ -1,12 +1,14 @@
 // From a circuit to its flat netlist.
-ghost use Rattle.std.specs.Prelude.{ℕ, List, ◌≤◌, IfOk, IfErr, OnOk};
+ghost use Rattle.std.specs.Prelude.{ℕ, List, ◌≡◌, ◌≤◌, IfOk, IfErr, OnOk};
+ghost use Rattle.netlist_core.specs.declared.flat.Flat as flats;
 ghost use Rattle.netlist_meaning.specs.FlatOrder.{IsOrder};
+ghost use Rattle.loop_check.specs.Reasons.{IsOrderRefusal};
 ghost use Rattle.aiger_text.specs.SoundAig.{IsSoundAig};
 ghost use Rattle.netlist_core.specs.Limit.{weight_limit};
 ghost use Rattle.aiger_meaning.specs.Causes.{HasLowerCause};
 ghost use Rattle.aiger_meaning.specs.Circuit.{aig_weight};
 ghost use Rattle.aiger_meaning.specs.Loop.{IsAigLoop};
-ghost use Rattle.aiger_meaning.specs.FlatOf.{IsFlatOfAig};
+ghost use Rattle.aiger_meaning.specs.FlatOf.{IsFlatOfAig, own_literals};
 ghost use Rattle.aiger_meaning.specs.Lowered.{IsLowered};
 
 use crate::error::LowerError;
@@ -25,6 +27,22 @@ pub struct Lowered {
     pub flat: Flat,
     /// Each node comes after those that drive what it reads.
     pub order: Order,
+}
+
+// Why a circuit's flat netlist has no order, as the answer of `lower`.
+fn refusal(alloc: Global, aig: &Aig, own: &OwnLiterals, error: OrderError) -> LowerError
+    requires { own.now ≡ own_literals aig.now }
+    ensures { (flat : flats.Flat) → IsSoundAig aig.now → IsFlatOfAig aig.now flat
+        → aig_weight aig.now ≤ weight_limit → IsOrderRefusal flat error
+        → HasLowerCause aig.now result }
+{
+    match error {
+        OrderError::Loop(nets) => match literals_at(alloc, aig, own, nets.as_slice()) {
+            Ok(literals) => LowerError::Loop(literals),
+            Err(_) => LowerError::NoMemory,
+        },
+        OrderError::NoMemory => LowerError::NoMemory,
+    }
 }
 
 /// Makes the flat netlist of a sound circuit (`IsSoundAig`); each circuit that a text reads as is
@@ -48,9 +66,6 @@ pub fn lower(alloc: Global, aig: &Aig) -> Result<Lowered, LowerError>
     let flat = flat_of(alloc, aig, &own, weight)?;
     match loop_check::order(alloc, &flat) {
         Ok(order) => Ok(Lowered { flat, order }),
-        Err(OrderError::Loop(nets)) => {
-            Err(LowerError::Loop(literals_at(alloc, aig, &own, nets.as_slice())?))
-        }
-        Err(OrderError::NoMemory) => Err(LowerError::NoMemory),
+        Err(error) => Err(refusal(alloc, aig, &own, error)),
     }
 }

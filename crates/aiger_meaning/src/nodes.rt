@@ -42,7 +42,11 @@ fn nets_of(
 fn row_of(alloc: Global, lits: &[u64]) -> Result<Vec<u8>, AllocError>
     ensures { IfOk result (λ row. row.items ≡ map row_character lits.now) }
 {
-    lits.iter().map(|lit| row_character(*lit)).collect(alloc)
+    let mut row = Vec::with_capacity(alloc, lits.len())?;
+    for lit in lits {
+        row.push(row_character(*lit))?;
+    }
+    Ok(row)
 }
 
 // A list of one row.
