@@ -3,13 +3,13 @@ use Rattle.std.specs.Prelude.{replicate}
 use Rattle.std.proofs.lemmas.List.{length-take-le, length-replicate, length-drop}
 use Rattle.netlist_core.specs.Names.{Name}
 use Rattle.aiger_meaning.proofs.Pushes.{more_long, nets_are}
-use Rattle.aiger_meaning.proofs.nets.push_nets.Goals as goal
+use Rattle.aiger_meaning.proofs.nets.nets_of.Goals as goal
 
 pub push_unnamed-requires : goal.push_unnamed-requires
 push_unnamed-requires c =
     let names = c.as_slice-names.result.now in
-    let none : length c.args.nets.now.items ≡ 0 = ap length c.requires.empty in
-    let a = more_long c.args.nets.now.items c.push_net.new.nets.items ([] ∷ []) c.in_ok-push_net.ensures in
+    let none : length c.new-nets.result.items ≡ 0 = ap length c.new-nets.ensures.items in
+    let a = more_long c.new-nets.result.items c.push_net.new.nets.items ([] ∷ []) c.in_ok-push_net.ensures in
     let b = more_long c.push_net.new.nets.items c.push_named.new.nets.items (take c.len-count.result names) c.in_ok-push_named.ensures in
     let few : c.len-count.result ≤ length names = omega (arith, c.len-count.ensures, c.requires.sound.all_named, ap length c.as_slice-names.ensures) in
     omega (arith, none, a, b, length-take-le c.len-count.result names few, c.requires.small, c.len-count.ensures, c.len.ensures, c.len-2.ensures, c.len-3.ensures)
@@ -18,8 +18,8 @@ pub push_named-requires-2 : goal.push_named-requires-2
 push_named-requires-2 c =
     let names = c.as_slice-names.result.now in
     let inner = c.len.result + c.len-2.result + c.len-3.result in
-    let none : length c.args.nets.now.items ≡ 0 = ap length c.requires.empty in
-    let a = more_long c.args.nets.now.items c.push_net.new.nets.items ([] ∷ []) c.in_ok-push_net.ensures in
+    let none : length c.new-nets.result.items ≡ 0 = ap length c.new-nets.ensures.items in
+    let a = more_long c.new-nets.result.items c.push_net.new.nets.items ([] ∷ []) c.in_ok-push_net.ensures in
     let b = more_long c.push_net.new.nets.items c.push_named.new.nets.items (take c.len-count.result names) c.in_ok-push_named.ensures in
     let u = more_long c.push_named.new.nets.items c.push_unnamed.new.nets.items (replicate inner []) c.in_ok-push_unnamed.ensures in
     let few : c.len-count.result ≤ length names = omega (arith, c.len-count.ensures, c.requires.sound.all_named, ap length c.as_slice-names.ensures) in
@@ -45,6 +45,6 @@ push_named-requires-2 c =
 
 pub returns : goal.returns
 returns c =
-    nets_are c.args.aig.now c.as_slice-names.result.now c.len-count.result (c.len.result + c.len-2.result + c.len-3.result) c.args.nets.now.items c.push_net.new.nets.items c.push_named.new.nets.items c.push_unnamed.new.nets.items c.push_named-2.new.nets.items
-    (omega (arith, c.requires.sound.all_named)) c.as_slice-names.ensures c.len-count.ensures (omega (arith, c.len.ensures, c.len-2.ensures, c.len-3.ensures)) c.requires.empty
+    nets_are c.args.aig.now c.as_slice-names.result.now c.len-count.result (c.len.result + c.len-2.result + c.len-3.result) c.new-nets.result.items c.push_net.new.nets.items c.push_named.new.nets.items c.push_unnamed.new.nets.items c.push_named-2.new.nets.items
+    (omega (arith, c.requires.sound.all_named)) c.as_slice-names.ensures c.len-count.ensures (omega (arith, c.len.ensures, c.len-2.ensures, c.len-3.ensures)) c.new-nets.ensures.items
     c.in_ok-push_net.ensures c.in_ok-push_named.ensures c.in_ok-push_unnamed.ensures c.in_ok-push_named-2.ensures
