@@ -35,21 +35,25 @@ fn lit_of_fields(fields: &[&[u8]]) -> Option<u64>
     }
 }
 
+// The latch of three fields.
+fn latch_from(lit: &[u8], next: &[u8], reset: &[u8]) -> Option<AigLatch>
+    ensures { result ≡ latch_of_fields (lit.now ∷ next.now ∷ reset.now ∷ []) }
+{
+    Some(AigLatch {
+        lit: number_in(lit)?,
+        next: number_in(next)?,
+        reset: number_in(reset)?,
+    })
+}
+
 // The latch of a line; a reset that is left out is 0.
+#[tactic(auto, using(crate::proofs::Forms::no_reset))]
 fn latch_of_fields(fields: &[&[u8]]) -> Option<AigLatch>
     ensures { result ≡ latch_of_fields (map (λ f. f.now) fields.now) }
 {
     match *fields {
-        [lit, next] => Some(AigLatch {
-            lit: number_in(lit)?,
-            next: number_in(next)?,
-            reset: 0,
-        }),
-        [lit, next, reset] => Some(AigLatch {
-            lit: number_in(lit)?,
-            next: number_in(next)?,
-            reset: number_in(reset)?,
-        }),
+        [lit, next] => latch_from(lit, next, b"0"),
+        [lit, next, reset] => latch_from(lit, next, reset),
         _ => None,
     }
 }
