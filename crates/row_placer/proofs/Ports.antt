@@ -70,7 +70,7 @@ found_above job n i v tags lane settled le within here =
     absurd (omega (arith, roles, within, high, le)))
     (cases_lt (lane + n) (length tags))
 
-brought_past : (from to l : ℕ) → from ≤ to → to < l → brought from to l ≡ l
+pub brought_past : (from to l : ℕ) → from ≤ to → to < l → brought from to l ≡ l
 brought_past from to l le lt = grind (arith, nat_tests)
 
 pub settled_more : (job : Job) (n v : ℕ) (tags tags' : List Tag) (lane to : ℕ) → AreSettled job n tags → get_or job.ports n 0 ≡ v → lane < length tags → get_or tags lane free_tag ≡ tag v (Port n)

@@ -1,5 +1,7 @@
 -- What the steps of a placer do to its lanes.
-use Rattle.std.specs.Prelude.{ℕ, ◌+◌, ◌-◌, ◌*◌, ◌<◌, ◌≤◌, ◌≡◌, length, get_or, slice_get, Some}
+use Rattle.std.specs.Prelude.{ℕ, ◌+◌, ◌-◌, ◌*◌, ◌<◌, ◌≤◌, ◌≡◌, ◌++◌, ◌∷◌, [], length, get_or, set, slice_get, Some}
+use Rattle.lane_core.specs.declared.instr.Instr.{Instr}
+use Rattle.lane_core.specs.Instrs.{lane_of}
 use Rattle.row_placer.specs.declared.roles.Tag.{Tag}
 use Rattle.row_placer.specs.declared.job.Job.{Job}
 use Rattle.row_placer.specs.declared.job.NumberedCell.{NumberedCell}
@@ -11,6 +13,12 @@ use Rattle.row_placer.specs.Ready.{IsGateOf, HoldAllPorts, AreSettled}
 pub record KeepsGates (old new : Lanes) : Type 0 where
   pub made : new.made.items ≡ old.made.items
   pub job : new.job ≡ old.job
+
+-- an instruction is added, after which its two lanes have these tags
+pub record DoesInstr (old new : Lanes) (instr : Instr) (upper lower : Tag) : Type 0 where
+  pub tags : new.tags.items
+      ≡ set (set old.tags.items (lane_of instr) upper) (lane_of instr + 1) lower
+  pub instrs : new.instrs.items ≡ old.instrs.items ++ instr ∷ []
 
 -- so many instructions are added, and the number of lanes stays
 pub record AddsInstrs (old new : Lanes) (n : ℕ) : Type 0 where
@@ -28,6 +36,15 @@ pub record MovesTags (old new : Lanes) (from : ℕ → ℕ) (n : ℕ) : Type 0 w
   pub same : SameTags old.tags.items new.tags.items
   pub long : length new.tags.items ≡ length old.tags.items
   pub count : length new.instrs.items ≡ length old.instrs.items + n
+
+-- two lanes come side by side between them, the upper one to `at`
+pub record MeetsAt (old new : Lanes) (upper lower at : ℕ) : Type 0 where
+  pub low : upper ≤ at
+  pub high : at < lower
+  pub first : tag_on new.tags.items at ≡ tag_on old.tags.items upper
+  pub second : tag_on new.tags.items (at + 1) ≡ tag_on old.tags.items lower
+  pub same : SameTags old.tags.items new.tags.items
+  pub adds : AddsInstrs old new (lower - upper - 1)
 
 -- the lane `at` and the next one get the tag of the lane `from`, and one lane with the tag `over`
 -- is given up for it

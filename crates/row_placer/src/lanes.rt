@@ -1,5 +1,5 @@
 // Lanes, with their tags and clocks, and the instructions so far.
-ghost use Rattle.std.specs.Prelude.{◌≡◌, ◌==◌, ◌≤◌, ◌<◌, ◌+◌, ◌-◌, ◌*◌, ◌^◌, ◌++◌, ◌∷◌, [], length, All, set, OnOk, IfSome, IfOk, None, true, false};
+ghost use Rattle.std.specs.Prelude.{◌≡◌, ◌⊎◌, ◌==◌, ◌≤◌, ◌<◌, ◌+◌, ◌-◌, ◌*◌, ◌^◌, ◌++◌, ◌∷◌, [], length, All, set, OnOk, IfSome, IfOk, None, true, false};
 ghost use Rattle.lane_core.specs.Instrs.{IsOnLanes, lane_of};
 ghost use Rattle.lane_core.specs.Places.{IsPlaceWithin};
 ghost use Rattle.row_placer.specs.declared.roles.Role.TheVariants.{Free, Kept, First, Second};
@@ -38,7 +38,7 @@ pub struct Lanes<'a> {
 }
 
 impl<'a> Lanes<'a> {
-    ghost use Rattle.row_placer.specs.Steps.{KeepsGates, AddsInstrs, AddsAtMost, MovesTags, CopiesTag, IsNextGate, EndsWithNextGate, MakesGate, PlacesJob, next_value};
+    ghost use Rattle.row_placer.specs.Steps.{KeepsGates, DoesInstr, MeetsAt, AddsInstrs, AddsAtMost, MovesTags, CopiesTag, IsNextGate, EndsWithNextGate, MakesGate, PlacesJob, next_value};
 
     /// Returns the lanes as they are at the start.
     pub fn new(alloc: Global, job: &'a Job) -> Result<Lanes<'a>, PlaceError>
@@ -80,11 +80,7 @@ impl<'a> Lanes<'a> {
     fn step(&mut self, instr: Instr, upper: Tag, lower: Tag) -> Result<(), PlaceError>
         requires within { lane_of instr + 1 < length self.old.tags.items }
         requires answers { PutsTags self.old.job.now self.old.tags.items instr upper lower }
-        ensures tags { OnOk result (
-            self.new.tags.items
-            ≡ set (set self.old.tags.items (lane_of instr) upper) (lane_of instr + 1) lower
-            ) }
-        ensures instrs { OnOk result (self.new.instrs.items ≡ self.old.instrs.items ++ instr ∷ []) }
+        ensures does { OnOk result (DoesInstr self.old self.new instr upper lower) }
         ensures kept { KeepsGates self.old self.new }
     {
         self.instrs.push(instr)?;
@@ -105,8 +101,7 @@ impl<'a> Lanes<'a> {
     {
         let upper = self.tags[lane as usize + 1];
         let lower = self.tags[lane as usize];
-        self.step(Instr::Swap(lane), upper, lower)?;
-        Ok(())
+        self.step(Instr::Swap(lane), upper, lower)
     }
 
     /// Copies a lane to the next one.
@@ -119,8 +114,7 @@ impl<'a> Lanes<'a> {
         ensures kept { KeepsGates self.old self.new }
     {
         let both = self.tags[lane as usize];
-        self.step(Instr::Fork(lane), both, both)?;
-        Ok(())
+        self.step(Instr::Fork(lane), both, both)
     }
 
     /// Gives the value on a lane another role.
@@ -205,11 +199,9 @@ impl<'a> Lanes<'a> {
         ensures kept { KeepsGates self.old self.new }
     {
         if from < to {
-            self.bring_down(from, to)?;
-            Ok(())
+            self.bring_down(from, to)
         } else {
-            self.bring_up(from, to)?;
-            Ok(())
+            self.bring_up(from, to)
         }
     }
 
@@ -285,24 +277,18 @@ impl<'a> Lanes<'a> {
         first.max(upper + share).min(lower - 1 - share)
     }
 
-    /// Brings two lanes side by side, the upper one to `at`.
-    fn meet(&mut self, upper: u32, lower: u32, at: u32) -> Result<(), PlaceError>
-        requires low { upper ≤ at }
-        requires high { at < lower }
+    /// Brings two lanes side by side by the job's way of travelling, and returns the upper one of the
+    /// two lanes to which they come.
+    fn meet(&mut self, upper: u32, lower: u32) -> Result<u32, PlaceError>
+        requires order { upper < lower }
         requires within { lower < length self.old.tags.items }
-        ensures first { OnOk result (
-            tag_on self.new.tags.items at ≡ tag_on self.old.tags.items upper
-            ) }
-        ensures second { OnOk result (
-            tag_on self.new.tags.items (at + 1) ≡ tag_on self.old.tags.items lower
-            ) }
-        ensures same { OnOk result (SameTags self.old.tags.items self.new.tags.items) }
-        ensures adds { OnOk result (AddsInstrs self.old self.new (lower - upper - 1)) }
+        ensures met { IfOk result (MeetsAt self.old self.new upper lower) }
         ensures kept { KeepsGates self.old self.new }
     {
+        let at = self.joining(upper, lower);
         self.bring(upper, at)?;
         self.bring(lower, at + 1)?;
-        Ok(())
+        Ok(at)
     }
 
     /// Returns the nearest free lane below.
@@ -384,13 +370,11 @@ impl<'a> Lanes<'a> {
     {
         let free = self.choose_free(lane);
         if lane < free {
-            let at = self.joining(lane, free);
-            self.meet(lane, free, at)?;
+            let at = self.meet(lane, free)?;
             self.fork(at)?;
             Ok(at)
         } else {
-            let at = self.joining(free, lane);
-            self.meet(free, lane, at)?;
+            let at = self.meet(free, lane)?;
             self.swap(at)?;
             self.fork(at)?;
             Ok(at)
@@ -422,11 +406,7 @@ impl<'a> Lanes<'a> {
             Ok(())
         } else {
             let at = self.copy(lane)?;
-            if is_below(partner, at) {
-                self.mark(at + 1, role);
-            } else {
-                self.mark(at, role);
-            }
+            self.mark(beside(partner, at), role);
             Ok(())
         }
     }
@@ -475,8 +455,7 @@ impl<'a> Lanes<'a> {
                 role: Role::Free,
             },
         )?;
-        self.note(lane)?;
-        Ok(())
+        self.note(lane)
     }
 
     /// Makes the next gate from its operands.
@@ -491,20 +470,15 @@ impl<'a> Lanes<'a> {
         let x = self.find(gate.first, Role::First);
         let y = self.find(gate.second, Role::Second);
         if x < y {
-            let at = self.joining(x, y);
-            self.meet(x, y, at)?;
-            self.make(at, gate, false)?;
-            Ok(())
+            let at = self.meet(x, y)?;
+            self.make(at, gate, false)
         } else {
-            let at = self.joining(y, x);
-            self.meet(y, x, at)?;
+            let at = self.meet(y, x)?;
             if is_and_not(gate.kind) {
                 self.swap(at)?;
-                self.make(at, gate, false)?;
-                Ok(())
+                self.make(at, gate, false)
             } else {
-                self.make(at, gate, true)?;
-                Ok(())
+                self.make(at, gate, true)
             }
         }
     }
@@ -531,8 +505,7 @@ impl<'a> Lanes<'a> {
     {
         left[value as usize] -= 1;
         let last = left[value as usize] == 0;
-        self.fetch(value, role, last, partner)?;
-        Ok(())
+        self.fetch(value, role, last, partner)
     }
 
     /// Places the next gate.
@@ -664,11 +637,9 @@ impl<'a> Lanes<'a> {
     {
         let swaps = settling_swaps(alloc, &self.tags, &self.clocks, loops)?;
         if settles(alloc, self.job, loops, &self.tags, &swaps)? {
-            self.swap_all(&swaps)?;
-            Ok(())
+            self.swap_all(&swaps)
         } else {
-            self.bring_loops(loops)?;
-            Ok(())
+            self.bring_loops(loops)
         }
     }
 
@@ -703,11 +674,14 @@ fn share_of(travel: Travel, between: u32) -> u32
     }
 }
 
-// Whether there is a partner, and it stands below a lane.
-fn is_below(partner: Option<u32>, lane: u32) -> bool {
+// A lane or the next one: the one on the partner's side, and the upper one if there is no partner.
+fn beside(partner: Option<u32>, lane: u32) -> u32
+    requires { lane + 1 < 2 ^ 32 }
+    ensures { (result ≡ lane) ⊎ (result ≡ lane + 1) }
+{
     match partner {
-        Some(partner) => partner > lane,
-        None => false,
+        Some(partner) if partner > lane => lane + 1,
+        _ => lane,
     }
 }
 

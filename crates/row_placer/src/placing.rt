@@ -1,5 +1,5 @@
 // The placer.
-ghost use Rattle.std.specs.Prelude.{◌≡◌, ◌≤◌, ◌<◌, ◌+◌, ◌-◌, ◌*◌, ◌^◌, ◌++◌, length, map, max, All, true, false, ◌⊎◌, IfOk, OnOk};
+ghost use Rattle.std.specs.Prelude.{◌≡◌, ◌≤◌, ◌<◌, ◌+◌, ◌-◌, ◌*◌, ◌^◌, ◌++◌, length, map, max, All, true, false, IfOk, OnOk};
 ghost use Rattle.lists.specs.Items.{alone_if, number_at, one_if};
 ghost use Rattle.cell_core.specs.Loops.{loop_count, loop_data, loop_state, names_one};
 ghost use Rattle.row_placer.specs.Numbers.{number, ReadsWhatIsThere, NamesZero};
@@ -97,7 +97,8 @@ pub fn prepare(
     Ok(Prepared { job, left, homes })
 }
 
-fn one_if(flag: bool) -> u32
+/// Returns 1 for `true` and 0 for `false`.
+pub fn one_if(flag: bool) -> u32
     ensures { result ≡ one_if flag }
 {
     if flag { 1 } else { 0 }
@@ -140,17 +141,6 @@ impl Placed {
         let loops = self.program.latches.len() as u64;
         let width = self.columns.saturating_add(loops).saturating_add(loops);
         width.saturating_mul((self.program.lanes as u64).saturating_add(loops))
-    }
-}
-
-// The program with the smaller drawing, and the first if both are equal.
-fn smaller(best: Placed, next: Placed) -> Placed
-    ensures { (result ≡ best) ⊎ (result ≡ next) }
-{
-    if next.area() < best.area() {
-        next
-    } else {
-        best
     }
 }
 
@@ -277,17 +267,11 @@ fn more_tries(first: &Placed) -> u32 {
     }
 }
 
-// The second program if it has less than two thirds of the first one's instructions and its drawing
-// is at most twice as large, and else the first.
-fn much_shorter(first: Placed, second: Placed) -> Placed
-    ensures { (result ≡ first) ⊎ (result ≡ second) }
-{
+// Whether the second program has less than two thirds of the first one's instructions and its drawing
+// is at most twice as large.
+fn is_much_shorter(first: &Placed, second: &Placed) -> bool {
     let is_short = second.program.instrs.len() < first.program.instrs.len() / 3 * 2;
-    if is_short && second.area() / 2 <= first.area() {
-        second
-    } else {
-        first
-    }
+    is_short && second.area() / 2 <= first.area()
 }
 
 // The program of a list whose first program is too long, on as many lanes: lanes share the way, and
@@ -309,26 +293,52 @@ fn placed_again(
     place_with(alloc, list, loops, spare, &wanted, Travel::Shared)
 }
 
-// The first program, or, if it is too long, the one that `placed_again` makes if that is much
+// Takes the program that `placed_again` makes in place of a first one that is too long, if it is much
 // shorter: its drawing may be the larger one, but its text is not.
-fn shortened(
+fn shorten(
     alloc: Global,
     list: &CellList,
     loops: u32,
     spare: u32,
-    first: Placed,
-) -> Result<Placed, PlaceError>
+    first: &mut Placed,
+) -> Result<(), PlaceError>
     requires loops { loops ≡ loop_count list.now }
     requires small { IsPlaceable list.now }
     requires spare { spare < 2 ^ 20 }
-    requires first { IsPlacedWithin list.now spare first.program }
-    ensures { IfOk result (λ r. IsPlacedWithin list.now spare r.program) }
+    requires first { IsPlacedWithin list.now spare first.old.program }
+    ensures { IsPlacedWithin list.now spare first.new.program }
 {
     if first.program.instrs.len() <= TOO_LONG {
-        return Ok(first);
+        return Ok(());
     }
-    let second = placed_again(alloc, list, loops, spare, &first)?;
-    Ok(much_shorter(first, second))
+    let second = placed_again(alloc, list, loops, spare, first)?;
+    if is_much_shorter(first, &second) {
+        *first = second;
+    }
+    Ok(())
+}
+
+// Takes the program with so many spare lanes in place of the best one if its drawing is smaller.
+fn try_spare(
+    alloc: Global,
+    list: &CellList,
+    loops: u32,
+    spare: u32,
+    best: &mut Placed,
+) -> Result<(), PlaceError>
+    requires loops { loops ≡ loop_count list.now }
+    requires small { IsPlaceable list.now }
+    requires spare { spare ≤ max list.now.inputs (length list.now.outs) }
+    requires best { IsPlacedWithin
+        list.now (max list.now.inputs (length list.now.outs)) best.old.program }
+    ensures { IsPlacedWithin
+        list.now (max list.now.inputs (length list.now.outs)) best.new.program }
+{
+    let next = place_with(alloc, list, loops, spare, &[], Travel::Soonest)?;
+    if next.area() < best.area() {
+        *best = next;
+    }
+    Ok(())
 }
 
 /// Places a list on lanes: returns a program that computes it. It tries 0 to 4 spare lanes, but no
@@ -340,12 +350,11 @@ pub fn place(alloc: Global, list: &CellList) -> Result<Program, PlaceError>
     ensures { IfOk result (IsPlacedWithin list.now (max list.now.inputs (length list.now.outs))) }
 {
     let loops = count_loops(list);
-    let first = place_with(alloc, list, loops, 0, &[], Travel::Soonest)?;
-    let tries = more_tries(&first);
-    let mut best = shortened(alloc, list, loops, 0, first)?;
+    let mut best = place_with(alloc, list, loops, 0, &[], Travel::Soonest)?;
+    let tries = more_tries(&best);
+    shorten(alloc, list, loops, 0, &mut best)?;
     for spare in 0..most_spare(list).min(tries) {
-        let next = place_with(alloc, list, loops, spare + 1, &[], Travel::Soonest)?;
-        best = smaller(best, next);
+        try_spare(alloc, list, loops, spare + 1, &mut best)?;
     }
     Ok(best.program)
 }
@@ -365,8 +374,8 @@ pub fn place_at(
 {
     let loops = count_loops(list);
     let spare = spare.min(most_spare(list));
-    let first = place_with(alloc, list, loops, spare, wanted, Travel::Soonest)?;
-    let placed = shortened(alloc, list, loops, spare, first)?;
+    let mut placed = place_with(alloc, list, loops, spare, wanted, Travel::Soonest)?;
+    shorten(alloc, list, loops, spare, &mut placed)?;
     Ok(placed.program)
 }
 

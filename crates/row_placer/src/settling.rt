@@ -12,106 +12,94 @@ use std::alloc::Global;
 // More columns than a search comes to: it ends when no neighbours stand the wrong way round.
 const MOST_TURNS: u32 = u32::MAX;
 
-// Lanes on which loops' data go down: how low the lane of what stands on each is, from which column
-// each is idle, the lanes of the data, from the lowest up, and the exchanges so far, each by its
-// upper lane.
-#[derive(Drop)]
+// A lane on which loops' data go down: how low the lane of what stands on it is, and from which
+// column it is idle.
+#[derive(Clone, Copy)]
 struct Settling {
-    depths: Vec<u32>,
-    clocks: Vec<u64>,
-    data: Vec<u32>,
-    swaps: Vec<u32>,
+    depth: u32,
+    idle: u64,
 }
 
-impl Settling {
-    // No exchanges yet, on lanes with these tags that are idle from these columns.
-    fn new(
-        alloc: Global,
-        tags: &[Tag],
-        clocks: &[u64],
-        loops: u32,
-    ) -> Result<Settling, PlaceError> {
-        let depths = depths_of(alloc, tags, loops)?;
-        let data = lanes_of_data(alloc, &depths)?;
-        Ok(Settling {
-            depths,
-            clocks: clocks.to_vec(alloc)?,
-            data,
-            swaps: Vec::new(alloc),
-        })
+// The column from which a lane and the next one are idle, if they stand the wrong way round: a
+// loop's datum above what is none, or above one that belongs lower.
+fn wrong_from(lanes: &[Settling], lane: u32) -> Option<u64> {
+    let lane = lane as usize;
+    if lane.saturating_add(1) >= lanes.len() {
+        return None;
     }
-
-    // How low the lane of what stands on a lane is.
-    fn depth(&self, lane: u32) -> u32 {
-        self.depths.get(lane as usize).copied().unwrap_or(0)
+    let (upper, lower) = (lanes[lane], lanes[lane + 1]);
+    if upper.depth > lower.depth {
+        Some(upper.idle.max(lower.idle))
+    } else {
+        None
     }
+}
 
-    // The column from which a lane is idle.
-    fn clock(&self, lane: u32) -> u64 {
-        self.clocks.get(lane as usize).copied().unwrap_or(0)
+// Exchanges what stands on a lane and on the next one, which are idle from a column then. Returns
+// the lane to which the datum on the upper one goes, or that lane itself if a datum stands on both.
+fn swap(lanes: &mut [Settling], lane: u32, idle: u64) -> u32 {
+    let at = lane as usize;
+    if at.saturating_add(1) >= lanes.len() {
+        return lane;
     }
+    let (upper, lower) = (lanes[at].depth, lanes[at + 1].depth);
+    lanes[at] = Settling { depth: lower, idle };
+    lanes[at + 1] = Settling { depth: upper, idle };
+    if lower > 0 {
+        lane
+    } else {
+        lane.saturating_add(1)
+    }
+}
 
-    // The column from which two neighbours are idle, if they stand the wrong way round: a loop's
-    // datum above what is none, or above one that belongs lower.
-    fn wrong_from(&self, lane: u32) -> Option<u64> {
-        let next = lane.saturating_add(1);
-        if (next as usize) < self.depths.len() && self.depth(lane) > self.depth(next) {
-            Some(self.clock(lane).max(self.clock(next)))
-        } else {
-            None
+// Exchanges a datum, by its lane, and what stands below it, if they stand the wrong way round and
+// are idle at a column. Returns the next column at which they may be exchanged, if there is one.
+fn settle_datum(
+    lanes: &mut [Settling],
+    lane: &mut u32,
+    swaps: &mut Vec<u32>,
+    time: u64,
+) -> Result<Option<u64>, PlaceError> {
+    match wrong_from(lanes, *lane) {
+        Some(idle) if idle <= time => {
+            swaps.push(*lane)?;
+            *lane = swap(lanes, *lane, idle.saturating_add(1));
+            Ok(Some(time.saturating_add(1)))
+        }
+        idle => Ok(idle),
+    }
+}
+
+// From the lowest lane up, exchanges neighbours that stand the wrong way round and are idle at a
+// column. Returns the next column at which there may be such neighbours, if there is one.
+fn settle_at(
+    lanes: &mut [Settling],
+    data: &mut [u32],
+    swaps: &mut Vec<u32>,
+    time: u64,
+) -> Result<Option<u64>, PlaceError> {
+    let mut next = None;
+    for datum in 0..data.len() {
+        let idle = settle_datum(lanes, &mut data[datum], swaps, time)?;
+        next = earlier(next, idle);
+    }
+    Ok(next)
+}
+
+// Settles the loops column by column.
+fn settle(
+    lanes: &mut [Settling],
+    data: &mut [u32],
+    swaps: &mut Vec<u32>,
+) -> Result<(), PlaceError> {
+    let mut time = 0;
+    for _ in 0..MOST_TURNS {
+        match settle_at(lanes, data, swaps, time)? {
+            Some(next) => time = next,
+            None => return Ok(()),
         }
     }
-
-    // Exchanges two neighbours, which are idle from a column then. Returns the lane to which the
-    // datum on the upper one goes, or that lane itself if a datum stands on both.
-    fn swap(&mut self, lane: u32, time: u64) -> Result<u32, PlaceError> {
-        self.swaps.push(lane)?;
-        let next = lane.saturating_add(1);
-        let (upper, lower) = (self.depth(lane), self.depth(next));
-        set_depth(&mut self.depths, lane, lower);
-        set_depth(&mut self.depths, next, upper);
-        set_clock(&mut self.clocks, lane, time);
-        set_clock(&mut self.clocks, next, time);
-        Ok(if lower > 0 { lane } else { next })
-    }
-
-    // Exchanges a datum, by its place among the lanes of data, and what stands below it, if they
-    // stand the wrong way round and are idle at a column. Returns the next column at which they may
-    // be exchanged, if there is one.
-    fn settle_datum(&mut self, datum: usize, time: u64) -> Result<Option<u64>, PlaceError> {
-        let lane = self.data.get(datum).copied().unwrap_or(0);
-        match self.wrong_from(lane) {
-            Some(idle) if idle <= time => {
-                let lane = self.swap(lane, idle.saturating_add(1))?;
-                set_lane(&mut self.data, datum, lane);
-                Ok(Some(time.saturating_add(1)))
-            }
-            idle => Ok(idle),
-        }
-    }
-
-    // From the lowest lane up, exchanges neighbours that stand the wrong way round and are idle at
-    // a column. Returns the next column at which there may be such neighbours, if there is one.
-    fn settle_at(&mut self, time: u64) -> Result<Option<u64>, PlaceError> {
-        let mut next = None;
-        for datum in 0..self.data.len() {
-            let idle = self.settle_datum(datum, time)?;
-            next = earlier(next, idle);
-        }
-        Ok(next)
-    }
-
-    // Settles the loops column by column.
-    fn settle(&mut self) -> Result<(), PlaceError> {
-        let mut time = 0;
-        for _ in 0..MOST_TURNS {
-            match self.settle_at(time)? {
-                Some(next) => time = next,
-                None => return Ok(()),
-            }
-        }
-        Ok(())
-    }
+    Ok(())
 }
 
 /// Returns exchanges of neighbouring lanes, each by its upper lane, that are to bring the data of so
@@ -123,9 +111,11 @@ pub fn settling_swaps(
     clocks: &[u64],
     loops: u32,
 ) -> Result<Vec<u32>, PlaceError> {
-    let mut settling = Settling::new(alloc, tags, clocks, loops)?;
-    settling.settle()?;
-    Ok(settling.swaps)
+    let mut lanes = settling_lanes(alloc, tags, clocks, loops)?;
+    let mut data = lanes_of_data(alloc, &lanes)?;
+    let mut swaps = Vec::new(alloc);
+    settle(lanes.as_mut_slice(), data.as_mut_slice(), &mut swaps)?;
+    Ok(swaps)
 }
 
 /// Returns `true` only if exchanges are at most as many as so many loops times the lanes, and bring
@@ -204,13 +194,20 @@ fn has_port(tags: &[Tag], lane: usize, value: u32, port: u32) -> bool
     tags[lane].is(value, Role::Port(port))
 }
 
-// For each lane how low the lane of what stands on it is.
-fn depths_of(alloc: Global, tags: &[Tag], loops: u32) -> Result<Vec<u32>, PlaceError> {
-    let mut depths = Vec::new(alloc);
-    for tag in tags {
-        depths.push(depth_of(*tag, loops))?;
+// The lanes before any exchange, with these tags, and idle from these columns.
+fn settling_lanes(
+    alloc: Global,
+    tags: &[Tag],
+    clocks: &[u64],
+    loops: u32,
+) -> Result<Vec<Settling>, PlaceError> {
+    let mut lanes = Vec::with_capacity(alloc, tags.len())?;
+    for lane in 0..tags.len() {
+        let depth = depth_of(tags[lane], loops);
+        let idle = clocks.get(lane).copied().unwrap_or(0);
+        lanes.push(Settling { depth, idle })?;
     }
-    Ok(depths)
+    Ok(lanes)
 }
 
 // How low the lane of a loop's datum is: the greater, the lower; 0 for what is none.
@@ -222,11 +219,11 @@ fn depth_of(tag: Tag, loops: u32) -> u32 {
 }
 
 // The lanes of loops' data, from the lowest up.
-fn lanes_of_data(alloc: Global, depths: &[u32]) -> Result<Vec<u32>, PlaceError> {
+fn lanes_of_data(alloc: Global, lanes: &[Settling]) -> Result<Vec<u32>, PlaceError> {
     let mut data = Vec::new(alloc);
     let mut lane: u32 = 0;
-    for depth in depths {
-        if *depth > 0 {
+    for settling in lanes {
+        if settling.depth > 0 {
             data.push(lane)?;
         }
         lane = lane.saturating_add(1);
@@ -241,23 +238,5 @@ fn earlier(first: Option<u64>, second: Option<u64>) -> Option<u64> {
         (Some(first), Some(second)) => Some(first.min(second)),
         (None, second) => second,
         (first, None) => first,
-    }
-}
-
-fn set_depth(depths: &mut [u32], lane: u32, new: u32) {
-    if let Some(depth) = depths.get_mut(lane as usize) {
-        *depth = new;
-    }
-}
-
-fn set_clock(clocks: &mut [u64], lane: u32, time: u64) {
-    if let Some(clock) = clocks.get_mut(lane as usize) {
-        *clock = time;
-    }
-}
-
-fn set_lane(data: &mut [u32], datum: usize, new: u32) {
-    if let Some(lane) = data.get_mut(datum) {
-        *lane = new;
     }
 }

@@ -1,6 +1,6 @@
-use Rattle.std.proofs.Common.{sym, ◌∙◌, subst, ◌+◌, arith}
+use Rattle.std.proofs.Common.{◌≡◌, sym, ◌∙◌, ap, subst, ◌+◌, ◌<◌, ⊎_elim, length, arith}
 use Rattle.row_placer.specs.declared.roles.Role.TheVariants.{Kept}
-use Rattle.row_placer.specs.Told.{tag, free_tag, taken_tag, Exchanged}
+use Rattle.row_placer.specs.Told.{tag, tag_on, free_tag, taken_tag, Exchanged}
 use Rattle.row_placer.proofs.Carry.{kept_on, marked, copy_marked}
 use Rattle.row_placer.proofs.lanes.Lanes.fetch.Goals as goal
 
@@ -17,33 +17,22 @@ returns-then-last c =
       kept = m.kept;
     }
 
-pub returns-then-is_below : goal.returns-then-is_below
-returns-then-is_below c =
+pub returns-in_ok-at : goal.returns-in_ok-at
+returns-in_ok-at c =
     let s = c.args.self.now in
     let copy = c.copy.new.self in
     let e = c.in_ok-at.ensures in
-    let m = c.mark-then-is_below.ensures in
-    let new = c.mark-then-is_below.new.self in
+    let m = c.mark-else-last.ensures in
+    let new = c.mark-else-last.new.self in
+    let at = c.beside.result in
     let here = c.find-lane.ensures.here in
+    let side : (at < length copy.tags.items) × (tag_on copy.tags.items at ≡ tag c.args.value Kept) =
+    ⊎_elim
+    (λ upper. (omega (arith, upper, e.within, e.adds.long), ap (tag_on copy.tags.items) upper ∙ e.copied.upper ∙ here))
+    (λ lower. (omega (arith, lower, e.within, e.adds.long), ap (tag_on copy.tags.items) lower ∙ e.copied.lower ∙ here))
+    c.beside.ensures in
     let first = subst (λ t. Exchanged s.tags.items copy.tags.items free_tag t) here e.copied.exchanged in
-    let next = marked copy.tags.items new.tags.items (c.in_ok-at.at + 1) c.args.value c.args.role (omega (arith, e.within, e.adds.long)) (e.copied.lower ∙ here) m.tags in
-    record {
-      exchanged = subst (λ last. Exchanged s.tags.items new.tags.items (taken_tag c.args.value last) (tag c.args.value c.args.role)) (sym c.if-last.false)
-          (copy_marked s.tags.items copy.tags.items new.tags.items free_tag (tag c.args.value Kept) (tag c.args.value c.args.role) first next);
-      adds = record { long = m.adds.long ∙ e.adds.long; count = omega (arith, m.adds.count, e.adds.count) };
-      kept = kept_on s copy new e.kept m.kept;
-    }
-
-pub returns-else-is_below : goal.returns-else-is_below
-returns-else-is_below c =
-    let s = c.args.self.now in
-    let copy = c.copy.new.self in
-    let e = c.in_ok-at.ensures in
-    let m = c.mark-else-is_below.ensures in
-    let new = c.mark-else-is_below.new.self in
-    let here = c.find-lane.ensures.here in
-    let first = subst (λ t. Exchanged s.tags.items copy.tags.items free_tag t) here e.copied.exchanged in
-    let next = marked copy.tags.items new.tags.items c.in_ok-at.at c.args.value c.args.role (omega (arith, e.within, e.adds.long)) (e.copied.upper ∙ here) m.tags in
+    let next = marked copy.tags.items new.tags.items at c.args.value c.args.role side.0 side.1 m.tags in
     record {
       exchanged = subst (λ last. Exchanged s.tags.items new.tags.items (taken_tag c.args.value last) (tag c.args.value c.args.role)) (sym c.if-last.false)
           (copy_marked s.tags.items copy.tags.items new.tags.items free_tag (tag c.args.value Kept) (tag c.args.value c.args.role) first next);
