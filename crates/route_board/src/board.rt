@@ -77,13 +77,14 @@ impl Board {
         ) else {
             return Ok(None);
         };
+        let cells = (width as usize).saturating_mul(height as usize);
         let mut board = Board {
             width,
             height,
             period,
             latency,
             library: GateLibrary::new(alloc)?,
-            owners: Vec::new(alloc),
+            owners: Vec::with_capacity(alloc, cells)?,
             gates: Vec::new(alloc),
             wires: Vec::new(alloc),
             path: Vec::new(alloc),
