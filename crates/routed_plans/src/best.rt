@@ -5,6 +5,7 @@ use cell_core::CellList;
 use lists::OutOfMemory;
 use routed_core::Drawing;
 use std::alloc::Global;
+use std::mem;
 use strand_core::Effort;
 use strand_drawings::Drawn;
 
@@ -43,7 +44,9 @@ fn is_better(drawing: &Drawing, best: &Option<Best>) -> bool {
 // Keeps a drawing if it is better than the best one so far.
 fn keep_better(best: &mut Option<Best>, other: Best) {
     if is_better(&other.drawn.drawing, best) {
-        *best = Some(other);
+        drop(mem::replace(best, Some(other)));
+    } else {
+        drop(other);
     }
 }
 
@@ -127,6 +130,11 @@ fn draw_all(alloc: Global, lists: &[CellList], best: &mut Option<Best>) -> Resul
 /// effort, and those whose drawings cost least with the whole search.
 pub fn best_drawn(alloc: Global, lists: &[CellList]) -> Result<Option<Best>, OutOfMemory> {
     let mut best = None;
-    draw_all(alloc, lists, &mut best)?;
-    Ok(best)
+    match draw_all(alloc, lists, &mut best) {
+        Ok(()) => Ok(best),
+        Err(error) => {
+            drop(best);
+            Err(error)
+        }
+    }
 }

@@ -1,5 +1,5 @@
 // The routed circuit of a flat netlist.
-ghost use Rattle.std.specs.Prelude.{◌≡◌, ℕ, List, length, IfOk, IfSome, IsTrue};
+ghost use Rattle.std.specs.Prelude.{◌≡◌, ℕ, List, length, All, IfOk, IfSome, IsTrue};
 ghost use Rattle.ww_rule.specs.Grid.{plane_of};
 ghost use Rattle.netlist_meaning.specs.Flat.{IsInRange, IsWeighed};
 ghost use Rattle.plan_carries.specs.Compiled.{ComputesFlat};
@@ -55,7 +55,11 @@ fn is_list_drawn(
         ShowsListRuns (plane_of pattern.now.rows) ports.now list.now) }
 {
     match cells_of(alloc, pattern, ports, &drawn.drawing) {
-        Ok(found) => run_alike(alloc, &found, list, drawn.latches.as_slice()),
+        Ok(found) => {
+            let are_alike = run_alike(alloc, &found, list, drawn.latches.as_slice());
+            drop(found);
+            are_alike
+        }
         Err(RouteError::NoMemory) => Err(RoutedPlanError::NoMemory),
         Err(_) => Ok(false),
     }
@@ -105,13 +109,15 @@ fn page_of(
     ensures names { IfOk result (λ o. IfSome o (λ page. NamesRouted flat.now seen.now page.ports)) }
     ensures fits { IfOk result (λ o. IfSome o (λ page. FitsPattern page.pattern page.ports)) }
 {
-    let ports = port_table(alloc, flat, drawing, seen)?;
     let Some(pattern) = pattern_of(alloc, drawing)? else {
         return Ok(None);
     };
+    let ports = port_table(alloc, flat, drawing, seen)?;
     if fits_pattern(&pattern, &ports) {
         Ok(Some(Page { pattern, ports }))
     } else {
+        drop(pattern);
+        drop(ports);
         Ok(None)
     }
 }
@@ -130,7 +136,11 @@ fn is_page_drawn(
         × ShowsListRuns (plane_of page.now.pattern.rows) page.now.ports wanted) }
 {
     match wanted_list(alloc, list, seen)? {
-        Some(wanted) => is_list_drawn(alloc, &wanted, &page.pattern, &page.ports, drawn),
+        Some(wanted) => {
+            let is_drawn = is_list_drawn(alloc, &wanted, &page.pattern, &page.ports, drawn);
+            drop(wanted);
+            is_drawn
+        }
         None => Ok(false),
     }
 }
@@ -154,19 +164,58 @@ fn checked(
     if !are_enough(nets, seen, list) {
         return Ok(None);
     }
+    let lines = lines_of_drawing(alloc, &drawn.drawing)?;
     let Some(page) = page_of(alloc, flat, &drawn.drawing, seen)? else {
         return Ok(None);
     };
-    if !is_page_drawn(alloc, list, seen, &page, drawn)? {
-        return Ok(None);
+    match is_page_drawn(alloc, list, seen, &page, drawn) {
+        Ok(true) => {
+            let Page { pattern, ports } = page;
+            Ok(Some(Routed {
+                lines,
+                pattern,
+                ports,
+            }))
+        }
+        Ok(false) => {
+            drop(page);
+            Ok(None)
+        }
+        Err(error) => {
+            drop(page);
+            Err(error)
+        }
     }
-    let lines = lines_of_drawing(alloc, &drawn.drawing)?;
-    let Page { pattern, ports } = page;
-    Ok(Some(Routed {
-        lines,
-        pattern,
-        ports,
-    }))
+}
+
+// The routed circuit of a netlist that is drawn of one of its lists of cells.
+fn route_lists(
+    alloc: Global,
+    flat: &Flat,
+    lists: &[CellList],
+    nets: ShownNets,
+) -> Result<Option<Routed>, RoutedPlanError>
+    requires compilable { (order : List ℕ) × IsCompilable flat.now order }
+    requires computes { All (ComputesFlat flat.now) lists.now }
+    ensures routed { IfOk result (λ o. IfSome o (IsRoutedFor flat.now)) }
+    ensures nets { IfOk result (λ o. IfSome o (λ routed.
+        ShowsNetsOf nets (text_of_routed routed) flat.now)) }
+    ensures lines { IfOk result (λ o. IfSome o (λ routed. AreGateLines routed.lines)) }
+{
+    let Some(best) = best_drawn(alloc, lists)? else {
+        return Ok(None);
+    };
+    let Best { place, drawn } = best;
+    let Some(list) = lists.get(place) else {
+        drop(drawn);
+        return Ok(None);
+    };
+    let Some(seen) = seen_drawing(alloc, list, nets, drawn)? else {
+        return Ok(None);
+    };
+    let routed = checked(alloc, flat, list, nets, &seen.drawn, &seen.ports);
+    drop(seen);
+    routed
 }
 
 /// Draws a sound flat netlist as a routed circuit. `order` is an order of its covers in which each
@@ -189,15 +238,7 @@ pub fn route_netlist(
     ensures lines { IfOk result (λ o. IfSome o (λ routed. AreGateLines routed.lines)) }
 {
     let lists = cell_lists(alloc, flat, order)?;
-    let Some(best) = best_drawn(alloc, lists.as_slice())? else {
-        return Ok(None);
-    };
-    let Best { place, drawn } = best;
-    let Some(list) = lists.get(place) else {
-        return Ok(None);
-    };
-    match seen_drawing(alloc, list, nets, drawn)? {
-        Some(seen) => checked(alloc, flat, list, nets, &seen.drawn, &seen.ports),
-        None => Ok(None),
-    }
+    let routed = route_lists(alloc, flat, lists.as_slice(), nets);
+    drop(lists);
+    routed
 }

@@ -24,8 +24,13 @@ fn timed_circuit(
     let Some(mut circuit) = strand_circuit(alloc, list, SEED, effort)? else {
         return Ok(None);
     };
-    set_times(alloc, &mut circuit, effort)?;
-    Ok(Some(circuit))
+    match set_times(alloc, &mut circuit, effort) {
+        Ok(()) => Ok(Some(circuit)),
+        Err(error) => {
+            drop(circuit);
+            Err(error)
+        }
+    }
 }
 
 // The drawing of the circuit of a list, if it is not too large.
@@ -42,7 +47,9 @@ fn drawn_of(
         return Ok(None);
     }
     let layout = laid_out(alloc, circuit, effort)?;
-    drawn_circuit(alloc, circuit, &layout, list.inputs, outputs)
+    let drawn = drawn_circuit(alloc, circuit, &layout, list.inputs, outputs);
+    drop(layout);
+    drawn
 }
 
 /// Draws a list of cells, if the search finds a drawing.
@@ -52,7 +59,11 @@ pub fn draw_list(
     effort: Effort,
 ) -> Result<Option<Drawn>, OutOfMemory> {
     match timed_circuit(alloc, list, effort)? {
-        Some(circuit) => drawn_of(alloc, list, &circuit, effort),
+        Some(circuit) => {
+            let drawn = drawn_of(alloc, list, &circuit, effort);
+            drop(circuit);
+            drawn
+        }
         None => Ok(None),
     }
 }

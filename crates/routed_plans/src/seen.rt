@@ -155,7 +155,11 @@ fn net_ports(
     drawn: &Drawn,
 ) -> Result<Vec<Option<SeenPort>>, OutOfMemory> {
     match filled(alloc, &drawn.drawing)? {
-        Some(tables) => ports_in(alloc, list, drawn.latches.as_slice(), &tables),
+        Some(tables) => {
+            let ports = ports_in(alloc, list, drawn.latches.as_slice(), &tables);
+            drop(tables);
+            ports
+        }
         None => Ok(Vec::new(alloc)),
     }
 }
@@ -191,6 +195,11 @@ pub fn with_net_ports(
     list: &CellList,
     mut drawn: Drawn,
 ) -> Result<SeenDrawing, OutOfMemory> {
-    let ports = see_nets(alloc, list, &mut drawn)?;
-    Ok(SeenDrawing { drawn, ports })
+    match see_nets(alloc, list, &mut drawn) {
+        Ok(ports) => Ok(SeenDrawing { drawn, ports }),
+        Err(error) => {
+            drop(drawn);
+            Err(error)
+        }
+    }
 }

@@ -85,7 +85,7 @@ pub fn port_table(
         &flat.ins,
         drawing,
         drawing.ins.as_slice(),
-    )?;
+    );
     let outs = lines_of(
         alloc,
         &library,
@@ -93,7 +93,10 @@ pub fn port_table(
         &flat.outs,
         drawing,
         drawing.outs.as_slice(),
-    )?;
+    );
+    drop(library);
+    let ins = ins?;
+    let outs = outs?;
     let nets = lines_of_nets(alloc, flat, ports)?;
     Ok(Ports {
         p: u64::from(drawing.period),

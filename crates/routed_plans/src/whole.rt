@@ -53,7 +53,11 @@ fn with_outputs(
 // A drawing of a list in which these further sources are drawn as outputs.
 fn drawn_with(alloc: Global, list: &CellList, more: &[Src]) -> Result<Option<Drawn>, OutOfMemory> {
     match with_outputs(alloc, list, more)? {
-        Some(longer) => draw_list(alloc, &longer, Effort::Whole),
+        Some(longer) => {
+            let drawn = draw_list(alloc, &longer, Effort::Whole);
+            drop(longer);
+            drawn
+        }
         None => Ok(None),
     }
 }
@@ -78,10 +82,17 @@ pub fn with_all_nets(
     list: &CellList,
     seen: SeenDrawing,
 ) -> Result<Option<SeenDrawing>, OutOfMemory> {
-    let more = unseen_sources(alloc, list.nets.as_slice(), &seen.ports)?;
-    if more.is_empty() {
-        Ok(Some(seen))
-    } else {
-        drawn_anew(alloc, list, &more)
+    match unseen_sources(alloc, list.nets.as_slice(), &seen.ports) {
+        Ok(more) => {
+            if more.is_empty() {
+                return Ok(Some(seen));
+            }
+            drop(seen);
+            drawn_anew(alloc, list, &more)
+        }
+        Err(error) => {
+            drop(seen);
+            Err(error)
+        }
     }
 }

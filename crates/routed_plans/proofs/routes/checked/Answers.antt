@@ -12,8 +12,8 @@ use Rattle.routed_plans.proofs.routes.checked.Goals as goal
 pub page_of-requires : goal.page_of-requires
 page_of-requires c = c.requires.compilable.1.sound.in_range
 
-pub returns-clause-routed : goal.returns-clause-routed
-returns-clause-routed c =
+pub returns-in-Ok-true-clause-routed : goal.returns-in-Ok-true-clause-routed
+returns-in-Ok-true-clause-routed c =
     let flat = c.args.flat.now in
     let k = c.requires.compilable.1 in
     let shown : List (Option SeenPort) = c.args.seen.now in
@@ -23,15 +23,15 @@ returns-clause-routed c =
     let fits = subst (λ (o : Option Page). IfSome o (λ (page : Page). FitsPattern page.pattern page.ports)) c.in-Some.is c.in_ok-page.ensures.fits in
     let text : List ℕ = c.in_ok-lines.lines ++ pattern_text (grid_of pattern) ports in
     let spells = routed_spells flat shown pattern ports names fits k.named k.names k.places c.in_ok-lines.lines c.in_ok-lines.ensures in
-    let drawn = c.in_ok-is_page_drawn.ensures c.if-not-branch.false in
+    let drawn = c.in-Ok-true.ensures c.in-Ok-true.field-0-test in
     record {
       spells = spells;
       carries = carries_designs text flat (grid_of pattern) ports shown c.args.list.now drawn.0 k.sound c.requires.compilable.0 k.ordered
           spells names drawn.1 c.requires.computes drawn.2;
     }
 
-pub returns-clause-nets : goal.returns-clause-nets
-returns-clause-nets c =
+pub returns-in-Ok-true-clause-nets : goal.returns-in-Ok-true-clause-nets
+returns-in-Ok-true-clause-nets c =
     let flat = c.args.flat.now in
     let k = c.requires.compilable.1 in
     let shown : List (Option SeenPort) = c.args.seen.now in
@@ -41,6 +41,6 @@ returns-clause-nets c =
     let fits = subst (λ (o : Option Page). IfSome o (λ (page : Page). FitsPattern page.pattern page.ports)) c.in-Some.is c.in_ok-page.ensures.fits in
     let text : List ℕ = c.in_ok-lines.lines ++ pattern_text (grid_of pattern) ports in
     let spells = routed_spells flat shown pattern ports names fits k.named k.names k.places c.in_ok-lines.lines c.in_ok-lines.ensures in
-    let drawn = c.in_ok-is_page_drawn.ensures c.if-not-branch.false in
+    let drawn = c.in-Ok-true.ensures c.in-Ok-true.field-0-test in
     shows_nets text flat (grid_of pattern) ports shown c.args.list.now drawn.0 k.sound c.requires.compilable.0 k.ordered
     spells names drawn.1 c.requires.computes drawn.2 c.args.nets (c.are_enough.ensures c.if-not-are_enough.false)
