@@ -5,129 +5,128 @@ ghost use Rattle.band_core.specs.Bands.{IsSamePattern};
 mod orders;
 mod shown;
 
-use crate::texts::cut;
+use crate::pages::Page;
+use crate::texts::{cut, halves};
 use band_core::{Bands, NotReady, NotSkipped};
 use rle_read::read;
 use shown::push_row;
-use std::alloc::{AllocError, Global};
 use std::test::Fail;
-use ww_base::expect;
+use ww_rule::Pattern;
 
-fn push_not_ready(text: &mut String, refusal: NotReady) -> Result<(), AllocError> {
-    write!(text, "{} at {}, ", refusal.neighbour, refusal.generation)
+fn push_not_ready(page: &mut Page, refusal: NotReady) {
+    page.push_number(refusal.neighbour as u64);
+    page.push(b" at ");
+    page.push_number(refusal.generation);
+    page.push(b", ");
+}
+
+fn push_awake(page: &mut Page, x: u64, y: u64) {
+    page.push(b"lit ");
+    page.push_number(x);
+    page.push(b" ");
+    page.push_number(y);
+    page.push(b", ");
 }
 
 // Moves a band on, and appends what the call answers.
-fn push_advanced(text: &mut String, bands: &mut Bands, b: usize) -> Result<(), AllocError>
+fn push_advanced(page: &mut Page, bands: &mut Bands, b: usize)
     ensures { IsSamePattern bands.old bands.new }
 {
     if b >= bands.bands() || bands.generation(b) == u64::MAX {
-        return text.push_str("no band, ");
+        page.push(b"no band, ");
+        return;
     }
     match bands.advance(b) {
-        Ok(()) => text.push_str("moved, "),
-        Err(refusal) => push_not_ready(text, refusal),
+        Ok(()) => page.push(b"moved, "),
+        Err(refusal) => push_not_ready(page, refusal),
     }
 }
 
 // Moves a band on if nothing in it can change, and appends what the call answers.
-fn push_skipped(text: &mut String, bands: &mut Bands, b: usize) -> Result<(), AllocError>
+fn push_skipped(page: &mut Page, bands: &mut Bands, b: usize)
     ensures { IsSamePattern bands.old bands.new }
 {
     if b >= bands.bands() || bands.generation(b) == u64::MAX {
-        return text.push_str("no band, ");
+        page.push(b"no band, ");
+        return;
     }
     match bands.skip(b) {
-        Ok(()) => text.push_str("moved, "),
-        Err(NotSkipped::NotReady(refusal)) => push_not_ready(text, refusal),
-        Err(NotSkipped::Awake { x, y }) => write!(text, "lit {x} {y}, "),
+        Ok(()) => page.push(b"moved, "),
+        Err(NotSkipped::NotReady(refusal)) => push_not_ready(page, refusal),
+        Err(NotSkipped::Awake { x, y }) => push_awake(page, x, y),
     }
 }
 
 // Makes a call, `advance` or `skip` and the number of a band, and appends what it answers.
-fn push_answer(text: &mut String, bands: &mut Bands, call: &str) -> Result<(), AllocError>
+fn push_answer(page: &mut Page, bands: &mut Bands, call: &str)
     ensures { IsSamePattern bands.old bands.new }
 {
-    let (name, number) = call.split_once(' ').unwrap_or((call, ""));
+    let (name, number) = halves(call, " ", "");
     let b = number.parse::<usize>().unwrap_or(usize::MAX);
     if name == "skip" {
-        push_skipped(text, bands, b)
+        push_skipped(page, bands, b);
     } else {
-        push_advanced(text, bands, b)
+        push_advanced(page, bands, b);
     }
 }
 
 // Makes the calls, and appends what each answers.
-fn push_answers(text: &mut String, bands: &mut Bands, calls: &str) -> Result<(), AllocError>
+fn push_answers(page: &mut Page, bands: &mut Bands, calls: &str)
     ensures { IsSamePattern bands.old bands.new }
 {
     for call in calls.split(", ") {
-        push_answer(text, bands, call)?;
+        push_answer(page, bands, call);
     }
-    Ok(())
 }
 
 // Appends all rows, one after the other.
-fn push_rows(
-    text: &mut String,
-    bands: &Bands,
-    height: u32,
-    width: u64,
-    count: u64,
-) -> Result<(), AllocError>
+fn push_rows(page: &mut Page, bands: &Bands, height: u32, width: u64, count: u64)
     requires height { height ≡ bands.now.height }
     requires width { width ≡ bands.now.grid.width }
     requires count { count ≡ length bands.now.grid.rows }
 {
     for y in 0..count {
-        push_row(text, bands, height, width, y)?;
+        push_row(page, bands, height, width, y);
     }
-    Ok(())
 }
 
-// What the calls answer, and the cells after them from the top down.
-fn calls_said(
-    alloc: Global,
-    bands: &mut Bands,
-    calls: &str,
-    height: u32,
-    width: u64,
-    count: u64,
-) -> Result<String, AllocError>
+// Appends what the calls answer, and the cells after them from the top down.
+fn push_calls(page: &mut Page, bands: &mut Bands, calls: &str, height: u32, width: u64, count: u64)
     requires height { height ≡ bands.old.height }
     requires width { width ≡ bands.old.grid.width }
     requires count { count ≡ length bands.old.grid.rows }
 {
-    let mut text = String::new(alloc);
-    push_answers(&mut text, bands, calls)?;
-    push_rows(&mut text, bands, height, width, count)?;
-    Ok(text)
+    push_answers(page, bands, calls);
+    push_rows(page, bands, height, width, count);
 }
 
-// What the calls on bands of this height answer, and the cells of the pattern after them.
-fn said(alloc: Global, text: &[u8], height: u32, calls: &str) -> Result<String, Fail>
-    requires { 0 < height }
-{
-    let pattern = read(alloc, text)?;
-    let width = pattern.width;
-    let count = pattern.rows.len() as u64;
-    let mut bands = Bands::new(alloc, pattern, Vec::new(alloc), height)?;
-    Ok(calls_said(alloc, &mut bands, calls, height, width, count)?)
-}
-
-// Fails unless the calls of a case answer, and leave the cells, that it says. The case's first line
-// has the height of the bands and the calls.
-fn expect_case(alloc: Global, case: &str) -> Result<(), Fail> {
-    let (head, text, want) = cut(case);
-    let (height, calls) = head.split_once(", ").unwrap_or((head, ""));
-    let height = height.parse::<u32>().unwrap_or(0);
+// Appends what the calls on bands of this height answer, and the cells of the pattern after them.
+fn push_moved(page: &mut Page, pattern: Pattern, height: u32, calls: &str) {
     if height == 0 {
-        return Err(Fail::new(head));
+        drop(pattern);
+        return;
     }
-    expect(
-        said(alloc, text.as_bytes(), height, calls)?.as_bytes(),
-        want.as_bytes(),
-    )
+    let (width, count) = (pattern.width, pattern.rows.len() as u64);
+    match Bands::new(page.alloc(), pattern, Vec::new(page.alloc()), height) {
+        Ok(mut bands) => {
+            push_calls(page, &mut bands, calls, height, width, count);
+            drop(bands);
+        }
+        Err(_) => page.cut(),
+    }
+}
+
+// Notes it unless the calls of a case answer, and leave the cells, that it says. The case's first line
+// has the height of the bands and the calls.
+fn expect_case(page: &mut Page, case: &str) {
+    let (head, text, want) = cut(case);
+    let (height, calls) = halves(head, ", ", "");
+    let height = height.parse::<u32>().unwrap_or(0);
+    match read(page.alloc(), text.as_bytes()) {
+        Ok(pattern) => push_moved(page, pattern, height, calls),
+        Err(_) => page.cut(),
+    }
+    page.expect(want.as_bytes());
 }
 
 const ORDERS: &str = "\
@@ -182,8 +181,9 @@ A$C$C!
 
 #[test]
 fn bands_move_in_any_order(rt: HostRuntime) -> Result<(), Fail> {
+    let mut page = Page::new(rt.alloc());
     for case in ORDERS.split("\n>") {
-        expect_case(rt.alloc(), case)?;
+        expect_case(&mut page, case);
     }
-    Ok(())
+    page.end()
 }

@@ -1,64 +1,87 @@
 // Tests of the search that finds gates and wires, and of the lines that name them.
 use crate::cases::CASES;
-use crate::fails::expect_holds;
+use crate::pages::Page;
+use crate::texts::halves;
 use pattern_reading::Ports;
 use route_finder::{FindError, find};
 use route_lines::{gate_lines, read};
 use routed_core::Drawing;
-use std::alloc::Global;
 use std::test::Fail;
 use ww_rule::Pattern;
 
-// Whether these are the lines of a drawing.
-fn has_lines(alloc: Global, drawing: &Drawing, wanted: &[u8]) -> Result<bool, Fail> {
-    let lines = gate_lines(alloc, drawing)?;
-    Ok(lines.as_slice() == wanted)
+// Appends the lines of a drawing.
+fn push_lines(page: &mut Page, drawing: &Drawing) {
+    match gate_lines(page.alloc(), drawing) {
+        Ok(lines) => page.push(lines.as_slice()),
+        Err(_) => page.cut(),
+    }
 }
 
-// Whether a search tells this of a pattern: the lines of what it finds, or the fault and its cell.
-fn is_told(alloc: Global, wanted: &[u8], pattern: &Pattern, ports: &Ports) -> Result<bool, Fail> {
-    match find(alloc, pattern, ports) {
-        Ok(drawing) => has_lines(alloc, &drawing, wanted),
-        Err(FindError::Fault { kind, x, y }) => {
-            let fault = format!(in alloc; "{kind:?} {x} {y}\n")?;
-            Ok(fault.as_bytes() == wanted)
+// Appends what a search tells of a pattern: the lines of what it finds, or the fault and its cell.
+fn push_found(page: &mut Page, pattern: &Pattern, ports: &Ports) {
+    match find(page.alloc(), pattern, ports) {
+        Ok(drawing) => {
+            push_lines(page, &drawing);
+            drop(drawing);
         }
-        Err(_) => Err(Fail::new("no drawing")),
+        Err(FindError::Fault { kind, x, y }) => {
+            page.push_item(&kind);
+            page.push_number(u64::from(x));
+            page.push(b" ");
+            page.push_number(u64::from(y));
+            page.push(b"\n");
+        }
+        Err(_) => page.cut(),
     }
 }
 
-// Whether lines name nothing, or what they name has these lines.
-fn are_read(alloc: Global, lines: &[u8], pattern: &Pattern, ports: &Ports) -> Result<bool, Fail> {
-    match read(alloc, lines, pattern, ports)? {
-        Some(drawing) => has_lines(alloc, &drawing, lines),
-        None => Ok(true),
+// Appends the lines of what lines name, or these lines if they name nothing.
+fn push_read(page: &mut Page, lines: &[u8], pattern: &Pattern, ports: &Ports) {
+    match read(page.alloc(), lines, pattern, ports) {
+        Ok(Some(drawing)) => {
+            push_lines(page, &drawing);
+            drop(drawing);
+        }
+        Ok(None) => page.push(lines),
+        Err(_) => page.cut(),
     }
 }
 
-// Whether a pattern is told as it should be, and its lines are read as they are written.
-fn is_right(alloc: Global, wanted: &[u8], pattern: &Pattern, ports: &Ports) -> Result<bool, Fail> {
-    Ok(is_told(alloc, wanted, pattern, ports)? && are_read(alloc, wanted, pattern, ports)?)
+// Notes it unless a pattern is told as it should be, and its lines are read as they are written.
+fn expect_told(page: &mut Page, wanted: &[u8], pattern: &Pattern, ports: &Ports) {
+    push_found(page, pattern, ports);
+    page.expect(wanted);
+    push_read(page, wanted, pattern, ports);
+    page.expect(wanted);
 }
 
-fn is_read_right(alloc: Global, text: &[u8], wanted: &[u8]) -> Result<bool, Fail> {
-    let pattern = rle_read::read(alloc, text)?;
-    let ports = port_table::read(alloc, text, pattern.width, pattern.height)?;
-    is_right(alloc, wanted, &pattern, &ports)
+fn expect_pattern(page: &mut Page, text: &[u8], wanted: &[u8], pattern: &Pattern) {
+    match port_table::read(page.alloc(), text, pattern.width, pattern.height) {
+        Ok(ports) => {
+            expect_told(page, wanted, pattern, &ports);
+            drop(ports);
+        }
+        Err(_) => page.cut(),
+    }
 }
 
-// Whether a case is told as it should be, and what it shows.
-fn case_told(alloc: Global, case: &str) -> Result<(&str, bool), Fail> {
-    let (about, rest) = case.split_once('\n').unwrap_or((case, ""));
-    let (text, wanted) = rest.split_once("==\n").unwrap_or((rest, "no case"));
-    let is_so = is_read_right(alloc, text.as_bytes(), wanted.as_bytes())?;
-    Ok((about.trim(), is_so))
+fn expect_case(page: &mut Page, case: &str) {
+    let (_, rest) = halves(case, "\n", "");
+    let (text, wanted) = halves(rest, "==\n", "no case");
+    match rle_read::read(page.alloc(), text.as_bytes()) {
+        Ok(pattern) => {
+            expect_pattern(page, text.as_bytes(), wanted.as_bytes(), &pattern);
+            drop(pattern);
+        }
+        Err(_) => page.cut(),
+    }
 }
 
 #[test]
 fn gates_and_wires_are_found(rt: HostRuntime) -> Result<(), Fail> {
+    let mut page = Page::new(rt.alloc());
     for case in CASES.split('>').skip(1) {
-        let (about, is_so) = case_told(rt.alloc(), case)?;
-        expect_holds(about, is_so)?;
+        expect_case(&mut page, case);
     }
-    Ok(())
+    page.end()
 }

@@ -1,5 +1,5 @@
 // Tests that each drawing in each turn keeps its law, and of the page of all gates.
-use crate::fails::expect_holds;
+use crate::pages::Page;
 use crossing_laws::keeps_crossing_law;
 use gate_laws::keeps_law;
 use gate_library::{
@@ -7,7 +7,7 @@ use gate_library::{
 };
 use page::PAGE;
 use routed_core::{GateKind, Shape, Turn};
-use std::alloc::{AllocError, Global};
+use std::str::from_utf8;
 use std::test::Fail;
 use ww_rule::State;
 
@@ -50,21 +50,21 @@ fn first_fault(library: &GateLibrary) -> Option<GateKind> {
 }
 
 // The letter of an output.
-fn output_letter(number: usize) -> char {
+fn output_letter(number: usize) -> u8 {
     match number {
-        0 => 'y',
-        1 => 'z',
-        2 => 'u',
-        _ => 't',
+        0 => b'y',
+        1 => b'z',
+        2 => b'u',
+        _ => b't',
     }
 }
 
-fn input_letter(number: usize) -> char {
-    if number == 0 { 'a' } else { 'b' }
+fn input_letter(number: usize) -> u8 {
+    if number == 0 { b'a' } else { b'b' }
 }
 
 // The letter of a cell in a drawing.
-fn letter(drawing: &GateDrawing, state: State, x: u32, y: u32) -> char {
+fn letter(drawing: &GateDrawing, state: State, x: u32, y: u32) -> u8 {
     for (i, input) in drawing.ins.as_slice().iter().enumerate() {
         if (input.x, input.y) == (x, y) {
             return input_letter(i);
@@ -75,66 +75,62 @@ fn letter(drawing: &GateDrawing, state: State, x: u32, y: u32) -> char {
             return output_letter(o);
         }
     }
-    if state == State::Empty { '.' } else { 'C' }
+    if state == State::Empty { b'.' } else { b'C' }
 }
 
-fn push_picture(page: &mut String, drawing: &GateDrawing) -> Result<(), AllocError> {
-    page.push_str("\n```text\n")?;
+fn push_picture(page: &mut Page, drawing: &GateDrawing) {
+    page.push(b"\n```text\n");
     let (mut x, mut y) = (0u32, 0u32);
     for state in drawing.cells.as_slice() {
-        page.push(letter(drawing, *state, x, y))?;
+        page.push_byte(letter(drawing, *state, x, y));
         x = x.saturating_add(1);
         if x == drawing.width {
-            page.push('\n')?;
+            page.push(b"\n");
             (x, y) = (0, y.saturating_add(1));
         }
     }
-    page.push_str("```\n")
+    page.push(b"```\n");
 }
 
-fn push_answer(page: &mut String, answer: Answer) -> Result<(), AllocError> {
-    page.push_str(match answer {
-        Answer::Copy(0) => "a",
-        Answer::Copy(_) => "b",
-        Answer::Or(_, _) => "a or b",
-        Answer::Xor(_, _) => "a xor b",
-        Answer::AndNot(_, _) => "a and not b",
-    })
+fn push_answer(page: &mut Page, answer: Answer) {
+    page.push(match answer {
+        Answer::Copy(0) => b"a",
+        Answer::Copy(_) => b"b",
+        Answer::Or(_, _) => b"a or b",
+        Answer::Xor(_, _) => b"a xor b",
+        Answer::AndNot(_, _) => b"a and not b",
+    });
 }
 
 // Begins the row of a port that is lit at this generation.
-fn push_port(page: &mut String, letter: char, generation: u32) -> Result<(), AllocError> {
-    write!(page, "| `{letter}` | {generation} | ")
+fn push_port(page: &mut Page, letter: u8, generation: u32) {
+    page.push(b"| `");
+    page.push_byte(letter);
+    page.push(b"` | ");
+    page.push_number(u64::from(generation));
+    page.push(b" | ");
 }
 
-fn push_inputs(page: &mut String, drawing: &GateDrawing) -> Result<(), AllocError> {
+fn push_inputs(page: &mut Page, drawing: &GateDrawing) {
     for (i, input) in drawing.ins.as_slice().iter().enumerate() {
-        push_port(page, input_letter(i), input.generation)?;
-        page.push_str("|\n")?;
+        push_port(page, input_letter(i), input.generation);
+        page.push(b"|\n");
     }
-    Ok(())
 }
 
-fn push_outputs(page: &mut String, drawing: &GateDrawing) -> Result<(), AllocError> {
+fn push_outputs(page: &mut Page, drawing: &GateDrawing) {
     let answers = drawing.answers.as_slice();
     for (o, output) in drawing.outs.as_slice().iter().enumerate() {
-        push_port(page, output_letter(o), output.delay)?;
+        push_port(page, output_letter(o), output.delay);
         if let Some(answer) = answers.get(o) {
-            push_answer(page, *answer)?;
+            push_answer(page, *answer);
         }
-        page.push_str(" |\n")?;
+        page.push(b" |\n");
     }
-    Ok(())
 }
 
-fn push_table(page: &mut String, drawing: &GateDrawing) -> Result<(), AllocError> {
-    page.push_str("| Port | Lit at | Bit |\n|---|---|---|\n")?;
-    push_inputs(page, drawing)?;
-    push_outputs(page, drawing)
-}
-
-fn drawn_count(cells: &[State]) -> u32 {
-    let mut count = 0u32;
+fn drawn_count(cells: &[State]) -> u64 {
+    let mut count = 0u64;
     for state in cells {
         if *state != State::Empty {
             count = count.saturating_add(1);
@@ -143,106 +139,117 @@ fn drawn_count(cells: &[State]) -> u32 {
     count
 }
 
-fn push_sizes(page: &mut String, drawing: &GateDrawing) -> Result<(), AllocError> {
-    let (time, width) = (drawing.time, drawing.width as usize);
+fn push_sizes(page: &mut Page, drawing: &GateDrawing) {
     let cells = drawing.cells.as_slice();
-    let height = cells.len().checked_div(width).unwrap_or(0);
-    let count = drawn_count(cells);
-    write!(page, "\nTime {time}, box {width} x {height}, cells {count}")?;
-    page.push_str(match drawing.timing {
-        Timing::Together => ".\n",
-        Timing::Apart => ", inputs apart.\n",
-    })
+    let height = cells.len().checked_div(drawing.width as usize).unwrap_or(0);
+    page.push(b"\nTime ");
+    page.push_number(u64::from(drawing.time));
+    page.push(b", box ");
+    page.push_number(u64::from(drawing.width));
+    page.push(b" x ");
+    page.push_number(height as u64);
+    page.push(b", cells ");
+    page.push_number(drawn_count(cells));
+    page.push(match drawing.timing {
+        Timing::Together => b".\n",
+        Timing::Apart => b", inputs apart.\n",
+    });
 }
 
 // Adds a gate's part of the page, up to the end of its drawing.
-fn push_section(page: &mut String, shape: Shape, drawing: &GateDrawing) -> Result<(), AllocError> {
-    page.push_str("## ")?;
-    for byte in word_of(shape) {
-        page.push(char::from(*byte))?;
-    }
-    page.push_str("\n\n")?;
-    push_table(page, drawing)?;
-    push_sizes(page, drawing)?;
-    push_picture(page, drawing)
+fn push_section(page: &mut Page, shape: Shape, drawing: &GateDrawing) {
+    page.push(b"## ");
+    page.push(word_of(shape));
+    page.push(b"\n\n| Port | Lit at | Bit |\n|---|---|---|\n");
+    push_inputs(page, drawing);
+    push_outputs(page, drawing);
+    push_sizes(page, drawing);
+    push_picture(page, drawing);
 }
 
-// Whether the page has a gate's part.
-fn has_section(alloc: Global, library: &GateLibrary, shape: Shape) -> Result<bool, AllocError> {
+// Whether the page of all gates has this part.
+fn has_part(part: &[u8]) -> bool {
+    match from_utf8(part) {
+        Ok(part) => PAGE.contains(part),
+        Err(_) => false,
+    }
+}
+
+// Notes a gate's part unless it is on the page of all gates.
+fn expect_section(page: &mut Page, library: &GateLibrary, shape: Shape) {
     let kind = GateKind {
         shape,
         turn: Turn::East,
     };
-    let mut section = String::new(alloc);
-    push_section(&mut section, shape, library.drawing(kind))?;
-    Ok(PAGE.contains(section.as_str()))
-}
-
-// Whether the page has each gate's part.
-fn has_sections(alloc: Global, library: &GateLibrary) -> Result<bool, AllocError> {
-    for shape in SHAPES {
-        if !has_section(alloc, library, *shape)? {
-            return Ok(false);
-        }
+    push_section(page, shape, library.drawing(kind));
+    if has_part(page.said()) {
+        page.clear();
     }
-    Ok(true)
+    page.expect(b"");
 }
 
-// The failure that names a kind whose drawing is at fault.
-fn named(alloc: Global, kind: GateKind) -> Result<Fail, AllocError> {
-    let mut name = String::new(alloc);
-    for letter in word_of(kind.shape) {
-        name.push(char::from(*letter))?;
-    }
-    name.push(char::from(letter_of(kind.turn)))?;
-    Ok(Fail::new(name.as_str()))
+fn push_name(page: &mut Page, kind: GateKind) {
+    page.push(word_of(kind.shape));
+    page.push(b"-");
+    page.push_byte(letter_of(kind.turn));
 }
 
-fn expect_library(alloc: Global, library: &GateLibrary) -> Result<(), Fail> {
+// Notes a kind whose drawing is at fault, and each part that is not on the page of all gates.
+fn expect_library(page: &mut Page, library: &GateLibrary) {
     if let Some(kind) = first_fault(library) {
-        return Err(named(alloc, kind)?);
+        push_name(page, kind);
     }
-    expect_holds("the page", has_sections(alloc, library)?)
+    page.expect(b"");
+    for shape in SHAPES {
+        expect_section(page, library, *shape);
+    }
 }
 
 #[test]
 fn each_drawing_keeps_its_law_with_its_time_and_is_on_the_page(
     rt: HostRuntime,
 ) -> Result<(), Fail> {
-    let library = GateLibrary::new(rt.alloc())?;
-    let told = expect_library(rt.alloc(), &library);
-    drop(library);
-    told
-}
-
-// The kind whose name is written of this kind.
-fn read_again(alloc: Global, kind: GateKind) -> Result<Option<GateKind>, AllocError> {
-    let mut name = word_of(kind.shape).to_vec(alloc)?;
-    name.push(b'-')?;
-    name.push(letter_of(kind.turn))?;
-    Ok(kind_named(name.as_slice()))
-}
-
-fn names_are_read(alloc: Global) -> Result<bool, AllocError> {
-    for shape in SHAPES {
-        for turn in TURNS {
-            let kind = GateKind {
-                shape: *shape,
-                turn: *turn,
-            };
-            if read_again(alloc, kind)? != Some(kind) {
-                return Ok(false);
-            }
+    let mut page = Page::new(rt.alloc());
+    match GateLibrary::new(rt.alloc()) {
+        Ok(library) => {
+            expect_library(&mut page, &library);
+            drop(library);
         }
+        Err(_) => page.cut(),
     }
-    Ok(true)
+    page.end()
+}
+
+// Notes the name that is written of a kind unless it is read as the name of this kind.
+fn expect_name(page: &mut Page, kind: GateKind) {
+    push_name(page, kind);
+    if kind_named(page.said()) == Some(kind) {
+        page.clear();
+    }
+    page.expect(b"");
+}
+
+// Notes a name if it is read as that of a kind.
+fn expect_no_name(page: &mut Page, name: &[u8]) {
+    if kind_named(name).is_some() {
+        page.push(name);
+    }
+    page.expect(b"");
+}
+
+fn expect_names(page: &mut Page, shape: Shape) {
+    for turn in TURNS {
+        expect_name(page, GateKind { shape, turn: *turn });
+    }
 }
 
 #[test]
 fn names_are_read_as_they_are_written(rt: HostRuntime) -> Result<(), Fail> {
-    expect_holds("a name", names_are_read(rt.alloc())?)?;
-    expect_holds(
-        "no name",
-        kind_named(b"CROSS-X").is_none() && kind_named(b"CROSS").is_none(),
-    )
+    let mut page = Page::new(rt.alloc());
+    for shape in SHAPES {
+        expect_names(&mut page, *shape);
+    }
+    expect_no_name(&mut page, b"CROSS-X");
+    expect_no_name(&mut page, b"CROSS");
+    page.end()
 }

@@ -1,9 +1,11 @@
 // Rows written by hand: the heads above, the row's heads, the heads below, the row's tails and
 // wires, and its new heads and wires.
+use crate::fails::expect_holds;
 use lane_kernel::step_rows;
+use std::test::Fail;
 
-#[test]
-fn a_head_crosses_the_border_of_words_and_three_light_nothing(rt: HostRuntime) {
+// Whether a head crosses the border of the words of a row.
+fn crosses_border() -> bool {
     let mut heads = [0u64; 2];
     let mut wires = [0u64; 2];
     step_rows(
@@ -15,13 +17,20 @@ fn a_head_crosses_the_border_of_words_and_three_light_nothing(rt: HostRuntime) {
         &mut heads,
         &mut wires,
     );
-    assert!(&rt;
-        heads == [1 << 63, 0] && wires == [2, 0],
-        "a row of two words"
-    );
+    heads == [1 << 63, 0] && wires == [2, 0]
+}
+
+// Whether three heads light nothing in a row of one word.
+fn lights_nothing() -> bool {
     let mut heads = [0u64; 1];
     let mut wires = [0u64; 1];
     step_rows(&[7], &[0], &[0], &[0], &[10], &mut heads, &mut wires);
-    assert!(&rt; heads == [8] && wires == [2], "a row of one word");
+    heads == [8] && wires == [2]
+}
+
+#[test]
+fn a_head_crosses_the_border_of_words_and_three_light_nothing() -> Result<(), Fail> {
     step_rows(&[], &[], &[], &[], &[], &mut [], &mut []);
+    expect_holds("a row of two words", crosses_border())?;
+    expect_holds("a row of one word", lights_nothing())
 }

@@ -20,6 +20,8 @@ mod lines;
 #[cfg(test)]
 mod packed;
 #[cfg(test)]
+mod pages;
+#[cfg(test)]
 mod patterns;
 #[cfg(test)]
 mod rule;

@@ -1,5 +1,7 @@
 // The lines and numbers of small texts.
+use crate::fails::expect_holds;
 use pattern_lines::{number_in, split_line};
+use std::test::Fail;
 
 // Texts, the bytes of their first lines, whether these lines have an end, and what follows them.
 const LINES: &[(&[u8], &[u8], bool, &[u8])] = &[
@@ -35,12 +37,24 @@ const NUMBERS: &[(&[u8], Option<u64>)] = &[
     (b"7 ", None),
 ];
 
-#[test]
-fn lines_and_numbers_by_their_texts(rt: HostRuntime) {
+fn lines_are_cut() -> bool {
+    let mut is_so = true;
     for (text, bytes, is_ended, after) in LINES {
-        assert!(rt; is_cut(text, bytes, *is_ended, after), "another line");
+        is_so &= is_cut(text, bytes, *is_ended, after);
     }
+    is_so
+}
+
+fn numbers_are_read() -> bool {
+    let mut is_so = true;
     for (digits, number) in NUMBERS {
-        assert!(rt; number_in(digits) == *number, "another number");
+        is_so &= number_in(digits) == *number;
     }
+    is_so
+}
+
+#[test]
+fn lines_and_numbers_by_their_texts() -> Result<(), Fail> {
+    expect_holds("the lines", lines_are_cut())?;
+    expect_holds("the numbers", numbers_are_read())
 }

@@ -1,27 +1,30 @@
 // Texts, and what is read from each: rows in the letters of extended RLE, or a fault and its line.
-use crate::texts::{cut, drawn};
+use crate::pages::Page;
+use crate::texts::cut;
 use rle_read::{RleReadError, read};
-use std::alloc::{AllocError, Global};
 use std::test::Fail;
-use ww_base::expect;
 use ww_rule::Pattern;
 
-// The rows of the pattern of a text, or the text's fault and its line, or the size of a box past
-// the limit.
-fn read_shown(alloc: Global, read: &Result<Pattern, RleReadError>) -> Result<Vec<u8>, AllocError> {
-    let shown = match read {
-        Ok(pattern) => return drawn(alloc, &pattern.rows),
-        Err(RleReadError::Fault(fault)) => format!(in alloc; "{:?} {}", fault.kind, fault.line),
-        Err(RleReadError::TooLarge { width, height }) => format!(in alloc;
-            "TooLarge {width} {height}"
-        ),
-        Err(RleReadError::NoMemory) => Err(AllocError),
-    };
-    Ok(shown?.into_bytes())
-}
-
-fn expect_read(alloc: Global, text: &[u8], want: &[u8]) -> Result<(), Fail> {
-    expect(&read_shown(alloc, &read(alloc, text))?, want)
+// Appends the rows of the pattern of a text, or the text's fault and its line, or the size of a box
+// past the limit.
+fn push_read(page: &mut Page, read: Result<Pattern, RleReadError>) {
+    match read {
+        Ok(pattern) => {
+            page.push_rows(&pattern.rows);
+            drop(pattern);
+        }
+        Err(RleReadError::Fault(fault)) => {
+            page.push_item(&fault.kind);
+            page.push_number(fault.line);
+        }
+        Err(RleReadError::TooLarge { width, height }) => {
+            page.push(b"TooLarge ");
+            page.push_number(width);
+            page.push(b" ");
+            page.push_number(height);
+        }
+        Err(RleReadError::NoMemory) => page.cut(),
+    }
 }
 
 // Texts, and after `== ` their rows or faults. A line that begins with `>` parts two texts, and may
@@ -244,9 +247,11 @@ x = 3, y = 1, rule = WireWorld
 
 #[test]
 fn texts_are_read(rt: HostRuntime) -> Result<(), Fail> {
+    let mut page = Page::new(rt.alloc());
     for case in TEXTS.split("\n>") {
         let (_, text, want) = cut(case);
-        expect_read(rt.alloc(), text.as_bytes(), want.as_bytes())?;
+        push_read(&mut page, read(rt.alloc(), text.as_bytes()));
+        page.expect(want.as_bytes());
     }
-    Ok(())
+    page.end()
 }

@@ -1,120 +1,138 @@
 // Small patterns in the letters of RLE: '.' is an empty cell, A a head, B a tail and C a
 // conductor.
-use crate::texts::{drawn, push_all};
+use crate::pages::Page;
 use rle_read::read;
-use std::alloc::{AllocError, Global};
 use std::test::Fail;
-use ww_base::expect;
 use ww_rule::{Pattern, Plane, RuleError, mirror_x, step_driven, step_plain};
 
-fn plane_of(alloc: Global, text: &[u8]) -> Result<Plane, Fail> {
-    let pattern = read(alloc, text)?;
-    Ok(Plane::from_pattern(alloc, &pattern)?)
+// What is shown of a pattern: its planes at generations 0 and 1, its plane at generation 1 with an
+// injection at the first cell then, or the plane of its mirror image.
+#[derive(Clone, Copy)]
+enum View {
+    Generations,
+    Driven,
+    Mirror,
 }
 
-// Appends the width and height of a plane.
-fn push_size(alloc: Global, text: &mut Vec<u8>, plane: &Plane) -> Result<(), AllocError> {
-    let size = format!(in alloc; "{} {}", plane.width, plane.height)?;
-    push_all(text, &[size.as_bytes()])
-}
-
-// The rows of a plane as letters, and its width and height.
-fn shown(alloc: Global, plane: &Plane) -> Result<Vec<u8>, AllocError> {
-    let mut text = drawn(alloc, &plane.rows)?;
-    push_size(alloc, &mut text, plane)?;
-    Ok(text)
-}
-
-fn expect_plane(alloc: Global, plane: &Plane, want: &[u8]) -> Result<(), Fail> {
-    expect(&shown(alloc, plane)?, want)
-}
-
-// Patterns, and what `shown` returns for their planes at generations 0 and 1.
-const GENERATIONS: &[(&[u8], &[u8], &[u8])] = &[
+// Patterns, and what is shown of them: the rows of planes, and the width and height of each.
+const VIEWS: &[(&[u8], View, &[u8])] = &[
     (
         b"x = 3, y = 1, rule = WireWorld\nACC!",
-        b"ACC$3 1",
-        b"BAC$3 1",
+        View::Generations,
+        b"ACC$3 1, BAC$3 1, ",
     ),
     (
         b"x = 3, y = 2, rule = WireWorld\nA..$.C.!",
-        b"A..$.C.$3 2",
-        b"B..$.A.$3 2",
+        View::Generations,
+        b"A..$.C.$3 2, B..$.A.$3 2, ",
     ),
     (
         b"x = 3, y = 2, rule = WireWorld\nAA.$.C.!",
-        b"AA.$.C.$3 2",
-        b"BB.$.A.$3 2",
+        View::Generations,
+        b"AA.$.C.$3 2, BB.$.A.$3 2, ",
     ),
     (
         b"x = 3, y = 2, rule = WireWorld\nAAA$.C.!",
-        b"AAA$.C.$3 2",
-        b"BBB$.C.$3 2",
+        View::Generations,
+        b"AAA$.C.$3 2, BBB$.C.$3 2, ",
     ),
     (
         b"x = 3, y = 3, rule = WireWorld\n..C$.C.$A.B!",
-        b"..C$.C.$A.B$3 3",
-        b"..C$.A.$B.C$3 3",
+        View::Generations,
+        b"..C$.C.$A.B$3 3, ..C$.A.$B.C$3 3, ",
+    ),
+    (
+        b"x = 3, y = 1, rule = WireWorld\nCCA!",
+        View::Driven,
+        b"AAB$3 1, ",
+    ),
+    (
+        b"x = 3, y = 1, rule = WireWorld\nCA.!",
+        View::Mirror,
+        b".AC$3 1, ",
     ),
 ];
 
-fn expect_next(alloc: Global, plane: &Plane, want: &[u8]) -> Result<(), Fail> {
-    let next = step_plain(alloc, plane)?;
-    expect_plane(alloc, &next, want)
+fn push_plane(page: &mut Page, plane: &Plane) {
+    page.push_rows(&plane.rows);
+    page.push_number(plane.width);
+    page.push(b" ");
+    page.push_number(plane.height);
+    page.push(b", ");
 }
 
-fn expect_both(alloc: Global, plane: &Plane, before: &[u8], after: &[u8]) -> Result<(), Fail> {
-    expect_plane(alloc, plane, before)?;
-    expect_next(alloc, plane, after)
-}
-
-fn becomes(alloc: Global, text: &[u8], before: &[u8], after: &[u8]) -> Result<(), Fail> {
-    let plane = plane_of(alloc, text)?;
-    expect_both(alloc, &plane, before, after)
-}
-
-// Fails unless the plane is this one a generation later, with an injection at the first cell then.
-fn expect_driven(alloc: Global, plane: &Plane, want: &[u8]) -> Result<(), Fail> {
-    if plane.width == 0 || plane.height == 0 {
-        return Err(Fail::new("no cells"));
+// Appends a plane, unless memory was too short to make it.
+fn push_made(page: &mut Page, made: Result<Plane, RuleError>) {
+    match made {
+        Ok(plane) => {
+            push_plane(page, &plane);
+            drop(plane);
+        }
+        Err(_) => page.cut(),
     }
-    let next = step_driven(alloc, plane, &[(0, 0)])?;
-    expect_plane(alloc, &next, want)
 }
 
-fn drives(alloc: Global, text: &[u8], want: &[u8]) -> Result<(), Fail> {
-    let plane = plane_of(alloc, text)?;
-    expect_driven(alloc, &plane, want)
+// Appends the plane that follows this one with an injection at the first cell then.
+fn push_driven(page: &mut Page, plane: &Plane) {
+    if plane.width > 0 && plane.height > 0 {
+        push_made(page, step_driven(page.alloc(), plane, &[(0, 0)]));
+    }
 }
 
-fn mirrored(alloc: Global, pattern: &Pattern) -> Result<Plane, RuleError> {
-    let mirror = mirror_x(alloc, pattern)?;
-    Plane::from_pattern(alloc, &mirror)
+// Appends this plane and the one that follows it, or the one that follows it with an injection.
+fn push_planes(page: &mut Page, is_driven: bool, plane: &Plane) {
+    if is_driven {
+        push_driven(page, plane);
+    } else {
+        push_plane(page, plane);
+        push_made(page, step_plain(page.alloc(), plane));
+    }
 }
 
-fn expect_mirror(alloc: Global, pattern: &Pattern, want: &[u8]) -> Result<(), Fail> {
-    let plane = mirrored(alloc, pattern)?;
-    expect_plane(alloc, &plane, want)
+fn push_evolved(page: &mut Page, is_driven: bool, pattern: &Pattern) {
+    match Plane::from_pattern(page.alloc(), pattern) {
+        Ok(plane) => {
+            push_planes(page, is_driven, &plane);
+            drop(plane);
+        }
+        Err(_) => page.cut(),
+    }
 }
 
-fn turns(alloc: Global, text: &[u8], want: &[u8]) -> Result<(), Fail> {
-    let pattern = read(alloc, text)?;
-    expect_mirror(alloc, &pattern, want)
+fn push_mirror(page: &mut Page, pattern: &Pattern) {
+    match mirror_x(page.alloc(), pattern) {
+        Ok(mirror) => {
+            push_made(page, Plane::from_pattern(page.alloc(), &mirror));
+            drop(mirror);
+        }
+        Err(_) => page.cut(),
+    }
+}
+
+fn push_view(page: &mut Page, view: View, pattern: &Pattern) {
+    match view {
+        View::Generations => push_evolved(page, false, pattern),
+        View::Driven => push_evolved(page, true, pattern),
+        View::Mirror => push_mirror(page, pattern),
+    }
+}
+
+fn push_case(page: &mut Page, text: &[u8], view: View) {
+    match read(page.alloc(), text) {
+        Ok(pattern) => {
+            push_view(page, view, &pattern);
+            drop(pattern);
+        }
+        Err(_) => page.cut(),
+    }
 }
 
 #[test]
 fn planes_follow_the_rule_are_injected_and_mirrored(rt: HostRuntime) -> Result<(), Fail> {
-    for (text, before, after) in GENERATIONS {
-        becomes(rt.alloc(), text, before, after)?;
+    let mut page = Page::new(rt.alloc());
+    for (text, view, want) in VIEWS {
+        push_case(&mut page, text, *view);
+        page.expect(want);
     }
-    drives(
-        rt.alloc(),
-        b"x = 3, y = 1, rule = WireWorld\nCCA!",
-        b"AAB$3 1",
-    )?;
-    turns(
-        rt.alloc(),
-        b"x = 3, y = 1, rule = WireWorld\nCA.!",
-        b".AC$3 1",
-    )
+    page.end()
 }

@@ -2,84 +2,68 @@
 ghost use Rattle.std.specs.Prelude.{◌<◌, length, IfOk};
 ghost use Rattle.pattern_reading.specs.Spelling.{port_lines};
 
-use crate::texts::{cut, joined, push_all};
+use crate::fails::expect_holds;
+use crate::pages::Page;
+use crate::texts::{cut, halves};
 use lists::List;
 use port_table::{NetLine, PortLine, PortReadError, Ports, read, write_line};
 use std::alloc::{AllocError, Global};
 use std::test::Fail;
-use ww_base::{MemSink, expect};
+use ww_base::MemSink;
 
-fn push_port(
-    alloc: Global,
-    line: &mut Vec<u8>,
-    kind: &str,
-    port: &PortLine,
-) -> Result<(), AllocError> {
-    let start = format!(in alloc; ", {kind} {} {} ", port.x, port.y)?;
-    push_all(line, &[start.as_bytes(), port.name.as_slice()])
+// Appends the kind of a line, and the cell that it names.
+fn push_cell(page: &mut Page, kind: &[u8], x: u64, y: u64) {
+    page.push(kind);
+    page.push_number(x);
+    page.push(b" ");
+    page.push_number(y);
+    page.push(b" ");
 }
 
-fn push_ports(
-    alloc: Global,
-    line: &mut Vec<u8>,
-    kind: &str,
-    ports: &[PortLine],
-) -> Result<(), AllocError> {
+fn push_ports(page: &mut Page, kind: &[u8], ports: &[PortLine]) {
     for port in ports {
-        push_port(alloc, line, kind, port)?;
+        push_cell(page, kind, port.x, port.y);
+        page.push(port.name.as_slice());
     }
-    Ok(())
 }
 
-fn push_net(alloc: Global, line: &mut Vec<u8>, net: &NetLine) -> Result<(), AllocError> {
-    let start = format!(in alloc; ", NET {} {} {} ", net.x, net.y, net.offset)?;
-    push_all(
-        line,
-        &[
-            start.as_bytes(),
-            net.name.as_slice(),
-            b" ",
-            net.path.as_slice(),
-        ],
-    )
-}
-
-fn push_table(alloc: Global, line: &mut Vec<u8>, ports: &Ports) -> Result<(), AllocError> {
-    push_ports(alloc, line, "IN", ports.ins.as_slice())?;
-    push_ports(alloc, line, "OUT", ports.outs.as_slice())?;
-    for net in ports.nets.as_slice() {
-        push_net(alloc, line, net)?;
+fn push_nets(page: &mut Page, nets: &[NetLine]) {
+    for net in nets {
+        push_cell(page, b", NET ", net.x, net.y);
+        page.push_number(net.offset);
+        page.push(b" ");
+        page.push(net.name.as_slice());
+        page.push(b" ");
+        page.push(net.path.as_slice());
     }
-    Ok(())
 }
 
-// A table as one line: its period, its latency, its number of contexts, and then each port and net.
-fn shown(alloc: Global, ports: &Ports) -> Result<Vec<u8>, AllocError> {
-    let mut line = format!(in alloc; "{} {} {}", ports.p, ports.l, ports.c)?.into_bytes();
-    push_table(alloc, &mut line, ports)?;
-    Ok(line)
+// Appends a table as one line: its period, its latency, its number of contexts, and then each port and
+// net.
+fn push_table(page: &mut Page, ports: &Ports) {
+    page.push_number(ports.p);
+    page.push(b" ");
+    page.push_number(ports.l);
+    page.push(b" ");
+    page.push_number(ports.c);
+    push_ports(page, b", IN ", ports.ins.as_slice());
+    push_ports(page, b", OUT ", ports.outs.as_slice());
+    push_nets(page, ports.nets.as_slice());
 }
 
-// A table as one line, or its fault and the line at fault.
-fn read_shown(alloc: Global, read: &Result<Ports, PortReadError>) -> Result<Vec<u8>, AllocError> {
+// Appends a table as one line, or its fault and the line at fault.
+fn push_read(page: &mut Page, read: Result<Ports, PortReadError>) {
     match read {
-        Ok(ports) => shown(alloc, ports),
-        Err(PortReadError::Fault(fault)) => {
-            Ok(format!(in alloc; "{:?} {}", fault.kind, fault.line)?.into_bytes())
+        Ok(ports) => {
+            push_table(page, &ports);
+            drop(ports);
         }
-        Err(PortReadError::NoMemory) => Err(AllocError),
+        Err(PortReadError::Fault(fault)) => {
+            page.push_item(&fault.kind);
+            page.push_number(fault.line);
+        }
+        Err(PortReadError::NoMemory) => page.cut(),
     }
-}
-
-// Fails unless the table of a text, for a pattern of this size, is `want`.
-fn expect_table(
-    alloc: Global,
-    text: &[u8],
-    width: u64,
-    height: u64,
-    want: &[u8],
-) -> Result<(), Fail> {
-    expect(&read_shown(alloc, &read(alloc, text, width, height))?, want)
 }
 
 // The widths and heights of patterns, their texts, and after `== ` the tables as one line each, or
@@ -277,7 +261,7 @@ x = 3, y = 1, rule = WireWorld
 
 // The two numbers of a text, or 99 for what is no number.
 fn size_in(text: &str) -> (u64, u64) {
-    let (width, height) = text.split_once(' ').unwrap_or((text, ""));
+    let (width, height) = halves(text, " ", "");
     (
         width.parse::<u64>().unwrap_or(99),
         height.parse::<u64>().unwrap_or(99),
@@ -286,23 +270,23 @@ fn size_in(text: &str) -> (u64, u64) {
 
 #[test]
 fn tables_are_read(rt: HostRuntime) -> Result<(), Fail> {
+    let mut page = Page::new(rt.alloc());
     for case in TABLES.split("\n>") {
         let (size, text, want) = cut(case);
         let (width, height) = size_in(size);
-        expect_table(rt.alloc(), text.as_bytes(), width, height, want.as_bytes())?;
+        push_read(&mut page, read(rt.alloc(), text.as_bytes(), width, height));
+        page.expect(want.as_bytes());
     }
-    Ok(())
+    page.end()
 }
 
-// A name with each byte but the line feed.
-fn name_of_all_bytes(alloc: Global) -> Result<Vec<u8>, AllocError> {
-    let mut name = Vec::new(alloc);
+// Appends each byte but the line feed.
+fn push_all_bytes(page: &mut Page) {
     for byte in 0..=255u8 {
         if byte != b'\n' {
-            name.push(byte)?;
+            page.push_byte(byte);
         }
     }
-    Ok(name)
 }
 
 // A table with one input, which has this name.
@@ -327,34 +311,53 @@ fn table_with(alloc: Global, name: &[u8]) -> Result<Ports, AllocError>
 }
 
 // Writes both lines of a table.
-fn write_lines(ports: &Ports, sink: &mut MemSink) -> Result<(), Fail>
+fn write_lines(ports: &Ports, sink: &mut MemSink) -> bool
     requires { 1 < length (port_lines ports.now) }
 {
-    write_line(ports, 0, sink)?;
-    write_line(ports, 1, sink)?;
-    Ok(())
+    write_line(ports, 0, sink).is_ok() && write_line(ports, 1, sink).is_ok()
 }
 
-fn text_of(alloc: Global, ports: &Ports) -> Result<MemSink, Fail>
+// Appends the table that is read of the lines that are written of this one.
+fn push_again(page: &mut Page, ports: &Ports)
     requires { 1 < length (port_lines ports.now) }
 {
-    let mut sink = MemSink::new(alloc, 1000, 1000, &[])?;
-    write_lines(ports, &mut sink)?;
-    Ok(sink)
+    match MemSink::new(page.alloc(), 1000, 1000, &[]) {
+        Ok(mut sink) => {
+            if write_lines(ports, &mut sink) {
+                push_read(page, read(page.alloc(), sink.held(), 1, 1));
+            }
+            drop(sink);
+        }
+        Err(_) => page.cut(),
+    }
 }
 
-fn expect_name(alloc: Global, text: &[u8], name: &[u8]) -> Result<(), Fail> {
-    let want = joined(alloc, &[b"32 0 1, IN 0 0 ", name])?;
-    expect_table(alloc, text, 1, 1, &want)
+fn push_named(page: &mut Page, name: &[u8]) {
+    match table_with(page.alloc(), name) {
+        Ok(ports) => {
+            push_again(page, &ports);
+            drop(ports);
+        }
+        Err(_) => page.cut(),
+    }
 }
 
-fn expect_read_back(alloc: Global, name: &[u8]) -> Result<(), Fail> {
-    let ports = table_with(alloc, name)?;
-    expect_name(alloc, text_of(alloc, &ports)?.held(), name)
+// Whether these are the period, the latency, the contexts and the one input of such a table.
+fn tells_name(said: &[u8], name: &[u8]) -> bool {
+    let start = b"32 0 1, IN 0 0 ".as_slice();
+    said.len() == start.len().saturating_add(name.len())
+        && said.starts_with(start)
+        && said.ends_with(name)
 }
 
 #[test]
 fn a_name_of_all_bytes_is_read_back(rt: HostRuntime) -> Result<(), Fail> {
-    let name = name_of_all_bytes(rt.alloc())?;
-    expect_read_back(rt.alloc(), &name)
+    let mut name = Page::new(rt.alloc());
+    push_all_bytes(&mut name);
+    let mut page = Page::new(rt.alloc());
+    push_named(&mut page, name.said());
+    let is_told = tells_name(page.said(), name.said());
+    drop(name);
+    drop(page);
+    expect_holds("a name of all bytes", is_told)
 }

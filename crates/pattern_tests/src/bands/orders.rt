@@ -5,6 +5,8 @@ ghost use Rattle.ww_rule.specs.Injections.{AreInside};
 ghost use Rattle.band_core.specs.Bands.{IsSamePattern, generation_of};
 
 use super::shown::letter_at;
+use crate::fails::expect_holds;
+use crate::pages::Page;
 use band_core::Bands;
 use pattern_writing::tag_of;
 use rle_read::read;
@@ -31,42 +33,40 @@ impl Draw {
 }
 
 // Appends a row of random cells.
-fn push_random_row(text: &mut Vec<u8>, draw: &mut Draw, width: u64) -> Result<(), AllocError> {
+fn push_random_row(page: &mut Page, draw: &mut Draw, width: u64) {
     for _x in 0..width {
-        let letter = match draw.below(8) {
+        page.push_byte(match draw.below(8) {
             0 => b'.',
             1 => b'A',
             2 => b'B',
             _ => b'C',
-        };
-        text.push(letter)?;
+        });
     }
-    text.extend_from_slice(b"$")
+    page.push(b"$");
 }
 
-// Appends five rows of random cells, and the pattern's end.
-fn push_random_rows(text: &mut Vec<u8>, draw: &mut Draw, width: u64) -> Result<(), AllocError> {
+// Appends the text of a random pattern of five rows.
+fn push_random(page: &mut Page, draw: &mut Draw, width: u64) {
+    page.push(b"x = ");
+    page.push_number(width);
+    page.push(b", y = 5, rule = WireWorld\n");
     for _y in 0..5 {
-        push_random_row(text, draw, width)?;
+        push_random_row(page, draw, width);
     }
-    text.extend_from_slice(b"!")
-}
-
-// The text of a random pattern of five rows.
-fn random_text(alloc: Global, draw: &mut Draw, width: u64) -> Result<Vec<u8>, AllocError> {
-    let mut text = format!(in alloc; "x = {width}, y = 5, rule = WireWorld\n")?.into_bytes();
-    push_random_rows(&mut text, draw, width)?;
-    Ok(text)
+    page.push(b"!");
 }
 
 // A random pattern of five rows.
-fn random_pattern(alloc: Global, draw: &mut Draw, width: u64) -> Result<Pattern, Fail>
+fn random_pattern(page: &mut Page, draw: &mut Draw, width: u64) -> Result<Pattern, Fail>
     ensures width { IfOk result (λ pattern. pattern.width ≡ width) }
     ensures height { IfOk result (λ pattern. pattern.height ≡ 5) }
     ensures rows { IfOk result (λ pattern. length pattern.rows ≡ 5) }
 {
-    let pattern = read(alloc, &random_text(alloc, draw, width)?)?;
+    page.clear();
+    push_random(page, draw, width);
+    let pattern = read(page.alloc(), page.said())?;
     if pattern.width != width || pattern.height != 5 || pattern.rows.len() != 5 {
+        drop(pattern);
         return Err(Fail::new("another size"));
     }
     Ok(pattern)
@@ -238,39 +238,53 @@ fn calls_are_right(
 }
 
 // Whether the bands of a random pattern with random injections are right after random calls.
-fn order_is_right(alloc: Global, draw: &mut Draw, height: u32, width: u64) -> Result<bool, Fail>
+fn order_is_right(page: &mut Page, draw: &mut Draw, height: u32, width: u64) -> Result<bool, Fail>
     requires height { 0 < height }
     requires width { 0 < width }
 {
-    let drive = random_drive(alloc, draw, width)?;
-    let pattern = random_pattern(alloc, draw, width)?;
-    let planes = planes(alloc, &pattern, &drive)?;
-    let mut bands = Bands::new(alloc, pattern, drive, height)?;
-    Ok(calls_are_right(draw, &mut bands, height, width, &planes))
-}
-
-fn expect_right(alloc: Global, draw: &mut Draw, height: u32, width: u64) -> Result<(), Fail> {
-    if height == 0 || width == 0 || !order_is_right(alloc, draw, height, width)? {
-        return Err(Fail::new(format_args!("bands of {height} rows, {width} columns")));
-    }
-    Ok(())
+    let drive = random_drive(page.alloc(), draw, width)?;
+    let pattern = random_pattern(page, draw, width)?;
+    let planes = planes(page.alloc(), &pattern, &drive)?;
+    let is_right = match Bands::new(page.alloc(), pattern, drive, height) {
+        Ok(mut bands) => {
+            let is_right = calls_are_right(draw, &mut bands, height, width, &planes);
+            drop(bands);
+            is_right
+        }
+        Err(_) => false,
+    };
+    drop(planes);
+    Ok(is_right)
 }
 
 // The heights of bands, and the widths of patterns.
 const SIZES: &[(u32, u64)] = &[(1, 3), (2, 3), (3, 65), (1, 65), (2, 64), (7, 1)];
 
-fn expect_all_right(alloc: Global, draw: &mut Draw) -> Result<(), Fail> {
+// Whether all sizes are right, in turn.
+fn orders_are_right(page: &mut Page, draw: &mut Draw) -> Result<bool, Fail> {
     for (height, width) in SIZES {
-        expect_right(alloc, draw, *height, *width)?;
+        if *height == 0 || *width == 0 || !order_is_right(page, draw, *height, *width)? {
+            return Ok(false);
+        }
     }
-    Ok(())
+    Ok(true)
+}
+
+// Whether all sizes are right in each of 334 rounds.
+fn rounds_are_right(page: &mut Page) -> Result<bool, Fail> {
+    let mut draw = Draw { state: 1 };
+    for _round in 0..334 {
+        if !orders_are_right(page, &mut draw)? {
+            return Ok(false);
+        }
+    }
+    Ok(true)
 }
 
 #[test]
 fn random_orders_show_the_driven_planes(rt: HostRuntime) -> Result<(), Fail> {
-    let mut draw = Draw { state: 1 };
-    for _round in 0..334 {
-        expect_all_right(rt.alloc(), &mut draw)?;
-    }
-    Ok(())
+    let mut page = Page::new(rt.alloc());
+    let are_right = rounds_are_right(&mut page);
+    drop(page);
+    expect_holds("random orders", are_right?)
 }

@@ -1,9 +1,9 @@
 // The letters of cells that bands show.
 ghost use Rattle.std.specs.Prelude.{◌≡◌, ◌<◌, length};
 
+use crate::pages::Page;
 use band_core::Bands;
 use pattern_writing::tag_of;
-use std::alloc::AllocError;
 
 /// Returns the letter of a cell of the pattern, at the generation of its band.
 pub fn letter_at(bands: &Bands, height: u32, x: u64, y: u64) -> u8
@@ -21,19 +21,12 @@ pub fn letter_at(bands: &Bands, height: u32, x: u64, y: u64) -> u8
 }
 
 /// Appends a row of the pattern, at the generation of its band.
-pub fn push_row(
-    text: &mut String,
-    bands: &Bands,
-    height: u32,
-    width: u64,
-    y: u64,
-) -> Result<(), AllocError>
+pub fn push_row(page: &mut Page, bands: &Bands, height: u32, width: u64, y: u64)
     requires height { height ≡ bands.now.height }
     requires width { width ≡ bands.now.grid.width }
     requires row { y < length bands.now.grid.rows }
 {
     for x in 0..width {
-        text.push(letter_at(bands, height, x, y) as char)?;
+        page.push_byte(letter_at(bands, height, x, y));
     }
-    Ok(())
 }
