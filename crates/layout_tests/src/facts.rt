@@ -125,29 +125,39 @@ fn are_places(places: &[NetPlace], want: &[NetPlace]) -> bool {
     places.len() == want.len()
 }
 
+// Whether the plan or its drawing has what a fact tells of it as it stands.
+fn has_at_rest(plan: &Plan, fact: &Fact) -> bool
+    requires { IsAdmissible plan.now }
+{
+    match fact {
+        Fact::Size(width, height) => size(plan) == (*width, *height),
+        Fact::Period(generations) => period(plan) == *generations,
+        Fact::Latency(generations) => latency(plan) == *generations,
+        Fact::Columns(count) => plan.columns.len() == *count,
+        Fact::Latches(count) => plan.latches == *count,
+        Fact::Starts(starts) => plan.starts.list.as_slice() == *starts,
+        Fact::Nets(places) => are_places(plan.nets.as_slice(), places),
+        Fact::InCells(cells) => has_in_cells(plan, cells),
+        Fact::OutCells(cells) => has_out_cells(plan, cells),
+        Fact::NetCells(cells) => has_net_cells(plan, cells),
+        Fact::Cells(cells) => has_cells(plan, cells),
+        Fact::Rows(rows) => has_rows(plan, rows),
+        Fact::Slots(rows) => has_slots(plan, rows),
+        _ => false,
+    }
+}
+
 fn has(alloc: Global, plan: &Plan, fact: &Fact) -> Result<bool, Fail>
     requires admissible { IsAdmissible plan.now }
     requires starts { HasStartEdges plan.now }
 {
     match fact {
-        Fact::Size(width, height) => Ok(size(plan) == (*width, *height)),
-        Fact::Period(generations) => Ok(period(plan) == *generations),
-        Fact::Latency(generations) => Ok(latency(plan) == *generations),
-        Fact::Columns(count) => Ok(plan.columns.len() == *count),
-        Fact::Latches(count) => Ok(plan.latches == *count),
-        Fact::Starts(starts) => Ok(plan.starts.list.as_slice() == *starts),
-        Fact::Nets(places) => Ok(are_places(plan.nets.as_slice(), places)),
-        Fact::InCells(cells) => Ok(has_in_cells(plan, cells)),
-        Fact::OutCells(cells) => Ok(has_out_cells(plan, cells)),
-        Fact::NetCells(cells) => Ok(has_net_cells(plan, cells)),
-        Fact::Cells(cells) => Ok(has_cells(plan, cells)),
-        Fact::Rows(rows) => Ok(has_rows(plan, rows)),
-        Fact::Slots(rows) => Ok(has_slots(plan, rows)),
         Fact::Answers => answers(alloc, plan),
         Fact::StaysDark => stays_dark(alloc, plan),
         Fact::GoesRound => goes_round(alloc, plan),
         Fact::RunsIn => runs_in(alloc, plan),
         Fact::Heads(turns) => has_heads_in_turn(alloc, plan, turns),
+        _ => Ok(has_at_rest(plan, fact)),
     }
 }
 

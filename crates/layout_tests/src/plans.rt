@@ -7,7 +7,7 @@ ghost use Rattle.plan_layout.specs.Starts.{HasStartEdges};
 use lane_core::{Column, Instr, NetPlace, Plan, Start, Starts};
 use lists::List;
 use macro_grid::admissible;
-use std::alloc::{AllocError, Global};
+use std::alloc::Global;
 use std::test::Fail;
 
 /// A plan as a test writes it down. Each column has at most two instructions, and the tape has the
@@ -64,37 +64,48 @@ pub fn list_of<T: Copy>(alloc: Global, items: &[T], refused: &mut bool) -> List<
     }
 }
 
-fn columns_of(alloc: Global, written: &[&[Instr]]) -> Result<List<Column>, Fail> {
+// Puts an item after the others, or notes in `refused` that memory ran out.
+fn put<T: Drop>(items: &mut Vec<T>, item: T, refused: &mut bool) {
+    *refused |= items.push(item).is_err();
+}
+
+fn columns_of(
+    alloc: Global,
+    written: &[&[Instr]],
+    refused: &mut bool,
+) -> Result<List<Column>, Fail> {
     let mut columns = Vec::new(alloc);
     for instrs in written {
-        columns.push(column_of(alloc, instrs)?)?;
+        let column = column_of(alloc, instrs)?;
+        put(&mut columns, column, refused);
     }
     Ok(List::of(columns))
 }
 
-fn bits_of(alloc: Global, letters: &[u8]) -> Result<List<bool>, AllocError> {
+fn bits_of(alloc: Global, letters: &[u8], refused: &mut bool) -> List<bool> {
     let mut bits = Vec::new(alloc);
     for letter in letters {
-        bits.push(*letter == b'1')?;
+        put(&mut bits, *letter == b'1', refused);
     }
-    Ok(List::of(bits))
+    List::of(bits)
 }
 
-/// Makes lists of bits from a letter for each bit: `1` for 1, and any other for 0.
-pub fn lists_of(alloc: Global, written: &[&[u8]]) -> Result<Vec<List<bool>>, AllocError> {
+/// Makes lists of bits from a letter for each bit: `1` for 1, and any other for 0. Notes in `refused`
+/// that memory ran out.
+pub fn lists_of(alloc: Global, written: &[&[u8]], refused: &mut bool) -> Vec<List<bool>> {
     let mut lists = Vec::new(alloc);
     for letters in written {
-        lists.push(bits_of(alloc, letters)?)?;
+        let bits = bits_of(alloc, letters, refused);
+        put(&mut lists, bits, refused);
     }
-    Ok(lists)
+    lists
 }
 
-// The plan of these columns and this tape, with all else as it is written down.
+// The plan of these columns, with all else as it is written down.
 fn with_columns(
     alloc: Global,
     written: &Written<'_>,
     columns: List<Column>,
-    tape: Vec<List<bool>>,
     refused: &mut bool,
 ) -> Plan
     ensures { result.lanes ≡ written.now.lanes }
@@ -107,7 +118,7 @@ fn with_columns(
         ins: list_of(alloc, written.ins, refused),
         outs: list_of(alloc, written.outs, refused),
         nets: list_of(alloc, written.nets, refused),
-        tape: List::of(tape),
+        tape: List::of(lists_of(alloc, written.tape, refused)),
     }
 }
 
@@ -115,10 +126,9 @@ fn with_columns(
 pub fn plan_of(alloc: Global, written: &Written<'_>) -> Result<Plan, Fail>
     ensures { IfOk result (λ plan. plan.lanes ≡ written.now.lanes) }
 {
-    let columns = columns_of(alloc, written.columns)?;
-    let tape = lists_of(alloc, written.tape)?;
     let mut refused = false;
-    let plan = with_columns(alloc, written, columns, tape, &mut refused);
+    let columns = columns_of(alloc, written.columns, &mut refused)?;
+    let plan = with_columns(alloc, written, columns, &mut refused);
     if refused {
         drop(plan);
         return Err(Fail::new("no memory for a plan"));

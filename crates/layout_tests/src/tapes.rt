@@ -46,7 +46,12 @@ pub fn taped(alloc: Global, written: &Written<'_>, bits: &[&[u8]]) -> Result<Pla
     ensures admissible { IfOk result IsAdmissible }
     ensures starts { IfOk result HasStartEdges }
 {
-    let bits = lists_of(alloc, bits)?;
+    let mut refused = false;
+    let bits = lists_of(alloc, bits, &mut refused);
+    if refused {
+        drop(bits);
+        return Err(Fail::new("no memory for bits"));
+    }
     let plan = with_tape(alloc, written, &bits);
     drop(bits);
     plan

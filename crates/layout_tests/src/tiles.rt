@@ -1,7 +1,6 @@
 // Tests of the timing law, of the page of all tiles, and of tiles by themselves.
 use crate::fails::expect_holds;
 use page::PAGE;
-use std::alloc::{AllocError, Global};
 use std::test::Fail;
 use tile_core::{Kind, Library, Tile};
 use tile_library::{Shipped, tiles};
@@ -10,7 +9,7 @@ use ww_rule::State;
 
 mod page;
 
-const KINDS: [Kind; 14] = [
+const KINDS: &[Kind] = &[
     Kind::Swap,
     Kind::Xor,
     Kind::Or,
@@ -88,57 +87,96 @@ fn letter(kind: Kind, x: u32, y: u32) -> char {
     }
 }
 
-fn push_picture(page: &mut String, kind: Kind) -> Result<(), AllocError> {
-    page.push_str("\n```text\n")?;
+// A text, and whether memory ran out for a part of it.
+#[derive(Drop)]
+struct PageText {
+    text: String,
+    is_cut: bool,
+}
+
+impl PageText {
+    fn push(&mut self, part: &str) {
+        self.is_cut |= self.text.push_str(part).is_err();
+    }
+
+    fn push_letter(&mut self, letter: char) {
+        self.is_cut |= self.text.push(letter).is_err();
+    }
+
+    // Begins a tile's part.
+    fn push_name(&mut self, kind: Kind) {
+        self.is_cut |= writeln!(self.text, "\n## {kind:?}\n").is_err();
+    }
+}
+
+fn push_picture(page: &mut PageText, kind: Kind) {
+    page.push("\n```text\n");
     for y in 0..16 * kind.lanes() {
         for x in 0..32 {
-            page.push(letter(kind, x, y))?;
+            page.push_letter(letter(kind, x, y));
         }
-        page.push('\n')?;
+        page.push("\n");
     }
-    page.push_str("```\n")
+    page.push("```\n");
 }
 
 // Adds a row of a table.
-fn push_bits(page: &mut String, bits: &[bool]) -> Result<(), AllocError> {
+fn push_bits(page: &mut PageText, bits: &[bool]) {
     for bit in bits {
-        page.push_str(if *bit { "| 1 " } else { "| 0 " })?;
+        page.push(if *bit { "| 1 " } else { "| 0 " });
     }
-    page.push_str("|\n")
+    page.push("|\n");
 }
 
-fn push_answers(page: &mut String, kind: Kind) -> Result<(), AllocError> {
-    if kind.lanes() == 1 {
-        page.push_str("| a | y |\n|---|---|\n")?;
-        for a in [false, true] {
-            let [y, _] = kind.answer([a, false]);
-            push_bits(page, &[a, y])?;
-        }
-        return Ok(());
+// Adds the table of a tile with one entry.
+fn push_answer(page: &mut PageText, kind: Kind) {
+    page.push("| a | y |\n|---|---|\n");
+    for bits in 0..2u32 {
+        let a = bits == 1;
+        let [y, _] = kind.answer([a, false]);
+        push_bits(page, &[a, y]);
     }
-    page.push_str("| a | b | y | z |\n|---|---|---|---|\n")?;
-    for (a, b) in [(false, false), (false, true), (true, false), (true, true)] {
+}
+
+// Adds the table of a tile with two entries.
+fn push_answers(page: &mut PageText, kind: Kind) {
+    page.push("| a | b | y | z |\n|---|---|---|---|\n");
+    for bits in 0..4u32 {
+        let (a, b) = (bits / 2 == 1, bits % 2 == 1);
         let [y, z] = kind.answer([a, b]);
-        push_bits(page, &[a, b, y, z])?;
+        push_bits(page, &[a, b, y, z]);
     }
-    Ok(())
+}
+
+// Adds a tile's part.
+fn push_section(page: &mut PageText, kind: Kind) {
+    page.push_name(kind);
+    if kind.lanes() == 1 {
+        push_answer(page, kind);
+    } else {
+        push_answers(page, kind);
+    }
+    push_picture(page, kind);
+}
+
+// Whether the page of all tiles ends with this text.
+fn ends_page(text: &str) -> bool {
+    PAGE.ends_with(text)
 }
 
 // All of the page that follows its introduction.
-fn sections(alloc: Global) -> Result<String, AllocError> {
-    let mut page = String::new(alloc);
-    for kind in KINDS {
-        writeln!(page, "\n## {kind:?}\n")?;
-        push_answers(&mut page, kind)?;
-        push_picture(&mut page, kind)?;
-    }
-    Ok(page)
-}
-
 #[test]
 fn page_shows_every_tile(rt: HostRuntime) -> Result<(), Fail> {
-    let sections = sections(rt.alloc())?;
-    expect_holds("the page", PAGE.ends_with(sections.as_str()))
+    let mut page = PageText {
+        text: String::new(rt.alloc()),
+        is_cut: false,
+    };
+    for kind in KINDS {
+        push_section(&mut page, *kind);
+    }
+    let is_shown = !page.is_cut && ends_page(page.text.as_str());
+    drop(page);
+    expect_holds("the page", is_shown)
 }
 
 // Which exits a tile lights if only its first entry is lit.
@@ -156,9 +194,14 @@ fn lights() -> [[bool; 2]; 4] {
 }
 
 #[test]
-fn tiles_answer_by_themselves_and_the_law_holds_of_the_or_drawing_alone(rt: HostRuntime) {
-    assert_eq!(rt; laws(), [true, false, false, false, false]);
+fn tiles_answer_by_themselves_and_the_law_holds_of_the_or_drawing_alone(
+    rt: HostRuntime,
+) -> Result<(), Fail> {
+    expect_holds("the law", laws() == [true, false, false, false, false])?;
+    expect_holds(
+        "the entries",
+        tiles::SouthWest::ENTRIES == [(16, 0), (0, 0)],
+    )?;
     let want = [[false, true], [true, true], [true, false], [true, false]];
-    assert_eq!(rt; lights(), want);
-    assert_eq!(rt; tiles::SouthWest::ENTRIES, [(16, 0), (0, 0)]);
+    expect_holds("the answers", lights() == want)
 }
