@@ -1,9 +1,9 @@
 // Lanes, with their tags and clocks, and the instructions so far.
-ghost use Rattle.std.specs.Prelude.{◌≡◌, ◌⊎◌, ◌==◌, ◌≤◌, ◌<◌, ◌+◌, ◌-◌, ◌*◌, ◌^◌, ◌++◌, ◌∷◌, [], length, All, set, OnOk, IfSome, IfOk, None, true, false};
+ghost use Rattle.std.specs.Prelude.{◌≡◌, ◌⊎◌, ◌==◌, ◌≤◌, ◌<◌, ◌+◌, ◌-◌, ◌*◌, ◌^◌, length, All, set, OnOk, IfSome, IfOk, None, true, false};
 ghost use Rattle.lane_core.specs.Instrs.{IsOnLanes, lane_of};
 ghost use Rattle.lane_core.specs.Places.{IsPlaceWithin};
 ghost use Rattle.row_placer.specs.declared.roles.Role.TheVariants.{Free, Kept, First, Second};
-ghost use Rattle.row_placer.specs.Told.{role_code, Told, MadeTold, MadeAt, PutsTags, SameTags, Exchanged, count, free_tag, tag, tag_on, taken_tag, upper_operand, lower_operand, gate_instr};
+ghost use Rattle.row_placer.specs.Told.{role_code, Told, MadeTold, MadeAt, PutsTags, Exchanged, count, free_tag, tag, tag_on, taken_tag, upper_operand, lower_operand, gate_instr};
 ghost use Rattle.row_placer.specs.Uses.{uses_left};
 ghost use Rattle.row_placer.specs.Ready.{ReadyForGate, ReadyForPort, HoldAllPorts, AreSettled, IsUsable, IsRunnable, ArePortsKnown, value_count};
 ghost use Rattle.row_placer.specs.Placed.{AreOuts};

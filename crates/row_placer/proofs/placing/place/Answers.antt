@@ -1,4 +1,4 @@
-use Rattle.std.proofs.Common.{◌+◌, ◌≤◌, max, length, arith}
+use Rattle.std.proofs.Common.{max, length, arith}
 use Rattle.row_placer.proofs.Finish.{within_more}
 use Rattle.row_placer.proofs.placing.place.Goals as goal
 

@@ -1,4 +1,4 @@
-use Rattle.std.proofs.Common.{◌≡◌, sym, ◌∙◌, ap, subst, ◌+◌, ◌<◌, ⊎_elim, length, arith}
+use Rattle.std.proofs.Common.{◌≡◌, sym, ◌∙◌, ap, subst, ◌<◌, ⊎_elim, length, arith}
 use Rattle.row_placer.specs.declared.roles.Role.TheVariants.{Kept}
 use Rattle.row_placer.specs.Told.{tag, tag_on, free_tag, taken_tag, Exchanged}
 use Rattle.row_placer.proofs.Carry.{kept_on, marked, copy_marked}
