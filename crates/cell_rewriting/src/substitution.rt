@@ -132,8 +132,7 @@ impl Substitution {
         ensures equal { OnOk result (AreEqual self.new.list self.new.instead.items) }
         ensures extends { OnOk result (Extends self.old.list self.new.list) }
     {
-        add_cells(alloc, &mut self.list, cells)?;
-        Ok(())
+        add_cells(alloc, &mut self.list, cells)
     }
 
     /// Replaces a cell, if words over the leaves show that the replacement is sound. Its new cells

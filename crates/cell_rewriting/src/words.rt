@@ -71,6 +71,26 @@ fn source_word(subst: &Substitution, leaves: &[Src], words: &[CellWord], src: Sr
     standing_word(subst, leaves, words, subst.standing(src))
 }
 
+// The words of two sources.
+fn source_words(
+    subst: &Substitution,
+    leaves: &[Src],
+    words: &[CellWord],
+    a: Src,
+    b: Src,
+) -> Option<(u64, u64)>
+    requires equal { AreEqual subst.now.list subst.now.instead.items }
+    requires few { length leaves.now ≤ 6 }
+    requires words { AreWords subst.now.list leaves.now words.now }
+    ensures first { IfSome result (λ both. IsWordOf subst.now.list leaves.now a both.0) }
+    ensures second { IfSome result (λ both. IsWordOf subst.now.list leaves.now b both.1) }
+{
+    Some((
+        source_word(subst, leaves, words, a)?,
+        source_word(subst, leaves, words, b)?,
+    ))
+}
+
 // The word of what a cell makes.
 fn cell_word(subst: &Substitution, leaves: &[Src], words: &[CellWord], cell: Cell) -> Option<u64>
     requires equal { AreEqual subst.now.list subst.now.instead.items }
@@ -80,18 +100,15 @@ fn cell_word(subst: &Substitution, leaves: &[Src], words: &[CellWord], cell: Cel
 {
     match cell {
         Cell::Or(a, b) => {
-            let first = source_word(subst, leaves, words, a)?;
-            let second = source_word(subst, leaves, words, b)?;
+            let (first, second) = source_words(subst, leaves, words, a, b)?;
             Some(or_words(first, second))
         }
         Cell::Xor(a, b) => {
-            let first = source_word(subst, leaves, words, a)?;
-            let second = source_word(subst, leaves, words, b)?;
+            let (first, second) = source_words(subst, leaves, words, a, b)?;
             Some(xor_words(first, second))
         }
         Cell::AndNot(a, b) => {
-            let first = source_word(subst, leaves, words, a)?;
-            let second = source_word(subst, leaves, words, b)?;
+            let (first, second) = source_words(subst, leaves, words, a, b)?;
             Some(and_not_words(first, second))
         }
     }
