@@ -2,11 +2,11 @@
 ghost use Rattle.std.specs.Prelude.{◌≡◌};
 ghost use Rattle.tile_match.specs.declared.error.AuditError.TheVariants.{NoMemory};
 
-use std::alloc::{AllocError, AllocFailed};
+use std::alloc::AllocError;
 use thiserror::Error;
 
 /// Why a pattern with a port table is no circuit: the first kind that applies.
-#[derive(Clone, Copy, Debug, PartialEq, Eq)]
+#[derive(Clone, Copy, Debug)]
 pub enum CircuitFault {
     /// No circuit's plan has the pattern's box and the table's period, latency and port cells, or
     /// the table is that of several contexts.
@@ -30,14 +30,6 @@ impl From<AllocError> for AuditError {
     ghost from_gives = { λ _ e. e ≡ NoMemory };
 
     fn from(_: AllocError) -> Self {
-        AuditError::NoMemory
-    }
-}
-
-impl<T: Drop> From<AllocFailed<T>> for AuditError {
-    ghost from_gives = { λ _ e. e ≡ NoMemory };
-
-    fn from(_: AllocFailed<T>) -> Self {
         AuditError::NoMemory
     }
 }
