@@ -77,3 +77,51 @@ returns-in_err-bits-clause-refused c =
     rw (p.1, p.2)
     (simulate_cause ports streams plane last error near
     (subst (λ (m : Option Injection). HasRunCause m error) seen c.in_err-bits.ensures.refused))
+
+pub returns-in_err-references-clause-near : goal.returns-in_err-references-clause-near
+returns-in_err-references-clause-near c = rw ((err_from_is_err_and c.from_residual.result c.from_residual.ensures.1).1) tt
+
+pub returns-in_err-references-clause-quiet : goal.returns-in_err-references-clause-quiet
+returns-in_err-references-clause-quiet c = rw ((err_from_is_err_and c.from_residual.result c.from_residual.ensures.1).1) tt
+
+pub returns-in_err-references-clause-waves : goal.returns-in_err-references-clause-waves
+returns-in_err-references-clause-waves c = rw ((err_from_is_err_and c.from_residual.result c.from_residual.ensures.1).1) tt
+
+pub returns-in_err-references-clause-says : goal.returns-in_err-references-clause-says
+returns-in_err-references-clause-says c = rw ((err_from_is_err_and c.from_residual.result c.from_residual.ensures.1).1) tt
+
+pub returns-in_err-run-clause-near : goal.returns-in_err-run-clause-near
+returns-in_err-run-clause-near c = rw ((err_from_is_err_and c.from_residual-in_err-run.result c.from_residual-in_err-run.ensures.1).1) tt
+
+pub returns-in_err-run-clause-quiet : goal.returns-in_err-run-clause-quiet
+returns-in_err-run-clause-quiet c = rw ((err_from_is_err_and c.from_residual-in_err-run.result c.from_residual-in_err-run.ensures.1).1) tt
+
+pub returns-in_err-run-clause-waves : goal.returns-in_err-run-clause-waves
+returns-in_err-run-clause-waves c = rw ((err_from_is_err_and c.from_residual-in_err-run.result c.from_residual-in_err-run.ensures.1).1) tt
+
+pub returns-in_err-run-clause-says : goal.returns-in_err-run-clause-says
+returns-in_err-run-clause-says c = rw ((err_from_is_err_and c.from_residual-in_err-run.result c.from_residual-in_err-run.ensures.1).1) tt
+
+pub returns-in_err-bits-clause-near : goal.returns-in_err-bits-clause-near
+returns-in_err-bits-clause-near c = rw ((err_from_is_err_and c.from_residual-in_err-bits.result c.from_residual-in_err-bits.ensures.1).1) tt
+
+pub returns-in_err-bits-clause-quiet : goal.returns-in_err-bits-clause-quiet
+returns-in_err-bits-clause-quiet c = rw ((err_from_is_err_and c.from_residual-in_err-bits.result c.from_residual-in_err-bits.ensures.1).1) tt
+
+pub returns-in_err-bits-clause-waves : goal.returns-in_err-bits-clause-waves
+returns-in_err-bits-clause-waves c = rw ((err_from_is_err_and c.from_residual-in_err-bits.result c.from_residual-in_err-bits.ensures.1).1) tt
+
+pub returns-in_err-bits-clause-says : goal.returns-in_err-bits-clause-says
+returns-in_err-bits-clause-says c = rw ((err_from_is_err_and c.from_residual-in_err-bits.result c.from_residual-in_err-bits.ensures.1).1) tt
+
+pub returns-in_err-quiet-clause-near : goal.returns-in_err-quiet-clause-near
+returns-in_err-quiet-clause-near c = rw ((err_from_is_err_and c.from_residual-in_err-quiet.result c.from_residual-in_err-quiet.ensures.1).1) tt
+
+pub returns-in_err-quiet-clause-quiet : goal.returns-in_err-quiet-clause-quiet
+returns-in_err-quiet-clause-quiet c = rw ((err_from_is_err_and c.from_residual-in_err-quiet.result c.from_residual-in_err-quiet.ensures.1).1) tt
+
+pub returns-in_err-quiet-clause-waves : goal.returns-in_err-quiet-clause-waves
+returns-in_err-quiet-clause-waves c = rw ((err_from_is_err_and c.from_residual-in_err-quiet.result c.from_residual-in_err-quiet.ensures.1).1) tt
+
+pub returns-in_err-quiet-clause-says : goal.returns-in_err-quiet-clause-says
+returns-in_err-quiet-clause-says c = rw ((err_from_is_err_and c.from_residual-in_err-quiet.result c.from_residual-in_err-quiet.ensures.1).1) tt

@@ -1,4 +1,5 @@
 use Rattle.std.proofs.Common.{◌+◌, ◌*◌, sym, ◌∙◌, subst, arith}
+use Rattle.std.proofs.lemmas.Result.{err_from_is_err_and}
 use Rattle.drive.specs.Runs.{planes_of}
 use Rattle.vcd_write.specs.DueBits.{AreDueFrom}
 use Rattle.vcd_write.proofs.FirstBits.{all_within, are_first, if_ok, room_of, shown, shown_at}
@@ -27,3 +28,12 @@ returns-clause-bits c =
     right (shown ports cycles raster fits planes) (are_first ports cycles raster fits planes c.in_ok-first.first.items c.in_ok-first.ensures.same) (cycle * raster.variables + n) within
     ∙ shown_at ports cycles raster fits planes n cycle variable e)
     c.read_bits.ensures.bits
+
+pub returns-in_err-first-clause-gone : goal.returns-in_err-first-clause-gone
+returns-in_err-first-clause-gone c = rw ((err_from_is_err_and c.from_residual.result c.from_residual.ensures.1).1) tt
+
+pub returns-in_err-first-clause-long : goal.returns-in_err-first-clause-long
+returns-in_err-first-clause-long c = rw ((err_from_is_err_and c.from_residual.result c.from_residual.ensures.1).1) tt
+
+pub returns-in_err-first-clause-bits : goal.returns-in_err-first-clause-bits
+returns-in_err-first-clause-bits c = rw ((err_from_is_err_and c.from_residual.result c.from_residual.ensures.1).1) tt

@@ -65,3 +65,30 @@ returns-in_err-quiet-clause-refused c =
     let q = err_from_is_err_and c.from_residual-in_err-quiet.result c.from_residual-in_err-quiet.ensures.1 in
     rw (q.1, q.2)
     (subst (λ (m : ℕ → Option Injection). HasRunCause (m raster.last) error) (went.misses ∙ p.gone.misses) cause)
+
+pub returns-in_err-bits-clause-gone : goal.returns-in_err-bits-clause-gone
+returns-in_err-bits-clause-gone c = rw ((err_from_is_err_and c.from_residual.result c.from_residual.ensures.1).1) tt
+
+pub returns-in_err-bits-clause-long : goal.returns-in_err-bits-clause-long
+returns-in_err-bits-clause-long c = rw ((err_from_is_err_and c.from_residual.result c.from_residual.ensures.1).1) tt
+
+pub returns-in_err-bits-clause-bits : goal.returns-in_err-bits-clause-bits
+returns-in_err-bits-clause-bits c = rw ((err_from_is_err_and c.from_residual.result c.from_residual.ensures.1).1) tt
+
+pub returns-in_err-quiet-clause-gone : goal.returns-in_err-quiet-clause-gone
+returns-in_err-quiet-clause-gone c = rw ((err_from_is_err_and c.from_residual-in_err-quiet.result c.from_residual-in_err-quiet.ensures.1).1) tt
+
+pub returns-in_err-quiet-clause-long : goal.returns-in_err-quiet-clause-long
+returns-in_err-quiet-clause-long c = rw ((err_from_is_err_and c.from_residual-in_err-quiet.result c.from_residual-in_err-quiet.ensures.1).1) tt
+
+pub returns-in_err-quiet-clause-bits : goal.returns-in_err-quiet-clause-bits
+returns-in_err-quiet-clause-bits c = rw ((err_from_is_err_and c.from_residual-in_err-quiet.result c.from_residual-in_err-quiet.ensures.1).1) tt
+
+pub returns-in_err-put_next-clause-gone : goal.returns-in_err-put_next-clause-gone
+returns-in_err-put_next-clause-gone c = rw ((err_from_is_err_and c.from_residual-in_err-put_next.result c.from_residual-in_err-put_next.ensures.1).1) tt
+
+pub returns-in_err-put_next-clause-long : goal.returns-in_err-put_next-clause-long
+returns-in_err-put_next-clause-long c = rw ((err_from_is_err_and c.from_residual-in_err-put_next.result c.from_residual-in_err-put_next.ensures.1).1) tt
+
+pub returns-in_err-put_next-clause-bits : goal.returns-in_err-put_next-clause-bits
+returns-in_err-put_next-clause-bits c = rw ((err_from_is_err_and c.from_residual-in_err-put_next.result c.from_residual-in_err-put_next.ensures.1).1) tt
