@@ -1,4 +1,4 @@
-use Rattle.std.proofs.Common.{◌∙◌, sym, ap, ap₂, List, ◌++◌, ◌∷◌, [], map, string_bytes, take, Bor}
+use Rattle.std.proofs.Common.{◌∙◌, sym, ap, ap₂, List, ◌++◌, ◌∷◌, [], map, string_bytes, Bor}
 use Rattle.std.proofs.lemmas.List.{map_more, map_push}
 use Rattle.clap.specs.Walk.{Text}
 use Rattle.command_words.proofs.command.owned.Goals as goal
