@@ -17,6 +17,8 @@ pub fn aiger(alloc: Global, text: &[u8]) -> Result<Output, TextError>
     ensures refused { IfErr result (λ e. HasTextCause aiger text.now e) }
 {
     let circuit = aiger_reader::read(alloc, text)?;
-    let planned = plan_circuit(alloc, &circuit)?;
+    let made = plan_circuit(alloc, &circuit);
+    drop(circuit);
+    let planned = made?;
     Ok(Output::Drawing(planned))
 }

@@ -65,6 +65,7 @@ fn started(
 {
     let limit = period(&plan) / 32;
     if contexts > limit {
+        drop(plan);
         return Err(TextError::Refused(Cause::TooManyContexts { contexts, limit }));
     }
     if is_alone(contexts, words) {
@@ -72,7 +73,9 @@ fn started(
         return Ok(Output::Drawing(Planned { plan, ports }));
     }
     let bits = starts.in_contexts(alloc, &netlist.flat, contexts)?;
-    let started = plan_contexts(alloc, &netlist.flat, plan, bits.as_slice())?;
+    let made = plan_contexts(alloc, &netlist.flat, plan, bits.as_slice());
+    drop(bits);
+    let started = made?;
     Ok(Output::Drawing(started))
 }
 
@@ -94,7 +97,9 @@ fn compiled(
 {
     let starts = Starts::read(alloc, &netlist.flat, words, contexts)?;
     let plan = plan_of(alloc, netlist)?;
-    started(alloc, netlist, plan, contexts, words, &starts)
+    let output = started(alloc, netlist, plan, contexts, words, &starts);
+    drop(starts);
+    output
 }
 
 /// Makes the pattern of the netlist whose text this is, in so many contexts, with the lines that
@@ -113,5 +118,7 @@ pub fn compile(
         HasTextCause (compile contexts (map string_bytes words.now)) text.now e) }
 {
     let netlist = netlist_of(alloc, text)?;
-    compiled(alloc, &netlist, contexts, words)
+    let output = compiled(alloc, &netlist, contexts, words);
+    drop(netlist);
+    output
 }

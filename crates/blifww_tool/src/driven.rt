@@ -76,7 +76,9 @@ pub fn driven_by(
     let pattern = rle_read::read(alloc, text)?;
     let ports = port_table::read(alloc, text, pattern.width, pattern.height)?;
     let names = pattern_reading::names_of(alloc, ports.ins.as_slice())?;
-    let streams = Streams::read(alloc, words, &names, cycles, ports.c)?;
+    let read = Streams::read(alloc, words, &names, cycles, ports.c);
+    drop(names);
+    let streams = read?;
     Ok(Driven {
         pattern,
         ports,

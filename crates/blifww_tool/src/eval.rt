@@ -31,7 +31,9 @@ pub fn streams_for(
         (map string_bytes words.now) netlist.now.design) }
 {
     let ins = netlist.in_names(alloc)?;
-    let streams = Streams::read(alloc, words, ins.as_slice(), cycles, 1)?;
+    let read = Streams::read(alloc, words, ins.as_slice(), cycles, 1);
+    drop(ins);
+    let streams = read?;
     Ok(streams)
 }
 
@@ -47,7 +49,11 @@ fn run_lines(alloc: Global, netlist: Netlist, streams: &Streams) -> Result<Outpu
 {
     let outs = netlist.out_names(alloc)?;
     let bits = netlist_run::run(alloc, netlist, streams)?;
-    Ok(Output::Lines(output_lines(alloc, outs.as_slice(), bits.as_slice())?))
+    let made = output_lines(alloc, outs.as_slice(), bits.as_slice());
+    drop(bits);
+    drop(outs);
+    let lines = made?;
+    Ok(Output::Lines(lines))
 }
 
 /// Makes a line for each output of the text's netlist, with the output's bits. The words are the
@@ -66,5 +72,7 @@ pub fn eval(
 {
     let netlist = netlist_of(alloc, text)?;
     let streams = streams_for(alloc, cycles, words, &netlist)?;
-    run_lines(alloc, netlist, &streams)
+    let output = run_lines(alloc, netlist, &streams);
+    drop(streams);
+    output
 }

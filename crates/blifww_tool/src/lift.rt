@@ -41,5 +41,8 @@ pub fn lift(alloc: Global, text: &[u8]) -> Result<Output, TextError>
 {
     let pattern = rle_read::read(alloc, text)?;
     let ports = port_table::read(alloc, text, pattern.width, pattern.height)?;
-    drawn(alloc, &pattern, &ports)
+    let output = drawn(alloc, &pattern, &ports);
+    drop(ports);
+    drop(pattern);
+    output
 }

@@ -11,7 +11,7 @@ ghost use Rattle.blifww_tool.specs.Commands.{Prints, HasTextCause};
 ghost use Rattle.blifww_tool.specs.Probing.{names_in_contexts, net_text};
 ghost use Rattle.refusals.specs.Refusals.{probe_refusal};
 
-use crate::driven::driven_by;
+use crate::driven::{Driven, driven_by};
 use crate::lines::output_lines;
 use crate::output::Output;
 use drive::Streams;
@@ -109,12 +109,13 @@ pub fn probe(
         HasTextCause (probe cycles name.now path.now (map string_bytes words.now)) text.now e) }
 {
     let driven = driven_by(alloc, cycles, words, text)?;
-    shown(
-        alloc,
-        driven.pattern,
-        &driven.ports,
-        &driven.streams,
-        name,
-        path,
-    )
+    let Driven {
+        pattern,
+        ports,
+        streams,
+    } = driven;
+    let output = shown(alloc, pattern, &ports, &streams, name, path);
+    drop(streams);
+    drop(ports);
+    output
 }

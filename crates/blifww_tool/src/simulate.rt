@@ -11,7 +11,7 @@ ghost use Rattle.drive.specs.Driving.{AreFor};
 ghost use Rattle.pattern_reading.specs.Ports.{cells_of};
 ghost use Rattle.blifww_tool.specs.Lines.{bits_line};
 
-use crate::driven::{driven_by, names_in_contexts};
+use crate::driven::{Driven, driven_by, names_in_contexts};
 use crate::lines::output_lines;
 use crate::output::Output;
 use drive::Streams;
@@ -50,7 +50,10 @@ fn shown(
         → HasTextCause (simulate cycles words) text e) }
 {
     let bits = drive::simulate(alloc, pattern, ports, streams)?;
-    Ok(Output::Lines(shown_lines(alloc, ports, bits.as_slice())?))
+    let made = shown_lines(alloc, ports, bits.as_slice());
+    drop(bits);
+    let lines = made?;
+    Ok(Output::Lines(lines))
 }
 
 /// Makes a line for each output of the text's pattern in each of its contexts, with the bits that
@@ -72,5 +75,13 @@ pub fn simulate(
         (simulate cycles (map string_bytes words.now)) text.now e) }
 {
     let driven = driven_by(alloc, cycles, words, text)?;
-    shown(alloc, driven.pattern, &driven.ports, &driven.streams)
+    let Driven {
+        pattern,
+        ports,
+        streams,
+    } = driven;
+    let output = shown(alloc, pattern, &ports, &streams);
+    drop(streams);
+    drop(ports);
+    output
 }

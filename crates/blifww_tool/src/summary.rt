@@ -77,5 +77,8 @@ pub fn summary(alloc: Global, seed: u32, size: u32, cycles: usize) -> Result<Out
         Ok(summary) => summary,
         Err(error) => return Err(text_error(error)),
     };
-    Ok(Output::Lines(summary_lines(alloc, &summary)?))
+    let made = summary_lines(alloc, &summary);
+    drop(summary);
+    let lines = made?;
+    Ok(Output::Lines(lines))
 }

@@ -54,7 +54,9 @@ fn fed(
         → HasTextCause (tape cycles (map string_bytes words.now)) text e) }
 {
     let streams = streams_for(alloc, cycles, words, netlist)?;
-    taped(alloc, netlist, &streams)
+    let output = taped(alloc, netlist, &streams);
+    drop(streams);
+    output
 }
 
 /// Makes the pattern of the netlist whose text this is, which runs by itself on the streams that
@@ -74,5 +76,7 @@ pub fn tape(
         (tape cycles (map string_bytes words.now)) text.now e) }
 {
     let netlist = netlist_of(alloc, text)?;
-    fed(alloc, cycles, words, &netlist)
+    let output = fed(alloc, cycles, words, &netlist);
+    drop(netlist);
+    output
 }

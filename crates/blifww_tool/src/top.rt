@@ -113,7 +113,10 @@ fn work<S: Source, O: Sink>(
 {
     let command = command_of(alloc, words)?;
     let text = text_for(alloc, &command, src)?;
-    print(alloc, &command, text.as_slice(), out)
+    let done = print(alloc, &command, text.as_slice(), out);
+    drop(text);
+    drop(command);
+    done
 }
 
 /// Does what the words ask for, and returns the exit status. `words` begins with the program's

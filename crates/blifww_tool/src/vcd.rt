@@ -4,7 +4,7 @@ ghost use Rattle.command_words.specs.Shapes.{vcd};
 ghost use Rattle.blifww_tool.specs.Answer.{output_text, IsWritableOutput};
 ghost use Rattle.blifww_tool.specs.Commands.{Prints, HasTextCause};
 
-use crate::driven::driven_by;
+use crate::driven::{Driven, driven_by};
 use crate::output::Output;
 use refusals::TextError;
 use std::alloc::Global;
@@ -20,6 +20,14 @@ pub fn vcd(alloc: Global, cycles: usize, words: &[String], text: &[u8]) -> Resul
         (vcd cycles (map string_bytes words.now)) text.now e) }
 {
     let driven = driven_by(alloc, cycles, words, text)?;
-    let waves = vcd_write::of(alloc, driven.pattern, &driven.ports, &driven.streams)?;
+    let Driven {
+        pattern,
+        ports,
+        streams,
+    } = driven;
+    let made = vcd_write::of(alloc, pattern, &ports, &streams);
+    drop(streams);
+    drop(ports);
+    let waves = made?;
     Ok(Output::Waves(waves))
 }

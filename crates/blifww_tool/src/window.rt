@@ -6,7 +6,7 @@ ghost use Rattle.blifww_tool.specs.Answer.{output_text, IsWritableOutput};
 ghost use Rattle.blifww_tool.specs.Commands.{Prints, HasTextCause};
 ghost use Rattle.blifww_tool.specs.Viewing.{cycles_in};
 
-use crate::driven::driven_by;
+use crate::driven::{Driven, driven_by};
 use crate::output::Output;
 use command_words::View;
 use refusals::TextError;
@@ -46,16 +46,24 @@ pub fn window(alloc: Global, view: View, words: &[String], text: &[u8]) -> Resul
         (window view (map string_bytes words.now)) text.now e) }
 {
     let driven = driven_by(alloc, cycles_in(words), words, text)?;
-    let lines = probe_view::window(
+    let Driven {
+        pattern,
+        ports,
+        streams,
+    } = driven;
+    let made = probe_view::window(
         alloc,
-        driven.pattern,
-        &driven.ports,
-        &driven.streams,
+        pattern,
+        &ports,
+        &streams,
         view.generation,
         view.x,
         view.y,
         view.width,
         view.height,
-    )?;
+    );
+    drop(streams);
+    drop(ports);
+    let lines = made?;
     Ok(Output::Lines(lines))
 }

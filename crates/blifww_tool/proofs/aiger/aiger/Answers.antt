@@ -9,8 +9,8 @@ returns-in_err-circuit-clause-refused c =
     let p = err_from_is_err_and c.from_residual.result c.from_residual.ensures.1 in
     rw (p.1, p.2) (read_refused c.args.text.now c.in_err-circuit.field-0.0 (λ fault is. c.in_err-circuit.ensures.fault fault (ap Err is)))
 
-pub plan_circuit-requires : goal.plan_circuit-requires
-plan_circuit-requires c = read_aigs_are_sound c.args.text.now c.in_ok-circuit.circuit c.in_ok-circuit.ensures.aig
+pub plan_circuit-made-requires : goal.plan_circuit-made-requires
+plan_circuit-made-requires c = read_aigs_are_sound c.args.text.now c.in_ok-circuit.circuit c.in_ok-circuit.ensures.aig
 
 pub returns-in_err-planned-clause-refused : goal.returns-in_err-planned-clause-refused
 returns-in_err-planned-clause-refused c =

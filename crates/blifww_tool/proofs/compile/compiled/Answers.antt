@@ -25,26 +25,26 @@ returns-in_err-plan-clause-refused c =
     let p = err_from_is_err_and c.from_residual-in_err-plan.result c.from_residual-in_err-plan.ensures.1 in
     rw (p.1, p.2) (λ text is. tt)
 
-pub started-requires-clause-parts : goal.started-requires-clause-parts
-started-requires-clause-parts c = c.requires.parts
+pub started-output-requires-clause-parts : goal.started-output-requires-clause-parts
+started-output-requires-clause-parts c = c.requires.parts
 
-pub started-requires-clause-names : goal.started-requires-clause-names
-started-requires-clause-names c = c.requires.names
+pub started-output-requires-clause-names : goal.started-output-requires-clause-names
+started-output-requires-clause-names c = c.requires.names
 
-pub started-requires-clause-carried : goal.started-requires-clause-carried
-started-requires-clause-carried c = c.in_ok-plan.ensures.carried
+pub started-output-requires-clause-carried : goal.started-output-requires-clause-carried
+started-output-requires-clause-carried c = c.in_ok-plan.ensures.carried
 
-pub started-requires-clause-planned : goal.started-requires-clause-planned
-started-requires-clause-planned c = c.in_ok-plan.ensures.planned
+pub started-output-requires-clause-planned : goal.started-output-requires-clause-planned
+started-output-requires-clause-planned c = c.in_ok-plan.ensures.planned
 
 pub returns-clause-printed : goal.returns-clause-printed
 returns-clause-printed c =
-    IfOk-weaker c.started.result _ _
+    IfOk-weaker c.started-output.result _ _
     (λ output h text is. h text (has_starts latches_are_flat c.args.contexts (map string_bytes c.args.words.now) text c.args.netlist.now.design c.args.netlist.now.flat _ is c.requires.parts c.in_ok-starts.ensures.sound))
-    c.started.ensures.printed
+    c.started-output.ensures.printed
 
 pub returns-clause-refused : goal.returns-clause-refused
 returns-clause-refused c =
-    IfErr-weaker c.started.result _ _
+    IfErr-weaker c.started-output.result _ _
     (λ e h text is. h text (has_starts latches_are_flat c.args.contexts (map string_bytes c.args.words.now) text c.args.netlist.now.design c.args.netlist.now.flat _ is c.requires.parts c.in_ok-starts.ensures.sound))
-    c.started.ensures.refused
+    c.started-output.ensures.refused

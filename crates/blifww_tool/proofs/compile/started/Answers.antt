@@ -64,21 +64,21 @@ returns-in_err-started-clause-refused c =
     let p = err_from_is_err_and c.from_residual-in_err-started.result c.from_residual-in_err-started.ensures.1 in
     rw (p.1, p.2) (λ text has. tt)
 
-pub plan_contexts-requires-clause-compilable : goal.plan_contexts-requires-clause-compilable
-plan_contexts-requires-clause-compilable c =
+pub plan_contexts-made-requires-clause-compilable : goal.plan_contexts-made-requires-clause-compilable
+plan_contexts-made-requires-clause-compilable c =
     (c.args.netlist.now.order.nodes, compilable c.args.netlist.now.design c.args.netlist.now.flat _ c.requires.parts c.requires.names)
 
-pub plan_contexts-requires-clause-weighed : goal.plan_contexts-requires-clause-weighed
-plan_contexts-requires-clause-weighed c = weighed c.args.netlist.now.design c.args.netlist.now.flat _ c.requires.parts flat_is_weighed
+pub plan_contexts-made-requires-clause-weighed : goal.plan_contexts-made-requires-clause-weighed
+plan_contexts-made-requires-clause-weighed c = weighed c.args.netlist.now.design c.args.netlist.now.flat _ c.requires.parts flat_is_weighed
 
-pub plan_contexts-requires-clause-small : goal.plan_contexts-requires-clause-small
-plan_contexts-requires-clause-small c = small c.args.netlist.now.design c.args.netlist.now.flat _ c.requires.parts
+pub plan_contexts-made-requires-clause-small : goal.plan_contexts-made-requires-clause-small
+plan_contexts-made-requires-clause-small c = small c.args.netlist.now.design c.args.netlist.now.flat _ c.requires.parts
 
-pub plan_contexts-requires-clause-planned : goal.plan_contexts-requires-clause-planned
-plan_contexts-requires-clause-planned c = c.requires.planned
+pub plan_contexts-made-requires-clause-planned : goal.plan_contexts-made-requires-clause-planned
+plan_contexts-made-requires-clause-planned c = c.requires.planned
 
-pub plan_contexts-requires-clause-starts : goal.plan_contexts-requires-clause-starts
-plan_contexts-requires-clause-starts c =
+pub plan_contexts-made-requires-clause-starts : goal.plan_contexts-made-requires-clause-starts
+plan_contexts-made-requires-clause-starts c =
     let flat = c.args.netlist.now.flat in
     let words = map string_bytes c.args.words.now in
     let bits = c.as_slice.ensures ∙ c.in_ok-bits.ensures words c.requires.set in

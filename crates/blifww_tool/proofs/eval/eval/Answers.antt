@@ -15,9 +15,9 @@ returns-in_err-streams-clause-refused c =
 
 pub returns-clause-printed : goal.returns-clause-printed
 returns-clause-printed c =
-    IfOk-weaker c.run_lines.result _ _
+    IfOk-weaker c.run_lines-output.result _ _
     (λ output h. run_printed c.args.cycles (map string_bytes c.args.words.now) c.args.text.now c.in_ok-netlist.netlist.design c.in_ok-streams.streams _ c.in_ok-netlist.ensures.netlist c.in_ok-streams.ensures.streams h)
-    c.run_lines.ensures.printed
+    c.run_lines-output.ensures.printed
 
 pub returns-clause-refused : goal.returns-clause-refused
-returns-clause-refused c = IfErr-weaker c.run_lines.result _ _ (λ e h. no_memory (map string_bytes c.args.words.now) c.args.cycles c.args.text.now e h) c.run_lines.ensures.refused
+returns-clause-refused c = IfErr-weaker c.run_lines-output.result _ _ (λ e h. no_memory (map string_bytes c.args.words.now) c.args.cycles c.args.text.now e h) c.run_lines-output.ensures.refused

@@ -11,7 +11,7 @@ returns-clause-printed c =
     record {
       run = shown.run;
       is_run = shown.is_run;
-      lines = c.in_ok-output_lines.ensures
+      lines = c.in_ok-lines.ensures
           ∙ ap₂ (λ (names : List Name) (bits : List (List Bool)). flat_map line (zip names bits)) (c.as_slice.ensures ∙ c.in_ok-outs.ensures) (c.as_slice-2.ensures ∙ shown.bits)
           ∙ lines_of_names (bits_in_run shown.run c.args.streams.now.cycles) (main_outputs c.args.netlist.design);
     }

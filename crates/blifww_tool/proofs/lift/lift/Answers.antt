@@ -15,7 +15,7 @@ returns-in_err-ports-clause-refused c =
     rw (p.1, p.2) (table_refused c.args.text.now (grid_of c.in_ok-pattern.pattern) c.in_err-ports.field-0.0 c.in_ok-pattern.ensures.pattern (λ f is. c.in_err-ports.ensures.fault f (ap Err is)))
 
 pub returns-clause-printed : goal.returns-clause-printed
-returns-clause-printed c = IfOk-weaker c.drawn.result _ _ (λ output h. h c.args.text.now c.in_ok-pattern.ensures.pattern c.in_ok-ports.ensures.table) c.drawn.ensures.printed
+returns-clause-printed c = IfOk-weaker c.drawn-output.result _ _ (λ output h. h c.args.text.now c.in_ok-pattern.ensures.pattern c.in_ok-ports.ensures.table) c.drawn-output.ensures.printed
 
 pub returns-clause-refused : goal.returns-clause-refused
-returns-clause-refused c = IfErr-weaker c.drawn.result _ _ (λ e h. h c.args.text.now c.in_ok-pattern.ensures.pattern c.in_ok-ports.ensures.table) c.drawn.ensures.refused
+returns-clause-refused c = IfErr-weaker c.drawn-output.result _ _ (λ e h. h c.args.text.now c.in_ok-pattern.ensures.pattern c.in_ok-ports.ensures.table) c.drawn-output.ensures.refused

@@ -22,7 +22,7 @@ returns-clause-printed c = λ cycles words text is.
     let s : Simulation = simulation_in c.args.pattern c.args.ports.now c.args.streams.now in (
       s,
       record { is = is; near = c.in_ok-bits.ensures.near; quiet = c.in_ok-bits.ensures.quiet },
-      c.in_ok-shown_lines.ensures
+      c.in_ok-lines.ensures
           ∙ ap (λ (bits : List (List Bool)). flat_map line (zip (flat_map (names_in_context s.ports.c s.ports.outs) (range_with_len 0 s.ports.c)) bits)) (c.as_slice.ensures ∙ c.in_ok-bits.ensures.bits)
           ∙ lines_in_contexts (λ context (p : PortLine). with_context s.ports.c context p.name) (shown_at s.ports s.streams (plane_of s.grid.rows)) s.ports.outs (range_with_len 0 s.ports.c),
     )

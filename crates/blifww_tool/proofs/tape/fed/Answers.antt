@@ -8,30 +8,30 @@ returns-in_err-streams-clause-refused c =
     let p = err_from_is_err_and c.from_residual.result c.from_residual.ensures.1 in
     rw (p.1, p.2) (λ text is. inputs_refused c.args.cycles (map string_bytes c.args.words.now) text c.args.netlist.now.design c.in_err-streams.field-0.0 is c.in_err-streams.ensures.fault)
 
-pub taped-requires-clause-parts : goal.taped-requires-clause-parts
-taped-requires-clause-parts c = c.requires.parts
+pub taped-output-requires-clause-parts : goal.taped-output-requires-clause-parts
+taped-output-requires-clause-parts c = c.requires.parts
 
-pub taped-requires-clause-names : goal.taped-requires-clause-names
-taped-requires-clause-names c = c.requires.names
+pub taped-output-requires-clause-names : goal.taped-output-requires-clause-names
+taped-output-requires-clause-names c = c.requires.names
 
-pub taped-requires-clause-many : goal.taped-requires-clause-many
-taped-requires-clause-many c = c.in_ok-streams.ensures.many
+pub taped-output-requires-clause-many : goal.taped-output-requires-clause-many
+taped-output-requires-clause-many c = c.in_ok-streams.ensures.many
 
-pub taped-requires-clause-long : goal.taped-requires-clause-long
-taped-requires-clause-long c = c.in_ok-streams.ensures.long
+pub taped-output-requires-clause-long : goal.taped-output-requires-clause-long
+taped-output-requires-clause-long c = c.in_ok-streams.ensures.long
 
-pub taped-requires-clause-some : goal.taped-requires-clause-some
-taped-requires-clause-some c = let many = c.in_ok-streams.ensures.streams.many in omega (arith, many, c.requires.some_cycle)
+pub taped-output-requires-clause-some : goal.taped-output-requires-clause-some
+taped-output-requires-clause-some c = let many = c.in_ok-streams.ensures.streams.many in omega (arith, many, c.requires.some_cycle)
 
-pub taped-requires-clause-few : goal.taped-requires-clause-few
-taped-requires-clause-few c = let many = c.in_ok-streams.ensures.streams.many in omega (arith, many, c.requires.few_cycles)
+pub taped-output-requires-clause-few : goal.taped-output-requires-clause-few
+taped-output-requires-clause-few c = let many = c.in_ok-streams.ensures.streams.many in omega (arith, many, c.requires.few_cycles)
 
 pub returns-clause-printed : goal.returns-clause-printed
 returns-clause-printed c =
-    IfOk-weaker c.taped.result _ _
+    IfOk-weaker c.taped-output.result _ _
     (λ output h text is. tape_printed c.args.cycles (map string_bytes c.args.words.now) text c.args.netlist.now.design c.in_ok-streams.streams _ is c.in_ok-streams.ensures.streams h)
-    c.taped.ensures.taped
+    c.taped-output.ensures.taped
 
 pub returns-clause-refused : goal.returns-clause-refused
 returns-clause-refused c =
-    IfErr-weaker c.taped.result _ _ (λ e h text is. no_memory c.args.cycles (map string_bytes c.args.words.now) text e h) c.taped.ensures.refused
+    IfErr-weaker c.taped-output.result _ _ (λ e h text is. no_memory c.args.cycles (map string_bytes c.args.words.now) text e h) c.taped-output.ensures.refused

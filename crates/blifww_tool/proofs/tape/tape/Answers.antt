@@ -9,15 +9,15 @@ returns-in_err-netlist-clause-refused c =
     let p = err_from_is_err_and c.from_residual.result c.from_residual.ensures.1 in
     rw (p.1, p.2) (netlist_refused c.args.cycles (map string_bytes c.args.words.now) c.args.text.now c.in_err-netlist.field-0.0 c.in_err-netlist.ensures.refused)
 
-pub fed-requires-clause-parts : goal.fed-requires-clause-parts
-fed-requires-clause-parts c = c.in_ok-netlist.ensures.parts
+pub fed-output-requires-clause-parts : goal.fed-output-requires-clause-parts
+fed-output-requires-clause-parts c = c.in_ok-netlist.ensures.parts
 
-pub fed-requires-clause-names : goal.fed-requires-clause-names
-fed-requires-clause-names c =
+pub fed-output-requires-clause-names : goal.fed-output-requires-clause-names
+fed-output-requires-clause-names c =
     texts_have_port_names c.args.text.now c.in_ok-netlist.netlist.design c.in_ok-netlist.netlist.flat c.in_ok-netlist.ensures.netlist.is.design_of c.in_ok-netlist.ensures.parts.is_flat
 
 pub returns-clause-printed : goal.returns-clause-printed
-returns-clause-printed c = IfOk-weaker c.fed.result _ _ (λ output h. h c.args.text.now c.in_ok-netlist.ensures.netlist) c.fed.ensures.printed
+returns-clause-printed c = IfOk-weaker c.fed-output.result _ _ (λ output h. h c.args.text.now c.in_ok-netlist.ensures.netlist) c.fed-output.ensures.printed
 
 pub returns-clause-refused : goal.returns-clause-refused
-returns-clause-refused c = IfErr-weaker c.fed.result _ _ (λ e h. h c.args.text.now c.in_ok-netlist.ensures.netlist) c.fed.ensures.refused
+returns-clause-refused c = IfErr-weaker c.fed-output.result _ _ (λ e h. h c.args.text.now c.in_ok-netlist.ensures.netlist) c.fed-output.ensures.refused

@@ -19,17 +19,17 @@ returns-in_err-text-clause-stopped g c =
 
 pub returns-clause-done : goal.returns-clause-done
 returns-clause-done g c =
-    on_ok_weaker c.print.result
+    on_ok_weaker c.print-done.result
     (λ p. does _ _ _ (values_of c.in_ok-command.command) c.in_ok-text.text c.as_slice.result.now (λ output. output) (record { asks = c.in_ok-command.ensures.ok; taken = c.in_ok-command.ensures.taken }) c.in_ok-text.ensures.given
     c.as_slice.ensures p)
-    c.print.ensures.done
+    c.print-done.ensures.done
 
 pub returns-clause-stopped : goal.returns-clause-stopped
 returns-clause-stopped g c =
-    IfErr-weaker c.print.result _ _
+    IfErr-weaker c.print-done.result _ _
     (λ r h. by_text _ _ _ (values_of c.in_ok-command.command) c.in_ok-text.text c.as_slice.result.now r (record { asks = c.in_ok-command.ensures.ok; taken = c.in_ok-command.ensures.taken }) c.in_ok-text.ensures.given
     c.as_slice.ensures h)
-    c.print.ensures.stopped
+    c.print-done.ensures.stopped
 
 pub returns-clause-refused_unread : goal.returns-clause-refused_unread
-returns-clause-refused_unread g c = λ is. absurd (never_usage _ _ _ c.print.result c.print.ensures.stopped is)
+returns-clause-refused_unread g c = λ is. absurd (never_usage _ _ _ c.print-done.result c.print-done.ensures.stopped is)
