@@ -93,7 +93,9 @@ fn list_of(
     ensures refused { IfErr result NeedsNoReason }
 {
     let drawing = drawing_of(alloc, text, pattern, ports)?;
-    match cells_of(alloc, pattern, ports, &drawing) {
+    let found = cells_of(alloc, pattern, ports, &drawing);
+    drop(drawing);
+    match found {
         Ok(list) => Ok(list),
         Err(error) => Err(of_route(error)),
     }
@@ -146,10 +148,13 @@ pub fn extract(alloc: Global, text: &[u8]) -> Result<Lift, RouteRefusal>
     let pattern = rle_read::read(alloc, text)?;
     let ports = port_table::read(alloc, text, pattern.width, pattern.height)?;
     if is_too_large(&pattern) {
-        return Err(RouteRefusal::Common(Refusal::Text(Cause::GridTooLarge {
-            width: pattern.width,
-            height: pattern.height,
-        })));
+        let (width, height) = (pattern.width, pattern.height);
+        drop(ports);
+        drop(pattern);
+        return Err(RouteRefusal::Common(Refusal::Text(Cause::GridTooLarge { width, height })));
     }
-    netlist_of(alloc, text, &pattern, &ports)
+    let lift = netlist_of(alloc, text, &pattern, &ports);
+    drop(ports);
+    drop(pattern);
+    lift
 }

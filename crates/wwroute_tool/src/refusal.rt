@@ -12,7 +12,6 @@ use port_table::PortReadError;
 use refusals::{Cause, Refusal, TextError};
 use rle_read::RleReadError;
 use route_tables::{CellFault, FaultWord};
-use std::alloc::AllocError;
 use ww_base::{Failed, ReadAllError, Sink, write_all, write_pieces};
 
 /// Why a run does not end well: the words are no command, the pattern is no routed circuit, or what
@@ -64,17 +63,6 @@ impl From<OutOfMemory> for RouteRefusal {
     ghost from_gives = { λ _ r. r ≡ Common NoMemory };
 
     fn from(_: OutOfMemory) -> Self {
-        RouteRefusal::Common(Refusal::NoMemory)
-    }
-}
-
-impl From<AllocError> for RouteRefusal {
-    ghost use Rattle.refusals.specs.declared.refusal.Refusal.TheVariants.{NoMemory};
-    ghost use Rattle.wwroute_tool.specs.declared.refusal.RouteRefusal.TheVariants.{Common};
-
-    ghost from_gives = { λ _ r. r ≡ Common NoMemory };
-
-    fn from(_: AllocError) -> Self {
         RouteRefusal::Common(Refusal::NoMemory)
     }
 }

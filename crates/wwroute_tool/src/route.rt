@@ -33,6 +33,7 @@ pub fn drawn(alloc: Global, netlist: &Netlist, nets: ShownNets) -> Result<Answer
         if is_no_plan(&routed) {
             return Ok(Answer::Routed(routed));
         }
+        drop(routed);
     }
     let planned = plan_netlist(alloc, &netlist.flat, &netlist.order)?;
     Ok(Answer::ByLanes(planned))

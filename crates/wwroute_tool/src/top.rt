@@ -31,16 +31,6 @@ pub enum Stop {
     Untold,
 }
 
-impl From<Failed> for Stop {
-    ghost use Rattle.wwroute_tool.specs.declared.top.Stop.TheVariants.{Untold};
-
-    ghost from_gives = { λ _ stop. stop ≡ Untold };
-
-    fn from(_: Failed) -> Self {
-        Stop::Untold
-    }
-}
-
 impl From<RouteRefusal> for Stop {
     ghost use Rattle.wwroute_tool.specs.declared.top.Stop.TheVariants.{Refused};
 
@@ -122,9 +112,18 @@ fn work<S: Source, O: Sink, E: Sink>(
     ensures front { (given : List ℕ) × Gave (reading S.left S.faults src.old src.new) given }
 {
     let task = begin(alloc, words, src)?;
-    task.notice().tell(err)?;
-    let report = finish(alloc, &task, out)?;
-    Ok(report)
+    match task.notice().tell(err) {
+        Ok(()) => {
+            let finished = finish(alloc, &task, out);
+            drop(task);
+            let report = finished?;
+            Ok(report)
+        }
+        Err(Failed) => {
+            drop(task);
+            Err(Stop::Untold)
+        }
+    }
 }
 
 /// Does what the words ask for, and returns the exit status. `words` begins with the program's

@@ -17,12 +17,12 @@ returns-in_err-ports-clause-refused c =
 
 pub returns-clause-carried : goal.returns-clause-carried
 returns-clause-carried c =
-    IfOk-weaker c.netlist_of.result _ _
+    IfOk-weaker c.netlist_of-lift.result _ _
     (λ lift is. gives_netlist c.args.text.now c.in_ok-pattern.pattern c.in_ok-ports.ports c.in_ok-pattern.ensures.pattern c.in_ok-ports.ensures.table lift is)
-    c.netlist_of.ensures.carried
+    c.netlist_of-lift.ensures.carried
 
 pub returns-clause-refused : goal.returns-clause-refused
 returns-clause-refused c =
-    IfErr-weaker c.netlist_of.result _ _
+    IfErr-weaker c.netlist_of-lift.result _ _
     (λ r free. free_reason c.args.text.now r free (grid_of c.in_ok-pattern.pattern, c.in_ok-ports.ports, record { pattern = c.in_ok-pattern.ensures.pattern; table = c.in_ok-ports.ensures.table }, c.is_too_large.ensures.within c.if-is_too_large.false))
-    c.netlist_of.ensures.refused
+    c.netlist_of-lift.ensures.refused
