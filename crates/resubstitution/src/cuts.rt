@@ -83,17 +83,14 @@ impl Cut {
         let Some((place, more)) = self.best_leaf(network) else {
             return Ok(false);
         };
-        if self.leaves.len().saturating_add(more) > MOST_LEAVES + 1 {
-            return Ok(false);
+        let count = self.leaves.len();
+        if place < count && count.saturating_add(more) <= MOST_LEAVES + 1 {
+            if let Src::Cell(number) = self.leaves.remove(place) {
+                self.open(network, number)?;
+                return Ok(true);
+            }
         }
-        let Some(Src::Cell(number)) = self.leaves.get(place).copied() else {
-            return Ok(false);
-        };
-        if place < self.leaves.len() {
-            self.leaves.remove(place);
-        }
-        self.open(network, number)?;
-        Ok(true)
+        Ok(false)
     }
 
     /// Makes the cut of a cell. First its operands are the leaves; then, while the leaves stay few

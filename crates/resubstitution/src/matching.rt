@@ -54,18 +54,14 @@ pub fn same(divisors: &[Divisor], word: u64) -> Option<Src> {
     None
 }
 
-// The cell with its operands exchanged, if that makes no difference.
-fn turned(cell: Cell) -> Cell {
-    match cell {
-        Cell::Or(a, b) => Cell::Or(b, a),
-        Cell::Xor(a, b) => Cell::Xor(b, a),
-        Cell::AndNot(a, b) => Cell::AndNot(a, b),
-    }
-}
-
 // Whether the two cells are the same, perhaps with the operands of an OR or XOR exchanged.
 fn is_alike(a: Cell, b: Cell) -> bool {
-    a == b || turned(a) == b
+    let turned = match a {
+        Cell::Or(x, y) => Cell::Or(y, x),
+        Cell::Xor(x, y) => Cell::Xor(y, x),
+        Cell::AndNot(_, _) => a,
+    };
+    a == b || turned == b
 }
 
 // Adds a divisor to a kind, if it is of that kind.
@@ -87,23 +83,19 @@ impl<'a> Sorted<'a> {
             sieve: Sieve::new(),
             word,
         };
-        sorted.add_all(divisors)?;
+        sorted.add_all()?;
         Ok(sorted)
     }
 
-    fn add_all(&mut self, divisors: &[Divisor]) -> Result<(), CellError> {
-        for divisor in divisors {
-            self.add(*divisor)?;
+    fn add_all(&mut self) -> Result<(), CellError> {
+        let word = self.word;
+        for divisor in self.all {
+            self.sieve.add(divisor.word);
+            push_if(&mut self.lower, divisor.word & !word == 0, *divisor)?;
+            push_if(&mut self.upper, word & !divisor.word == 0, *divisor)?;
+            push_if(&mut self.apart, word & divisor.word == 0, *divisor)?;
         }
         Ok(())
-    }
-
-    fn add(&mut self, divisor: Divisor) -> Result<(), CellError> {
-        let word = self.word;
-        self.sieve.add(divisor.word);
-        push_if(&mut self.lower, divisor.word & !word == 0, divisor)?;
-        push_if(&mut self.upper, word & !divisor.word == 0, divisor)?;
-        push_if(&mut self.apart, word & divisor.word == 0, divisor)
     }
 
     // The divisor with a table, if there is one.

@@ -80,16 +80,6 @@ fn most_new(gone: usize, equal: bool) -> Most {
     }
 }
 
-// Two cells that have the table, of which the first gets this number.
-fn two_cells(sorted: &Sorted, number: u32) -> Option<Made> {
-    let (first, outer) = sorted.two_cells()?;
-    Some(Made {
-        first: Some(first),
-        second: Some(outer.cell(Src::Cell(number))),
-        by: Src::Cell(number.saturating_add(1)),
-    })
-}
-
 // Cells that have the table, few enough, of which the first gets this number.
 fn new_cells(sorted: &Sorted, own: Cell, most: Most, number: u32) -> Option<Made> {
     if let Some(cell) = sorted.one_cell(own) {
@@ -100,9 +90,15 @@ fn new_cells(sorted: &Sorted, own: Cell, most: Most, number: u32) -> Option<Made
         });
     }
     match most {
-        Most::None | Most::One => None,
-        Most::Two => two_cells(sorted, number),
+        Most::None | Most::One => return None,
+        Most::Two => {}
     }
+    let (first, outer) = sorted.two_cells()?;
+    Some(Made {
+        first: Some(first),
+        second: Some(outer.cell(Src::Cell(number))),
+        by: Src::Cell(number.saturating_add(1)),
+    })
 }
 
 // What has the table, with few enough new cells, of which the first gets this number.
@@ -218,29 +214,16 @@ impl Search {
         made_of(alloc, &divisors, word, target.cell, most, number)
     }
 
-    // Adds a known cell to the cone, and what it reads to what is needed.
-    fn push_known(
-        &self,
-        cone: &mut Vec<u32>,
-        needed: &mut Vec<u32>,
-        known: u32,
-    ) -> Result<(), CellError> {
-        cone.push(known)?;
-        match self.network.operands(known) {
-            Some((a, b)) => {
-                push_cell(needed, a)?;
-                push_cell(needed, b)
-            }
-            None => Ok(()),
-        }
-    }
-
-    // Adds the known cells that are needed to the cone, the last first.
+    // Adds the known cells that are needed to the cone, the last first, and what they read to what
+    // is needed.
     fn push_cone(&self, cone: &mut Vec<u32>, needed: &mut Vec<u32>) -> Result<(), CellError> {
         for place in (0..self.window.order.len()).rev() {
             let known = self.window.order[place];
             if needed.contains(&known) {
-                self.push_known(cone, needed, known)?;
+                cone.push(known)?;
+                if let Some((cell, _)) = self.network.role(known) {
+                    push_operands(needed, cell)?;
+                }
             }
         }
         Ok(())
@@ -258,6 +241,7 @@ impl Search {
         let mut needed = Vec::new(alloc);
         push_needed(&mut needed, target.cell, made)?;
         self.push_cone(cone, &mut needed)?;
+        drop(needed);
         cone.reverse();
         Ok(cone.push(target.number)?)
     }

@@ -1,7 +1,7 @@
 // Windows: the tables of cells that are functions of a cut's leaves and do not read the cell of the
 // cut.
 use crate::cuts::Cut;
-use crate::network::{Network, Role};
+use crate::network::{Network, Role, operands};
 use cell_core::{Cell, CellError, Src, net_word};
 use std::alloc::Global;
 
@@ -19,15 +19,6 @@ pub struct Window {
     /// How many readers were visited since the window was cleared.
     pub visits: usize,
     cell: u32,
-}
-
-// The word of what a cell makes of two words.
-fn made_word(cell: Cell, a: u64, b: u64) -> u64 {
-    match cell {
-        Cell::Or(_, _) => a | b,
-        Cell::Xor(_, _) => a ^ b,
-        Cell::AndNot(_, _) => a & !b,
-    }
 }
 
 impl Window {
@@ -79,11 +70,15 @@ impl Window {
 
     // The word of a cell by those of its operands.
     fn word_of_cell(&self, cell: Cell) -> Option<u64> {
-        match cell {
-            Cell::Or(a, b) | Cell::Xor(a, b) | Cell::AndNot(a, b) => {
-                Some(made_word(cell, self.word(a)?, self.word(b)?))
-            }
-        }
+        let (a, b) = operands(cell);
+        let (Some(a), Some(b)) = (self.word(a), self.word(b)) else {
+            return None;
+        };
+        Some(match cell {
+            Cell::Or(_, _) => a | b,
+            Cell::Xor(_, _) => a ^ b,
+            Cell::AndNot(_, _) => a & !b,
+        })
     }
 
     fn has_word(&self, number: u32) -> bool {
@@ -101,19 +96,15 @@ impl Window {
         let Some((cell, Role::Free | Role::Kept)) = network.role(number) else {
             return Ok(());
         };
-        if let Some(word) = self.word_of_cell(cell) {
-            self.put(number, word)?;
+        match self.word_of_cell(cell) {
+            Some(word) if number == self.cell => self.own = Some(word),
+            Some(word) => {
+                self.set_word(number, Some(word));
+                self.order.push(number)?;
+            }
+            None => {}
         }
         Ok(())
-    }
-
-    fn put(&mut self, number: u32, word: u64) -> Result<(), CellError> {
-        if number == self.cell {
-            self.own = Some(word);
-            return Ok(());
-        }
-        self.set_word(number, Some(word));
-        Ok(self.order.push(number)?)
     }
 
     // Adds the words of the leaves themselves.
