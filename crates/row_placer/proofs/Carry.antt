@@ -1,5 +1,5 @@
 -- Steps that follow one another.
-use Rattle.std.proofs.Common.{◌≡◌, refl, sym, ◌∙◌, ap, ap₂, subst, Bor, ℕ, ◌+◌, ◌*◌, ◌<◌, ◌≤◌, ⊎_elim, cond, List, [], ◌∷◌, ◌++◌, length, get_or, set, count_by, arith}
+use Rattle.std.proofs.Common.{◌≡◌, refl, sym, ◌∙◌, ap, ap₂, subst, ℕ, ◌+◌, ◌*◌, ◌<◌, ◌≤◌, ⊎_elim, cond, List, [], ◌∷◌, ◌++◌, length, get_or, set, count_by, arith}
 use Rattle.std.specs.Prelude.{◌≢◌}
 use Rattle.std.proofs.lemmas.Bool.{cases_eq}
 use Rattle.std.proofs.lemmas.Bool.Decides.{nat_tests}
@@ -128,13 +128,13 @@ copy_marked a b c gone by come first next p = omega (arith, first p, next p)
 -- the next gate stays the next one, and is made of lanes that were moved
 pub next_kept : (a b : Lanes) (gate : NumberedCell) → KeepsGates a b → IsNextGate a gate → IsNextGate b gate
 next_kept a b gate kept next = record {
-  within = omega (arith, next.within, ap length kept.made, ap (λ (j : Bor Job). length j.now.gates) kept.job);
-  known = ap₂ (λ (j : Bor Job) m. get_or j.now.gates (length m) gate) kept.job kept.made ∙ next.known;
+  within = omega (arith, next.within, ap length kept.made, ap (λ (j : Job). length j.gates) kept.job);
+  known = ap₂ (λ (j : Job) m. get_or j.gates (length m) gate) kept.job kept.made ∙ next.known;
 }
 
 pub made_after : (a b c : Lanes) (gate : NumberedCell) → KeepsGates a b → SameTags a.tags.items b.tags.items → MakesGate b c gate → MakesGate a c gate
 made_after a b c gate kept same makes = record {
-  exchanged = subst (GateExchanged a.tags.items c.tags.items gate) (ap₂ (λ (j : Bor Job) m. j.now.base + length m) kept.job kept.made)
+  exchanged = subst (GateExchanged a.tags.items c.tags.items gate) (ap₂ (λ (j : Job) m. j.base + length m) kept.job kept.made)
       (λ p. makes.exchanged p ∙ ap (λ n. n + (cond (p (tag (next_value b) Kept)) 1 0 + cond (p free_tag) 1 0)) (same p));
   made = makes.made ∙ ap (λ m. length m + 1) kept.made;
 }

@@ -55,18 +55,18 @@ pub record CopiesTag (old new : Lanes) (from at : ℕ) (over : Tag) : Type 0 whe
 
 -- the value that the next gate makes
 abbrev pub next_value : Lanes → ℕ
-next_value lanes = lanes.job.now.base + length lanes.made.items
+next_value lanes = lanes.job.base + length lanes.made.items
 
 -- the gate that is made next
 pub record IsNextGate (lanes : Lanes) (gate : NumberedCell) : Type 0 where
-  pub within : length lanes.made.items < length lanes.job.now.gates
-  pub known : IsGateOf lanes.job.now (length lanes.made.items) gate
+  pub within : length lanes.made.items < length lanes.job.gates
+  pub known : IsGateOf lanes.job (length lanes.made.items) gate
 
 -- the last instruction is that of the next gate, on this lane
 abbrev pub EndsWithNextGate : Lanes → ℕ → Type 0
 EndsWithNextGate lanes lane =
     (gate : NumberedCell) → slice_get lanes.instrs.items (length lanes.instrs.items - 1) ≡ Some
-    (gate_instr (get_or lanes.job.now.gates (length lanes.made.items) gate).kind lane)
+    (gate_instr (get_or lanes.job.gates (length lanes.made.items) gate).kind lane)
 
 -- the next gate is made: a lane with each operand is given up for its value and a free lane
 pub record MakesGate (old new : Lanes) (gate : NumberedCell) : Type 0 where
@@ -76,7 +76,7 @@ pub record MakesGate (old new : Lanes) (gate : NumberedCell) : Type 0 where
 -- the lanes place all that a job asks for, by at most so many instructions: its gates, its ports,
 -- and the loops among these on the lowest lanes
 pub record PlacesJob (job : Job) (loops : ℕ) (lanes : Lanes) : Type 0 where
-  pub job_is : lanes.job.now ≡ job
+  pub job_is : lanes.job ≡ job
   pub long : length lanes.tags.items ≡ length job.start
   pub made : length lanes.made.items ≡ length job.gates
   pub held : HoldAllPorts job lanes.tags.items

@@ -21,31 +21,31 @@ const SHARE: u32 = 64;
 /// Lanes with the instructions so far. After these every tag tells the bit on its lane, and every
 /// place of a gate has the gate's value.
 #[derive(Drop)]
-pub struct Lanes<'a> {
-    pub job: &'a Job,
+pub struct Lanes {
+    pub job: Job,
     pub tags: Vec<Tag>,
     pub clocks: Vec<u64>,
     pub instrs: Vec<Instr>,
     pub made: Vec<NetPlace>,
     pub ghost few: { length tags.items < 2 ^ 32 },
-    pub ghost long: { length job.now.start ≡ length tags.items },
+    pub ghost long: { length job.start ≡ length tags.items },
     pub ghost clocked: { length clocks.items ≡ length tags.items },
     pub ghost on_lanes: { All (IsOnLanes (length tags.items)) instrs.items },
-    pub ghost told: { Told job.now tags.items instrs.items },
+    pub ghost told: { Told job tags.items instrs.items },
     pub ghost places: { All (IsPlaceWithin (length tags.items) (length instrs.items)) made.items },
-    pub ghost made_told: { MadeTold job.now instrs.items made.items },
-    pub ghost made_at: { MadeAt job.now instrs.items made.items },
+    pub ghost made_told: { MadeTold job instrs.items made.items },
+    pub ghost made_at: { MadeAt job instrs.items made.items },
 }
 
-impl<'a> Lanes<'a> {
+impl Lanes {
     ghost use Rattle.row_placer.specs.Steps.{KeepsGates, DoesInstr, MeetsAt, AddsInstrs, AddsAtMost, MovesTags, CopiesTag, IsNextGate, EndsWithNextGate, MakesGate, PlacesJob, next_value};
 
     /// Returns the lanes as they are at the start.
-    pub fn new(alloc: Global, job: &'a Job) -> Result<Lanes<'a>, PlaceError>
-        requires few { length job.now.start < 2 ^ 32 }
-        ensures tags { IfOk result (λ r. r.tags.items ≡ job.now.start) }
+    pub fn new(alloc: Global, job: Job) -> Result<Lanes, PlaceError>
+        requires few { length job.start < 2 ^ 32 }
+        ensures tags { IfOk result (λ r. r.tags.items ≡ job.start) }
         ensures none { IfOk result (λ r. (length r.instrs.items ≡ 0) × (length r.made.items ≡ 0)) }
-        ensures job { IfOk result (λ r. r.job.now ≡ job.now) }
+        ensures job { IfOk result (λ r. r.job ≡ job) }
     {
         let mut tags = Vec::new(alloc);
         tags.extend_from_slice(job.start.as_slice())?;
@@ -60,14 +60,9 @@ impl<'a> Lanes<'a> {
     }
 
     /// Places all that the job asks for.
-    pub fn run(
-        alloc: Global,
-        job: &'a Job,
-        loops: u32,
-        left: &mut [u32],
-    ) -> Result<Lanes<'a>, PlaceError>
-        requires { IsRunnable job.now loops left.old }
-        ensures { IfOk result (PlacesJob job.now loops) }
+    pub fn run(alloc: Global, job: Job, loops: u32, left: &mut [u32]) -> Result<Lanes, PlaceError>
+        requires { IsRunnable job loops left.old }
+        ensures { IfOk result (PlacesJob job loops) }
     {
         let mut lanes = Lanes::new(alloc, job)?;
         lanes.place_gates(left)?;
@@ -76,10 +71,17 @@ impl<'a> Lanes<'a> {
         Ok(lanes)
     }
 
+    /// Returns the instructions.
+    pub fn into_instrs(self) -> Vec<Instr>
+        ensures { result.items ≡ self.instrs.items }
+    {
+        self.instrs
+    }
+
     /// Does an instruction, after which its two lanes have these tags.
     fn step(&mut self, instr: Instr, upper: Tag, lower: Tag) -> Result<(), PlaceError>
         requires within { lane_of instr + 1 < length self.old.tags.items }
-        requires answers { PutsTags self.old.job.now self.old.tags.items instr upper lower }
+        requires answers { PutsTags self.old.job self.old.tags.items instr upper lower }
         ensures does { OnOk result (DoesInstr self.old self.new instr upper lower) }
         ensures kept { KeepsGates self.old self.new }
     {
@@ -510,13 +512,13 @@ impl<'a> Lanes<'a> {
 
     /// Places the next gate.
     fn next(&mut self, left: &mut [u32]) -> Result<(), PlaceError>
-        requires within { length self.old.made.items < length self.old.job.now.gates }
+        requires within { length self.old.made.items < length self.old.job.gates }
         requires ready { ReadyForGate
-            self.old.job.now (length self.old.made.items) self.old.tags.items left.old }
-        requires wide { value_count self.old.job.now ≤ length left.old }
+            self.old.job (length self.old.made.items) self.old.tags.items left.old }
+        requires wide { value_count self.old.job ≤ length left.old }
         ensures ready { OnOk result (
             ReadyForGate
-            self.old.job.now (length self.old.made.items + 1) self.new.tags.items left.new
+            self.old.job (length self.old.made.items + 1) self.new.tags.items left.new
             ) }
         ensures adds { OnOk result (
             AddsAtMost self.old self.new (3 * length self.old.tags.items)
@@ -525,7 +527,8 @@ impl<'a> Lanes<'a> {
         ensures job { self.new.job ≡ self.old.job }
         ensures left { OnOk result (length left.new ≡ length left.old) }
     {
-        let gate = *self.job.gates.get(self.made.len());
+        let made = self.made.len();
+        let gate = *self.job.gates.get(made);
         let partner = self.first_lane(gate.second, Role::Kept);
         self.use_value(gate.first, Role::First, partner, left)?;
         let partner = self.first_lane(gate.first, Role::First);
@@ -539,14 +542,14 @@ impl<'a> Lanes<'a> {
     /// Places all gates.
     fn place_gates(&mut self, left: &mut [u32]) -> Result<(), PlaceError>
         requires none { length self.old.made.items ≡ 0 }
-        requires ready { ReadyForGate self.old.job.now 0 self.old.tags.items left.old }
-        requires wide { value_count self.old.job.now ≤ length left.old }
-        ensures ready { OnOk result (ReadyForPort self.old.job.now 0 self.new.tags.items left.new) }
+        requires ready { ReadyForGate self.old.job 0 self.old.tags.items left.old }
+        requires wide { value_count self.old.job ≤ length left.old }
+        ensures ready { OnOk result (ReadyForPort self.old.job 0 self.new.tags.items left.new) }
         ensures adds { OnOk result (
             AddsAtMost self.old self.new
-            (length self.old.job.now.gates * (3 * length self.old.tags.items))
+            (length self.old.job.gates * (3 * length self.old.tags.items))
             ) }
-        ensures made { OnOk result (length self.new.made.items ≡ length self.old.job.now.gates) }
+        ensures made { OnOk result (length self.new.made.items ≡ length self.old.job.gates) }
         ensures job { self.new.job ≡ self.old.job }
         ensures left { OnOk result (length left.new ≡ length left.old) }
     {
@@ -564,12 +567,12 @@ impl<'a> Lanes<'a> {
     /// Gives each port a lane of its own: of two copies a loop's is the lower one, since it is
     /// brought to the lowest lanes afterwards.
     fn place_ports(&mut self, loops: u32, left: &mut [u32]) -> Result<(), PlaceError>
-        requires ready { ReadyForPort self.old.job.now 0 self.old.tags.items left.old }
-        requires known { ArePortsKnown self.old.job.now }
-        ensures held { OnOk result (HoldAllPorts self.old.job.now self.new.tags.items) }
+        requires ready { ReadyForPort self.old.job 0 self.old.tags.items left.old }
+        requires known { ArePortsKnown self.old.job }
+        ensures held { OnOk result (HoldAllPorts self.old.job self.new.tags.items) }
         ensures adds { OnOk result (
             AddsAtMost self.old self.new
-            (length self.old.job.now.ports * length self.old.tags.items)
+            (length self.old.job.ports * length self.old.tags.items)
             ) }
         ensures kept { KeepsGates self.old self.new }
     {
@@ -585,11 +588,11 @@ impl<'a> Lanes<'a> {
 
     // Brings the first ports to the lowest lanes one after another.
     fn bring_loops(&mut self, loops: u32) -> Result<(), PlaceError>
-        requires loops { loops ≤ length self.old.job.now.ports }
+        requires loops { loops ≤ length self.old.job.ports }
         requires lanes { loops ≤ length self.old.tags.items }
-        requires held { HoldAllPorts self.old.job.now self.old.tags.items }
-        ensures held { OnOk result (HoldAllPorts self.old.job.now self.new.tags.items) }
-        ensures settled { OnOk result (AreSettled self.old.job.now loops self.new.tags.items) }
+        requires held { HoldAllPorts self.old.job self.old.tags.items }
+        ensures held { OnOk result (HoldAllPorts self.old.job self.new.tags.items) }
+        ensures settled { OnOk result (AreSettled self.old.job loops self.new.tags.items) }
         ensures adds { OnOk result (
             AddsAtMost self.old self.new (loops * length self.old.tags.items)
             ) }
@@ -625,18 +628,18 @@ impl<'a> Lanes<'a> {
 
     /// Brings the first ports to the lowest lanes, the first one to the lowest.
     fn settle_loops(&mut self, alloc: Global, loops: u32) -> Result<(), PlaceError>
-        requires loops { loops ≤ length self.old.job.now.ports }
+        requires loops { loops ≤ length self.old.job.ports }
         requires lanes { loops ≤ length self.old.tags.items }
-        requires held { HoldAllPorts self.old.job.now self.old.tags.items }
-        ensures held { OnOk result (HoldAllPorts self.old.job.now self.new.tags.items) }
-        ensures settled { OnOk result (AreSettled self.old.job.now loops self.new.tags.items) }
+        requires held { HoldAllPorts self.old.job self.old.tags.items }
+        ensures held { OnOk result (HoldAllPorts self.old.job self.new.tags.items) }
+        ensures settled { OnOk result (AreSettled self.old.job loops self.new.tags.items) }
         ensures adds { OnOk result (
             AddsAtMost self.old self.new (loops * length self.old.tags.items)
             ) }
         ensures kept { KeepsGates self.old self.new }
     {
         let swaps = settling_swaps(alloc, &self.tags, &self.clocks, loops)?;
-        if settles(alloc, self.job, loops, &self.tags, &swaps)? {
+        if settles(alloc, &self.job, loops, &self.tags, &swaps)? {
             self.swap_all(&swaps)
         } else {
             self.bring_loops(loops)
@@ -645,11 +648,11 @@ impl<'a> Lanes<'a> {
 
     /// Returns the lanes of the ports that are no loops.
     pub fn find_outs(&self, alloc: Global, loops: u32) -> Result<Vec<u32>, PlaceError>
-        requires loops { loops ≤ length self.now.job.now.ports }
-        requires held { HoldAllPorts self.now.job.now self.now.tags.items }
-        ensures long { IfOk result (λ v. length v.items + loops ≡ length self.now.job.now.ports) }
+        requires loops { loops ≤ length self.now.job.ports }
+        requires held { HoldAllPorts self.now.job self.now.tags.items }
+        ensures long { IfOk result (λ v. length v.items + loops ≡ length self.now.job.ports) }
         ensures outs { IfOk result (λ v.
-            AreOuts self.now.job.now loops self.now.tags.items v.items
+            AreOuts self.now.job loops self.now.tags.items v.items
             ) }
     {
         let mut outs = Vec::new(alloc);

@@ -15,6 +15,7 @@ use cell_core::CellList;
 use lane_core::{NetPlace, Program};
 use lists::List;
 use std::alloc::Global;
+use std::mem;
 
 // A program with more instructions than these is long.
 const LONG: usize = 200_000;
@@ -170,13 +171,13 @@ fn ends_of(
     lanes: &Lanes,
 ) -> Result<Ends, PlaceError>
     requires loops { loops ≡ loop_count list.now }
-    requires ports { loops ≤ length lanes.now.job.now.ports }
-    requires held { HoldAllPorts lanes.now.job.now lanes.now.tags.items }
+    requires ports { loops ≤ length lanes.now.job.ports }
+    requires held { HoldAllPorts lanes.now.job lanes.now.tags.items }
     requires places { HavePlaces list.now homes.now lanes.now.made.items }
     requires zero { All (HasHomeIfZero list.now homes.now) list.now.nets }
-    ensures long { IfOk result (λ r. length r.outs.items + loops ≡ length lanes.now.job.now.ports) }
+    ensures long { IfOk result (λ r. length r.outs.items + loops ≡ length lanes.now.job.ports) }
     ensures outs { IfOk result (λ r.
-        AreOuts lanes.now.job.now loops lanes.now.tags.items r.outs.items
+        AreOuts lanes.now.job loops lanes.now.tags.items r.outs.items
         ) }
     ensures nets { IfOk result (λ r.
         r.nets.items ≡ map (net_place_of list.now homes.now lanes.now.made.items) list.now.nets
@@ -198,15 +199,15 @@ fn place_job(
     alloc: Global,
     list: &CellList,
     loops: u32,
-    job: &Job,
+    job: Job,
     left: &mut [u32],
     homes: Vec<u32>,
 ) -> Result<Placed, PlaceError>
     requires loops { loops ≡ loop_count list.now }
     requires small { IsPlaceable list.now }
-    requires few { length job.now.start < 2 ^ 32 }
-    requires prepared { IsPrepared list.now job.now left.old homes.items }
-    ensures { IfOk result (λ r. IsPlacedOn list.now (length job.now.start) r.program) }
+    requires few { length job.start < 2 ^ 32 }
+    requires prepared { IsPrepared list.now job left.old homes.items }
+    ensures { IfOk result (λ r. IsPlacedOn list.now (length job.start) r.program) }
 {
     let lanes = Lanes::run(alloc, job, loops, left)?;
     let columns = latest(&lanes.clocks);
@@ -218,9 +219,10 @@ fn place_job(
     let mut ins = homes;
     ins.truncate(list.inputs as usize);
     let count = lanes.tags.len() as u32;
+    let instrs = lanes.into_instrs();
     let program = Program {
         lanes: count,
-        instrs: List::of(lanes.instrs),
+        instrs: List::of(instrs),
         ins: List::of(ins),
         latches: List::of(latches),
         outs: List::of(outs),
@@ -246,7 +248,7 @@ fn place_with(
 {
     let Prepared { job, left, homes } = prepare(alloc, list, loops, spare, wanted, travel)?;
     let mut left = left;
-    place_job(alloc, list, loops, &job, left.as_mut_slice(), homes)
+    place_job(alloc, list, loops, job, left.as_mut_slice(), homes)
 }
 
 // The most spare lanes: as many as there are inputs or as there are outputs, whichever are more.
@@ -313,7 +315,9 @@ fn shorten(
     }
     let second = placed_again(alloc, list, loops, spare, first)?;
     if is_much_shorter(first, &second) {
-        *first = second;
+        drop(mem::replace(first, second));
+    } else {
+        drop(second);
     }
     Ok(())
 }
@@ -336,7 +340,9 @@ fn try_spare(
 {
     let next = place_with(alloc, list, loops, spare, &[], Travel::Soonest)?;
     if next.area() < best.area() {
-        *best = next;
+        drop(mem::replace(best, next));
+    } else {
+        drop(next);
     }
     Ok(())
 }

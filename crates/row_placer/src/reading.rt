@@ -106,17 +106,13 @@ pub fn names_zero(srcs: &[Src]) -> bool
     false
 }
 
-// Whether a cell reads constant 0.
-fn cell_reads_zero(cell: Cell) -> bool {
-    match cell {
-        Cell::Or(a, b) | Cell::Xor(a, b) | Cell::AndNot(a, b) => is_zero(a) || is_zero(b),
-    }
-}
-
 // Whether one of the cells reads constant 0.
 fn cells_read_zero(cells: &[Cell]) -> bool {
     for cell in cells {
-        if cell_reads_zero(*cell) {
+        let (a, b) = match *cell {
+            Cell::Or(a, b) | Cell::Xor(a, b) | Cell::AndNot(a, b) => (a, b),
+        };
+        if is_zero(a) || is_zero(b) {
             return true;
         }
     }

@@ -81,7 +81,10 @@ fn settle_at(
     let mut next = None;
     for datum in 0..data.len() {
         let idle = settle_datum(lanes, &mut data[datum], swaps, time)?;
-        next = earlier(next, idle);
+        next = match (next, idle) {
+            (Some(first), Some(second)) => Some(first.min(second)),
+            (None, only) | (only, None) => only,
+        };
     }
     Ok(next)
 }
@@ -203,19 +206,15 @@ fn settling_lanes(
 ) -> Result<Vec<Settling>, PlaceError> {
     let mut lanes = Vec::with_capacity(alloc, tags.len())?;
     for lane in 0..tags.len() {
-        let depth = depth_of(tags[lane], loops);
+        // the greater, the lower the datum's own lane; 0 for what is none
+        let depth = match tags[lane].role {
+            Role::Port(port) => loops.saturating_sub(port),
+            _ => 0,
+        };
         let idle = clocks.get(lane).copied().unwrap_or(0);
         lanes.push(Settling { depth, idle })?;
     }
     Ok(lanes)
-}
-
-// How low the lane of a loop's datum is: the greater, the lower; 0 for what is none.
-fn depth_of(tag: Tag, loops: u32) -> u32 {
-    match tag.role {
-        Role::Port(port) => loops.saturating_sub(port),
-        _ => 0,
-    }
 }
 
 // The lanes of loops' data, from the lowest up.
@@ -230,13 +229,4 @@ fn lanes_of_data(alloc: Global, lanes: &[Settling]) -> Result<Vec<u32>, PlaceErr
     }
     data.reverse();
     Ok(data)
-}
-
-// The earlier of two columns, if there is one.
-fn earlier(first: Option<u64>, second: Option<u64>) -> Option<u64> {
-    match (first, second) {
-        (Some(first), Some(second)) => Some(first.min(second)),
-        (None, second) => second,
-        (first, None) => first,
-    }
 }

@@ -1,4 +1,4 @@
-use Rattle.std.proofs.Common.{◌≡◌, ◌∙◌, ap, subst, Bor, ◌-◌, ◌<◌, length, arith}
+use Rattle.std.proofs.Common.{◌≡◌, ◌∙◌, ap, subst, ◌-◌, ◌<◌, length, arith}
 use Rattle.std.specs.Prelude.{slice_get, Some}
 use Rattle.std.proofs.lemmas.Option.{get_or_from_slice_get}
 use Rattle.row_placer.specs.declared.job.Job.{Job}
@@ -9,18 +9,18 @@ use Rattle.row_placer.proofs.lanes.Lanes.bring_loops.Goals as goal
 pub find-lane-requires : goal.find-lane-requires
 find-lane-requires c =
     let i = c.loop-port.invariant in
-    let job = c.args.self.now.job.now in
+    let job = c.args.self.now.job in
     let less : c.loop-port.port < length job.ports = omega (arith, c.loop-port-test.true, c.requires.loops) in
     port_has job (length job.ports) c.loop-port.port c.get-value.result.now c.loop-port.self.tags.items i.held less
-    (subst (λ (j : Bor Job). slice_get j.now.ports c.loop-port.port ≡ Some c.get-value.result.now) i.kept.job c.get-value.ensures)
+    (subst (λ (j : Job). slice_get j.ports c.loop-port.port ≡ Some c.get-value.result.now) i.kept.job c.get-value.ensures)
 
 pub loop-port-preserved : goal.loop-port-preserved
 loop-port-preserved c =
     let s = c.loop-port.self in
     let i = c.loop-port.invariant in
-    let job = c.args.self.now.job.now in
+    let job = c.args.self.now.job in
     let e = c.in_ok-bring.ensures in
-    let got = subst (λ (j : Bor Job). slice_get j.now.ports c.loop-port.port ≡ Some c.get-value.result.now) i.kept.job c.get-value.ensures in
+    let got = subst (λ (j : Job). slice_get j.ports c.loop-port.port ≡ Some c.get-value.result.now) i.kept.job c.get-value.ensures in
     let room : c.loop-port.port < length s.tags.items = omega (arith, c.loop-port-test.true, c.requires.lanes, i.adds.long) in
     let wide = c.len.ensures ∙ s.tags.ok.0 in
     record {

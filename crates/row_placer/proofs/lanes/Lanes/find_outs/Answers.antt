@@ -7,13 +7,13 @@ use Rattle.row_placer.proofs.lanes.Lanes.find_outs.Goals as goal
 
 pub find-lane-requires : goal.find-lane-requires
 find-lane-requires c =
-    let job = c.args.self.now.job.now in
+    let job = c.args.self.now.job in
     let less : c.loop-port.port < length job.ports = omega (arith, c.loop-port-test.true, c.len.ensures) in
     port_has job (length job.ports) c.loop-port.port c.get-value.result.now c.args.self.now.tags.items c.requires.held less c.get-value.ensures
 
 pub loop-port-preserved : goal.loop-port-preserved
 loop-port-preserved c =
-    let job = c.args.self.now.job.now in
+    let job = c.args.self.now.job in
     let i = c.loop-port.invariant in
     let less : c.loop-port.port < length job.ports = omega (arith, c.loop-port-test.true, c.len.ensures) in
     let outs = c.loop-port.outs.items in (

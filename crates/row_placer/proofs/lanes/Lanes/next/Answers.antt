@@ -1,4 +1,4 @@
-use Rattle.std.proofs.Common.{◌≡◌, sym, ◌∙◌, ap, ap₂, subst, Bor, ◌+◌, ◌-◌, ◌≤◌, length, get_or, cond, arith}
+use Rattle.std.proofs.Common.{◌≡◌, sym, ◌∙◌, ap, ap₂, subst, ◌+◌, ◌-◌, ◌≤◌, length, get_or, cond, arith}
 use Rattle.std.specs.Prelude.{◌==◌}
 use Rattle.std.proofs.lemmas.List.{length-set}
 use Rattle.row_placer.specs.declared.job.Job.{Job}
@@ -11,27 +11,27 @@ use Rattle.row_placer.proofs.lanes.Lanes.next.Goals as goal
 pub use_value-requires-clause-usable : goal.use_value-requires-clause-usable
 use_value-requires-clause-usable c =
     let s = c.args.self.now in
-    let b = begun s.job.now s.made.items c.len.result s.made.len c.get-gate.result.now s.tags.items c.args.left.now c.len.ensures (sym s.made.ok.0) c.get-gate.ensures c.requires.within c.requires.ready in
+    let b = begun s.job s.made.items c.len-made.result s.made.len c.get-gate.result.now s.tags.items c.args.left.now c.len-made.ensures (sym s.made.ok.0) c.get-gate.ensures c.requires.within c.requires.ready in
     b.usable
 
 pub use_value-requires-2-clause-usable : goal.use_value-requires-2-clause-usable
 use_value-requires-2-clause-usable c =
     let s = c.args.self.now in
     let gate = c.get-gate.result.now in
-    let b = begun s.job.now s.made.items c.len.result s.made.len gate s.tags.items c.args.left.now c.len.ensures (sym s.made.ok.0) c.get-gate.ensures c.requires.within c.requires.ready in
-    let h = halfway s.job.now (length s.made.items) gate s.tags.items c.use_value.new.self.tags.items c.args.left.now c.use_value.new.left b c.in_ok-use_value.ensures.exchanged c.in_ok-use_value.ensures.left in
+    let b = begun s.job s.made.items c.len-made.result s.made.len gate s.tags.items c.args.left.now c.len-made.ensures (sym s.made.ok.0) c.get-gate.ensures c.requires.within c.requires.ready in
+    let h = halfway s.job (length s.made.items) gate s.tags.items c.use_value.new.self.tags.items c.args.left.now c.use_value.new.left b c.in_ok-use_value.ensures.exchanged c.in_ok-use_value.ensures.left in
     h.usable
 
 pub gate-requires-clause-next : goal.gate-requires-clause-next
 gate-requires-clause-next c =
     let s = c.args.self.now in
     let gate = c.get-gate.result.now in
-    let b = begun s.job.now s.made.items c.len.result s.made.len gate s.tags.items c.args.left.now c.len.ensures (sym s.made.ok.0) c.get-gate.ensures c.requires.within c.requires.ready in
+    let b = begun s.job s.made.items c.len-made.result s.made.len gate s.tags.items c.args.left.now c.len-made.ensures (sym s.made.ok.0) c.get-gate.ensures c.requires.within c.requires.ready in
     let jobs = c.in_ok-use_value-2.ensures.kept.job ∙ c.in_ok-use_value.ensures.kept.job in
     let mades = c.in_ok-use_value-2.ensures.kept.made ∙ c.in_ok-use_value.ensures.kept.made in
     record {
-      within = omega (arith, c.requires.within, ap length mades, ap (λ (j : Bor Job). length j.now.gates) jobs);
-      known = ap₂ (λ (j : Bor Job) m. get_or j.now.gates (length m) gate) jobs mades ∙ b.known;
+      within = omega (arith, c.requires.within, ap length mades, ap (λ (j : Job). length j.gates) jobs);
+      known = ap₂ (λ (j : Job) m. get_or j.gates (length m) gate) jobs mades ∙ b.known;
     }
 
 pub gate-requires-clause-first : goal.gate-requires-clause-first
@@ -52,25 +52,25 @@ pub end-requires : goal.end-requires
 end-requires c =
     let s = c.args.self.now in
     let gate = c.get-gate.result.now in
-    let value : c.use_value-2.new.self.job.now.base + c.len-2.result ≡ c.use_value-2.new.self.job.now.base + length c.use_value-2.new.self.made.items = ap (λ n. c.use_value-2.new.self.job.now.base + n) (c.len-2.ensures ∙ c.use_value-2.new.self.made.ok.0) in
+    let value : c.use_value-2.new.self.job.base + c.len.result ≡ c.use_value-2.new.self.job.base + length c.use_value-2.new.self.made.items = ap (λ n. c.use_value-2.new.self.job.base + n) (c.len.ensures ∙ c.use_value-2.new.self.made.ok.0) in
     subst (λ n. 1 ≤ count n Kept c.gate.new.self.tags.items) (sym value)
-    (result_there (c.use_value-2.new.self.job.now.base + length c.use_value-2.new.self.made.items) gate.first gate.second c.use_value-2.new.self.tags.items c.gate.new.self.tags.items c.in_ok-gate.ensures.made.exchanged)
+    (result_there (c.use_value-2.new.self.job.base + length c.use_value-2.new.self.made.items) gate.first gate.second c.use_value-2.new.self.tags.items c.gate.new.self.tags.items c.in_ok-gate.ensures.made.exchanged)
 
 pub returns-clause-ready : goal.returns-clause-ready
 returns-clause-ready c =
     let s = c.args.self.now in
     let gate = c.get-gate.result.now in
-    let b = begun s.job.now s.made.items c.len.result s.made.len gate s.tags.items c.args.left.now c.len.ensures (sym s.made.ok.0) c.get-gate.ensures c.requires.within c.requires.ready in
-    let h = halfway s.job.now (length s.made.items) gate s.tags.items c.use_value.new.self.tags.items c.args.left.now c.use_value.new.left b c.in_ok-use_value.ensures.exchanged c.in_ok-use_value.ensures.left in
+    let b = begun s.job s.made.items c.len-made.result s.made.len gate s.tags.items c.args.left.now c.len-made.ensures (sym s.made.ok.0) c.get-gate.ensures c.requires.within c.requires.ready in
+    let h = halfway s.job (length s.made.items) gate s.tags.items c.use_value.new.self.tags.items c.args.left.now c.use_value.new.left b c.in_ok-use_value.ensures.exchanged c.in_ok-use_value.ensures.left in
     let jobs = c.in_ok-use_value-2.ensures.kept.job ∙ c.in_ok-use_value.ensures.kept.job in
     let mades = c.in_ok-use_value-2.ensures.kept.made ∙ c.in_ok-use_value.ensures.kept.made in
     let after = c.use_value-2.new.self in
-    let mine : after.job.now.base + length after.made.items ≡ s.job.now.base + length s.made.items = ap₂ (λ (j : Bor Job) m. j.now.base + length m) jobs mades in
-    let value : after.job.now.base + c.len-2.result ≡ s.job.now.base + length s.made.items = ap (λ n. after.job.now.base + n) (c.len-2.ensures ∙ after.made.ok.0) ∙ mine in
+    let mine : after.job.base + length after.made.items ≡ s.job.base + length s.made.items = ap₂ (λ (j : Job) m. j.base + length m) jobs mades in
+    let value : after.job.base + c.len.result ≡ s.job.base + length s.made.items = ap (λ n. after.job.base + n) (c.len.ensures ∙ after.made.ok.0) ∙ mine in
     let end : Exchanged c.gate.new.self.tags.items c.end.new.self.tags.items
-    (cond (get_or c.use_value-2.new.left (s.job.now.base + length s.made.items) 0 == 0) (tag (s.job.now.base + length s.made.items) Kept) free_tag) free_tag =
+    (cond (get_or c.use_value-2.new.left (s.job.base + length s.made.items) 0 == 0) (tag (s.job.base + length s.made.items) Kept) free_tag) free_tag =
     subst (λ v. Exchanged c.gate.new.self.tags.items c.end.new.self.tags.items (cond (get_or c.use_value-2.new.left v 0 == 0) (tag v Kept) free_tag) free_tag) value c.end.ensures.exchanged in
-    whole s.job.now (length s.made.items) gate c.use_value.new.self.tags.items c.use_value-2.new.self.tags.items c.gate.new.self.tags.items c.end.new.self.tags.items
+    whole s.job (length s.made.items) gate c.use_value.new.self.tags.items c.use_value-2.new.self.tags.items c.gate.new.self.tags.items c.end.new.self.tags.items
     c.use_value.new.left c.use_value-2.new.left b.second h c.in_ok-use_value-2.ensures.exchanged c.in_ok-use_value-2.ensures.left
     (subst (λ n. BothExchanged c.use_value-2.new.self.tags.items c.gate.new.self.tags.items (tag gate.first First) (tag gate.second Second) (tag n Kept) free_tag) mine c.in_ok-gate.ensures.made.exchanged)
     end

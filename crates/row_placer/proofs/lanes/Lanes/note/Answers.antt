@@ -20,10 +20,10 @@ invariant_of-self c =
       told = s.told;
       places = subst (All (IsPlaceWithin (length s.tags.items) (length s.instrs.items))) (sym c.push.ensures.items)
           (either (is_ok c.push.result) (All (IsPlaceWithin (length s.tags.items) (length s.instrs.items))) more s.made.items (note_places (length s.tags.items) (length s.instrs.items) s.made.items c.args.lane n c.requires.lane last s.places) s.places);
-      made_at = subst (MadeAt s.job.now s.instrs.items) (sym c.push.ensures.items)
-          (either (is_ok c.push.result) (MadeAt s.job.now s.instrs.items) more s.made.items
-          (note_at s.job.now s.instrs.items s.made.items c.args.lane n
-          (λ gate. subst (λ k. slice_get s.instrs.items (k - 1) ≡ Some (gate_instr (get_or s.job.now.gates (length s.made.items) gate).kind c.args.lane)) (sym all) (c.requires.last gate)) s.made_at) s.made_at);
-      made_told = subst (MadeTold s.job.now s.instrs.items) (sym c.push.ensures.items)
-          (either (is_ok c.push.result) (MadeTold s.job.now s.instrs.items) more s.made.items (note_told s.job.now s.tags.items s.instrs.items s.made.items c.args.lane n last c.requires.here s.told s.made_told) s.made_told);
+      made_at = subst (MadeAt s.job s.instrs.items) (sym c.push.ensures.items)
+          (either (is_ok c.push.result) (MadeAt s.job s.instrs.items) more s.made.items
+          (note_at s.job s.instrs.items s.made.items c.args.lane n
+          (λ gate. subst (λ k. slice_get s.instrs.items (k - 1) ≡ Some (gate_instr (get_or s.job.gates (length s.made.items) gate).kind c.args.lane)) (sym all) (c.requires.last gate)) s.made_at) s.made_at);
+      made_told = subst (MadeTold s.job s.instrs.items) (sym c.push.ensures.items)
+          (either (is_ok c.push.result) (MadeTold s.job s.instrs.items) more s.made.items (note_told s.job s.tags.items s.instrs.items s.made.items c.args.lane n last c.requires.here s.told s.made_told) s.made_told);
     }

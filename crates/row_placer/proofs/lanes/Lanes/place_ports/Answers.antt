@@ -1,4 +1,4 @@
-use Rattle.std.proofs.Common.{◌≡◌, ap, subst, Bor, ◌<◌, length, arith}
+use Rattle.std.proofs.Common.{◌≡◌, ap, subst, ◌<◌, length, arith}
 use Rattle.std.specs.Prelude.{slice_get, Some}
 use Rattle.row_placer.specs.declared.job.Job.{Job}
 use Rattle.row_placer.specs.Ready.{HoldPorts}
@@ -10,18 +10,18 @@ pub use_value-requires-clause-usable : goal.use_value-requires-clause-usable
 use_value-requires-clause-usable c =
     let s = c.loop-port.self in
     let i = c.loop-port.invariant in
-    let job = c.args.self.now.job.now in
-    let less : c.loop-port.port < length job.ports = omega (arith, c.loop-port-test.true, c.len.ensures, ap (λ (j : Bor Job). length j.now.ports) i.kept.job) in
-    let p = ported job c.loop-port.port c.get-value.result.now s.tags.items c.loop-port.left (subst (λ (j : Bor Job). slice_get j.now.ports c.loop-port.port ≡ Some c.get-value.result.now) i.kept.job c.get-value.ensures) less c.requires.known i.ready in
+    let job = c.args.self.now.job in
+    let less : c.loop-port.port < length job.ports = omega (arith, c.loop-port-test.true, c.len.ensures, ap (λ (j : Job). length j.ports) i.kept.job) in
+    let p = ported job c.loop-port.port c.get-value.result.now s.tags.items c.loop-port.left (subst (λ (j : Job). slice_get j.ports c.loop-port.port ≡ Some c.get-value.result.now) i.kept.job c.get-value.ensures) less c.requires.known i.ready in
     p.usable
 
 pub loop-port-preserved : goal.loop-port-preserved
 loop-port-preserved c =
     let s = c.loop-port.self in
     let i = c.loop-port.invariant in
-    let job = c.args.self.now.job.now in
-    let less : c.loop-port.port < length job.ports = omega (arith, c.loop-port-test.true, c.len.ensures, ap (λ (j : Bor Job). length j.now.ports) i.kept.job) in
-    let p = ported job c.loop-port.port c.get-value.result.now s.tags.items c.loop-port.left (subst (λ (j : Bor Job). slice_get j.now.ports c.loop-port.port ≡ Some c.get-value.result.now) i.kept.job c.get-value.ensures) less c.requires.known i.ready in
+    let job = c.args.self.now.job in
+    let less : c.loop-port.port < length job.ports = omega (arith, c.loop-port-test.true, c.len.ensures, ap (λ (j : Job). length j.ports) i.kept.job) in
+    let p = ported job c.loop-port.port c.get-value.result.now s.tags.items c.loop-port.left (subst (λ (j : Job). slice_get j.ports c.loop-port.port ≡ Some c.get-value.result.now) i.kept.job c.get-value.ensures) less c.requires.known i.ready in
     let e = c.in_ok-use_value.ensures in
     record {
       ready = port_used job c.loop-port.port c.get-value.result.now s.tags.items c.use_value.new.self.tags.items c.loop-port.left c.use_value.new.left p e.exchanged e.left;
@@ -34,5 +34,5 @@ loop-port-preserved c =
 pub returns-clause-held : goal.returns-clause-held
 returns-clause-held c =
     let i = c.loop-port.invariant in
-    let same : c.loop-port.port ≡ length c.args.self.now.job.now.ports = omega (arith, c.loop-port-test.false, c.len.ensures, ap (λ (j : Bor Job). length j.now.ports) i.kept.job, i.within) in
-    subst (λ n. HoldPorts c.args.self.now.job.now n c.loop-port.self.tags.items) same i.held
+    let same : c.loop-port.port ≡ length c.args.self.now.job.ports = omega (arith, c.loop-port-test.false, c.len.ensures, ap (λ (j : Job). length j.ports) i.kept.job, i.within) in
+    subst (λ n. HoldPorts c.args.self.now.job n c.loop-port.self.tags.items) same i.held

@@ -5,12 +5,12 @@ use Rattle.row_placer.proofs.lanes.Lanes.place_ports.Given as goal
 
 abbrev pub invariant-loop-port : goal.invariant-loop-port
 invariant-loop-port l = record {
-  ready : ReadyForPort l.fn.self.job.now l.port l.self.tags.items l.left;
-  held : HoldPorts l.fn.self.job.now l.port l.self.tags.items;
+  ready : ReadyForPort l.fn.self.job l.port l.self.tags.items l.left;
+  held : HoldPorts l.fn.self.job l.port l.self.tags.items;
   adds : AddsAtMost l.fn.self l.self (l.port * length l.fn.self.tags.items);
-  within : l.port ≤ length l.fn.self.job.now.ports;
+  within : l.port ≤ length l.fn.self.job.ports;
   kept : KeepsGates l.fn.self l.self;
 }
 
 abbrev pub decreases-loop-port : goal.decreases-loop-port
-decreases-loop-port l = length l.fn.self.job.now.ports - l.port
+decreases-loop-port l = length l.fn.self.job.ports - l.port

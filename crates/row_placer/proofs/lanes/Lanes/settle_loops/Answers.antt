@@ -11,7 +11,7 @@ then r p f = on_ok_weaker r f p
 pub returns-then-branch : goal.returns-then-branch
 returns-then-branch c =
     let s = c.args.self.now in
-    let job = s.job.now in
+    let job = s.job in
     let new = c.swap_all.new.self in
     let swaps = c.deref-then-branch.result.now in
     let result = c.swap_all.result in

@@ -15,10 +15,10 @@ invariant_of-self c =
       long = s.long;
       clocked = s.clocked;
       on_lanes = subst (All (IsOnLanes (length s.tags.items))) (sym e) s.on_lanes;
-      told = subst (Told s.job.now s.tags.items) (sym e) s.told;
+      told = subst (Told s.job s.tags.items) (sym e) s.told;
       places = subst (λ is. All (IsPlaceWithin (length s.tags.items) (length is)) s.made.items) (sym e) s.places;
-      made_told = subst (λ is. MadeTold s.job.now is s.made.items) (sym e) s.made_told;
-      made_at = subst (λ is. MadeAt s.job.now is s.made.items) (sym e) s.made_at;
+      made_told = subst (λ is. MadeTold s.job is s.made.items) (sym e) s.made_told;
+      made_at = subst (λ is. MadeAt s.job is s.made.items) (sym e) s.made_at;
     }
 
 pub invariant_of-self-2 : goal.invariant_of-self-2
@@ -35,8 +35,8 @@ invariant_of-self-2 c =
       long = s.long ∙ sym n;
       clocked = length-two s.clocks.items at (at + 1) _ _ ∙ s.clocked ∙ sym n;
       on_lanes = subst (λ is. All (IsOnLanes (length tags)) is) (sym e) (subst (λ k. All (IsOnLanes k) (s.instrs.items ++ i ∷ [])) (sym n) (step_on (length s.tags.items) s.instrs.items i s.on_lanes c.requires.within));
-      told = subst (Told s.job.now tags) (sym e) (subst (λ k. Told s.job.now (set (set s.tags.items k c.args.upper) (k + 1) c.args.lower) (s.instrs.items ++ i ∷ [])) (sym same) (step_told s.job.now s.tags.items s.instrs.items i c.args.upper c.args.lower c.requires.within s.long c.requires.answers s.told));
+      told = subst (Told s.job tags) (sym e) (subst (λ k. Told s.job (set (set s.tags.items k c.args.upper) (k + 1) c.args.lower) (s.instrs.items ++ i ∷ [])) (sym same) (step_told s.job s.tags.items s.instrs.items i c.args.upper c.args.lower c.requires.within s.long c.requires.answers s.told));
       places = subst (λ is. All (IsPlaceWithin (length tags) (length is)) s.made.items) (sym e) (subst (λ k. All (IsPlaceWithin k (length (s.instrs.items ++ i ∷ []))) s.made.items) (sym n) (step_places (length s.tags.items) s.instrs.items i s.made.items s.places));
-      made_told = subst (λ is. MadeTold s.job.now is s.made.items) (sym e) (step_made s.job.now (length s.tags.items) s.instrs.items i s.made.items s.places s.made_told);
-      made_at = subst (λ is. MadeAt s.job.now is s.made.items) (sym e) (step_at s.job.now s.instrs.items i s.made.items s.made_at);
+      made_told = subst (λ is. MadeTold s.job is s.made.items) (sym e) (step_made s.job (length s.tags.items) s.instrs.items i s.made.items s.places s.made_told);
+      made_at = subst (λ is. MadeAt s.job is s.made.items) (sym e) (step_at s.job s.instrs.items i s.made.items s.made_at);
     }
