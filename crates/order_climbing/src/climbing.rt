@@ -27,21 +27,12 @@ pub struct Camp {
     pub tiles: u64,
 }
 
-impl Camp {
-    // Makes this camp one of another draft of its list.
-    fn move_to(&mut self, draft: &Draft, tiles: u64) -> Result<(), CellError> {
-        self.tiles = tiles;
-        self.draft.copy(draft)
-    }
-}
-
 /// A climber: it changes a draft, keeps the changes that bring no much larger drawing, and leaves
 /// the best draft at a camp.
 #[derive(Drop)]
-pub struct Climber<'a> {
+pub struct Climber {
     alloc: Global,
-    gates: &'a Gates,
-    placer: Placer<'a>,
+    placer: Placer,
     draws: Draws,
     draft: Draft,
     tiles: u64,
@@ -51,17 +42,11 @@ pub struct Climber<'a> {
     other: Homes,
 }
 
-impl<'a> Climber<'a> {
+impl Climber {
     /// Returns a climber that starts at a camp of these gates.
-    pub fn new(
-        alloc: Global,
-        gates: &'a Gates,
-        camp: &Camp,
-        seed: u64,
-    ) -> Result<Climber<'a>, CellError> {
+    pub fn new(alloc: Global, gates: &Gates, camp: &Camp, seed: u64) -> Result<Climber, CellError> {
         Ok(Climber {
             alloc,
-            gates,
             placer: Placer::new(alloc, gates)?,
             draws: Draws::new(seed),
             draft: camp.draft.copied(alloc)?,
@@ -74,28 +59,30 @@ impl<'a> Climber<'a> {
     /// Tries changes until so many lanes were passed, and moves the camp to the best draft.
     pub fn climb(
         &mut self,
+        gates: &Gates,
         camp: &mut Camp,
         work: usize,
         cooling: Cooling,
     ) -> Result<(), CellError> {
-        self.accept_if_small(Change::Lanes)?;
+        self.accept_if_small(gates, Change::Lanes)?;
         for _ in 0..work {
             if self.placer.work >= work {
                 break;
             }
-            self.most = self.most_tiles(cooling.heat(self.placer.work, work));
+            self.most = self.most_tiles(gates, cooling.heat(self.placer.work, work));
             self.placer.count(1, self.draft.homes.lanes);
-            self.change()?;
-            if self.tiles < camp.tiles && self.draft.has_room(self.alloc, self.gates)? {
-                camp.move_to(&self.draft, self.tiles)?;
+            self.change(gates)?;
+            if self.tiles < camp.tiles && self.draft.has_room(self.alloc, gates)? {
+                camp.tiles = self.tiles;
+                camp.draft.copy(&self.draft)?;
             }
         }
         Ok(())
     }
 
     // The most tiles that a change may bring if the temperature is so many 256ths of a column.
-    fn most_tiles(&mut self, heat: u64) -> u64 {
-        let rows = self.draft.homes.lanes.saturating_add(self.gates.loops) as u64;
+    fn most_tiles(&mut self, gates: &Gates, heat: u64) -> u64 {
+        let rows = self.draft.homes.lanes.saturating_add(gates.loops) as u64;
         let more = heat
             .saturating_mul(loss(&mut self.draws))
             .saturating_mul(rows);
@@ -103,29 +90,23 @@ impl<'a> Climber<'a> {
     }
 
     // Tries a change.
-    fn change(&mut self) -> Result<(), CellError> {
+    fn change(&mut self, gates: &Gates) -> Result<(), CellError> {
         let drawn = self.draws.below(100);
+        let inputs = OF_INPUTS.saturating_mul(8).saturating_mul(gates.read.len());
+        let share = inputs / self.draft.order.len().max(1);
+        let of_inputs = share.saturating_add(1).min(OF_INPUTS);
         if drawn < OF_LANES {
-            self.try_lanes()
-        } else if drawn < OF_LANES.saturating_add(self.of_inputs()) {
-            self.try_input()
+            self.try_lanes(gates)
+        } else if drawn < OF_LANES.saturating_add(of_inputs) {
+            self.try_input(gates)
         } else {
-            self.try_order()
+            self.try_order(gates)
         }
     }
 
-    // How many of 100 changes are of inputs' lanes.
-    fn of_inputs(&self) -> usize {
-        let inputs = OF_INPUTS
-            .saturating_mul(8)
-            .saturating_mul(self.gates.read.len());
-        let share = inputs / self.draft.order.len().max(1);
-        share.saturating_add(1).min(OF_INPUTS)
-    }
-
     // Whether the changed draft's drawing is small enough; if so, it is accepted.
-    fn accept_if_small(&mut self, change: Change) -> Result<bool, CellError> {
-        match self.placer.tiles(&self.draft, change, self.most)? {
+    fn accept_if_small(&mut self, gates: &Gates, change: Change) -> Result<bool, CellError> {
+        match self.placer.tiles(gates, &self.draft, change, self.most)? {
             Some(tiles) => {
                 self.tiles = tiles;
                 self.placer.accept();
@@ -147,88 +128,91 @@ impl<'a> Climber<'a> {
     }
 
     // Tries a block of cells at another place of the order.
-    fn try_order(&mut self) -> Result<(), CellError> {
+    fn try_order(&mut self, gates: &Gates) -> Result<(), CellError> {
         let block = self.random_block();
-        let range = self.draft.range(self.gates, &block);
+        let range = self.draft.range(gates, &block);
         let places = range.end.saturating_sub(range.start);
         let to = range.start.saturating_add(self.draws.below(places));
         if places == 0 || to == block.start {
             return Ok(());
         }
-        self.try_shift(&block, to)
+        self.try_shift(gates, &block, to)
     }
 
     // Tries a block of cells with its first cell at place `to`.
-    fn try_shift(&mut self, block: &Range<usize>, to: usize) -> Result<(), CellError> {
+    fn try_shift(
+        &mut self,
+        gates: &Gates,
+        block: &Range<usize>,
+        to: usize,
+    ) -> Result<(), CellError> {
         let count = block.end.saturating_sub(block.start);
-        let changed = self.draft.shift(self.gates, block, to);
+        let changed = self.draft.shift(gates, block, to);
         let last = changed.end.saturating_sub(1);
-        if !self.accept_if_small(Change::Order(changed.start, last))? {
+        if !self.accept_if_small(gates, Change::Order(changed.start, last))? {
             let moved = to..to.saturating_add(count);
-            self.draft.shift(self.gates, &moved, block.start);
+            self.draft.shift(gates, &moved, block.start);
         }
         Ok(())
     }
 
     // A random input that is read.
-    fn random_input(&mut self) -> Option<usize> {
-        let number = self.draws.below(self.gates.read.len());
-        self.gates.read.get(number).copied()
+    fn random_input(&mut self, gates: &Gates) -> Option<usize> {
+        let number = self.draws.below(gates.read.len());
+        gates.read.get(number).copied()
     }
 
     // The lane of a random input, or a random one above the loops, but for as many at the top as
     // there are inputs that nothing reads.
-    fn other_lane(&mut self) -> Option<usize> {
+    fn other_lane(&mut self, gates: &Gates) -> Option<usize> {
         if self.draws.coin() {
-            let other = self.random_input()?;
+            let other = self.random_input(gates)?;
             return self.draft.homes.ins.get(other).copied();
         }
-        let above = self.gates.above(self.draft.homes.lanes);
-        let first = self.gates.unread();
+        let above = gates.above(self.draft.homes.lanes);
+        let first = gates.unread();
         let lane = self.draws.below(above.saturating_sub(first));
         Some(first.saturating_add(lane))
     }
 
     // Tries an input on another lane, or on that of another input.
-    fn try_input(&mut self) -> Result<(), CellError> {
-        let Some(input) = self.random_input() else {
+    fn try_input(&mut self, gates: &Gates) -> Result<(), CellError> {
+        let Some(input) = self.random_input(gates) else {
             return Ok(());
         };
-        match self.other_lane() {
-            Some(lane) if !self.draft.homes.is_home(input, lane) => self.try_place(input, lane),
-            _ => Ok(()),
+        let Some(lane) = self.other_lane(gates) else {
+            return Ok(());
+        };
+        if self.draft.homes.is_home(input, lane) {
+            return Ok(());
         }
-    }
-
-    // Tries an input on a lane.
-    fn try_place(&mut self, input: usize, lane: usize) -> Result<(), CellError> {
         self.other.copy(&self.draft.homes)?;
         self.other.place(input, lane);
-        self.try_other(Change::Inputs)
+        self.try_other(gates, Change::Inputs)
     }
 
     // Tries one or two lanes more, or one less.
-    fn try_lanes(&mut self) -> Result<(), CellError> {
+    fn try_lanes(&mut self, gates: &Gates) -> Result<(), CellError> {
         let old = self.draft.homes.lanes;
         let lanes = match self.draws.below(4) {
             0 => old.saturating_add(1),
             1 | 2 => old.saturating_sub(1),
             _ => old.saturating_add(2),
         };
-        if lanes < self.gates.fewest_homes() {
+        if lanes < gates.fewest_homes() {
             return Ok(());
         }
         self.other.copy(&self.draft.homes)?;
-        if !self.other.resize(lanes, self.gates.above(lanes))? {
+        if !self.other.resize(lanes, gates.above(lanes))? {
             return Ok(());
         }
-        self.try_other(Change::Lanes)
+        self.try_other(gates, Change::Lanes)
     }
 
     // Tries the other homes.
-    fn try_other(&mut self, change: Change) -> Result<(), CellError> {
+    fn try_other(&mut self, gates: &Gates, change: Change) -> Result<(), CellError> {
         mem::swap(&mut self.draft.homes, &mut self.other);
-        if !self.accept_if_small(change)? {
+        if !self.accept_if_small(gates, change)? {
             mem::swap(&mut self.draft.homes, &mut self.other);
         }
         Ok(())

@@ -61,24 +61,6 @@ struct Copying {
     meeting: Meeting,
 }
 
-/// Whether a copy is made on a free lane below or above.
-#[derive(Clone, Copy)]
-enum Way {
-    Down(Copying),
-    Up(Copying),
-}
-
-// The way by which a copy is made first: one up takes a column more.
-fn first_way(below: Option<Copying>, above: Option<Copying>) -> Option<Way> {
-    let Some(down) = below else {
-        return Some(Way::Up(above?));
-    };
-    match above {
-        Some(up) if down.meeting.time > up.meeting.time.saturating_add(1) => Some(Way::Up(up)),
-        _ => Some(Way::Down(down)),
-    }
-}
-
 impl Lanes {
     /// Returns an empty set of lanes, for numbers below `nothing`.
     pub fn new(alloc: Global, nothing: usize) -> Result<Lanes, CellError> {
@@ -287,43 +269,43 @@ impl Lanes {
         None
     }
 
-    // The next free lane below, and where a lane meets it.
-    fn copy_below(&self, lane: usize) -> Option<Copying> {
-        let free = self.free_below(lane)?;
-        let meeting = self.meeting(lane, free);
-        Some(Copying { free, meeting })
+    // A free lane, and where a lane meets it.
+    fn copying(&self, lane: usize, free: usize) -> Copying {
+        Copying {
+            free,
+            meeting: self.meeting(lane.min(free), lane.max(free)),
+        }
     }
 
-    // The next free lane above, and where a lane meets it.
-    fn copy_above(&self, lane: usize) -> Option<Copying> {
-        let free = self.free_above(lane)?;
-        let meeting = self.meeting(free, lane);
-        Some(Copying { free, meeting })
+    // The free lane on which a copy is made first: one above takes a column more.
+    fn first_copying(&self, lane: usize) -> Option<Copying> {
+        match (self.free_below(lane), self.free_above(lane)) {
+            (Some(below), Some(above)) => {
+                let down = self.copying(lane, below);
+                let up = self.copying(lane, above);
+                if down.meeting.time > up.meeting.time.saturating_add(1) {
+                    Some(up)
+                } else {
+                    Some(down)
+                }
+            }
+            (Some(free), None) | (None, Some(free)) => Some(self.copying(lane, free)),
+            (None, None) => None,
+        }
     }
 
     /// Makes a second copy of what stands on a lane, on the free lane that it can meet first.
     /// Returns the upper one of the two lanes that then have it, or `None` if no lane is free.
     pub fn copy(&mut self, lane: usize) -> Option<usize> {
-        let way = first_way(self.copy_below(lane), self.copy_above(lane))?;
-        let at = self.copy_by(way, lane);
-        self.tick(at);
-        Some(at)
-    }
-
-    // Brings a lane and a free one side by side, the lane above. Returns where the lane stands
-    // then.
-    fn copy_by(&mut self, way: Way, lane: usize) -> usize {
-        match way {
-            Way::Down(Copying { free, meeting }) => {
-                self.meet(lane, free, meeting.at);
-                meeting.at
-            }
-            Way::Up(Copying { free, meeting }) => {
-                self.meet(free, lane, meeting.at);
-                self.swap(meeting.at);
-                meeting.at
-            }
+        let Copying { free, meeting } = self.first_copying(lane)?;
+        if lane < free {
+            self.meet(lane, free, meeting.at);
+        } else {
+            self.meet(free, lane, meeting.at);
+            self.swap(meeting.at);
         }
+        self.tick(meeting.at);
+        Some(meeting.at)
     }
 
     // Which of the loops' data, whose numbers these are, stands on a lane: the greater the answer,
@@ -361,26 +343,17 @@ impl Lanes {
         Ok(())
     }
 
-    // Exchanges a loop's datum and what stands on the next lane. Returns the datum's next lane, or
-    // that of the other one if this is a datum too.
-    fn settle_down(&mut self, lane: usize, loops: &Range<usize>) -> usize {
+    // Exchanges one of the loops' data, by its lane, and what stands on the next lane. Notes its
+    // next lane, or that of the other one if this is a datum too.
+    fn settle_down(&mut self, datum: usize, lane: usize, loops: &Range<usize>) {
         self.swap(lane);
-        if self.datum_on(lane, loops) > 0 {
-            lane
-        } else {
-            lane.saturating_add(1)
-        }
-    }
-
-    // The lane of one of the loops' data, the lowest first.
-    fn datum_lane(&self, datum: usize) -> usize {
-        self.data.get(datum).copied().unwrap_or(0)
-    }
-
-    // Notes that one of the loops' data stands on a lane now.
-    fn note_datum(&mut self, datum: usize, lane: usize) {
+        let is_datum = self.datum_on(lane, loops) > 0;
         if let Some(noted) = self.data.get_mut(datum) {
-            *noted = lane;
+            *noted = if is_datum {
+                lane
+            } else {
+                lane.saturating_add(1)
+            };
         }
     }
 
@@ -389,11 +362,10 @@ impl Lanes {
     fn settle_at(&mut self, time: usize, loops: &Range<usize>) -> Option<usize> {
         let mut next = None;
         for datum in 0..self.data.len() {
-            let lane = self.datum_lane(datum);
+            let lane = self.data.get(datum).copied().unwrap_or(0);
             match self.wrong_from(lane, loops) {
                 Some(idle) if idle <= time => {
-                    let lane = self.settle_down(lane, loops);
-                    self.note_datum(datum, lane);
+                    self.settle_down(datum, lane, loops);
                     next = Some(time.saturating_add(1));
                 }
                 Some(idle) => next = Some(next.unwrap_or(idle).min(idle)),

@@ -3,7 +3,7 @@
 // from its first change on alone.
 use crate::lanes::{Lanes, State};
 use cell_core::CellError;
-use order_drafts::{Draft, Gate, Gates, Homes};
+use order_drafts::{Draft, Gate, Gates};
 use std::alloc::Global;
 use std::mem;
 use std::ops::Range;
@@ -43,11 +43,10 @@ enum Outlook {
     Hopeless,
 }
 
-/// A placer of some gates, which takes memory once. The numbers on its `Lanes` are those of the
-/// values, then of the ports, then of the two operands.
+/// A placer of some gates, which each call is passed; it takes memory once. The numbers on its
+/// `Lanes` are those of the values, then of the ports, then of the two operands.
 #[derive(Drop)]
-pub struct Placer<'a> {
-    gates: &'a Gates,
+pub struct Placer {
     lanes: Lanes,
     first: usize,
     second: usize,
@@ -65,15 +64,14 @@ pub struct Placer<'a> {
     pub work: usize,
 }
 
-impl<'a> Placer<'a> {
+impl Placer {
     /// Returns a placer that has placed nothing.
-    pub fn new(alloc: Global, gates: &'a Gates) -> Result<Placer<'a>, CellError> {
+    pub fn new(alloc: Global, gates: &Gates) -> Result<Placer, CellError> {
         let first = gates.uses.len().saturating_add(gates.ports.len());
         let second = first.saturating_add(1);
         let between = (gates.gates.len() / STATES).clamp(FEWEST_BETWEEN, MOST_BETWEEN);
         let states = gates.gates.len().div_ceil(between.max(1));
         Ok(Placer {
-            gates,
             lanes: Lanes::new(alloc, second.saturating_add(1))?,
             first,
             second,
@@ -91,15 +89,17 @@ impl<'a> Placer<'a> {
     /// or the lanes are not enough. It gives up if the draft falls behind the accepted one's pace.
     pub fn tiles(
         &mut self,
+        gates: &Gates,
         draft: &Draft,
         change: Change,
         most: u64,
     ) -> Result<Option<u64>, CellError> {
         let lanes = draft.homes.lanes;
-        let Some(columns) = self.place(draft, change, self.gates.most_columns(most, lanes))? else {
+        let Some(columns) = self.place(gates, draft, change, gates.most_columns(most, lanes))?
+        else {
             return Ok(None);
         };
-        let tiles = self.gates.tiles(columns, lanes);
+        let tiles = gates.tiles(columns, lanes);
         if tiles > most {
             return Ok(None);
         }
@@ -124,11 +124,12 @@ impl<'a> Placer<'a> {
     // Places a draft; how many columns it takes, or `None` if it is given up.
     fn place(
         &mut self,
+        gates: &Gates,
         draft: &Draft,
         change: Change,
         most: usize,
     ) -> Result<Option<usize>, CellError> {
-        let start = self.begin(draft, change)?;
+        let start = self.begin(gates, draft, change)?;
         self.own = start..start;
         for number in start..self.tried.len() {
             let latest = self.lanes.columns();
@@ -141,15 +142,15 @@ impl<'a> Placer<'a> {
                 Outlook::Hopeless => return Ok(None),
             }
             self.keep(number, latest)?;
-            if self.place_gates(draft, number).is_none() {
+            if self.place_gates(gates, draft, number).is_none() {
                 return Ok(None);
             }
         }
-        self.finish(draft.homes.lanes)
+        self.finish(gates, draft.homes.lanes)
     }
 
     // Puts the lanes into the last kept state before a change. Returns its number.
-    fn begin(&mut self, draft: &Draft, change: Change) -> Result<usize, CellError> {
+    fn begin(&mut self, gates: &Gates, draft: &Draft, change: Change) -> Result<usize, CellError> {
         if let Change::Order(first, _) = change {
             let number = first / self.between.max(1);
             if let Some(kept) = self.kept.get(number) {
@@ -157,7 +158,7 @@ impl<'a> Placer<'a> {
                 return Ok(number);
             }
         }
-        self.start_all(draft)?;
+        self.start_all(gates, draft)?;
         Ok(0)
     }
 
@@ -176,14 +177,8 @@ impl<'a> Placer<'a> {
         if self.lanes.are_in(kept) {
             return Outlook::Same;
         }
-        self.pace(latest, kept.latest, most)
-    }
-
-    // Whether the lanes, which are idle from column `latest`, are too far behind those of the
-    // accepted draft, which were so from column `before`.
-    fn pace(&self, latest: usize, before: usize, most: usize) -> Outlook {
         let behind = latest.saturating_add(self.columns);
-        if behind > most.saturating_add(SLACK).saturating_add(before) {
+        if behind > most.saturating_add(SLACK).saturating_add(kept.latest) {
             Outlook::Hopeless
         } else {
             Outlook::Open
@@ -199,80 +194,73 @@ impl<'a> Placer<'a> {
         Ok(())
     }
 
-    // Sets the lanes as they are at the start.
-    fn start_all(&mut self, draft: &Draft) -> Result<(), CellError> {
+    // Sets the lanes as they are at the start, with constant 0 on the dark lane.
+    fn start_all(&mut self, gates: &Gates, draft: &Draft) -> Result<(), CellError> {
         self.lanes.clear(draft.homes.lanes)?;
-        self.start_inputs(&draft.homes.ins);
-        self.start_loops(draft.homes.lanes);
-        self.start_zero(&draft.homes);
+        self.start_inputs(gates, &draft.homes.ins);
+        self.start_loops(gates, draft.homes.lanes);
+        if let Some(lane) = draft.homes.dark_lane() {
+            self.start(gates, gates.zero(), lane);
+        }
         Ok(())
     }
 
     // Puts the inputs on these lanes.
-    fn start_inputs(&mut self, lanes: &[usize]) {
+    fn start_inputs(&mut self, gates: &Gates, lanes: &[usize]) {
         for (input, lane) in lanes.iter().enumerate() {
-            self.start(input, *lane);
+            self.start(gates, input, *lane);
         }
     }
 
     // Puts the loops on the lowest of so many lanes.
-    fn start_loops(&mut self, lanes: usize) {
-        let above = self.gates.above(lanes);
-        for number in 0..self.gates.loops {
-            let value = self.gates.inputs.saturating_add(number);
-            self.start(value, above.saturating_add(number));
-        }
-    }
-
-    // Puts constant 0 on the dark lane, if it is used.
-    fn start_zero(&mut self, homes: &Homes) {
-        if self.gates.uses_of(self.gates.zero()) > 0 {
-            if let Some(lane) = homes.dark_lane() {
-                self.start(self.gates.zero(), lane);
-            }
+    fn start_loops(&mut self, gates: &Gates, lanes: usize) {
+        let above = gates.above(lanes);
+        for number in 0..gates.loops {
+            let value = gates.inputs.saturating_add(number);
+            self.start(gates, value, above.saturating_add(number));
         }
     }
 
     // Puts a value on a lane, if it is used.
-    fn start(&mut self, value: usize, lane: usize) {
-        if self.gates.uses_of(value) > 0 {
+    fn start(&mut self, gates: &Gates, value: usize, lane: usize) {
+        if gates.uses_of(value) > 0 {
             self.lanes.put(lane, value);
         }
     }
 
     // Places the gates from a kept state to the next.
-    fn place_gates(&mut self, draft: &Draft, number: usize) -> Option<()> {
+    fn place_gates(&mut self, gates: &Gates, draft: &Draft, number: usize) -> Option<()> {
         let start = number.saturating_mul(self.between);
         let end = start.saturating_add(self.between).min(draft.order.len());
         for place in start..end {
-            self.place_gate(draft, draft.order[place])?;
+            self.place_gate(gates, draft, draft.order[place])?;
         }
         self.count(end.saturating_sub(start), draft.homes.lanes);
         Some(())
     }
 
     // Places a cell.
-    fn place_gate(&mut self, draft: &Draft, cell: usize) -> Option<()> {
-        let gate = *self.gates.gates.get(cell)?;
+    fn place_gate(&mut self, gates: &Gates, draft: &Draft, cell: usize) -> Option<()> {
+        let gate = *gates.gates.get(cell)?;
         let partner = self.lanes.place(gate.second);
         let is_last = gate.first != gate.second && draft.reads_last(cell, gate.first);
         self.fetch(gate.first, self.first, is_last, Some(partner))?;
         let partner = self.lanes.place(self.first);
         let is_last = draft.reads_last(cell, gate.second);
         self.fetch(gate.second, self.second, is_last, Some(partner))?;
-        self.make(gate, self.gates.made_by(cell));
+        self.make(gates, gate, gates.made_by(cell));
         Some(())
     }
 
     // Makes a value from the two operands.
-    fn make(&mut self, gate: Gate, made: usize) {
+    fn make(&mut self, gates: &Gates, gate: Gate, made: usize) {
         let (x, y) = (self.lanes.place(self.first), self.lanes.place(self.second));
         let at = self.lanes.join(x.min(y), x.max(y));
         if gate.is_and_not && y < x {
             self.lanes.swap(at);
         }
         self.lanes.tick(at);
-        if self.gates.uses_of(made) > 0 {
+        if gates.uses_of(made) > 0 {
             self.lanes.put(at, made);
         } else {
             self.lanes.free(at);
@@ -305,37 +293,37 @@ impl<'a> Placer<'a> {
         Some(())
     }
 
-    // The number that stands for a port.
-    fn port_number(&self, port: usize) -> usize {
-        self.gates.uses.len().saturating_add(port)
-    }
-
     // Uses the values of the ports on so many lanes: loops take the copy nearer to the lowest lane.
-    fn place_ports(&mut self, lanes: usize) -> Option<()> {
-        for port in 0..self.gates.ports.len() {
-            let value = *self.gates.ports.get(port)?;
-            let partner = if port < self.gates.loops {
+    fn place_ports(&mut self, gates: &Gates, lanes: usize) -> Option<()> {
+        for port in 0..gates.ports.len() {
+            let value = *gates.ports.get(port)?;
+            let partner = if port < gates.loops {
                 Some(lanes.saturating_sub(1))
             } else {
                 None
             };
-            let is_last = self.gates.last_port(value) == Some(port);
-            self.fetch(value, self.port_number(port), is_last, partner)?;
+            let is_last = gates.last_port(value) == Some(port);
+            self.fetch(value, port_number(gates, port), is_last, partner)?;
         }
         Some(())
     }
 
     // Places the ports, and brings the loops' data to the lowest lanes, the first to the lowest.
-    fn finish(&mut self, lanes: usize) -> Result<Option<usize>, CellError> {
-        self.count(self.gates.loops, lanes);
-        if self.place_ports(lanes).is_none() {
+    fn finish(&mut self, gates: &Gates, lanes: usize) -> Result<Option<usize>, CellError> {
+        self.count(gates.loops, lanes);
+        if self.place_ports(gates, lanes).is_none() {
             return Ok(None);
         }
-        let loops = self.port_number(0)..self.port_number(self.gates.loops);
+        let loops = port_number(gates, 0)..port_number(gates, gates.loops);
         self.lanes.settle(&loops)?;
         self.found = self.lanes.columns();
         Ok(Some(self.found))
     }
+}
+
+// The number that stands for a port.
+fn port_number(gates: &Gates, port: usize) -> usize {
+    gates.uses.len().saturating_add(port)
 }
 
 // The last place of the order that a change reaches, unless it may reach all of them.
