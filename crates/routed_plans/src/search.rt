@@ -13,7 +13,7 @@ use strand_times::set_times;
 const SEED: u64 = 1;
 
 // Circuits of more tiles are not laid out: it would take too long.
-const MOST_TILES: usize = 32_000;
+const MOST_TILES: usize = 48_000;
 
 // The circuit of strands of a list, with its times.
 fn timed_circuit(

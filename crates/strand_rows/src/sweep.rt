@@ -20,6 +20,24 @@ const STALLED: u32 = 64;
 
 const MORE_ROWS: i32 = 8;
 
+// So many strands abreast are a crowd: they keep so many rows more apart where they can, so that a tile pushes few.
+const CROWD: u32 = 128;
+
+const ROOM: i32 = 2;
+
+// In a crowd, a tile that was tried more often than so is tried in every sixteenth column alone.
+const OFTEN: u32 = 6;
+
+// In a crowd, after each so many columns without a tile more nodes are looked at, so many times as many at most.
+const SOON_STALLED: u32 = 8;
+
+const MOST_PATIENCE: u32 = 32;
+
+// A sweep is given up after so many columns of a crowd without a tile, or after so many nodes that were looked at.
+const MOST_STALLED: u32 = 256;
+
+const MOST_WORK: u64 = 500_000_000;
+
 /// How a circuit is placed: all rows are to be north of row `most`, though more are taken where nothing else helps; if
 /// `columns` are told, forks come no earlier than they have to in about so many.
 #[derive(Clone, Copy)]
@@ -44,6 +62,7 @@ pub struct Sweep {
     tries: Vec<u32>,
     left: usize,
     stalled: u32,
+    is_crowded: bool,
     ready: Vec<(u32, u32, u32)>,
     is_refused: bool,
 }
@@ -119,6 +138,7 @@ impl Sweep {
             tries: Vec::new(alloc),
             left: tails.len(),
             stalled: 0,
+            is_crowded: false,
             ready: Vec::new(alloc),
             is_refused: false,
         }
@@ -168,21 +188,33 @@ impl Sweep {
         self.settle();
     }
 
+    // The row of a strand's next cell, where the rows from one on are free: further north, if there is room.
+    fn next_row(&self, row: i32, free: i32) -> i32 {
+        if self.is_crowded && row <= free.saturating_add(ROOM) {
+            row.max(free)
+        } else {
+            row.saturating_sub(1).max(free)
+        }
+    }
+
     // Leads all strands a column further east.
     fn extend(&mut self) {
         let mut west = self.top;
         let mut above = None;
         let mut free = 0i32;
+        let mut abreast = 0u32;
         self.top = None;
         for _ in 0..self.plane.nodes.len() {
             let Some(node) = self.plane.node(west) else {
                 break;
             };
-            let row = node.row.saturating_sub(1).max(free);
+            let row = self.next_row(node.row, free);
             above = self.add_below(above, west, node.strand, row);
             free = row.max(node.row).saturating_add(2);
             west = node.down;
+            abreast = abreast.saturating_add(1);
         }
+        self.is_crowded = abreast >= CROWD;
         self.settle();
     }
 
@@ -252,19 +284,40 @@ impl Sweep {
         self.stalled = 0;
     }
 
+    // How many nodes are looked at for a tile that was tried so often, at most.
+    fn patience(&self, tries: u32) -> usize {
+        let patience = patience_after(tries);
+        if self.is_crowded {
+            let more = (self.stalled / SOON_STALLED).clamp(1, MOST_PATIENCE);
+            patience.saturating_mul(more as usize)
+        } else {
+            patience
+        }
+    }
+
     // Places a tile whose upper strand has this node in the easternmost column, if there is room.
     fn try_tile(&mut self, number: u32, tile: Tile, last: u32) {
         let tries = at(&self.tries, number);
         put(&mut self.tries, number, tries.saturating_add(1));
-        let (most, patience) = (self.plan.most, patience_after(tries));
+        let (most, patience) = (self.plan.most, self.patience(tries));
         if let Some(placing) = self.plane.try_place(tile, last, most, patience) {
             self.note(number, tile, placing);
         }
     }
 
-    // Whether a tile is tried in this column: if it was tried often already, only in every fourth one.
+    // Whether it is a tile's turn in this column: if it was tried often already, only in every fourth one.
+    fn is_turn(&self, number: u32) -> bool {
+        let (tries, turn) = (at(&self.tries, number), number ^ self.column);
+        if self.is_crowded && tries > OFTEN {
+            turn % 16 == 0
+        } else {
+            tries <= MORE_PATIENCE || turn % 4 == 0
+        }
+    }
+
+    // Whether a tile is tried in this column.
     fn is_time(&self, number: u32, tile: Tile, tails: &[u32]) -> bool {
-        let is_turn = at(&self.tries, number) <= MORE_PATIENCE || (number ^ self.column) % 4 == 0;
+        let is_turn = self.is_turn(number);
         match (tile.kind, self.plan.columns) {
             (TileKind::Fork, Some(columns)) => is_turn && self.is_due(at(tails, number), columns),
             _ => is_turn,
@@ -303,6 +356,11 @@ impl Sweep {
         }
     }
 
+    // Whether it would take too long to place the tiles that are left.
+    fn is_hopeless(&self) -> bool {
+        self.is_crowded && self.stalled > MOST_STALLED || self.plane.work > MOST_WORK
+    }
+
     /// Places all tiles, in so many columns at most. Returns whether it could.
     pub fn run(
         &mut self,
@@ -321,6 +379,9 @@ impl Sweep {
             }
             if self.left == 0 {
                 return Ok(true);
+            }
+            if self.is_hopeless() {
+                break;
             }
             self.place_ready(circuit, tails);
             self.extend();
