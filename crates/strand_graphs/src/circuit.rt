@@ -106,7 +106,7 @@ fn add_east(east: &mut Vec<End<East>>, nodes: &[Node], state: &[Running], is_ref
     }
 }
 
-// Puts what is woven of a graph in this order into a circuit, and then the ends that have no strand.
+// Puts what is woven of a graph in this order into a circuit, and then the ends that have no strand. Returns true.
 fn put_woven(
     alloc: Global,
     circuit: &mut StrandCircuit,
@@ -114,7 +114,7 @@ fn put_woven(
     found: &Ordered,
     list: &CellList,
     values: &Values,
-) -> Result<(), OutOfMemory> {
+) -> Result<bool, OutOfMemory> {
     let mut weaver = Weaver::new(alloc);
     weaver.weave(nodes, found);
     let mut is_refused = weaver.is_refused;
@@ -132,7 +132,40 @@ fn put_woven(
     if is_refused {
         Err(OutOfMemory::NoMemory)
     } else {
-        Ok(())
+        Ok(true)
+    }
+}
+
+// Weaves a graph into a circuit, if it is not too large. Returns whether that is done.
+fn weave(
+    alloc: Global,
+    circuit: &mut StrandCircuit,
+    nodes: &[Node],
+    list: &CellList,
+    values: &Values,
+    seed: u64,
+    effort: Effort,
+) -> Result<bool, OutOfMemory> {
+    let registers = circuit.registers.len();
+    match ordered(alloc, nodes, registers, seed, effort)? {
+        Some(found) => put_woven(alloc, circuit, nodes, &found, list, values),
+        None => Ok(false),
+    }
+}
+
+// Makes a circuit that of a list with these values, if it is not too large. Returns whether that is done.
+fn fill_with(
+    alloc: Global,
+    circuit: &mut StrandCircuit,
+    list: &CellList,
+    values: &Values,
+    seed: u64,
+    effort: Effort,
+) -> Result<bool, OutOfMemory> {
+    let mut graph = Graph::new(alloc);
+    match fill_graph(alloc, &mut graph, circuit, list, values) {
+        Ok(()) => weave(alloc, circuit, &graph.nodes, list, values, seed, effort),
+        Err(error) => Err(error),
     }
 }
 
@@ -145,16 +178,7 @@ fn fill(
     effort: Effort,
 ) -> Result<bool, OutOfMemory> {
     let values = Values::of(alloc, list)?;
-    let mut graph = Graph::new(alloc);
-    fill_graph(alloc, &mut graph, circuit, list, &values)?;
-    let registers = circuit.registers.len();
-    match ordered(alloc, &graph.nodes, registers, seed, effort)? {
-        Some(found) => {
-            put_woven(alloc, circuit, &graph.nodes, &found, list, &values)?;
-            Ok(true)
-        }
-        None => Ok(false),
-    }
+    fill_with(alloc, circuit, list, &values, seed, effort)
 }
 
 // The circuit of no strands.

@@ -84,8 +84,8 @@ impl Tree {
             self.join_pair(pair.saturating_mul(2));
         }
         if self.open.len() % 2 == 1 {
-            if let Some(alone) = self.open.last().copied() {
-                add(&mut self.next, alone, &mut self.is_refused);
+            if let Some(alone) = self.open.last() {
+                add(&mut self.next, *alone, &mut self.is_refused);
             }
         }
         mem::swap(&mut self.open, &mut self.next);
@@ -93,9 +93,8 @@ impl Tree {
 
     // Joins what is open at a place and behind it.
     fn join_pair(&mut self, place: usize) {
-        let first = self.open.get(place).copied();
-        let second = self.open.get(place.saturating_add(1)).copied();
-        if let (Some(first), Some(second)) = (first, second) {
+        if place < self.open.len() && self.open.len() - place > 1 {
+            let (first, second) = (self.open[place], self.open[place + 1]);
             let fork = Some(small(self.forks.len()));
             add(&mut self.next, (first.0, fork), &mut self.is_refused);
             let branches = (branch_of(first), branch_of(second));

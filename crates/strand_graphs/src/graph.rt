@@ -262,7 +262,8 @@ impl Graph {
         self.readings.clear();
         readers.add_readings(&mut self.readings, value, &mut self.is_refused);
         if self.readings.len() == 1 {
-            self.lead_to_one(node);
+            let (_, entry) = self.readings[0];
+            self.lead(node, Branch::Entry(entry));
             return;
         }
         self.tree.grow(&mut self.readings);
@@ -272,13 +273,6 @@ impl Graph {
         widen(&mut self.stems, forks, node, &mut self.is_refused);
         for number in (0..forks).rev() {
             self.add_fork(number, value);
-        }
-    }
-
-    // Leads what a node makes to its one reader.
-    fn lead_to_one(&mut self, node: u32) {
-        if let Some((_, entry)) = self.readings.last().copied() {
-            self.lead(node, Branch::Entry(entry));
         }
     }
 

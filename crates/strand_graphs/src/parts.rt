@@ -38,9 +38,9 @@ fn note_ends(ends: &mut [Option<u32>], nodes: &[Node]) {
 fn note_mates(mates: &mut [Option<u32>], ends: &[Option<u32>], nodes: &[Node]) {
     for number in 0..nodes.len() {
         if let NodeKind::West(West::Register(register)) = nodes[number].kind {
-            if let Some(Some(end)) = ends.get(register as usize).copied() {
-                set(mates, small(number), Some(end));
-                set(mates, end, Some(small(number)));
+            if let Some(Some(end)) = ends.get(register as usize) {
+                set(mates, small(number), Some(*end));
+                set(mates, *end, Some(small(number)));
             }
         }
     }

@@ -35,29 +35,35 @@ fn note_nexts(nexts: &mut [Option<u32>], values: &Values, latches: &[Src]) {
     }
 }
 
-// The register that begins with a latch. Notes if memory is refused.
-fn register_from(
-    alloc: Global,
+fn no_latches(alloc: Global) -> Register {
+    Register {
+        latches: Vec::new(alloc),
+        starts: Vec::new(alloc),
+    }
+}
+
+// Adds the latches from a first one on to a register. Notes if memory is refused.
+fn add_latches(
+    register: &mut Register,
     nexts: &[Option<u32>],
     starts: &[bool],
     first: u32,
     is_refused: &mut bool,
-) -> Register {
-    let mut register = Register {
-        latches: Vec::new(alloc),
-        starts: Vec::new(alloc),
-    };
+) {
     let mut next = Some(first);
     for _ in 0..nexts.len() {
         let Some(latch) = next else {
-            break;
+            return;
         };
-        let start = starts.get(latch as usize).copied().unwrap_or(false);
+        let is_set = (latch as usize) < starts.len() && starts[latch as usize];
         add(&mut register.latches, latch, is_refused);
-        add(&mut register.starts, start, is_refused);
-        next = nexts.get(latch as usize).copied().unwrap_or(None);
+        add(&mut register.starts, is_set, is_refused);
+        next = if (latch as usize) < nexts.len() {
+            nexts[latch as usize]
+        } else {
+            None
+        };
     }
-    register
 }
 
 impl Registers {
@@ -80,30 +86,27 @@ impl Registers {
     }
 
     fn find(&mut self, alloc: Global, list: &CellList, values: &Values, nexts: &[Option<u32>]) {
+        let starts = list.starts.as_slice();
         let mut latch = 0u32;
         for src in list.latches.as_slice() {
-            let is_read = values.reads_of(values.latch(latch)) > 0;
-            if is_read && joined(values, *src).is_none() {
-                let starts = list.starts.as_slice();
-                let register = register_from(alloc, nexts, starts, latch, &mut self.is_refused);
-                add(&mut self.registers, register, &mut self.is_refused);
-                add(&mut self.data, *src, &mut self.is_refused);
+            if values.reads_of(values.latch(latch)) > 0 && joined(values, *src).is_none() {
+                let mut register = no_latches(alloc);
+                add_latches(&mut register, nexts, starts, latch, &mut self.is_refused);
+                self.add(register, *src);
             }
             latch = latch.saturating_add(1);
         }
         if values.reads_of(values.one()) > 0 && !self.registers.is_empty() {
-            self.add_one(alloc);
+            let mut one = no_latches(alloc);
+            add(&mut one.starts, true, &mut self.is_refused);
+            self.add(one, Src::One);
         }
     }
 
-    // Adds constant 1.
-    fn add_one(&mut self, alloc: Global) {
-        let mut starts = Vec::new(alloc);
-        add(&mut starts, true, &mut self.is_refused);
-        let latches = Vec::new(alloc);
-        let register = Register { latches, starts };
+    // Adds a register that takes a source.
+    fn add(&mut self, register: Register, src: Src) {
         add(&mut self.registers, register, &mut self.is_refused);
-        add(&mut self.data, Src::One, &mut self.is_refused);
+        add(&mut self.data, src, &mut self.is_refused);
     }
 
     /// Returns the value that a register brings, which is that of its last latch.

@@ -154,10 +154,8 @@ impl Plane {
 
     /// Lets the bounds from a node be looked at.
     pub fn wait(&mut self, number: Option<u32>) {
-        let Some(number) = number else {
-            return;
-        };
-        if let Some(false) = self.is_waiting.get(number as usize) {
+        let number = number.unwrap_or(u32::MAX);
+        if (number as usize) < self.is_waiting.len() && !self.is_waiting[number as usize] {
             add(&mut self.waiting, number, &mut self.is_refused);
             set(&mut self.is_waiting, number, true);
         }

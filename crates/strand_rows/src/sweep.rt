@@ -67,15 +67,6 @@ pub struct Sweep {
     is_refused: bool,
 }
 
-fn patience_after(tries: u32) -> usize {
-    match tries {
-        0 => PATIENCE,
-        1 => PATIENCE * 2,
-        2 => PATIENCE * 4,
-        _ => PATIENCE * 8,
-    }
-}
-
 /// Returns the longest tail.
 pub fn longest(tails: &[u32]) -> u32 {
     let mut longest = 0;
@@ -113,14 +104,6 @@ fn least_length(circuit: &StrandCircuit, strand: u32) -> u32 {
         1
     } else {
         2
-    }
-}
-
-// The tile that uses a strand.
-fn user_of(circuit: &StrandCircuit, strand: u32) -> Option<u32> {
-    match circuit.strands.get(strand as usize) {
-        Some(own) => own.user,
-        None => None,
     }
 }
 
@@ -252,13 +235,17 @@ impl Sweep {
 
     // Adds the tile that uses the strand of a node as its upper one, if its strands are there.
     fn add_ready(&mut self, circuit: &StrandCircuit, tails: &[u32], node: Node, last: u32) {
-        let Some(number) = user_of(circuit, node.strand) else {
+        let user = match circuit.strands.get(node.strand as usize) {
+            Some(own) => own.user,
+            None => None,
+        };
+        let Some(number) = user else {
             return;
         };
-        let Some(tile) = circuit.tiles.get(number as usize).copied() else {
+        let Some(tile) = circuit.tiles.get(number as usize) else {
             return;
         };
-        if self.is_ready(circuit, tile, node) {
+        if self.is_ready(circuit, *tile, node) {
             let rank = u32::MAX.saturating_sub(at(tails, number));
             add(&mut self.ready, (rank, last, number), &mut self.is_refused);
         }
@@ -286,17 +273,24 @@ impl Sweep {
 
     // How many nodes are looked at for a tile that was tried so often, at most.
     fn patience(&self, tries: u32) -> usize {
-        let patience = patience_after(tries);
-        if self.is_crowded {
-            let more = (self.stalled / SOON_STALLED).clamp(1, MOST_PATIENCE);
-            patience.saturating_mul(more as usize)
-        } else {
-            patience
+        let patience = match tries {
+            0 => PATIENCE,
+            1 => PATIENCE * 2,
+            2 => PATIENCE * 4,
+            _ => PATIENCE * 8,
+        };
+        if !self.is_crowded {
+            return patience;
         }
+        let more = (self.stalled / SOON_STALLED).clamp(1, MOST_PATIENCE);
+        patience.saturating_mul(more as usize)
     }
 
-    // Places a tile whose upper strand has this node in the easternmost column, if there is room.
-    fn try_tile(&mut self, number: u32, tile: Tile, last: u32) {
+    // Places a tile whose upper strand has this node in the easternmost column, if it is time and there is room.
+    fn try_tile(&mut self, number: u32, tile: Tile, tails: &[u32], last: u32) {
+        if !self.is_time(number, tile, tails) {
+            return;
+        }
         let tries = at(&self.tries, number);
         put(&mut self.tries, number, tries.saturating_add(1));
         let (most, patience) = (self.plan.most, self.patience(tries));
@@ -333,21 +327,13 @@ impl Sweep {
         soon >= columns as u64
     }
 
-    // Places a tile whose strands are there, if it is time and there is room.
-    fn try_ready(&mut self, circuit: &StrandCircuit, tails: &[u32], number: u32, last: u32) {
-        if let Some(tile) = circuit.tiles.get(number as usize).copied() {
-            if self.is_time(number, tile, tails) {
-                self.try_tile(number, tile, last);
-            }
-        }
-    }
-
     // Places tiles in a column, as many as there is room for.
     fn place_ready(&mut self, circuit: &StrandCircuit, tails: &[u32]) {
         self.find_ready(circuit, tails);
         for place in 0..self.ready.len() {
-            if let Some((_, last, number)) = self.ready.get(place).copied() {
-                self.try_ready(circuit, tails, number, last);
+            let (_, last, number) = self.ready.get(place).copied().unwrap_or((0, 0, 0));
+            if let Some(tile) = circuit.tiles.get(number as usize) {
+                self.try_tile(number, *tile, tails, last);
             }
         }
         self.stalled = self.stalled.saturating_add(1);

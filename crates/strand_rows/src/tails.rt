@@ -2,32 +2,31 @@
 
 use crate::shapes::wide;
 use std::alloc::{AllocError, Global};
-use strand_core::{Strand, StrandCircuit, at, put};
+use strand_core::{Strand, StrandCircuit, at};
 
 // The tail of the tile that uses a strand.
 fn tail_of(strands: &[Strand], tails: &[u32], strand: Option<u32>) -> u32 {
-    let Some(strand) = strand else {
-        return 0;
-    };
-    match strands.get(strand as usize) {
-        Some(own) => match own.user {
-            Some(user) => at(tails, user),
-            None => 0,
-        },
-        None => 0,
+    let number = strand.unwrap_or(u32::MAX);
+    match strands.get(number as usize) {
+        Some(
+            Strand {
+                user: Some(user),
+                ..
+            },
+        ) => at(tails, *user),
+        _ => 0,
     }
 }
 
 // Finds how many columns there are at least from each tile to the east.
 fn find_tails(circuit: &StrandCircuit, tails: &mut [u32]) {
-    let mut number = u32::try_from(circuit.tiles.len()).unwrap_or(u32::MAX);
-    for _ in 0..circuit.tiles.len() {
-        number = number.saturating_sub(1);
-        if let Some(tile) = circuit.tiles.get(number as usize).copied() {
-            let upper = tail_of(&circuit.strands, tails, tile.outs[0]);
-            let lower = tail_of(&circuit.strands, tails, tile.outs[1]);
+    for number in (0..circuit.tiles.len()).rev() {
+        let tile = circuit.tiles[number];
+        let upper = tail_of(&circuit.strands, tails, tile.outs[0]);
+        let lower = tail_of(&circuit.strands, tails, tile.outs[1]);
+        if number < tails.len() {
             let own = wide(tile.kind).saturating_add(2);
-            put(tails, number, upper.max(lower).saturating_add(own));
+            tails[number] = upper.max(lower).saturating_add(own);
         }
     }
 }

@@ -159,7 +159,7 @@ pub fn annealed(
     effort: Effort,
 ) -> Result<Web, OutOfMemory> {
     let mut search = Search {
-        web: Web::of(alloc, circuit)?,
+        web: Web::of(alloc, circuit),
         draws: Draws::new(SEED),
         cost: u64::MAX,
     };

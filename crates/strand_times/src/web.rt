@@ -1,6 +1,6 @@
 // A circuit that changes, with the times of its signals, and what undoes the last change.
 use crate::waits::Choice;
-use std::alloc::{AllocError, Global};
+use std::alloc::Global;
 use std::cmp::Reverse;
 use std::collections::BinaryHeap;
 use strand_core::{East, End, Strand, StrandCircuit, Tile, TileKind, West, add, set};
@@ -76,7 +76,7 @@ pub fn pair_of(ends: [Option<u32>; 2]) -> Option<[u32; 2]> {
 
 impl Web {
     /// Returns the web of a circuit. No times are computed yet.
-    pub fn of(alloc: Global, circuit: &StrandCircuit) -> Result<Web, AllocError> {
+    pub fn of(alloc: Global, circuit: &StrandCircuit) -> Web {
         let mut web = Web {
             nodes: Vec::new(alloc),
             wires: Vec::new(alloc),
@@ -92,9 +92,9 @@ impl Web {
         };
         web.add_tiles(&circuit.tiles);
         web.add_strands(&circuit.strands);
-        web.west.extend_from_slice(&circuit.west)?;
-        web.east.extend_from_slice(&circuit.east)?;
-        Ok(web)
+        web.is_refused |= web.west.extend_from_slice(&circuit.west).is_err();
+        web.is_refused |= web.east.extend_from_slice(&circuit.east).is_err();
+        web
     }
 
     fn add_tiles(&mut self, tiles: &[Tile]) {
