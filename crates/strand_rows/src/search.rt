@@ -15,8 +15,13 @@ const PARTS: i32 = 20;
 
 const FEWER: i32 = 9;
 
-// After so many nodes that were looked at, nothing more is tried.
+// After so many nodes that were looked at, no fewer rows are tried.
 const MOST_WORK: u64 = 10_000_000;
+
+// In a crowd strands keep so much room at first. After fewer nodes than these that were looked at, less room is tried.
+const ROOM: i32 = 2;
+
+const MOST_CLOSER: u64 = 80_000_000;
 
 // Columns for each column of the longest way through a circuit, and besides, after which a search is given up.
 const MOST_COLUMNS: u32 = 6;
@@ -110,9 +115,29 @@ impl Search {
     ) -> Result<(), OutOfMemory> {
         for fewer in 0..FEWER {
             let most = rows.saturating_sub(rows.saturating_mul(fewer) / PARTS);
-            let plan = Plan { most, columns };
+            let plan = Plan {
+                most,
+                columns,
+                room: ROOM,
+            };
             if !self.try_plan(alloc, circuit, tails, plan)? {
                 break;
+            }
+        }
+        Ok(())
+    }
+
+    // Tries less and less room, if that does not take too long.
+    fn try_closer(
+        &mut self,
+        alloc: Global,
+        circuit: &StrandCircuit,
+        tails: &[u32],
+        first: Plan,
+    ) -> Result<(), OutOfMemory> {
+        for room in (0..ROOM).rev() {
+            if self.work < MOST_CLOSER {
+                self.try_plan(alloc, circuit, tails, Plan { room, ..first })?;
             }
         }
         Ok(())
@@ -129,10 +154,14 @@ impl Search {
         let first = Plan {
             most: UNBOUNDED,
             columns: None,
+            room: ROOM,
         };
-        let is_found = self.try_plan(alloc, circuit, tails, first)?;
-        if !is_found || matches!(effort, Effort::Brief) {
+        let is_small = self.try_plan(alloc, circuit, tails, first)?;
+        if matches!(effort, Effort::Brief) {
             return Ok(());
+        }
+        if !is_small {
+            return self.try_closer(alloc, circuit, tails, first);
         }
         let columns = Some(self.best.width);
         let rows = i32::try_from(self.best.height).unwrap_or(UNBOUNDED);

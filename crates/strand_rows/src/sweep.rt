@@ -20,15 +20,13 @@ const STALLED: u32 = 64;
 
 const MORE_ROWS: i32 = 8;
 
-// So many strands abreast are a crowd: they keep so many rows more apart where they can, so that a tile pushes few.
+// So many strands abreast are a crowd.
 const CROWD: u32 = 128;
 
-const ROOM: i32 = 2;
-
-// In a crowd, a tile that was tried more often than so is tried in every sixteenth column alone.
+// In a crowd that keeps room, a tile that was tried more often than so is tried in every sixteenth column alone.
 const OFTEN: u32 = 6;
 
-// In a crowd, after each so many columns without a tile more nodes are looked at, so many times as many at most.
+// There, after each so many columns without a tile more nodes are looked at, so many times as many at most.
 const SOON_STALLED: u32 = 8;
 
 const MOST_PATIENCE: u32 = 32;
@@ -36,14 +34,16 @@ const MOST_PATIENCE: u32 = 32;
 // A sweep is given up after so many columns of a crowd without a tile, or after so many nodes that were looked at.
 const MOST_STALLED: u32 = 256;
 
-const MOST_WORK: u64 = 500_000_000;
+const MOST_LOOKED_AT: u64 = 500_000_000;
 
 /// How a circuit is placed: all rows are to be north of row `most`, though more are taken where nothing else helps; if
-/// `columns` are told, forks come no earlier than they have to in about so many.
+/// `columns` are told, forks come no earlier than they have to in about so many. In a crowd the strands keep `room` rows
+/// more apart than they must where they can, so that a tile pushes few of them.
 #[derive(Clone, Copy)]
 pub struct Plan {
     pub most: i32,
     pub columns: Option<u32>,
+    pub room: i32,
 }
 
 /// The tiles of a circuit while they are placed.
@@ -171,9 +171,13 @@ impl Sweep {
         self.settle();
     }
 
+    fn keeps_room(&self) -> bool {
+        self.is_crowded && self.plan.room > 0
+    }
+
     // The row of a strand's next cell, where the rows from one on are free: further north, if there is room.
     fn next_row(&self, row: i32, free: i32) -> i32 {
-        if self.is_crowded && row <= free.saturating_add(ROOM) {
+        if self.keeps_room() && row <= free.saturating_add(self.plan.room) {
             row.max(free)
         } else {
             row.saturating_sub(1).max(free)
@@ -279,7 +283,7 @@ impl Sweep {
             2 => PATIENCE * 4,
             _ => PATIENCE * 8,
         };
-        if !self.is_crowded {
+        if !self.keeps_room() {
             return patience;
         }
         let more = (self.stalled / SOON_STALLED).clamp(1, MOST_PATIENCE);
@@ -302,7 +306,7 @@ impl Sweep {
     // Whether it is a tile's turn in this column: if it was tried often already, only in every fourth one.
     fn is_turn(&self, number: u32) -> bool {
         let (tries, turn) = (at(&self.tries, number), number ^ self.column);
-        if self.is_crowded && tries > OFTEN {
+        if self.keeps_room() && tries > OFTEN {
             turn % 16 == 0
         } else {
             tries <= MORE_PATIENCE || turn % 4 == 0
@@ -344,7 +348,7 @@ impl Sweep {
 
     // Whether it would take too long to place the tiles that are left.
     fn is_hopeless(&self) -> bool {
-        self.is_crowded && self.stalled > MOST_STALLED || self.plane.work > MOST_WORK
+        self.is_crowded && self.stalled > MOST_STALLED || self.plane.work > MOST_LOOKED_AT
     }
 
     /// Places all tiles, in so many columns at most. Returns whether it could.
