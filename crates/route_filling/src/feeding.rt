@@ -1,8 +1,8 @@
 // The ports of all gates, and what feeds their inputs.
 
-use crate::gates::{GateRow, at_gate, end_of, port_number, small};
+use crate::gates::{GateRow, at_gate, port_number, small};
 use cell_core::Src;
-use route_tables::{CellFault, FaultWord, Feed, GateInput, input_port};
+use route_tables::{CellFault, FaultWord, Feed, GateInput};
 use routed_core::{Drawing, DrawnPort, DrawnWire, GatePort};
 use std::alloc::Global;
 
@@ -55,17 +55,6 @@ fn put_first(ports: &mut [PortRow], number: usize, wire: u32) -> Option<u32> {
     before
 }
 
-// The input at a port; a lone cell's output is its input.
-fn input_at(port: DrawnPort) -> DrawnPort {
-    match port.port {
-        GatePort::In(_) => port,
-        GatePort::Out(_) => DrawnPort {
-            gate: port.gate,
-            port: GatePort::In(0),
-        },
-    }
-}
-
 // Adds the ports of the gate with this number; returns whether memory ran out.
 fn add_ports(ports: &mut Vec<PortRow>, gate: u32, row: &GateRow) -> bool {
     let mut is_short = false;
@@ -96,15 +85,6 @@ fn add_all_ports(ports: &mut Vec<PortRow>, rows: &[GateRow]) -> bool {
     is_short
 }
 
-// The source of a wire's last latch, if it has latches.
-fn last_latch(wire: &DrawnWire) -> Option<Src> {
-    if wire.cycles > 0 {
-        Some(Src::Latch(wire.latch.saturating_add(wire.cycles - 1)))
-    } else {
-        None
-    }
-}
-
 impl FedPorts {
     /// Returns the ports of no gates.
     pub fn new(alloc: Global) -> FedPorts {
@@ -126,13 +106,14 @@ impl FedPorts {
 
     // Adds the wire with this number, and feeds the input at its end; returns whether it did.
     fn add_wire(&mut self, rows: &[GateRow], wire: &DrawnWire, number: u32) -> bool {
-        let end = port_number(rows, input_port(end_of(wire)));
-        let row = WireRow {
-            end,
-            latch: last_latch(wire),
-            next: put_first(&mut self.ports, port_number(rows, wire.from), number),
-        };
-        self.is_short |= self.wires.push(row).is_err();
+        let port = GatePort::In(wire.input);
+        let end = port_number(rows, DrawnPort { gate: wire.gate, port });
+        let mut latch = None;
+        if wire.cycles > 0 {
+            latch = Some(Src::Latch(wire.latch.saturating_add(wire.cycles - 1)));
+        }
+        let next = put_first(&mut self.ports, port_number(rows, wire.from), number);
+        self.is_short |= self.wires.push(WireRow { end, latch, next }).is_err();
         feed(&mut self.ports, end, Feed::Wire(number))
     }
 
@@ -165,11 +146,16 @@ impl FedPorts {
         true
     }
 
-    // Drives the circuit's inputs. One that is not there, and one that is fed already, are at fault.
+    // Drives the circuit's inputs; of a lone cell, whose output is its input, the input. One that is not there, and one
+    // that is fed already, are at fault.
     fn drive_inputs(&mut self, rows: &[GateRow], drawing: &Drawing) {
-        for port in drawing.ins.as_slice() {
-            if !self.drive(port_number(rows, input_at(*port))) {
-                self.refuse(drawing, port.gate, FaultWord::Port);
+        for at in drawing.ins.as_slice() {
+            let mut input = *at;
+            if let GatePort::Out(_) = at.port {
+                input.port = GatePort::In(0);
+            }
+            if !self.drive(port_number(rows, input)) {
+                self.refuse(drawing, at.gate, FaultWord::Port);
             }
         }
     }

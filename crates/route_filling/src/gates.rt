@@ -3,8 +3,8 @@
 use gate_library::{GateDrawing, drawing_of};
 use lawful_gates::LawfulGate;
 use lists::OutOfMemory;
-use route_tables::{CellFault, FaultWord, GateInput};
-use routed_core::{Drawing, DrawnGate, DrawnPort, DrawnWire, GateKind, GatePort};
+use route_tables::{CellFault, FaultWord};
+use routed_core::{Drawing, DrawnPort, GateKind, GatePort};
 use std::alloc::Global;
 
 /// The number of a gate's kind, and those of its ports among the ports of all gates: its inputs are those from `ins`
@@ -21,7 +21,7 @@ pub struct GateRow {
 /// whose kind keeps no law, and `is_short` says whether memory ran out.
 #[derive(Drop)]
 pub struct GateRows {
-    pub names: Vec<GateKind>,
+    names: Vec<GateKind>,
     pub kinds: Vec<LawfulGate>,
     pub rows: Vec<GateRow>,
     pub fault: Option<CellFault>,
@@ -69,14 +69,6 @@ fn row_of(kinds: &[LawfulGate], kind: usize, first: usize) -> GateRow {
     }
 }
 
-// The number of the next gate's first port.
-fn end_of_ports(rows: &[GateRow]) -> usize {
-    match rows.last() {
-        Some(row) => row.end,
-        None => 0,
-    }
-}
-
 impl GateRows {
     /// Returns the rows of no gates.
     pub fn new(alloc: Global) -> GateRows {
@@ -98,27 +90,20 @@ impl GateRows {
         Ok(())
     }
 
-    // Adds a gate, whose ports are numbered after those of the gates before it.
-    fn add(&mut self, alloc: Global, gate: &DrawnGate) {
-        let kind = kind_number(&self.names, gate.kind);
-        if kind == self.names.len() {
-            self.is_short |= self.add_kind(alloc, gate.kind).is_err();
-        }
-        if kind >= self.kinds.len() && self.fault.is_none() {
-            self.fault = Some(CellFault {
-                word: FaultWord::Kind,
-                x: gate.x,
-                y: gate.y,
-            });
-        }
-        let row = row_of(&self.kinds, kind, end_of_ports(&self.rows));
-        self.is_short |= self.rows.push(row).is_err();
-    }
-
-    /// Adds gates.
-    pub fn fill(&mut self, alloc: Global, gates: &[DrawnGate]) {
-        for gate in gates {
-            self.add(alloc, gate);
+    /// Adds the gates of a drawing, whose ports are numbered one gate after the other.
+    pub fn fill(&mut self, alloc: Global, drawing: &Drawing) {
+        let (mut number, mut first) = (0u32, 0usize);
+        for gate in drawing.gates.as_slice() {
+            let kind = kind_number(&self.names, gate.kind);
+            if kind == self.names.len() {
+                self.is_short |= self.add_kind(alloc, gate.kind).is_err();
+            }
+            if kind >= self.kinds.len() && self.fault.is_none() {
+                self.fault = Some(at_gate(drawing, number, FaultWord::Kind));
+            }
+            let row = row_of(&self.kinds, kind, first);
+            self.is_short |= self.rows.push(row).is_err();
+            (number, first) = (number.saturating_add(1), row.end);
         }
     }
 
@@ -142,12 +127,4 @@ pub fn port_number(rows: &[GateRow], at: DrawnPort) -> usize {
         GatePort::Out(o) => (row.outs.saturating_add(o as usize), row.end),
     };
     if number < end { number } else { usize::MAX }
-}
-
-/// Returns the input at which a wire ends.
-pub fn end_of(wire: &DrawnWire) -> GateInput {
-    GateInput {
-        gate: wire.gate,
-        input: wire.input,
-    }
 }

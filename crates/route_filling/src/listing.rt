@@ -1,11 +1,11 @@
 // The gates and wires of the tables, and their cells, listed.
 
 use crate::feeding::PortRow;
-use crate::gates::{GateRow, GateRows, end_of, small};
+use crate::gates::{GateRow, GateRows, small};
 use cell_core::Src;
 use gate_library::GateDrawing;
 use lists::List;
-use route_tables::{Feed, TableGate, TableWire};
+use route_tables::{Feed, GateInput, TableGate, TableWire};
 use routed_core::{Drawing, DrawnGate, DrawnPort, DrawnWire};
 use std::alloc::Global;
 use ww_rule::State;
@@ -44,17 +44,6 @@ fn add_cells(cells: &mut Vec<(u32, u32)>, gate: &DrawnGate, drawing: &GateDrawin
     is_short
 }
 
-// A wire whose listed cells begin with this number.
-fn table_wire(wire: &DrawnWire, start: u32) -> TableWire {
-    TableWire {
-        start,
-        size: wire.size,
-        from: wire.from,
-        to: end_of(wire),
-        cycles: wire.cycles,
-    }
-}
-
 impl Listing {
     /// Returns the listing of no gates and no wires.
     pub fn new(alloc: Global) -> Listing {
@@ -83,8 +72,17 @@ impl Listing {
 
     // Adds a wire, and lists its cells, whose group is this one.
     fn add_wire(&mut self, path: &[(u32, u32)], wire: &DrawnWire, group: u32) {
-        let start = small(self.cells.len());
-        self.is_short |= self.wires.push(table_wire(wire, start)).is_err();
+        let row = TableWire {
+            start: small(self.cells.len()),
+            size: wire.size,
+            from: wire.from,
+            to: GateInput {
+                gate: wire.gate,
+                input: wire.input,
+            },
+            cycles: wire.cycles,
+        };
+        self.is_short |= self.wires.push(row).is_err();
         let (begin, size) = (wire.start as usize, wire.size as usize);
         let cells = part(path, begin, begin.saturating_add(size));
         self.is_short |= self.cells.extend_from_slice(cells).is_err();
@@ -102,20 +100,13 @@ impl Listing {
     }
 }
 
-// Adds the sources of ports, constant 0 for those that are not known; returns whether memory ran out.
-fn add_sources(sources: &mut Vec<Src>, ports: &[PortRow]) -> bool {
+// Adds the sources of ports, constant 0 for those that are not known, and what feeds them, if they are inputs that are
+// fed; returns whether memory ran out.
+fn add_sources(sources: &mut Vec<Src>, feeds: &mut Vec<Feed>, ports: &[PortRow]) -> bool {
     let mut is_short = false;
     for port in ports {
         let source = port.source.unwrap_or(Src::Zero);
         is_short |= sources.push(source).is_err();
-    }
-    is_short
-}
-
-// Adds what feeds inputs that are all fed; returns whether memory ran out.
-fn add_feeds(feeds: &mut Vec<Feed>, ports: &[PortRow]) -> bool {
-    let mut is_short = false;
-    for port in ports {
         if let Some(feed) = port.feed {
             is_short |= feeds.push(feed).is_err();
         }
@@ -133,10 +124,8 @@ fn add_gate(
 ) -> bool {
     let (mut ins, mut outs) = (Vec::new(alloc), Vec::new(alloc));
     let mut feeds = Vec::new(alloc);
-    let inputs = part(ports, row.ins, row.outs);
-    let mut is_short = add_sources(&mut ins, inputs);
-    is_short |= add_sources(&mut outs, part(ports, row.outs, row.end));
-    is_short |= add_feeds(&mut feeds, inputs);
+    let mut is_short = add_sources(&mut ins, &mut feeds, part(ports, row.ins, row.outs));
+    is_short |= add_sources(&mut outs, &mut feeds, part(ports, row.outs, row.end));
     let gate = TableGate {
         kind: row.kind,
         x: gate.x,

@@ -137,19 +137,6 @@ impl Search {
         }
     }
 
-    // Goes on from a port whose source is known.
-    fn go_on(&mut self, gates: &GateRows, ports: &mut [PortRow], wires: &[WireRow], known: Known) {
-        if known.port >= ports.len() {
-            return;
-        }
-        ports[known.port].source = Some(known.source);
-        let PortRow { at, wire, .. } = ports[known.port];
-        self.lead(wires, wire, known.source);
-        if let GatePort::In(input) = at.port {
-            self.answer_gate(gates, ports, at.gate, input);
-        }
-    }
-
     /// Finds the sources of all ports that can be known, and the cells that they are of.
     pub fn solve(
         &mut self,
@@ -160,10 +147,17 @@ impl Search {
     ) {
         self.begin(ports, wires, inputs);
         for _ in 0..ports.len() {
-            let Some(known) = self.waiting.pop() else {
+            let Some(Known { port, source }) = self.waiting.pop() else {
                 break;
             };
-            self.go_on(gates, ports, wires, known);
+            if port < ports.len() {
+                ports[port].source = Some(source);
+                let PortRow { at, wire, .. } = ports[port];
+                self.lead(wires, wire, source);
+                if let GatePort::In(input) = at.port {
+                    self.answer_gate(gates, ports, at.gate, input);
+                }
+            }
         }
     }
 }

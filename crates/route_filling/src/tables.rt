@@ -63,7 +63,7 @@ impl Filling {
 
     // Finds the sources of all ports.
     fn solve(&mut self, alloc: Global, drawing: &Drawing) {
-        self.gates.fill(alloc, drawing.gates.as_slice());
+        self.gates.fill(alloc, drawing);
         self.fed.fill(&self.gates.rows, drawing);
         self.search.solve(
             &self.gates,
