@@ -20,9 +20,13 @@ fn path_serials(tables: &Tables, wire: TableWire, i: usize) -> Option<PathSerial
     requires short { i < wire.size }
     ensures { IfSome result (ArePathSerials tables.now wire i) }
 {
-    let before = tables.path_cell(wire, i)?;
-    let here = tables.path_cell(wire, i + 1)?;
-    let after = tables.path_cell(wire, i + 2)?;
+    let (Some(before), Some(here), Some(after)) = (
+        tables.path_cell(wire, i),
+        tables.path_cell(wire, i + 1),
+        tables.path_cell(wire, i + 2),
+    ) else {
+        return None;
+    };
     Some(PathSerials {
         cell: here,
         before: tables.serial(before),
@@ -52,26 +56,19 @@ fn is_row_alone(tables: &Tables, serials: PathSerials, j: usize) -> bool
     true
 }
 
-fn is_cell_alone(tables: &Tables, serials: PathSerials) -> bool
-    ensures { IsTrue result → ((j : ℕ) → j < 3 → (i : ℕ) → i < 3 → IsOneOf serials
-        (serial tables.now (pos (serials.cell.0 + i) -ℤ pos 1, pos (serials.cell.1 + j) -ℤ pos 1))) }
+fn is_alone(tables: &Tables, wire: TableWire, i: usize) -> bool
+    requires short { i < wire.size }
+    ensures { IsTrue result → IsAlone tables.now wire i }
 {
+    let Some(serials) = path_serials(tables, wire, i) else {
+        return false;
+    };
     for j in 0..3 {
         if !is_row_alone(tables, serials, j) {
             return false;
         }
     }
     true
-}
-
-fn is_alone(tables: &Tables, wire: TableWire, i: usize) -> bool
-    requires short { i < wire.size }
-    ensures { IsTrue result → IsAlone tables.now wire i }
-{
-    match path_serials(tables, wire, i) {
-        Some(serials) => is_cell_alone(tables, serials),
-        None => false,
-    }
 }
 
 fn is_wire_alone(tables: &Tables, wire: TableWire) -> Result<(), CellFault>

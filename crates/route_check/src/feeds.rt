@@ -1,7 +1,7 @@
 // Whether each input is fed once.
 ghost use Rattle.std.specs.Prelude.{◌≡◌, ◌<◌, ℕ, length, Some, slice_get, IsTrue, IfOk};
 ghost use Rattle.route_tables.specs.Tables.{sourced_gate, sourced_by, table_gate, table_wire};
-ghost use Rattle.route_tables.specs.Cells.{IsFed, FeedsItsEnd, IsDrivenInput, FeedsInput, IsFedRightly};
+ghost use Rattle.route_tables.specs.Cells.{IsFed, FeedsItsEnd, IsDrivenInput, IsFedRightly};
 ghost use Rattle.route_tables.specs.declared.tables.GateInput.{GateInput};
 ghost use Rattle.route_tables.specs.declared.tables.Feed.TheVariants.{Wire, Driven};
 
@@ -13,15 +13,6 @@ fn is_fed_by_wire(tables: &Tables, at: GateInput, w: usize) -> bool
     match tables.feed(at) {
         Some(Feed::Wire(wire)) => wire as usize == w,
         Some(Feed::Driven(_)) | None => false,
-    }
-}
-
-fn is_fed_by_drive(tables: &Tables, at: GateInput, d: usize) -> bool
-    ensures { IsTrue result → IsFed tables.now at (Driven d) }
-{
-    match tables.feed(at) {
-        Some(Feed::Driven(drive)) => drive as usize == d,
-        Some(Feed::Wire(_)) | None => false,
     }
 }
 
@@ -40,37 +31,9 @@ pub fn are_ends_fed(tables: &Tables) -> Result<(), CellFault>
 fn is_driven_input(tables: &Tables, d: usize, at: GateInput) -> bool
     ensures { IsTrue result → IsDrivenInput tables.now d at }
 {
-    match tables.port(input_port(at)) {
-        Some(_) => is_fed_by_drive(tables, at, d),
-        None => false,
-    }
-}
-
-// The driven input of a number.
-fn driven_input(tables: &Tables, d: usize) -> Option<GateInput>
-    ensures { result ≡ slice_get tables.now.driven d }
-{
-    match tables.driven.as_slice().get(d) {
-        Some(at) => Some(*at),
-        None => None,
-    }
-}
-
-fn is_drive_fed(tables: &Tables, d: usize) -> bool
-    ensures { IsTrue result → ((at : GateInput) → slice_get tables.now.driven d ≡ Some at →
-        IsDrivenInput tables.now d at) }
-{
-    match driven_input(tables, d) {
-        Some(at) => is_driven_input(tables, d, at),
-        None => false,
-    }
-}
-
-// The gate of a driven input.
-fn driven_gate(tables: &Tables, d: usize) -> usize {
-    match driven_input(tables, d) {
-        Some(at) => at.gate as usize,
-        None => 0,
+    match (tables.port(input_port(at)), tables.feed(at)) {
+        (Some(_), Some(Feed::Driven(drive))) => drive as usize == d,
+        _ => false,
     }
 }
 
@@ -79,9 +42,9 @@ pub fn are_drives_fed(tables: &Tables) -> Result<(), CellFault>
     ensures { IfOk result (λ _. (d : ℕ) → d < length tables.now.driven → (at : GateInput) →
         slice_get tables.now.driven d ≡ Some at → IsDrivenInput tables.now d at) }
 {
-    for d in 0..tables.driven.len() {
-        if !is_drive_fed(tables, d) {
-            return Err(tables.fault_at_gate(FaultWord::Fed, driven_gate(tables, d)));
+    for (d, at) in tables.driven.as_slice().iter().enumerate() {
+        if !is_driven_input(tables, d, *at) {
+            return Err(tables.fault_at_gate(FaultWord::Fed, at.gate as usize));
         }
     }
     Ok(())
@@ -93,25 +56,17 @@ fn is_same_input(a: GateInput, b: GateInput) -> bool
     a.gate == b.gate && a.input == b.input
 }
 
-fn leads_to(tables: &Tables, feed: Feed, at: GateInput) -> bool
-    ensures { IsTrue result → FeedsInput tables.now at feed }
-{
-    match feed {
-        Feed::Wire(w) => {
-            (w as usize) < tables.wires.len() && is_same_input(tables.wire(w as usize).to, at)
-        }
-        Feed::Driven(d) => match driven_input(tables, d as usize) {
-            Some(input) => is_same_input(input, at),
-            None => false,
-        },
-    }
-}
-
 fn is_fed_rightly(tables: &Tables, at: GateInput) -> bool
     ensures { IsTrue result → IsFedRightly tables.now at }
 {
     match tables.feed(at) {
-        Some(feed) => leads_to(tables, feed, at),
+        Some(Feed::Wire(w)) => {
+            (w as usize) < tables.wires.len() && is_same_input(tables.wire(w as usize).to, at)
+        }
+        Some(Feed::Driven(d)) => match tables.driven.as_slice().get(d as usize) {
+            Some(input) => is_same_input(*input, at),
+            None => false,
+        },
         None => false,
     }
 }

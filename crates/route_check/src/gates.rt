@@ -32,64 +32,33 @@ fn place_cell(gate: &TableGate, drawing: &GateDrawing, m: usize) -> Option<(u32,
     }
 }
 
-fn is_conductor(state: State) -> bool
-    ensures { IsTrue result → state ≡ Conductor }
-{
-    match state {
-        State::Conductor => true,
-        State::Empty | State::Head | State::Tail => false,
-    }
-}
-
-fn is_fed_by_wire(tables: &Tables, at: GateInput) -> bool
-    ensures { IsTrue result → (w : ℕ) × IsFed tables.now at (Wire w) }
-{
-    match tables.feed(at) {
-        Some(Feed::Wire(_)) => true,
-        Some(Feed::Driven(_)) | None => false,
-    }
-}
-
-fn is_input_cell(tables: &Tables, at: GateInput, cell: (u32, u32)) -> bool
-    ensures there { IsTrue result → IsPort tables.now (input_port at) }
-    ensures here { IsTrue result → (input_point tables.now at).0.0 ≡ (pos cell.0, pos cell.1) }
-{
-    match tables.port(input_port(at)) {
-        Some(there) => there.x == cell.0 && there.y == cell.1,
-        None => false,
-    }
-}
-
 fn is_end_at(tables: &Tables, at: GateInput, cell: (u32, u32)) -> bool
     ensures { IsTrue result → IsWireEnd tables.now at.gate (pos cell.0, pos cell.1) }
 {
-    is_fed_by_wire(tables, at) && is_input_cell(tables, at, cell)
-}
-
-// Whether the cell is an input of the gate that a wire feeds.
-fn is_wire_end(tables: &Tables, k: u32, inputs: u32, cell: (u32, u32)) -> bool
-    ensures { IsTrue result → IsWireEnd tables.now k (pos cell.0, pos cell.1) }
-{
-    for i in 0..inputs {
-        if is_end_at(tables, GateInput { gate: k, input: i }, cell) {
-            return true;
-        }
+    match (tables.feed(at), tables.port(input_port(at))) {
+        (Some(Feed::Wire(_)), Some(there)) => there.x == cell.0 && there.y == cell.1,
+        _ => false,
     }
-    false
 }
 
 // A gate has at most so many inputs.
 const MOST_INPUTS: u32 = 3;
 
+// Whether the cell is a conductor, or an input of the gate that a wire feeds.
 fn is_calm_or_end(tables: &Tables, states: &[State], k: u32, cell: (u32, u32)) -> bool
     ensures { IsTrue result
         → ((cell_state (box_plane tables.now states.now) (pos cell.0, pos cell.1) ≡ Conductor)
         ⊎ IsWireEnd tables.now k (pos cell.0, pos cell.1)) }
 {
-    if is_conductor(state_at(states, tables.width, cell.0, cell.1)) {
+    if state_at(states, tables.width, cell.0, cell.1) == State::Conductor {
         return true;
     }
-    is_wire_end(tables, k, MOST_INPUTS, cell)
+    for input in 0..MOST_INPUTS {
+        if is_end_at(tables, GateInput { gate: k, input }, cell) {
+            return true;
+        }
+    }
+    false
 }
 
 fn is_cell_of_gate(tables: &Tables, states: &[State], k: u32, cell: (u32, u32)) -> bool
@@ -105,7 +74,8 @@ fn is_cell_of_gate(tables: &Tables, states: &[State], k: u32, cell: (u32, u32)) 
     is_calm_or_end(tables, states, k, cell)
 }
 
-fn is_empty(state: State) -> bool
+/// Returns whether a cell is empty.
+pub fn is_empty(state: State) -> bool
     ensures full { result ≡ false → state ≢ Empty }
     ensures empty { IsTrue result → state ≡ Empty }
 {

@@ -1,36 +1,22 @@
 // Whether each cell of the box is one listed cell, or empty, and gates stand apart.
-ghost use Rattle.std.specs.Prelude.{◌≡◌, ◌<◌, ◌≤◌, ◌+◌, ◌^◌, ◌-ℤ◌, pos, ℕ, length, get_or, IsTrue, IfOk, IfNone};
-ghost use Rattle.route_tables.specs.Serials.{serial_at, HasSerial, IsListedAt, MayTouch, TouchesWell, AreSerials};
+ghost use Rattle.std.specs.Prelude.{◌≡◌, ◌<◌, ◌≤◌, ◌+◌, ◌^◌, ◌-ℤ◌, pos, ℕ, length, get_or, IsTrue, IfOk};
+ghost use Rattle.route_tables.specs.Serials.{serial_at, HasSerial, IsListedAt, MayTouch, TouchesWell};
 
+use crate::gates::is_empty;
 use route_tables::{CellFault, FaultWord, Tables};
 use ww_rule::State;
 
-fn has_serial(tables: &Tables, n: usize) -> bool
-    ensures { IsTrue result → HasSerial tables.now.cells tables.now.serials tables.now.width n }
-{
-    let serial = tables.serial(tables.cell(n)) as usize;
-    serial != 0 && serial - 1 == n
-}
-
-fn have_serials(tables: &Tables) -> Result<(), CellFault>
+/// Tests that each listed cell has its serial in the table.
+pub fn have_serials(tables: &Tables) -> Result<(), CellFault>
     ensures { IfOk result (λ _. (n : ℕ) → n < length tables.now.cells →
         HasSerial tables.now.cells tables.now.serials tables.now.width n) }
 {
     for n in 0..tables.cells.len() {
-        if !has_serial(tables, n) {
+        if tables.serial(tables.cell(n)) as usize != n + 1 {
             return Err(tables.fault_at_cell(FaultWord::Touches, n));
         }
     }
     Ok(())
-}
-
-fn is_empty(state: State) -> bool
-    ensures { IsTrue result → state ≡ State.Empty }
-{
-    match state {
-        State::Empty => true,
-        State::Head | State::Tail | State::Conductor => false,
-    }
 }
 
 fn is_cell(cell: (u32, u32), x: usize, y: usize) -> bool
@@ -40,46 +26,22 @@ fn is_cell(cell: (u32, u32), x: usize, y: usize) -> bool
 }
 
 // Whether a place has no number and no cell, or the number of the listed cell that is there.
-fn is_listed_at(
-    cells: &[(u32, u32)],
-    states: &[State],
-    serials: &[u32],
-    width: usize,
-    k: usize,
-) -> bool
-    requires wide { 0 < width }
-    requires inside { k < length serials.now }
-    requires same { length states.now ≡ length serials.now }
-    ensures { IsTrue result → IsListedAt cells.now states.now serials.now width k }
+fn is_listed_at(tables: &Tables, states: &[State], k: usize) -> bool
+    requires wide { 0 < tables.now.width }
+    requires inside { k < length tables.now.serials }
+    requires same { length states.now ≡ length tables.now.serials }
+    ensures { IsTrue result → IsListedAt tables.now.cells states.now tables.now.serials
+        tables.now.width k }
 {
-    let serial = serials[k] as usize;
+    let serial = *tables.serials.get(k) as usize;
     if serial == 0 {
         return is_empty(states[k]);
     }
-    if serial > cells.len() {
+    if serial > tables.cells.len() {
         return false;
     }
-    is_cell(cells[serial - 1], k % width, k / width)
-}
-
-// The first place of a window that is not listed as it should be.
-fn first_unlisted(
-    cells: &[(u32, u32)],
-    states: &[State],
-    serials: &[u32],
-    width: usize,
-) -> Option<usize>
-    requires wide { 0 < width }
-    requires same { length states.now ≡ length serials.now }
-    ensures { IfNone result ((k : ℕ) → k < length serials.now →
-        IsListedAt cells.now states.now serials.now width k) }
-{
-    for k in 0..serials.len() {
-        if !is_listed_at(cells, states, serials, width, k) {
-            return Some(k);
-        }
-    }
-    None
+    let width = tables.width as usize;
+    is_cell(tables.cell(serial - 1), k % width, k / width)
 }
 
 // The place of a window as a cell.
@@ -92,7 +54,8 @@ fn fault_at_place(word: FaultWord, k: usize, width: u32) -> CellFault {
     }
 }
 
-fn are_places(tables: &Tables, states: &[State]) -> Result<(), CellFault>
+/// Tests that each cell of the box is one listed cell, as the tables say, or is empty.
+pub fn are_places(tables: &Tables, states: &[State]) -> Result<(), CellFault>
     ensures same { IfOk result (λ _. length states.now ≡ length tables.now.serials) }
     ensures places { IfOk result (λ _. (k : ℕ) → k < length tables.now.serials →
         IsListedAt tables.now.cells states.now tables.now.serials tables.now.width k) }
@@ -100,16 +63,12 @@ fn are_places(tables: &Tables, states: &[State]) -> Result<(), CellFault>
     if tables.width == 0 || states.len() != tables.serials.len() {
         return Err(fault_at_place(FaultWord::Touches, 0, tables.width));
     }
-    let found = first_unlisted(
-        tables.cells.as_slice(),
-        states,
-        tables.serials.as_slice(),
-        tables.width as usize,
-    );
-    match found {
-        Some(k) => Err(fault_at_place(FaultWord::Touches, k, tables.width)),
-        None => Ok(()),
+    for k in 0..states.len() {
+        if !is_listed_at(tables, states, k) {
+            return Err(fault_at_place(FaultWord::Touches, k, tables.width));
+        }
     }
+    Ok(())
 }
 
 fn may_touch(tables: &Tables, n: usize, serial: u32) -> bool
@@ -138,10 +97,15 @@ fn row_touches_well(tables: &Tables, n: usize, cell: (u32, u32), j: usize) -> bo
     true
 }
 
+// Whether around a listed cell, if it is of a gate, there are the gate's own cells, and those of wires.
 fn touches_well(tables: &Tables, n: usize) -> bool
-    ensures { IsTrue result → TouchesWell tables.now.cells tables.now.serials tables.now.width
-        tables.now.groups (length tables.now.gates) n }
+    ensures { IsTrue result → get_or tables.now.groups n 0 < length tables.now.gates →
+        TouchesWell tables.now.cells tables.now.serials tables.now.width tables.now.groups
+        (length tables.now.gates) n }
 {
+    if tables.gates.len() <= tables.group(n) as usize {
+        return true;
+    }
     let cell = tables.cell(n);
     for j in 0..3 {
         if !row_touches_well(tables, n, cell, j) {
@@ -151,40 +115,17 @@ fn touches_well(tables: &Tables, n: usize) -> bool
     true
 }
 
-fn touches_well_if_gate(tables: &Tables, n: usize) -> bool
-    ensures { IsTrue result → get_or tables.now.groups n 0 < length tables.now.gates →
-        TouchesWell tables.now.cells tables.now.serials tables.now.width tables.now.groups
-        (length tables.now.gates) n }
-{
-    if tables.gates.len() <= tables.group(n) as usize {
-        return true;
-    }
-    touches_well(tables, n)
-}
-
-// Whether around each cell of a gate there are its own cells, and those of wires.
-fn are_gates_apart(tables: &Tables) -> Result<(), CellFault>
+/// Tests that around each cell of a gate there are its own cells, and those of wires.
+pub fn are_gates_apart(tables: &Tables) -> Result<(), CellFault>
     ensures { IfOk result (λ _. (n : ℕ) → n < length tables.now.cells →
         get_or tables.now.groups n 0 < length tables.now.gates →
         TouchesWell tables.now.cells tables.now.serials tables.now.width tables.now.groups
         (length tables.now.gates) n) }
 {
     for n in 0..tables.cells.len() {
-        if !touches_well_if_gate(tables, n) {
+        if !touches_well(tables, n) {
             return Err(tables.fault_at_cell(FaultWord::Touches, n));
         }
     }
-    Ok(())
-}
-
-/// Tests that each cell of the box is one listed cell, as the tables say, or is empty, and that
-/// gates stand two cells apart.
-pub fn are_serials(tables: &Tables, states: &[State]) -> Result<(), CellFault>
-    ensures { IfOk result (λ _. AreSerials tables.now.cells states.now tables.now.serials
-        tables.now.width tables.now.groups (length tables.now.gates)) }
-{
-    have_serials(tables)?;
-    are_places(tables, states)?;
-    are_gates_apart(tables)?;
     Ok(())
 }

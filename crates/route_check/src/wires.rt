@@ -54,32 +54,19 @@ fn has_ends(tables: &Tables, wire: TableWire) -> bool
     }
 }
 
-// Whether the group of a listed cell is that of a wire.
-fn is_of_wire(tables: &Tables, n: usize, w: usize) -> bool
-    ensures { IsTrue result → group tables.now n ≡ length tables.now.gates + w }
-{
-    let group = tables.group(n) as usize;
-    let gates = tables.gates.len();
-    gates <= group && group - gates == w
-}
-
 fn is_grouped(tables: &Tables, wire: TableWire, w: usize) -> bool
     ensures { IsTrue result → ((i : ℕ) → i < wire.size →
         group tables.now (wire.start + i) ≡ length tables.now.gates + w) }
 {
+    let Some(group) = tables.gates.len().checked_add(w) else {
+        return false;
+    };
     for i in 0..wire.size as usize {
-        if !is_of_wire(tables, wire.start as usize + i, w) {
+        if tables.group(wire.start as usize + i) as usize != group {
             return false;
         }
     }
     true
-}
-
-fn is_listed(tables: &Tables, wire: TableWire) -> bool
-    ensures some { IsTrue result → 0 < wire.size }
-    ensures inside { IsTrue result → wire.start + wire.size ≤ length tables.now.cells }
-{
-    0 < wire.size && wire.start as usize + wire.size as usize <= tables.cells.len()
 }
 
 fn is_wire_there(tables: &Tables, w: usize, wire: TableWire) -> Result<(), CellFault>
@@ -88,7 +75,7 @@ fn is_wire_there(tables: &Tables, w: usize, wire: TableWire) -> Result<(), CellF
     if !has_ends(tables, wire) {
         return Err(tables.fault_at_wire(FaultWord::Wire, w));
     }
-    if !is_listed(tables, wire) {
+    if wire.size == 0 || tables.cells.len() < wire.start as usize + wire.size as usize {
         return Err(tables.fault_at_wire(FaultWord::Wire, w));
     }
     if !is_grouped(tables, wire, w) {

@@ -1,7 +1,7 @@
 use Rattle.std.proofs.Common.{ℕ, ◌<◌, ◌+◌, pos, ◌-ℤ◌}
 use Rattle.route_tables.specs.Tables.{serial}
 use Rattle.route_check.specs.Around.{IsOneOf}
-use Rattle.route_check.proofs.alone.is_cell_alone.Given as goal
+use Rattle.route_check.proofs.alone.is_alone.Given as goal
 
 abbrev pub invariant-loop-j : goal.invariant-loop-j
 invariant-loop-j l =
