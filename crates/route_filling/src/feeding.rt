@@ -107,7 +107,13 @@ impl FedPorts {
     // Adds the wire with this number, and feeds the input at its end; returns whether it did.
     fn add_wire(&mut self, rows: &[GateRow], wire: &DrawnWire, number: u32) -> bool {
         let port = GatePort::In(wire.input);
-        let end = port_number(rows, DrawnPort { gate: wire.gate, port });
+        let end = port_number(
+            rows,
+            DrawnPort {
+                gate: wire.gate,
+                port,
+            },
+        );
         let mut latch = None;
         if wire.cycles > 0 {
             latch = Some(Src::Latch(wire.latch.saturating_add(wire.cycles - 1)));
@@ -130,18 +136,17 @@ impl FedPorts {
 
     // Drives the input at the port with this number, if it is there and not fed yet; returns whether it did.
     fn drive(&mut self, number: usize) -> bool {
-        let at = match self.ports.get(number) {
-            Some(port) => port.at,
-            None => return false,
-        };
-        let GatePort::In(input) = at.port else {
+        if number >= self.ports.len() {
+            return false;
+        }
+        let DrawnPort { gate, port } = self.ports[number].at;
+        let GatePort::In(input) = port else {
             return false;
         };
         let drive = small(self.driven.len());
         if !feed(&mut self.ports, number, Feed::Driven(drive)) {
             return false;
         }
-        let gate = at.gate;
         self.is_short |= self.driven.push(GateInput { gate, input }).is_err();
         true
     }

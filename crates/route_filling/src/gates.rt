@@ -2,7 +2,6 @@
 
 use gate_library::{GateDrawing, drawing_of};
 use lawful_gates::LawfulGate;
-use lists::OutOfMemory;
 use route_tables::{CellFault, FaultWord};
 use routed_core::{Drawing, DrawnPort, GateKind, GatePort};
 use std::alloc::Global;
@@ -58,14 +57,31 @@ fn kind_number(names: &[GateKind], kind: GateKind) -> usize {
 // The row of a gate of the kind with this number, whose ports are those from `first` on.
 fn row_of(kinds: &[LawfulGate], kind: usize, first: usize) -> GateRow {
     let (mut ins, mut outs) = (0, 0);
-    if let Some(lawful) = kinds.get(kind) {
-        (ins, outs) = (lawful.drawing().ins.len(), lawful.drawing().outs.len());
+    if kind < kinds.len() {
+        let drawing = kinds[kind].drawing();
+        (ins, outs) = (drawing.ins.len(), drawing.outs.len());
     }
     GateRow {
         kind: small(kind),
         ins: first,
         outs: first.saturating_add(ins),
         end: first.saturating_add(ins).saturating_add(outs),
+    }
+}
+
+// Adds a kind, unless its drawing keeps no law; returns whether memory ran out.
+fn add_kind(
+    names: &mut Vec<GateKind>,
+    kinds: &mut Vec<LawfulGate>,
+    alloc: Global,
+    kind: GateKind,
+) -> bool {
+    let Ok(drawing) = drawing_of(alloc, kind) else {
+        return true;
+    };
+    match LawfulGate::of(drawing) {
+        Some(lawful) => kinds.push(lawful).is_err() | names.push(kind).is_err(),
+        None => false,
     }
 }
 
@@ -81,39 +97,34 @@ impl GateRows {
         }
     }
 
-    // Adds a kind, unless its drawing keeps no law.
-    fn add_kind(&mut self, alloc: Global, kind: GateKind) -> Result<(), OutOfMemory> {
-        if let Some(lawful) = LawfulGate::of(drawing_of(alloc, kind)?) {
-            self.kinds.push(lawful)?;
-            self.names.push(kind)?;
-        }
-        Ok(())
-    }
-
     /// Adds the gates of a drawing, whose ports are numbered one gate after the other.
     pub fn fill(&mut self, alloc: Global, drawing: &Drawing) {
-        let (mut number, mut first) = (0u32, 0usize);
+        let (mut number, mut first, mut is_short) = (0u32, 0usize, false);
+        let mut fault = None;
         for gate in drawing.gates.as_slice() {
             let kind = kind_number(&self.names, gate.kind);
             if kind == self.names.len() {
-                self.is_short |= self.add_kind(alloc, gate.kind).is_err();
+                is_short |= add_kind(&mut self.names, &mut self.kinds, alloc, gate.kind);
             }
-            if kind >= self.kinds.len() && self.fault.is_none() {
-                self.fault = Some(at_gate(drawing, number, FaultWord::Kind));
+            if kind >= self.kinds.len() && fault.is_none() {
+                fault = Some(at_gate(drawing, number, FaultWord::Kind));
             }
             let row = row_of(&self.kinds, kind, first);
-            self.is_short |= self.rows.push(row).is_err();
+            is_short |= self.rows.push(row).is_err();
             (number, first) = (number.saturating_add(1), row.end);
         }
+        (self.fault, self.is_short) = (fault, is_short);
     }
 
     /// Returns the drawing of the gate with this number, if its kind keeps its law.
     pub fn drawing_of(&self, number: usize) -> Option<&GateDrawing> {
-        let row = self.rows.get(number)?;
-        match self.kinds.get(row.kind as usize) {
-            Some(lawful) => Some(lawful.drawing()),
-            None => None,
+        if number < self.rows.len() {
+            let kind = self.rows[number].kind as usize;
+            if kind < self.kinds.len() {
+                return Some(self.kinds[kind].drawing());
+            }
         }
+        None
     }
 }
 

@@ -30,16 +30,35 @@ pub fn part<T>(items: &[T], begin: usize, end: usize) -> &[T] {
 
 // Lists the cells of a gate; returns whether memory ran out.
 fn add_cells(cells: &mut Vec<(u32, u32)>, gate: &DrawnGate, drawing: &GateDrawing) -> bool {
-    let (mut x, mut y, mut is_short) = (0u32, 0u32, false);
+    let (mut x, mut y) = (0u32, 0u32);
     for state in drawing.cells.as_slice() {
         if let State::Conductor = state {
             let cell = (gate.x.saturating_add(x), gate.y.saturating_add(y));
-            is_short |= cells.push(cell).is_err();
+            if cells.push(cell).is_err() {
+                return true;
+            }
         }
         x = x.saturating_add(1);
         if x >= drawing.width {
             (x, y) = (0, y.saturating_add(1));
         }
+    }
+    false
+}
+
+// Lists the cells of all gates; returns whether memory ran out.
+fn list_gates(
+    cells: &mut Vec<(u32, u32)>,
+    groups: &mut Vec<u32>,
+    gates: &GateRows,
+    drawn: &[DrawnGate],
+) -> bool {
+    let mut is_short = false;
+    for number in 0..drawn.len() {
+        if let Some(drawing) = gates.drawing_of(number) {
+            is_short |= add_cells(cells, &drawn[number], drawing);
+        }
+        is_short |= groups.resize(cells.len(), small(number)).is_err();
     }
     is_short
 }
@@ -55,23 +74,8 @@ impl Listing {
         }
     }
 
-    // Lets the cells that have no group be of this one.
-    fn group(&mut self, group: u32) {
-        self.is_short |= self.groups.resize(self.cells.len(), group).is_err();
-    }
-
-    // Lists the cells of all gates.
-    fn add_gates(&mut self, gates: &GateRows, drawn: &[DrawnGate]) {
-        for number in 0..drawn.len() {
-            if let Some(drawing) = gates.drawing_of(number) {
-                self.is_short |= add_cells(&mut self.cells, &drawn[number], drawing);
-            }
-            self.group(small(number));
-        }
-    }
-
-    // Adds a wire, and lists its cells, whose group is this one.
-    fn add_wire(&mut self, path: &[(u32, u32)], wire: &DrawnWire, group: u32) {
+    // Adds a wire, and lists its cells, whose group is this one; returns whether memory ran out.
+    fn add_wire(&mut self, path: &[(u32, u32)], wire: &DrawnWire, group: u32) -> bool {
         let row = TableWire {
             start: small(self.cells.len()),
             size: wire.size,
@@ -82,36 +86,40 @@ impl Listing {
             },
             cycles: wire.cycles,
         };
-        self.is_short |= self.wires.push(row).is_err();
         let (begin, size) = (wire.start as usize, wire.size as usize);
-        let cells = part(path, begin, begin.saturating_add(size));
-        self.is_short |= self.cells.extend_from_slice(cells).is_err();
-        self.group(group);
+        let own = part(path, begin, begin.saturating_add(size));
+        let cells = self.cells.extend_from_slice(own).is_err();
+        let groups = self.groups.resize(self.cells.len(), group).is_err();
+        cells | groups | self.wires.push(row).is_err()
     }
 
     /// Lists the cells of a drawing's gates and wires. The groups of wires come after those of the gates.
     pub fn fill(&mut self, gates: &GateRows, drawing: &Drawing) {
-        self.add_gates(gates, drawing.gates.as_slice());
-        let mut group = small(drawing.gates.len());
+        let (drawn, path) = (drawing.gates.as_slice(), drawing.path.as_slice());
+        let mut is_short = list_gates(&mut self.cells, &mut self.groups, gates, drawn);
+        let mut group = small(drawn.len());
         for wire in drawing.wires.as_slice() {
-            self.add_wire(drawing.path.as_slice(), wire, group);
+            is_short |= self.add_wire(path, wire, group);
             group = group.saturating_add(1);
         }
+        self.is_short = is_short;
     }
 }
 
 // Adds the sources of ports, constant 0 for those that are not known, and what feeds them, if they are inputs that are
 // fed; returns whether memory ran out.
 fn add_sources(sources: &mut Vec<Src>, feeds: &mut Vec<Feed>, ports: &[PortRow]) -> bool {
-    let mut is_short = false;
     for port in ports {
-        let source = port.source.unwrap_or(Src::Zero);
-        is_short |= sources.push(source).is_err();
+        if sources.push(port.source.unwrap_or(Src::Zero)).is_err() {
+            return true;
+        }
         if let Some(feed) = port.feed {
-            is_short |= feeds.push(feed).is_err();
+            if feeds.push(feed).is_err() {
+                return true;
+            }
         }
     }
-    is_short
+    false
 }
 
 // Adds a gate with the sources of its ports, and with what feeds its inputs; returns whether memory ran out.
@@ -136,7 +144,7 @@ fn add_gate(
         outs: List::of(outs),
         feeds: List::of(feeds),
     };
-    table.push(gate).is_err() || is_short
+    is_short | table.push(gate).is_err()
 }
 
 /// Adds all gates; returns whether memory ran out.
@@ -158,13 +166,14 @@ pub fn add_gates(
 
 /// Adds the ports of nets that are drawn; returns whether memory ran out.
 pub fn add_nets(ports: &mut Vec<DrawnPort>, nets: &[Option<DrawnPort>]) -> bool {
-    let mut is_short = false;
     for net in nets {
         if let Some(port) = net {
-            is_short |= ports.push(*port).is_err();
+            if ports.push(*port).is_err() {
+                return true;
+            }
         }
     }
-    is_short
+    false
 }
 
 /// Numbers cells in a table of so many columns. Of two cells at one place the last one counts.

@@ -41,11 +41,12 @@ fn add_sources_at(
     ports: &[PortRow],
     named: &[DrawnPort],
 ) -> bool {
-    let mut is_short = false;
     for at in named {
-        is_short |= sources.push(source_of(rows, ports, *at)).is_err();
+        if sources.push(source_of(rows, ports, *at)).is_err() {
+            return true;
+        }
     }
-    is_short
+    false
 }
 
 // Has the latches of all wires read what they should.
@@ -76,10 +77,11 @@ impl Ends {
         nets: &[DrawnPort],
     ) {
         let starts = drawing.starts.as_slice();
-        self.is_short |= add_sources_at(&mut self.outs, rows, ports, drawing.outs.as_slice());
-        self.is_short |= add_sources_at(&mut self.nets, rows, ports, nets);
-        self.is_short |= self.starts.extend_from_slice(starts).is_err();
-        self.is_short |= self.latches.resize(starts.len(), Src::Zero).is_err();
+        let outs = add_sources_at(&mut self.outs, rows, ports, drawing.outs.as_slice());
+        let nets = add_sources_at(&mut self.nets, rows, ports, nets);
+        let bits = self.starts.extend_from_slice(starts).is_err();
+        let latches = self.latches.resize(starts.len(), Src::Zero).is_err();
+        self.is_short = outs | nets | bits | latches;
         put_all_latches(&mut self.latches, rows, ports, drawing.wires.as_slice());
     }
 }

@@ -57,9 +57,10 @@ fn cell_of(answer: Answer, a: Src, b: Src) -> Option<Cell> {
 
 // The source of the port with this number, if it is known.
 fn source_at(ports: &[PortRow], number: u32) -> Option<Src> {
-    match ports.get(number as usize) {
-        Some(port) => port.source,
-        None => None,
+    if (number as usize) < ports.len() {
+        ports[number as usize].source
+    } else {
+        None
     }
 }
 
@@ -121,12 +122,13 @@ impl Search {
 
     // Answers what can be answered of a gate, of which this input became known.
     fn answer_gate(&mut self, gates: &GateRows, ports: &[PortRow], gate: u32, input: u32) {
-        let Some(row) = gates.rows.get(gate as usize) else {
-            return;
-        };
         let Some(drawing) = gates.drawing_of(gate as usize) else {
             return;
         };
+        if gate as usize >= gates.rows.len() {
+            return;
+        }
+        let row = gates.rows[gate as usize];
         let ins = part(ports, row.ins, row.outs);
         let mut port = row.outs;
         for answer in drawing.answers.as_slice() {
@@ -174,8 +176,10 @@ pub fn unsolved(ports: &[PortRow]) -> Option<u32> {
 
 /// Returns the source of a port, or constant 0 if none is known.
 pub fn source_of(rows: &[GateRow], ports: &[PortRow], at: DrawnPort) -> Src {
-    match ports.get(port_number(rows, at)) {
-        Some(port) => port.source.unwrap_or(Src::Zero),
-        None => Src::Zero,
+    let number = port_number(rows, at);
+    if number < ports.len() {
+        ports[number].source.unwrap_or(Src::Zero)
+    } else {
+        Src::Zero
     }
 }

@@ -73,22 +73,27 @@ impl Filling {
         );
     }
 
-    // Lists the gates, the wires and the named ports of a drawing that was solved.
-    fn list(&mut self, alloc: Global, drawing: &Drawing) {
+    // Lists the gates, the wires and the named ports of a drawing that was solved, and makes the table of the serials of
+    // listed cells, of so many columns and cells.
+    fn list(&mut self, alloc: Global, drawing: &Drawing, width: u32, size: usize) {
         self.listing.fill(&self.gates, drawing);
         let (rows, ports) = (&self.gates.rows, &self.fed.ports);
-        let gates = drawing.gates.as_slice();
-        self.is_short |= add_gates(&mut self.table, alloc, gates, rows, ports);
-        self.is_short |= add_nets(&mut self.nets, drawing.nets.as_slice());
-        let outs = drawing.outs.as_slice();
-        self.is_short |= self.outs.extend_from_slice(outs).is_err();
+        let table = add_gates(
+            &mut self.table,
+            alloc,
+            drawing.gates.as_slice(),
+            rows,
+            ports,
+        );
+        let nets = add_nets(&mut self.nets, drawing.nets.as_slice());
         self.ends.fill(rows, ports, drawing, &self.nets);
-    }
-
-    // Makes the table of the serials of listed cells, of so many columns and cells.
-    fn number(&mut self, width: u32, size: usize) {
-        self.is_short |= self.serials.resize(size, 0).is_err();
+        let outs = self
+            .outs
+            .extend_from_slice(drawing.outs.as_slice())
+            .is_err();
+        let serials = self.serials.resize(size, 0).is_err();
         put_serials(&mut self.serials, width, &self.listing.cells);
+        self.is_short = table | nets | outs | serials;
     }
 
     // Finds all that the tables of a box have; returns the first fault.
@@ -102,8 +107,7 @@ impl Filling {
         self.solve(alloc, drawing);
         let fault = self.fault(drawing);
         if fault.is_none() {
-            self.list(alloc, drawing);
-            self.number(width, size);
+            self.list(alloc, drawing, width, size);
         }
         if self.ran_short() {
             return Err(OutOfMemory::NoMemory);
