@@ -1,3 +1,9 @@
+pub mod PortPoints
+pub mod AnswerBits
+pub mod Computing
 pub mod PortTable
 pub mod Shown
 pub mod FlatRows
+pub mod Latches
+pub mod Sources
+pub mod KeptTime

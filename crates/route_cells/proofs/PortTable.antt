@@ -16,8 +16,8 @@ use Rattle.route_tables.specs.declared.tables.Tables.{Tables}
 use Rattle.route_tables.specs.Tables.{sourced_gates, input_point, driven_points, box_plane}
 use Rattle.route_tables.specs.Runs.{ShowsAt}
 use Rattle.route_tables.specs.Checked.{HasItsPorts}
-use Rattle.route_laws.proofs.PortPoints.{port_in}
-use Rattle.route_laws.proofs.Computing.{driven_of}
+use Rattle.route_cells.proofs.PortPoints.{port_in}
+use Rattle.route_cells.proofs.Computing.{driven_of}
 
 -- a line at a port is at a point
 shown_at : (t : Tables) (ports : List DrawnPort) (i x y first : ℕ) (source : Src) → (shows : ShowsAt t ports i x y first source)

@@ -11,7 +11,7 @@ use Rattle.route_tables.specs.Owners.{owner_at}
 use Rattle.route_tables.specs.Tables.{sourced_gates, sourced_wires, placed_gates, dark_wire, driven_points, box_plane, own}
 use Rattle.route_tables.specs.Checked.{IsChecked}
 use Rattle.route_check.proofs.Drawn.{checked_are_labelled}
-use Rattle.route_laws.proofs.Computing.{computes_list}
+use Rattle.route_cells.proofs.Computing.{computes_list}
 use Rattle.route_cells.proofs.PortTable.{table_of_points}
 
 pub checked_show_runs : (t : Tables) (states : List State) (ports : Ports) → IsChecked t states ports → ShowsListRuns (box_plane t states) ports t.list

@@ -8,7 +8,7 @@ ghost use Rattle.route_cells.specs.Fits.{FitsPorts};
 use crate::RouteError;
 use crate::flat::flat_cells;
 use crate::lines::test_lines;
-use crate::runs::test_runs;
+use crate::runs::{test_gates, test_wires};
 use cell_core::CellList;
 use pattern_reading::Ports;
 use route_check::test_cells;
@@ -38,7 +38,8 @@ fn test_all(alloc: Global, t: &Tables, states: &[State], ports: &Ports) -> Resul
     ensures { IfOk result (λ _. IsChecked t.now states.now ports.now) }
 {
     test_cells(t, states)?;
-    test_runs(alloc, t, states, ports.p)?;
+    test_gates(t, ports.p)?;
+    test_wires(alloc, t, states, ports.p)?;
     test_lines(t, states, ports)?;
     Ok(())
 }

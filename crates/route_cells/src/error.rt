@@ -1,7 +1,6 @@
 // Why a pattern is no routed circuit.
 
 use lists::OutOfMemory;
-use route_runs::RunError;
 use route_tables::CellFault;
 
 /// Why there is no list: the box is larger than is looked at, the drawing is no routed circuit, or
@@ -22,14 +21,5 @@ impl From<OutOfMemory> for RouteError {
 impl From<CellFault> for RouteError {
     fn from(fault: CellFault) -> Self {
         RouteError::Fault(fault)
-    }
-}
-
-impl From<RunError> for RouteError {
-    fn from(error: RunError) -> Self {
-        match error {
-            RunError::Fault(fault) => RouteError::Fault(fault),
-            RunError::NoMemory => RouteError::NoMemory,
-        }
     }
 }

@@ -3,11 +3,17 @@
 //! Theorem: `cells_of` (`shows`, `fits`).
 #![tactic(auto)]
 
+mod answers;
 mod cells;
+mod chains;
+mod electrons;
 mod error;
 mod flat;
+mod gates;
 mod lines;
+mod periods;
 mod runs;
+mod wires;
 
 pub use cells::cells_of;
 pub use error::RouteError;

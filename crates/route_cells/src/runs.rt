@@ -1,16 +1,16 @@
 // Tests of all gates and wires.
 ghost use Rattle.std.specs.Prelude.{◌<◌, ℕ, length, IfOk};
-ghost use Rattle.route_tables.specs.Checked.{ComputesItsList};
 ghost use Rattle.route_tables.specs.Runs.{FitsItsPeriod, HasPortSources, IsDelayedByWire, ShowsStarts};
 
 use crate::RouteError;
-use route_runs::{RunError, test_gate, test_wire};
+use crate::gates::test_gate;
+use crate::wires::test_wire;
 use route_tables::{CellFault, Tables};
 use std::alloc::Global;
 use ww_rule::State;
 
-// Tests that all gates can be used at the period, and that their ports have sources.
-fn test_gates(t: &Tables, period: u64) -> Result<(), CellFault>
+/// Tests that all gates can be used at the period, and that their ports have sources.
+pub fn test_gates(t: &Tables, period: u64) -> Result<(), CellFault>
     requires some { 0 < period }
     ensures in_time { IfOk result (λ _. (k : ℕ) → k < length t.now.gates →
         FitsItsPeriod t.now period k) }
@@ -23,8 +23,13 @@ fn test_gates(t: &Tables, period: u64) -> Result<(), CellFault>
     Ok(())
 }
 
-// Tests that all wires keep time, and have the electrons of their start bits.
-fn test_wires(alloc: Global, t: &Tables, states: &[State], period: u64) -> Result<(), RunError>
+/// Tests that all wires keep time, and have the electrons of their start bits.
+pub fn test_wires(
+    alloc: Global,
+    t: &Tables,
+    states: &[State],
+    period: u64,
+) -> Result<(), RouteError>
     requires some { 0 < period }
     ensures { IfOk result (λ _. (w : ℕ) → w < length t.now.wires →
         IsDelayedByWire t.now period w × ShowsStarts t.now states.now period w) }
@@ -32,16 +37,5 @@ fn test_wires(alloc: Global, t: &Tables, states: &[State], period: u64) -> Resul
     for w in 0..t.wires.len() {
         test_wire(alloc, t, states, period, w)?;
     }
-    Ok(())
-}
-
-/// Tests that gates and wires keep time, that electrons are start bits, and that the sources are
-/// those of the list.
-pub fn test_runs(alloc: Global, t: &Tables, states: &[State], period: u64) -> Result<(), RouteError>
-    requires some { 0 < period }
-    ensures { IfOk result (λ _. ComputesItsList t.now states.now period) }
-{
-    test_gates(t, period)?;
-    test_wires(alloc, t, states, period)?;
     Ok(())
 }

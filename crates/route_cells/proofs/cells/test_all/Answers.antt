@@ -5,6 +5,11 @@ returns c =
     record {
       long = c.requires.long;
       cells = c.in_ok-test_cells.ensures;
-      computes = c.in_ok-test_runs.ensures;
+      computes = record {
+        in_time = c.in_ok-test_gates.ensures.in_time;
+        sources = c.in_ok-test_gates.ensures.sources;
+        delays = λ w low. (c.in_ok-test_wires.ensures w low).0;
+        starts = λ w low. (c.in_ok-test_wires.ensures w low).1;
+      };
       ports_are = c.in_ok-test_lines.ensures;
     }

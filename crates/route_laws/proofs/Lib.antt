@@ -1,3 +1,0 @@
-pub mod PortPoints
-pub mod Answers
-pub mod Computing

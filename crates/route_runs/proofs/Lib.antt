@@ -1,3 +1,0 @@
-mod Latches
-mod KeptTime
-mod Sources

@@ -1,8 +1,0 @@
-use Rattle.std.proofs.Common.{◌<◌, ℕ}
-use Rattle.routed_lists.specs.Runs.{src_at}
-use Rattle.lawful_gates.specs.Lawful.{answer_at}
-use Rattle.route_tables.specs.Runs.{IsAnsweredBy}
-use Rattle.route_runs.proofs.answers.are_answered.Given as goal
-
-abbrev pub invariant-loop-o : goal.invariant-loop-o
-invariant-loop-o l = (k : ℕ) → k < l.o → IsAnsweredBy l.list l.ins (answer_at l.drawing k) (src_at l.outs k)

@@ -1,7 +1,0 @@
-use Rattle.std.proofs.Common.{◌≡◌, ◌<◌, ◌≤◌, ℕ, slice_get, Some}
-use Rattle.route_tables.specs.declared.tables.GateInput.{GateInput}
-use Rattle.route_tables.specs.Runs.{IsDark}
-use Rattle.route_runs.proofs.lines.test_dark.Given as goal
-
-abbrev pub invariant-loop-d : goal.invariant-loop-d
-invariant-loop-d l = (k : ℕ) (at : GateInput) → k < l.d → l.from ≤ k → slice_get l.t.driven k ≡ Some at → IsDark l.t at

@@ -1,8 +1,0 @@
-use Rattle.std.proofs.Common.{◌≡◌, ◌<◌, ℕ, slice_get, Some}
-use Rattle.pattern_reading.specs.declared.ports.NetLine.{NetLine}
-use Rattle.routed_lists.specs.Runs.{src_at}
-use Rattle.route_tables.specs.Runs.{ShowsAt}
-use Rattle.route_runs.proofs.lines.test_nets.Given as goal
-
-abbrev pub invariant-loop-n : goal.invariant-loop-n
-invariant-loop-n l = (k : ℕ) (line : NetLine) → k < l.n → slice_get l.lines k ≡ Some line → ShowsAt l.t l.t.nets k line.x line.y line.offset (src_at l.t.list.nets k)

@@ -1,5 +1,0 @@
-pub mod Chains
-pub mod Electrons
-pub mod Wires
-pub mod Gates
-pub mod Lines
