@@ -17,14 +17,13 @@ pub struct GateRow {
 }
 
 /// The rows of a drawing's gates, and the kinds that these use, with their drawings. `fault` is at the first gate
-/// whose kind keeps no law, and `is_short` says whether memory ran out.
+/// whose kind keeps no law.
 #[derive(Drop)]
 pub struct GateRows {
     names: Vec<GateKind>,
     pub kinds: Vec<LawfulGate>,
     pub rows: Vec<GateRow>,
     pub fault: Option<CellFault>,
-    pub is_short: bool,
 }
 
 /// Returns a number as a `u32`, or the greatest one if it is greater.
@@ -93,12 +92,11 @@ impl GateRows {
             kinds: Vec::new(alloc),
             rows: Vec::new(alloc),
             fault: None,
-            is_short: false,
         }
     }
 
-    /// Adds the gates of a drawing, whose ports are numbered one gate after the other.
-    pub fn fill(&mut self, alloc: Global, drawing: &Drawing) {
+    /// Adds the gates of a drawing, whose ports are numbered one gate after the other; returns whether memory ran out.
+    pub fn fill(&mut self, alloc: Global, drawing: &Drawing) -> bool {
         let (mut number, mut first, mut is_short) = (0u32, 0usize, false);
         let mut fault = None;
         for gate in drawing.gates.as_slice() {
@@ -113,7 +111,8 @@ impl GateRows {
             is_short |= self.rows.push(row).is_err();
             (number, first) = (number.saturating_add(1), row.end);
         }
-        (self.fault, self.is_short) = (fault, is_short);
+        self.fault = fault;
+        is_short
     }
 
     /// Returns the drawing of the gate with this number, if its kind keeps its law.

@@ -10,13 +10,12 @@ use routed_core::{Drawing, DrawnGate, DrawnPort, DrawnWire};
 use std::alloc::Global;
 use ww_rule::State;
 
-/// All cells, gate by gate and then wire by wire, whose each is, and the wires. `is_short` says whether memory ran out.
+/// All cells, gate by gate and then wire by wire, whose each is, and the wires.
 #[derive(Drop)]
 pub struct Listing {
     pub cells: Vec<(u32, u32)>,
     pub groups: Vec<u32>,
     pub wires: Vec<TableWire>,
-    pub is_short: bool,
 }
 
 /// Returns the items of a row from a place to another one, or none if they are not all there.
@@ -70,7 +69,6 @@ impl Listing {
             cells: Vec::new(alloc),
             groups: Vec::new(alloc),
             wires: Vec::new(alloc),
-            is_short: false,
         }
     }
 
@@ -93,8 +91,9 @@ impl Listing {
         cells | groups | self.wires.push(row).is_err()
     }
 
-    /// Lists the cells of a drawing's gates and wires. The groups of wires come after those of the gates.
-    pub fn fill(&mut self, gates: &GateRows, drawing: &Drawing) {
+    /// Lists the cells of a drawing's gates and wires. The groups of wires come after those of the gates. Returns whether
+    /// memory ran out.
+    pub fn fill(&mut self, gates: &GateRows, drawing: &Drawing) -> bool {
         let (drawn, path) = (drawing.gates.as_slice(), drawing.path.as_slice());
         let mut is_short = list_gates(&mut self.cells, &mut self.groups, gates, drawn);
         let mut group = small(drawn.len());
@@ -102,7 +101,7 @@ impl Listing {
             is_short |= self.add_wire(path, wire, group);
             group = group.saturating_add(1);
         }
-        self.is_short = is_short;
+        is_short
     }
 }
 

@@ -11,15 +11,13 @@ use lists::List;
 use routed_core::{Drawing, DrawnPort, DrawnWire};
 use std::alloc::Global;
 
-/// The sources of a list's outputs and nets, and of its latches' data, and the latches' start bits. `is_short` says
-/// whether memory ran out.
+/// The sources of a list's outputs and nets, and of its latches' data, and the latches' start bits.
 #[derive(Drop)]
 pub struct Ends {
     pub outs: Vec<Src>,
     pub nets: Vec<Src>,
     pub latches: Vec<Src>,
     pub starts: Vec<bool>,
-    pub is_short: bool,
 }
 
 // Has the first latch of a wire read this source, and each other one the latch before it.
@@ -64,25 +62,24 @@ impl Ends {
             nets: Vec::new(alloc),
             latches: Vec::new(alloc),
             starts: Vec::new(alloc),
-            is_short: false,
         }
     }
 
-    /// Adds the ends of a drawing, of which these are the nets' ports.
+    /// Adds the ends of a drawing, of which these are the nets' ports; returns whether memory ran out.
     pub fn fill(
         &mut self,
         rows: &[GateRow],
         ports: &[PortRow],
         drawing: &Drawing,
         nets: &[DrawnPort],
-    ) {
+    ) -> bool {
         let starts = drawing.starts.as_slice();
         let outs = add_sources_at(&mut self.outs, rows, ports, drawing.outs.as_slice());
         let nets = add_sources_at(&mut self.nets, rows, ports, nets);
         let bits = self.starts.extend_from_slice(starts).is_err();
         let latches = self.latches.resize(starts.len(), Src::Zero).is_err();
-        self.is_short = outs | nets | bits | latches;
         put_all_latches(&mut self.latches, rows, ports, drawing.wires.as_slice());
+        outs | nets | bits | latches
     }
 }
 

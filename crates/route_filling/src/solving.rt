@@ -122,13 +122,12 @@ impl Search {
 
     // Answers what can be answered of a gate, of which this input became known.
     fn answer_gate(&mut self, gates: &GateRows, ports: &[PortRow], gate: u32, input: u32) {
+        let Some(row) = gates.rows.get(gate as usize) else {
+            return;
+        };
         let Some(drawing) = gates.drawing_of(gate as usize) else {
             return;
         };
-        if gate as usize >= gates.rows.len() {
-            return;
-        }
-        let row = gates.rows[gate as usize];
         let ins = part(ports, row.ins, row.outs);
         let mut port = row.outs;
         for answer in drawing.answers.as_slice() {

@@ -10,7 +10,7 @@ use route_tables::{CellFault, FaultWord, TableGate, Tables};
 use routed_core::{Drawing, DrawnPort};
 use std::alloc::Global;
 
-/// What is found of a drawing, and whether memory ran out.
+/// What is found of a drawing.
 #[derive(Drop)]
 struct Filling {
     gates: GateRows,
@@ -22,7 +22,6 @@ struct Filling {
     outs: Vec<DrawnPort>,
     nets: Vec<DrawnPort>,
     serials: Vec<u32>,
-    is_short: bool,
 }
 
 impl Filling {
@@ -37,7 +36,6 @@ impl Filling {
             outs: Vec::new(alloc),
             nets: Vec::new(alloc),
             serials: Vec::new(alloc),
-            is_short: false,
         }
     }
 
@@ -55,28 +53,20 @@ impl Filling {
         }
     }
 
-    // Whether memory ran out.
-    fn ran_short(&self) -> bool {
-        let found = self.gates.is_short || self.fed.is_short || self.search.is_short;
-        found || self.listing.is_short || self.ends.is_short || self.is_short
-    }
-
-    // Finds the sources of all ports.
-    fn solve(&mut self, alloc: Global, drawing: &Drawing) {
-        self.gates.fill(alloc, drawing);
+    // Finds the sources of all ports; returns whether memory ran out.
+    fn solve(&mut self, alloc: Global, drawing: &Drawing) -> bool {
+        let gates = self.gates.fill(alloc, drawing);
         self.fed.fill(&self.gates.rows, drawing);
-        self.search.solve(
-            &self.gates,
-            &mut self.fed.ports,
-            &self.fed.wires,
-            small(drawing.ins.len()),
-        );
+        let inputs = small(drawing.ins.len());
+        let (ports, wires) = (&mut self.fed.ports, &self.fed.wires);
+        self.search.solve(&self.gates, ports, wires, inputs);
+        gates | self.fed.is_short | self.search.is_short
     }
 
     // Lists the gates, the wires and the named ports of a drawing that was solved, and makes the table of the serials of
-    // listed cells, of so many columns and cells.
-    fn list(&mut self, alloc: Global, drawing: &Drawing, width: u32, size: usize) {
-        self.listing.fill(&self.gates, drawing);
+    // listed cells, of so many columns and cells; returns whether memory ran out.
+    fn list(&mut self, alloc: Global, drawing: &Drawing, width: u32, size: usize) -> bool {
+        let listing = self.listing.fill(&self.gates, drawing);
         let (rows, ports) = (&self.gates.rows, &self.fed.ports);
         let table = add_gates(
             &mut self.table,
@@ -86,14 +76,14 @@ impl Filling {
             ports,
         );
         let nets = add_nets(&mut self.nets, drawing.nets.as_slice());
-        self.ends.fill(rows, ports, drawing, &self.nets);
+        let ends = self.ends.fill(rows, ports, drawing, &self.nets);
         let outs = self
             .outs
             .extend_from_slice(drawing.outs.as_slice())
             .is_err();
         let serials = self.serials.resize(size, 0).is_err();
         put_serials(&mut self.serials, width, &self.listing.cells);
-        self.is_short = table | nets | outs | serials;
+        listing | table | nets | ends | outs | serials
     }
 
     // Finds all that the tables of a box have; returns the first fault.
@@ -104,12 +94,12 @@ impl Filling {
         width: u32,
         size: usize,
     ) -> Result<Option<CellFault>, OutOfMemory> {
-        self.solve(alloc, drawing);
+        let mut is_short = self.solve(alloc, drawing);
         let fault = self.fault(drawing);
         if fault.is_none() {
-            self.list(alloc, drawing, width, size);
+            is_short |= self.list(alloc, drawing, width, size);
         }
-        if self.ran_short() {
+        if is_short {
             return Err(OutOfMemory::NoMemory);
         }
         Ok(fault)
@@ -132,7 +122,6 @@ impl Filling {
             outs,
             nets,
             serials,
-            ..
         } = self;
         Ok(Tables {
             width,
