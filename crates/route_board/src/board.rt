@@ -1,63 +1,62 @@
-// A pattern's cells, with what each belongs to.
+// A pattern's cells and its gates, with the wires between these.
 
-use crate::steps::STEPS;
+use crate::owners::{Owner, Owners};
+use crate::table::{LineKind, TableCell};
 use gate_library::GateLibrary;
-use lists::OutOfMemory;
+use lists::{List, OutOfMemory};
 use pattern_reading::Ports;
-use routed_core::{DrawnGate, DrawnPort, DrawnWire};
+use routed_core::{Drawing, DrawnGate, DrawnPort, DrawnWire, GatePort, Shape};
 use std::alloc::Global;
 use ww_rule::{Pattern, State};
 
-/// What a cell belongs to.
-#[derive(Clone, Copy, PartialEq)]
-pub enum Owner {
-    /// The cell is empty.
-    Nobody,
-    /// The cell is drawn, and belongs to nothing yet.
-    Open,
-    /// The gate with this number.
-    Gate(u32),
-    /// A wire.
-    Wire,
-}
-
-/// The cells of a box, by columns and rows, and the parts of the drawing that are known. It is noted whether memory
-/// ran out.
+/// The wires of a drawing with their start bits, and the ports of its inputs, outputs and nets. It is noted whether
+/// memory ran out.
 #[derive(Drop)]
-pub struct Board {
-    pub width: u32,
-    pub height: u32,
-    pub period: u32,
-    pub latency: u32,
-    owners: Vec<Owner>,
-    pub library: GateLibrary,
-    pub gates: Vec<DrawnGate>,
+pub struct Wiring {
     pub wires: Vec<DrawnWire>,
-    pub path: Vec<(u32, u32)>,
     pub starts: Vec<bool>,
-    pub ins: Vec<DrawnPort>,
-    pub outs: Vec<DrawnPort>,
-    pub nets: Vec<Option<DrawnPort>>,
+    ins: Vec<DrawnPort>,
+    outs: Vec<DrawnPort>,
+    nets: Vec<Option<DrawnPort>>,
     pub is_short: bool,
 }
 
-// The number of a cell of a box with so many columns and so many cells. It is past the last cell's if the
-// cell is outside.
-fn number_of(width: u32, count: usize, cell: (u32, u32)) -> usize {
-    let (x, y) = cell;
-    if x >= width {
-        return count;
-    }
-    (y as usize)
-        .saturating_mul(width as usize)
-        .saturating_add(x as usize)
+/// The cells of a box with what each belongs to, and the parts of the drawing that are known. It is noted whether
+/// memory ran out.
+#[derive(Drop)]
+pub struct Board {
+    pub owners: Owners,
+    height: u32,
+    pub period: u32,
+    pub latency: u32,
+    pub library: GateLibrary,
+    pub gates: Vec<DrawnGate>,
+    pub path: Vec<(u32, u32)>,
+    pub wiring: Wiring,
+    pub is_short: bool,
 }
 
-// Gives a cell of a box with so many columns to an owner.
-fn give(owners: &mut [Owner], width: u32, cell: (u32, u32), owner: Owner) {
-    let number = number_of(width, owners.len(), cell);
-    if number < owners.len() {
-        owners[number] = owner;
+impl Wiring {
+    fn new(alloc: Global) -> Wiring {
+        Wiring {
+            wires: Vec::new(alloc),
+            starts: Vec::new(alloc),
+            ins: Vec::new(alloc),
+            outs: Vec::new(alloc),
+            nets: Vec::new(alloc),
+            is_short: false,
+        }
+    }
+
+    // Adds the port of a line, and answers whether it is there, or that of a net.
+    fn add_port(&mut self, kind: LineKind, port: Option<DrawnPort>) -> bool {
+        self.is_short |= match (kind, port) {
+            (LineKind::In, Some(port)) => self.ins.push(port).is_err(),
+            (LineKind::Out, Some(port)) => self.outs.push(port).is_err(),
+            (LineKind::Net, port) => self.nets.push(port).is_err(),
+            _ => return false,
+        };
+        true
     }
 }
 
@@ -77,21 +76,16 @@ impl Board {
         ) else {
             return Ok(None);
         };
-        let cells = (width as usize).saturating_mul(height as usize);
+        let library = GateLibrary::new(alloc)?;
         let mut board = Board {
-            width,
+            owners: Owners::new(alloc, width),
             height,
             period,
             latency,
-            library: GateLibrary::new(alloc)?,
-            owners: Vec::with_capacity(alloc, cells)?,
+            library,
             gates: Vec::new(alloc),
-            wires: Vec::new(alloc),
             path: Vec::new(alloc),
-            starts: Vec::new(alloc),
-            ins: Vec::new(alloc),
-            outs: Vec::new(alloc),
-            nets: Vec::new(alloc),
+            wiring: Wiring::new(alloc),
             is_short: false,
         };
         board.add_cells(pattern);
@@ -100,90 +94,105 @@ impl Board {
 
     // Adds the cells of a pattern, row by row.
     fn add_cells(&mut self, pattern: &Pattern) {
+        let count = (self.owners.width as usize).saturating_mul(self.height as usize);
+        self.is_short |= self.owners.cells.reserve(count).is_err();
         for y in 0..pattern.rows.len() {
             for state in pattern.rows.row(y) {
                 let owner = match state {
                     State::Empty => Owner::Nobody,
                     _ => Owner::Open,
                 };
-                self.is_short |= self.owners.push(owner).is_err();
+                self.is_short |= self.owners.cells.push(owner).is_err();
             }
+        }
+    }
+
+    // Gives the cells of a gate's drawing to the gate, which has this number.
+    fn draw(&mut self, gate: DrawnGate, number: u32) {
+        if let Shape::Lone = gate.kind.shape {
+            self.owners.give((gate.x, gate.y), Owner::Lone(number));
+        } else {
+            let drawing = self.library.drawing(gate.kind);
+            self.owners.draw(drawing, gate, number);
         }
     }
 
     /// Adds a gate, to which the cells of its drawing go.
     pub fn add_gate(&mut self, gate: DrawnGate) {
         let number = u32::try_from(self.gates.len()).unwrap_or(u32::MAX);
-        let drawing = self.library.drawing(gate.kind);
-        let (mut x, mut y) = (0u32, 0u32);
-        for state in drawing.cells.as_slice() {
-            if *state != State::Empty {
-                let cell = (gate.x.saturating_add(x), gate.y.saturating_add(y));
-                give(&mut self.owners, self.width, cell, Owner::Gate(number));
-            }
-            x = x.saturating_add(1);
-            if x == drawing.width {
-                (x, y) = (0, y.saturating_add(1));
-            }
-        }
+        self.draw(gate, number);
         self.is_short |= self.gates.push(gate).is_err();
     }
 
-    /// Returns what a cell belongs to. A cell outside the box is empty.
-    pub fn owner(&self, cell: (u32, u32)) -> Owner {
-        let number = number_of(self.width, self.owners.len(), cell);
-        if number < self.owners.len() {
-            self.owners[number]
-        } else {
-            Owner::Nobody
+    /// Puts a gate that has the same cells, but maybe other ports at them, in place of the one with this number.
+    pub fn put_gate(&mut self, gate: DrawnGate, number: u32) {
+        self.draw(gate, number);
+        let place = number as usize;
+        if place < self.gates.len() {
+            self.gates[place] = gate;
         }
     }
 
-    /// Returns whether a cell is drawn.
-    pub fn is_drawn(&self, cell: (u32, u32)) -> bool {
-        self.owner(cell) != Owner::Nobody
-    }
-
-    /// Returns how many cells beside one are drawn.
-    pub fn drawn_beside(&self, cell: (u32, u32)) -> u32 {
-        let mut count = 0u32;
-        for step in STEPS {
-            if self.is_drawn(step.from(cell)) {
-                count = count.saturating_add(1);
-            }
-        }
-        count
-    }
-
-    // The one drawn cell beside a cell but the one before, or the cell itself if there is none, or more than one.
-    fn next_cell(&self, cell: (u32, u32), before: (u32, u32)) -> (u32, u32) {
-        let mut next = cell;
-        for step in STEPS {
-            let beside = step.from(cell);
-            if beside != before && self.is_drawn(beside) {
-                if next != cell {
-                    return cell;
-                }
-                next = beside;
-            }
-        }
-        next
+    /// Returns the port of a gate at a cell. Of a lone cell, which is both, it is the input.
+    pub fn port_at(&self, cell: (u32, u32)) -> Option<DrawnPort> {
+        let (gate, port) = match self.owners.of(cell) {
+            Owner::Lone(gate) => (gate, GatePort::In(0)),
+            Owner::In { gate, input } => (gate, GatePort::In(u32::from(input))),
+            Owner::Out { gate, output } => (gate, GatePort::Out(u32::from(output))),
+            _ => return None,
+        };
+        Some(DrawnPort { gate, port })
     }
 
     /// Follows a wire from its first cell, which is open and beside the cell `before`, and returns the cell of a gate
     /// to which it leads, or its last cell if it leads to none. Its cells are given to it and are added to the path.
     pub fn trace(&mut self, before: (u32, u32), first: (u32, u32)) -> (u32, u32) {
         let (mut last, mut cell) = (before, first);
-        for _ in 0..self.owners.len() {
-            give(self.owners.as_mut_slice(), self.width, cell, Owner::Wire);
+        for _ in 0..self.owners.cells.len() {
+            self.owners.give(cell, Owner::Wire);
             self.is_short |= self.path.push(cell).is_err();
-            let next = self.next_cell(cell, last);
-            match self.owner(next) {
+            let next = self.owners.next_cell(cell, last);
+            match self.owners.of(next) {
                 Owner::Open => (last, cell) = (cell, next),
-                Owner::Gate(_) => return next,
-                _ => break,
+                Owner::Nobody | Owner::Wire => break,
+                _ => return next,
             }
         }
         cell
+    }
+
+    /// Adds the ports at the cells of the port table, and answers whether each input and each output is at one.
+    pub fn add_ports(&mut self, table: &[TableCell]) -> bool {
+        let mut are_there = true;
+        for line in table {
+            let port = self.port_at(line.cell);
+            are_there &= self.wiring.add_port(line.kind, port);
+        }
+        are_there
+    }
+
+    /// Puts the drawing together.
+    pub fn into_drawing(self) -> Drawing {
+        let Wiring {
+            wires,
+            starts,
+            ins,
+            outs,
+            nets,
+            ..
+        } = self.wiring;
+        Drawing {
+            width: self.owners.width,
+            height: self.height,
+            period: self.period,
+            latency: self.latency,
+            gates: List::of(self.gates),
+            wires: List::of(wires),
+            path: List::of(self.path),
+            starts: List::of(starts),
+            ins: List::of(ins),
+            outs: List::of(outs),
+            nets: List::of(nets),
+        }
     }
 }

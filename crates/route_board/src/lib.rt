@@ -3,12 +3,13 @@
 #![tactic(auto)]
 
 mod board;
-mod drawing;
+mod owners;
 mod ports;
 mod steps;
 mod table;
 
-pub use board::{Board, Owner};
-pub use ports::{port_cell, port_of};
+pub use board::{Board, Wiring};
+pub use owners::{Beside, Owner, Owners};
+pub use ports::port_cell;
 pub use steps::{STEPS, Step};
-pub use table::{LineKind, TableCell, add_cells};
+pub use table::{LineKind, TableCell, TableCells};

@@ -1,15 +1,15 @@
 // Crossings whose second input is lit before the first are mirrored, where that is their own drawing.
 
-use crate::cells::Found;
-use routed_core::{DrawnPort, GatePort, Shape, Turn};
+use crate::times::Times;
+use routed_core::{DrawnGate, DrawnPort, GatePort, Shape, Turn};
 
 /// Returns whether a gate is such a crossing.
-pub fn is_mirrored(found: &Found, gate: u32) -> bool {
+pub fn is_mirrored(times: &Times, gates: &[DrawnGate], gate: u32) -> bool {
     let first = gate.saturating_mul(2);
-    match found.board.gates.get(gate as usize) {
+    match gates.get(gate as usize) {
         Some(drawn) => {
             matches!(drawn.kind.shape, Shape::Cross | Shape::TapTwice)
-                && found.generation(first.saturating_add(1)) < found.generation(first)
+                && times.generation(first.saturating_add(1)) < times.generation(first)
         }
         None => false,
     }
@@ -31,8 +31,8 @@ pub fn mirrored(turn: Turn) -> Turn {
 
 /// Returns a port after crossings have been mirrored: their inputs change places, and so do the outputs on their two
 /// sides, which are numbered in pairs.
-pub fn port_after(found: &Found, port: DrawnPort) -> DrawnPort {
-    if !is_mirrored(found, port.gate) {
+pub fn port_after(times: &Times, gates: &[DrawnGate], port: DrawnPort) -> DrawnPort {
+    if !is_mirrored(times, gates, port.gate) {
         return port;
     }
     DrawnPort {

@@ -1,6 +1,5 @@
 // The search.
 
-use crate::cells::{Found, Use};
 use crate::error::FindError;
 use crate::gates::find_gates;
 use crate::links::{follow_rings, follow_wires};
@@ -11,8 +10,9 @@ use crate::templates::Templates;
 use crate::times::find_times;
 use crate::uses::{chain_links, fault_of_ends, note_table};
 use crate::ways::direct_wires;
+use crate::wires::{Links, Use};
 use pattern_reading::Ports;
-use route_board::{Board, TableCell, add_cells};
+use route_board::{Board, TableCell, TableCells};
 use routed_core::Drawing;
 use std::alloc::Global;
 use ww_rule::Pattern;
@@ -22,81 +22,113 @@ const MOST_GENERATIONS: u32 = 2147483648;
 
 // Finds all gates, lone cells among them, and returns the first fault of these.
 fn find_all_gates(alloc: Global, board: &mut Board, table: &[TableCell]) -> Option<FindError> {
-    let mut templates = Templates {
-        all: Vec::new(alloc),
-        nears: Vec::new(alloc),
-        is_short: false,
-    };
+    let mut templates = Templates::new(alloc);
     templates.add_all(&board.library);
     board.is_short |= templates.is_short;
     find_gates(board, &templates);
     add_table_cells(board, table);
     add_ends(board);
-    match fault_of_lone_cells(board, &templates) {
+    let fault = fault_of_lone_cells(board, &templates);
+    drop(templates);
+    match fault {
         Some(fault) => Some(fault),
         None => fault_of_table(board, table),
     }
 }
 
-// Makes room for what is known of each gate.
-fn add_uses(found: &mut Found) {
+// Finds the wires between gates, and in which direction each runs.
+fn find_wires(links: &mut Links, board: &mut Board, pattern: &Pattern, table: &[TableCell]) {
+    follow_wires(links, board, pattern, 0);
+    follow_rings(links, board, pattern);
     let none = Use {
         link: u32::MAX,
         count: 0,
     };
-    let gates = found.board.gates.len();
-    let count = gates.saturating_mul(2);
-    found.board.is_short |= found.uses.resize(gates, none).is_err();
-    found.board.is_short |= found.are_fed.resize(count, false).is_err();
-    found.board.is_short |= found.times.resize(count, None).is_err();
+    let gates = board.gates.len();
+    links.is_short |= links.uses.resize(gates, none).is_err();
+    links.is_short |= links
+        .are_fed
+        .resize(gates.saturating_mul(2), false)
+        .is_err();
+    chain_links(links.uses.as_mut_slice(), links.all.as_mut_slice());
+    note_table(links, board, table);
+    direct_wires(links, board, pattern);
+    let fault = fault_of_ends(links, board, pattern);
+    links.note(fault);
 }
 
-// Finds gates and the wires between them, and when each gate is lit, on a board on which nothing is found yet.
-fn search(alloc: Global, found: &mut Found, pattern: &Pattern, ports: &Ports) {
-    let mut table = Vec::new(alloc);
-    found.board.is_short |= add_cells(&mut table, ports);
-    found.fault = find_all_gates(alloc, &mut found.board, table.as_slice());
-    if found.fault.is_some() {
-        return;
-    }
-    follow_wires(found, pattern, 0);
-    follow_rings(found, pattern);
-    add_uses(found);
-    chain_links(found.uses.as_mut_slice(), found.links.as_mut_slice());
-    note_table(found, table.as_slice());
-    direct_wires(alloc, found, pattern);
-    found.note(fault_of_ends(found, pattern));
-    find_times(alloc, found, pattern, table.as_slice());
-    find_periods(alloc, found, table.as_slice());
-    add_wires(found, pattern);
-    time_gates(found);
-    found.board.add_ports(table.as_slice());
-}
-
-// The drawing of a pattern on whose board nothing is found yet.
-fn drawn_on(
+// Adds the wires that were found and the ports of the table, and finds when each gate is lit.
+fn finish(
     alloc: Global,
-    board: Board,
+    links: &mut Links,
+    board: &mut Board,
     pattern: &Pattern,
-    ports: &Ports,
-) -> Result<Drawing, FindError> {
-    let mut found = Found {
-        board,
-        links: Vec::new(alloc),
+    table: &[TableCell],
+) {
+    let mut times = find_times(alloc, links, board, pattern, table);
+    find_periods(alloc, &mut times, links, board, table);
+    let fault = add_wires(board, &times, pattern, links);
+    links.note(fault);
+    time_gates(board, &times);
+    board.add_ports(table);
+    board.is_short |= times.is_short;
+    drop(times);
+}
+
+// Finds gates and the wires between them, and when each gate is lit, on a board on which nothing is found yet. Returns
+// the first fault.
+fn search(
+    alloc: Global,
+    board: &mut Board,
+    pattern: &Pattern,
+    table: &[TableCell],
+) -> Option<FindError> {
+    let mut links = Links {
+        all: Vec::new(alloc),
         uses: Vec::new(alloc),
         are_fed: Vec::new(alloc),
-        times: Vec::new(alloc),
-        fault: None,
+        todo: Vec::new(alloc),
+        fault: find_all_gates(alloc, board, table),
+        is_short: false,
     };
-    search(alloc, &mut found, pattern, ports);
-    let (fault, is_short) = (found.fault, found.board.is_short);
-    if fault.is_none() && !is_short {
-        return Ok(found.board.into_drawing());
+    if links.fault.is_none() {
+        find_wires(&mut links, board, pattern, table);
+        finish(alloc, &mut links, board, pattern, table);
     }
-    drop(found);
+    board.is_short |= links.is_short;
+    let fault = links.fault;
+    drop(links);
+    fault
+}
+
+// Finds all on the board of a pattern, and returns the first fault.
+fn find_on(
+    alloc: Global,
+    board: &mut Board,
+    pattern: &Pattern,
+    ports: &Ports,
+) -> Option<FindError> {
+    let mut table = TableCells::new(alloc);
+    table.add_all(ports);
+    board.is_short |= table.is_short;
+    let fault = search(alloc, board, pattern, table.all.as_slice());
+    drop(table);
+    fault
+}
+
+// The drawing on a board with this fault.
+fn drawn_on(board: Board, fault: Option<FindError>) -> Result<Drawing, FindError> {
+    let is_short = board.is_short || board.wiring.is_short;
     match fault {
-        Some(fault) if !is_short => Err(fault),
-        _ => Err(FindError::NoMemory),
+        None if !is_short => Ok(board.into_drawing()),
+        Some(fault) if !is_short => {
+            drop(board);
+            Err(fault)
+        }
+        _ => {
+            drop(board);
+            Err(FindError::NoMemory)
+        }
     }
 }
 
@@ -105,8 +137,9 @@ fn drawn_on(
 /// two cells beside each; and cells at which wires end or meet are lone cells.
 pub fn find(alloc: Global, pattern: &Pattern, ports: &Ports) -> Result<Drawing, FindError> {
     match Board::new(alloc, pattern, ports) {
-        Ok(Some(board)) if board.period.max(board.latency) <= MOST_GENERATIONS => {
-            drawn_on(alloc, board, pattern, ports)
+        Ok(Some(mut board)) if board.period.max(board.latency) <= MOST_GENERATIONS => {
+            let fault = find_on(alloc, &mut board, pattern, ports);
+            drawn_on(board, fault)
         }
         Ok(_) => Err(FindError::TooLarge),
         Err(_) => Err(FindError::NoMemory),

@@ -2,20 +2,19 @@
 //! and a check tests the drawing that it finds.
 #![tactic(auto)]
 
-mod cells;
 mod crossings;
 mod error;
 mod finder;
 mod gates;
 mod links;
 mod lone;
-mod near;
 mod periods;
 mod result;
 mod templates;
 mod times;
 mod uses;
 mod ways;
+mod wires;
 
 pub use error::{DrawingFault, FindError};
 pub use finder::find;

@@ -3,7 +3,7 @@
 use crate::error::{DrawingFault, FindError};
 use crate::gates::fault_near;
 use crate::templates::Templates;
-use route_board::{Board, LineKind, Owner, STEPS, TableCell};
+use route_board::{Board, LineKind, Owner, TableCell};
 use routed_core::{DrawnGate, GateKind, Shape, Turn};
 
 /// Makes a cell a lone cell.
@@ -20,22 +20,13 @@ pub fn add_lone(board: &mut Board, cell: (u32, u32)) {
     });
 }
 
-// Whether a cell is beside one of a gate.
-fn is_beside_gate(board: &Board, cell: (u32, u32)) -> bool {
-    for step in STEPS {
-        if matches!(board.owner(step.from(cell)), Owner::Gate(_)) {
-            return true;
-        }
-    }
-    false
-}
-
 /// Makes the cells of the port table lone cells, if they are not of gates. A net's cell that is beside a gate stays
 /// as it is.
 pub fn add_table_cells(board: &mut Board, table: &[TableCell]) {
     for line in table {
-        let is_left = matches!(line.kind, LineKind::Net) && is_beside_gate(board, line.cell);
-        if !is_left && board.owner(line.cell) == Owner::Open {
+        let is_open = matches!(board.owners.of(line.cell), Owner::Open);
+        let is_net = matches!(line.kind, LineKind::Net);
+        if is_open && !(is_net && board.owners.beside(line.cell).gates > 0) {
             add_lone(board, line.cell);
         }
     }
@@ -43,11 +34,11 @@ pub fn add_table_cells(board: &mut Board, table: &[TableCell]) {
 
 /// Makes each cell a lone cell at which a wire ends, or wires meet.
 pub fn add_ends(board: &mut Board) {
-    for y in 0..board.height {
-        for x in 0..board.width {
-            if board.owner((x, y)) == Owner::Open && board.drawn_beside((x, y)) != 2 {
-                add_lone(board, (x, y));
-            }
+    for number in 0..board.owners.count() {
+        let cell = board.owners.cell(number);
+        let is_open = matches!(board.owners.of(cell), Owner::Open);
+        if is_open && board.owners.beside(cell).drawn != 2 {
+            add_lone(board, cell);
         }
     }
 }
@@ -56,8 +47,9 @@ pub fn add_ends(board: &mut Board) {
 pub fn fault_of_lone_cells(board: &Board, templates: &Templates) -> Option<FindError> {
     for gate in &board.gates {
         let cell = (gate.x, gate.y);
-        if gate.kind.shape == Shape::Lone && is_beside_gate(board, cell) {
-            return Some(fault_near(board, templates, cell));
+        let is_lone = matches!(gate.kind.shape, Shape::Lone);
+        if is_lone && board.owners.beside(cell).gates > 0 {
+            return Some(fault_near(&board.owners, templates, cell));
         }
     }
     None
@@ -66,7 +58,8 @@ pub fn fault_of_lone_cells(board: &Board, templates: &Templates) -> Option<FindE
 /// Returns the fault of the first input or output of the port table that is at no port of a gate.
 pub fn fault_of_table(board: &Board, table: &[TableCell]) -> Option<FindError> {
     for line in table {
-        if !matches!(line.kind, LineKind::Net) && board.port_at(line.cell).is_none() {
+        let is_net = matches!(line.kind, LineKind::Net);
+        if !is_net && board.port_at(line.cell).is_none() {
             return Some(FindError::at(DrawingFault::Port, line.cell));
         }
     }

@@ -1,67 +1,72 @@
 // How many whole periods after its time modulo the period each gate begins: as few as the outputs and nets ask for.
 
-use crate::cells::Found;
-use crate::times::{port_time, span_of};
-use route_board::{LineKind, TableCell};
+use crate::times::{Times, port_time};
+use crate::wires::Links;
+use route_board::{Board, LineKind, TableCell};
 use std::alloc::Global;
 use std::collections::BinaryHeap;
 
+// The times that were raised, with their generations.
+type Raised = BinaryHeap<(i64, u32)>;
+
 // Lets a time be no earlier than a generation, as far as whole periods go.
-fn raise(found: &mut Found, todo: &mut BinaryHeap<(i64, u32)>, number: u32, least: i64) {
-    let (time, period) = (found.generation(number), i64::from(found.board.period));
+fn raise(times: &mut Times, todo: &mut Raised, number: u32, least: i64) {
+    let (time, period) = (times.generation(number), i64::from(times.period));
     let periods = least.saturating_sub(time).checked_div(period).unwrap_or(0);
     let periods = i64::from(u32::try_from(periods).unwrap_or(0));
     let place = number as usize;
-    if periods > 0 && place < found.times.len() {
+    if periods > 0 && place < times.all.len() {
         let raised = time.saturating_add(periods.saturating_mul(period));
-        found.times[place] = Some(raised);
-        found.board.is_short |= todo.push((raised, number)).is_err();
+        times.all[place] = Some(raised);
+        times.is_short |= todo.push((raised, number)).is_err();
     }
 }
 
 // The outputs and nets of the table are lit at their generations.
-fn begin_at_table(found: &mut Found, todo: &mut BinaryHeap<(i64, u32)>, table: &[TableCell]) {
+fn begin_at_table(times: &mut Times, todo: &mut Raised, board: &Board, table: &[TableCell]) {
     for line in table {
-        if !matches!(line.kind, LineKind::In) {
-            if let Some(port) = found.board.port_at(line.cell) {
-                let at = port_time(found, port);
-                let generation = i64::try_from(line.generation).unwrap_or(i64::MAX);
-                let least = generation.saturating_sub(i64::from(at.after));
-                raise(found, todo, at.number, least);
-            }
+        let port = board.port_at(line.cell);
+        if let (LineKind::Out | LineKind::Net, Some(port)) = (line.kind, port) {
+            let at = port_time(board, port);
+            let generation = i64::try_from(line.generation).unwrap_or(i64::MAX);
+            let least = generation.saturating_sub(i64::from(at.after));
+            raise(times, todo, at.number, least);
         }
     }
 }
 
 // The wires to a gate are no less than 0 periods long.
-fn spread(found: &mut Found, todo: &mut BinaryHeap<(i64, u32)>, time: u32) {
-    let (gate, generation) = (time / 2, found.generation(time));
-    let mut number = found.first_link(gate);
-    for _ in 0..found.links.len() {
-        let Some(link) = found.links.get(number as usize).copied() else {
+fn spread(times: &mut Times, todo: &mut Raised, links: &Links, time: u32) {
+    let (gate, generation) = (time / 2, times.generation(time));
+    let mut number = links.first_at(gate);
+    for _ in 0..links.all.len() {
+        let place = number as usize;
+        let (Some(link), Some(span)) = (links.all.get(place), times.spans.get(place).copied())
+        else {
             break;
         };
-        let span = span_of(found, &link);
-        if span.to == time {
-            raise(
-                found,
-                todo,
-                span.from,
-                generation.saturating_sub(span.shift),
-            );
+        if span.to.number == time {
+            let least = generation.saturating_sub(span.shift);
+            raise(times, todo, span.from.number, least);
         }
         number = link.next_at(gate);
     }
 }
 
 /// Finds the periods of all times.
-pub fn find_periods(alloc: Global, found: &mut Found, table: &[TableCell]) {
+pub fn find_periods(
+    alloc: Global,
+    times: &mut Times,
+    links: &Links,
+    board: &Board,
+    table: &[TableCell],
+) {
     let mut todo = BinaryHeap::new(alloc);
-    begin_at_table(found, &mut todo, table);
-    for _ in 0..found.times.len().saturating_add(found.links.len()) {
+    begin_at_table(times, &mut todo, board, table);
+    for _ in 0..times.all.len().saturating_add(links.all.len()) {
         let Some((_, time)) = todo.pop() else {
             break;
         };
-        spread(found, &mut todo, time);
+        spread(times, &mut todo, links, time);
     }
 }

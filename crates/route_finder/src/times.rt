@@ -1,8 +1,8 @@
 // When each gate is lit, modulo the period.
 
-use crate::cells::{Found, Link, state_at};
+use crate::wires::{Links, cells_of, state_at};
 use gate_library::{Answer, GateDrawing, Timing};
-use route_board::{LineKind, TableCell};
+use route_board::{Board, LineKind, TableCell};
 use routed_core::{DrawnPort, GatePort};
 use std::alloc::Global;
 use ww_rule::{Pattern, State};
@@ -16,13 +16,24 @@ pub struct PortTime {
     pub after: u32,
 }
 
-/// The numbers of the times of a wire's beginning and of its end, and by how much the second is greater if the wire is
-/// no period long.
+/// The times of a wire's beginning and of its end, and by how much the second time is greater than the first if the
+/// wire is no period long.
 #[derive(Clone, Copy)]
 pub struct Span {
-    pub from: u32,
-    pub to: u32,
+    pub from: PortTime,
+    pub to: PortTime,
     pub shift: i64,
+}
+
+/// The generations of all times, as far as they are known; the spans of all wires; and the times that were noted and
+/// from which others may follow. It is noted whether memory ran out.
+#[derive(Drop)]
+pub struct Times {
+    pub all: Vec<Option<i64>>,
+    pub spans: Vec<Span>,
+    todo: Vec<u32>,
+    pub period: u32,
+    pub is_short: bool,
 }
 
 // The input of a port, which is that which an output copies, and how long after a time it is lit.
@@ -46,12 +57,12 @@ fn input_and_delay(drawing: &GateDrawing, port: GatePort) -> (u32, u32) {
 }
 
 /// Returns the time of a port.
-pub fn port_time(found: &Found, port: DrawnPort) -> PortTime {
+pub fn port_time(board: &Board, port: DrawnPort) -> PortTime {
     let number = port.gate.saturating_mul(2);
-    let Some(gate) = found.board.gates.get(port.gate as usize) else {
+    let Some(gate) = board.gates.get(port.gate as usize) else {
         return PortTime { number, after: 0 };
     };
-    let drawing = found.board.library.drawing(gate.kind);
+    let drawing = board.library.drawing(gate.kind);
     let (input, after) = input_and_delay(drawing, port.port);
     let number = match drawing.timing {
         Timing::Together => number,
@@ -60,111 +71,129 @@ pub fn port_time(found: &Found, port: DrawnPort) -> PortTime {
     PortTime { number, after }
 }
 
-/// Returns the span of a wire.
-pub fn span_of(found: &Found, link: &Link) -> Span {
-    let (from, to) = (port_time(found, link.from), port_time(found, link.to));
-    let length = i64::from(link.size) + 1;
-    Span {
-        from: from.number,
-        to: to.number,
-        shift: i64::from(from.after) + length - i64::from(to.after),
-    }
-}
-
-/// Returns how many generations before the end of a wire its nearest head is.
-pub fn nearest_head(found: &Found, pattern: &Pattern, link: &Link) -> Option<u32> {
-    let cells = found.cells_of(link);
+/// Returns how many generations before the end of a wire of these cells its nearest head is.
+pub fn nearest_head(pattern: &Pattern, cells: &[(u32, u32)]) -> Option<u32> {
     for place in (0..cells.len()).rev() {
-        if state_at(pattern, cells[place]) == State::Head {
+        if let State::Head = state_at(pattern, cells[place]) {
             return u32::try_from(cells.len() - place).ok();
         }
     }
     None
 }
 
-// Notes a time that is not yet known, modulo the period.
-fn note(found: &mut Found, todo: &mut Vec<u32>, number: u32, generation: i64) {
-    let (place, period) = (number as usize, i64::from(found.board.period.max(1)));
-    if place < found.times.len() && found.times[place].is_none() {
-        found.times[place] = Some(generation.rem_euclid(period));
-        found.board.is_short |= todo.push(number).is_err();
-    }
-}
-
-// Notes the times at the other ends of a gate's wires.
-fn spread(found: &mut Found, todo: &mut Vec<u32>, time: u32) {
-    let (gate, generation) = (time / 2, found.generation(time));
-    let mut number = found.first_link(gate);
-    for _ in 0..found.links.len() {
-        let Some(link) = found.links.get(number as usize).copied() else {
-            break;
-        };
-        let span = span_of(found, &link);
-        if span.from == time {
-            note(found, todo, span.to, generation.saturating_add(span.shift));
-        } else if span.to == time {
-            note(
-                found,
-                todo,
-                span.from,
-                generation.saturating_sub(span.shift),
-            );
+impl Times {
+    /// Returns the generation of a time, which is 0 if it is not known.
+    pub fn generation(&self, time: u32) -> i64 {
+        match self.all.get(time as usize) {
+            Some(Some(generation)) => *generation,
+            _ => 0,
         }
-        number = link.next_at(gate);
     }
-}
 
-// Notes the time of a port that is lit at this generation, and all that hang on it.
-fn begin(found: &mut Found, todo: &mut Vec<u32>, port: DrawnPort, generation: u32) {
-    let at = port_time(found, port);
-    let generation = i64::from(generation) - i64::from(at.after);
-    note(found, todo, at.number, generation);
-    for _ in 0..found.times.len() {
-        let Some(time) = todo.pop() else {
-            break;
-        };
-        spread(found, todo, time);
+    // Adds the spans of all wires.
+    fn add_spans(&mut self, links: &Links, board: &Board) {
+        for link in &links.all {
+            let (from, to) = (port_time(board, link.from), port_time(board, link.to));
+            let length = i64::from(link.size) + 1;
+            let shift = i64::from(from.after) + length - i64::from(to.after);
+            self.is_short |= self.spans.push(Span { from, to, shift }).is_err();
+        }
     }
-}
 
-// The inputs and the outputs are lit at the generations of the port table.
-fn begin_at_table(found: &mut Found, todo: &mut Vec<u32>, table: &[TableCell]) {
-    for line in table {
-        if !matches!(line.kind, LineKind::Net) {
-            if let Some(port) = found.board.port_at(line.cell) {
+    // Notes a time that is not yet known, modulo the period.
+    fn note(&mut self, number: u32, generation: i64) {
+        let (place, period) = (number as usize, i64::from(self.period.max(1)));
+        if place < self.all.len() && self.all[place].is_none() {
+            self.all[place] = Some(generation.rem_euclid(period));
+            self.is_short |= self.todo.push(number).is_err();
+        }
+    }
+
+    // Notes the times at the other ends of a gate's wires.
+    fn spread(&mut self, links: &Links, time: u32) {
+        let (gate, generation) = (time / 2, self.generation(time));
+        let mut number = links.first_at(gate);
+        for _ in 0..links.all.len() {
+            let place = number as usize;
+            let (Some(link), Some(span)) = (links.all.get(place), self.spans.get(place).copied())
+            else {
+                break;
+            };
+            if span.from.number == time {
+                self.note(span.to.number, generation.saturating_add(span.shift));
+            } else if span.to.number == time {
+                self.note(span.from.number, generation.saturating_sub(span.shift));
+            }
+            number = link.next_at(gate);
+        }
+    }
+
+    // Notes the time of a port that is lit at this generation, and all that hang on it.
+    fn begin(&mut self, links: &Links, at: PortTime, generation: u32) {
+        self.note(at.number, i64::from(generation) - i64::from(at.after));
+        for _ in 0..self.all.len() {
+            let Some(time) = self.todo.pop() else {
+                break;
+            };
+            self.spread(links, time);
+        }
+    }
+
+    // The inputs and the outputs are lit at the generations of the port table.
+    fn begin_at_table(&mut self, links: &Links, board: &Board, table: &[TableCell]) {
+        for line in table {
+            let port = board.port_at(line.cell);
+            if let (LineKind::In | LineKind::Out, Some(port)) = (line.kind, port) {
                 let generation = u32::try_from(line.generation).unwrap_or(0);
-                begin(found, todo, port, generation);
+                self.begin(links, port_time(board, port), generation);
             }
         }
     }
-}
 
-// The nearest head of each wire tells when the wire's end is lit.
-fn begin_at_heads(found: &mut Found, todo: &mut Vec<u32>, pattern: &Pattern) {
-    for number in 0..found.links.len() {
-        if let Some(link) = found.links.get(number).copied() {
-            if let Some(distance) = nearest_head(found, pattern, &link) {
-                begin(found, todo, link.to, distance);
+    // The nearest head of each wire tells when the wire's end is lit.
+    fn begin_at_heads(&mut self, links: &Links, path: &[(u32, u32)], pattern: &Pattern) {
+        for number in 0..self.spans.len() {
+            let cells = match links.all.get(number) {
+                Some(link) => cells_of(path, link),
+                None => &[],
+            };
+            let span = self.spans.get(number).copied();
+            if let (Some(span), Some(distance)) = (span, nearest_head(pattern, cells)) {
+                self.begin(links, span.to, distance);
             }
         }
     }
-}
 
-// A gate whose time is not known begins at generation 0.
-fn begin_rest(found: &mut Found, todo: &mut Vec<u32>) {
-    for number in 0..found.links.len() {
-        if let Some(link) = found.links.get(number).copied() {
-            let after = port_time(found, link.from).after;
-            begin(found, todo, link.from, after);
+    // A gate whose time is not known begins at generation 0.
+    fn begin_rest(&mut self, links: &Links) {
+        for number in 0..self.spans.len() {
+            if let Some(span) = self.spans.get(number).copied() {
+                self.begin(links, span.from, span.from.after);
+            }
         }
     }
 }
 
 /// Finds the times of gates from those of inputs, outputs and electrons. A gate on which none of these hangs begins at
 /// generation 0.
-pub fn find_times(alloc: Global, found: &mut Found, pattern: &Pattern, table: &[TableCell]) {
-    let mut todo = Vec::new(alloc);
-    begin_at_table(found, &mut todo, table);
-    begin_at_heads(found, &mut todo, pattern);
-    begin_rest(found, &mut todo);
+pub fn find_times(
+    alloc: Global,
+    links: &Links,
+    board: &Board,
+    pattern: &Pattern,
+    table: &[TableCell],
+) -> Times {
+    let mut times = Times {
+        all: Vec::new(alloc),
+        spans: Vec::new(alloc),
+        todo: Vec::new(alloc),
+        period: board.period,
+        is_short: false,
+    };
+    times.is_short |= times.all.resize(links.are_fed.len(), None).is_err();
+    times.add_spans(links, board);
+    times.begin_at_table(links, board, table);
+    times.begin_at_heads(links, &board.path, pattern);
+    times.begin_rest(links);
+    times
 }

@@ -1,10 +1,10 @@
 // Which wires are at each gate, and wires that lead nowhere.
 
-use crate::cells::{Found, Link, Use};
 use crate::error::{DrawingFault, FindError};
 use crate::times::nearest_head;
 use crate::ways::feed;
-use route_board::{LineKind, TableCell};
+use crate::wires::{Link, Links, Use, cells_of};
+use route_board::{Board, LineKind, TableCell};
 use routed_core::{DrawnPort, Shape};
 use ww_rule::Pattern;
 
@@ -36,41 +36,41 @@ pub fn chain_links(uses: &mut [Use], links: &mut [Link]) {
 }
 
 /// Notes at which gates the cells of the port table are, and which inputs it drives.
-pub fn note_table(found: &mut Found, table: &[TableCell]) {
+pub fn note_table(links: &mut Links, board: &Board, table: &[TableCell]) {
     for line in table {
-        if let Some(port) = found.board.port_at(line.cell) {
+        if let Some(port) = board.port_at(line.cell) {
             let gate = port.gate as usize;
-            if gate < found.uses.len() {
-                found.uses[gate].count = found.uses[gate].count.saturating_add(1);
+            if gate < links.uses.len() {
+                links.uses[gate].count = links.uses[gate].count.saturating_add(1);
             }
             if matches!(line.kind, LineKind::In) {
-                feed(found.are_fed.as_mut_slice(), port);
+                feed(links.are_fed.as_mut_slice(), port);
             }
         }
     }
 }
 
 // The cell of one end of a wire, if it is alone there and the port table does not name it.
-fn loose_end(found: &Found, link: &Link, end: DrawnPort) -> Option<(u32, u32)> {
+fn loose_end(links: &Links, board: &Board, link: &Link, end: DrawnPort) -> Option<(u32, u32)> {
     let number = end.gate as usize;
-    match (found.uses.get(number), found.board.gates.get(number)) {
+    match (links.uses.get(number), board.gates.get(number)) {
         (Some(used), Some(gate))
             if used.count == 1
                 && link.from.gate != link.to.gate
-                && gate.kind.shape == Shape::Lone => { Some((gate.x, gate.y)) }
+                && matches!(gate.kind.shape, Shape::Lone) => { Some((gate.x, gate.y)) }
         _ => None,
     }
 }
 
 /// Returns the fault of the first wire that leads to a cell, or with no electrons from one, at which it is alone and
 /// which is no cell of the port table.
-pub fn fault_of_ends(found: &Found, pattern: &Pattern) -> Option<FindError> {
-    for link in &found.links {
-        if let Some(cell) = loose_end(found, link, link.to) {
+pub fn fault_of_ends(links: &Links, board: &Board, pattern: &Pattern) -> Option<FindError> {
+    for link in &links.all {
+        if let Some(cell) = loose_end(links, board, link, link.to) {
             return Some(FindError::at(DrawingFault::Wire, cell));
         }
-        if let Some(cell) = loose_end(found, link, link.from) {
-            if nearest_head(found, pattern, link).is_none() {
+        if let Some(cell) = loose_end(links, board, link, link.from) {
+            if nearest_head(pattern, cells_of(&board.path, link)).is_none() {
                 return Some(FindError::at(DrawingFault::Wire, cell));
             }
         }

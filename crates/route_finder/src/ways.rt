@@ -1,17 +1,9 @@
 // In which direction each wire runs.
 
-use crate::cells::{Found, Link, state_at};
+use crate::wires::{Link, Links, Way, cells_of, state_at};
+use route_board::Board;
 use routed_core::{DrawnPort, GatePort};
-use std::alloc::Global;
 use ww_rule::{Pattern, State};
-
-// Which way a wire runs.
-#[derive(Clone, Copy)]
-enum Way {
-    Unknown,
-    Onward,
-    Back,
-}
 
 // The number of an input among those of all gates.
 fn input_number(gate: u32, input: u32) -> usize {
@@ -23,27 +15,28 @@ fn input_number(gate: u32, input: u32) -> usize {
 /// Notes that a wire leads to a port, or that it is driven from outside.
 pub fn feed(are_fed: &mut [bool], port: DrawnPort) {
     if let GatePort::In(input) = port.port {
-        if let Some(is_fed) = are_fed.get_mut(input_number(port.gate, input)) {
-            *is_fed = true;
+        let number = input_number(port.gate, input);
+        if number < are_fed.len() {
+            are_fed[number] = true;
         }
     }
 }
 
 // Whether wires lead from a port: from an output, or an input that is fed.
-fn is_source(found: &Found, port: DrawnPort) -> bool {
+fn is_source(links: &Links, port: DrawnPort) -> bool {
     match port.port {
         GatePort::In(input) => {
             let number = input_number(port.gate, input);
-            found.are_fed.get(number).copied().unwrap_or(false)
+            number < links.are_fed.len() && links.are_fed[number]
         }
         GatePort::Out(_) => true,
     }
 }
 
-// The direction that an electron on the wire tells.
-fn way_of_electrons(found: &Found, pattern: &Pattern, link: &Link) -> Way {
+// The direction that an electron on a wire of these cells tells.
+fn way_of_electrons(pattern: &Pattern, cells: &[(u32, u32)]) -> Way {
     let mut last = State::Empty;
-    for cell in found.cells_of(link) {
+    for cell in cells {
         let state = state_at(pattern, *cell);
         match (last, state) {
             (State::Tail, State::Head) => return Way::Onward,
@@ -54,82 +47,70 @@ fn way_of_electrons(found: &Found, pattern: &Pattern, link: &Link) -> Way {
     Way::Unknown
 }
 
-// The direction that is known at once.
-fn way_at_once(found: &Found, pattern: &Pattern, link: &Link) -> Way {
-    if is_source(found, link.from) {
-        Way::Onward
-    } else if is_source(found, link.to) {
-        Way::Back
-    } else {
-        way_of_electrons(found, pattern, link)
+// Lets a wire run in this direction: if it runs back, its ends change places.
+fn run(link: Link, way: Way) -> Link {
+    match way {
+        Way::Back => Link {
+            from: link.to,
+            to: link.from,
+            next_from: link.next_to,
+            next_to: link.next_from,
+            way,
+            ..link
+        },
+        _ => Link { way, ..link },
     }
 }
 
-// Turns so many cells of the path about, from a place on.
-fn turn_about(path: &mut [(u32, u32)], start: u32, size: u32) {
-    let begin = start as usize;
-    let end = begin.saturating_add(size as usize);
-    if begin <= end && end <= path.len() {
-        path[begin..end].reverse();
-    }
-}
-
-// Lets a wire run in this direction: if it runs back, its ends change places, and its cells are turned about.
-fn run(found: &mut Found, number: usize, way: Way) {
-    if number >= found.links.len() {
-        return;
-    }
-    let mut link = found.links[number];
-    link.is_directed = !matches!(way, Way::Unknown);
-    if matches!(way, Way::Back) {
-        (link.from, link.to) = (link.to, link.from);
-        (link.next_from, link.next_to) = (link.next_to, link.next_from);
-        turn_about(found.board.path.as_mut_slice(), link.start, link.size);
-    }
-    found.links[number] = link;
-}
-
-// Directs the wires whose directions are known at once.
-fn direct_at_once(found: &mut Found, pattern: &Pattern) {
-    for number in 0..found.links.len() {
-        if let Some(link) = found.links.get(number).copied() {
-            let way = way_at_once(found, pattern, &link);
-            run(found, number, way);
+// Directs the wires whose directions are known at once: from their ports, else from their electrons.
+fn direct_at_once(links: &mut Links, board: &Board, pattern: &Pattern) {
+    for number in 0..links.all.len() {
+        if number < links.all.len() {
+            let link = links.all[number];
+            let way = if is_source(links, link.from) {
+                Way::Onward
+            } else if is_source(links, link.to) {
+                Way::Back
+            } else {
+                way_of_electrons(pattern, cells_of(&board.path, &link))
+            };
+            links.all[number] = run(link, way);
         }
     }
 }
 
 // Feeds the inputs to which wires lead.
-fn feed_ends(found: &mut Found) {
-    for link in &found.links {
-        if link.is_directed {
-            feed(found.are_fed.as_mut_slice(), link.to);
+fn feed_ends(links: &[Link], are_fed: &mut [bool]) {
+    for link in links {
+        if !matches!(link.way, Way::Unknown) {
+            feed(are_fed, link.to);
         }
     }
 }
 
 // Lets a wire run in this direction, if none is known yet, and looks at its ports again.
-fn direct(found: &mut Found, todo: &mut Vec<DrawnPort>, number: u32, way: Way) {
-    let number = number as usize;
-    if number >= found.links.len() || found.links[number].is_directed {
-        return;
-    }
-    run(found, number, way);
-    if let Some(link) = found.links.get(number) {
-        feed(found.are_fed.as_mut_slice(), link.to);
-        found.board.is_short |= todo.push(link.from).is_err();
-        found.board.is_short |= todo.push(link.to).is_err();
+fn direct(links: &mut Links, number: u32, way: Way) {
+    let place = number as usize;
+    if place < links.all.len() {
+        let link = links.all[place];
+        if let Way::Unknown = link.way {
+            let link = run(link, way);
+            links.all[place] = link;
+            feed(links.are_fed.as_mut_slice(), link.to);
+            links.is_short |= links.todo.push(link.from).is_err();
+            links.is_short |= links.todo.push(link.to).is_err();
+        }
     }
 }
 
 // How many ends of wires are at a port whose directions are not known.
-fn open_count(found: &Found, port: DrawnPort) -> u32 {
-    let (mut number, mut count) = (found.first_link(port.gate), 0u32);
-    for _ in 0..found.links.len() {
-        let Some(link) = found.links.get(number as usize) else {
+fn open_count(links: &Links, port: DrawnPort) -> u32 {
+    let (mut number, mut count) = (links.first_at(port.gate), 0u32);
+    for _ in 0..links.all.len() {
+        let Some(link) = links.all.get(number as usize) else {
             break;
         };
-        if !link.is_directed {
+        if let Way::Unknown = link.way {
             let (at_from, at_to) = (link.from == port, link.to == port);
             count = count.saturating_add(u32::from(at_from) + u32::from(at_to));
         }
@@ -140,14 +121,14 @@ fn open_count(found: &Found, port: DrawnPort) -> u32 {
 
 // Directs the wires at a port that have only one direction left: from it if it is a source, and to it if there is one
 // wire alone.
-fn settle(found: &mut Found, todo: &mut Vec<DrawnPort>, port: DrawnPort) {
-    let is_source = is_source(found, port);
-    if !is_source && open_count(found, port) != 1 {
+fn settle(links: &mut Links, port: DrawnPort) {
+    let is_source = is_source(links, port);
+    if !is_source && open_count(links, port) != 1 {
         return;
     }
-    let mut number = found.first_link(port.gate);
-    for _ in 0..found.links.len() {
-        let Some(link) = found.links.get(number as usize).copied() else {
+    let mut number = links.first_at(port.gate);
+    for _ in 0..links.all.len() {
+        let Some(link) = links.all.get(number as usize).copied() else {
             break;
         };
         let at_from = link.from == port;
@@ -157,43 +138,55 @@ fn settle(found: &mut Found, todo: &mut Vec<DrawnPort>, port: DrawnPort) {
             } else {
                 Way::Back
             };
-            direct(found, todo, number, way);
+            direct(links, number, way);
         }
         number = link.next_at(port.gate);
     }
 }
 
 // Settles the ports that are to be looked at: two of each gate, and those of each wire that is directed.
-fn settle_all(found: &mut Found, todo: &mut Vec<DrawnPort>) {
-    let most = found.links.len().saturating_add(found.board.gates.len());
+fn settle_all(links: &mut Links) {
+    let most = links.all.len().saturating_add(links.uses.len());
     for _ in 0..most.saturating_mul(2) {
-        let Some(port) = todo.pop() else {
+        let Some(port) = links.todo.pop() else {
             break;
         };
-        settle(found, todo, port);
+        settle(links, port);
     }
 }
 
 // Looks at the inputs of each gate, of which there are two at most.
-fn add_inputs(found: &mut Found, todo: &mut Vec<DrawnPort>) {
-    for gate in 0..u32::try_from(found.board.gates.len()).unwrap_or(u32::MAX) {
-        for input in 0..2 {
-            let port = GatePort::In(input);
-            found.board.is_short |= todo.push(DrawnPort { gate, port }).is_err();
+fn add_inputs(links: &mut Links) {
+    let inputs = u32::try_from(links.are_fed.len()).unwrap_or(u32::MAX);
+    for number in 0..inputs {
+        let port = DrawnPort {
+            gate: number / 2,
+            port: GatePort::In(number % 2),
+        };
+        links.is_short |= links.todo.push(port).is_err();
+    }
+}
+
+// Turns the cells of the wires about that run back.
+fn turn_about(path: &mut [(u32, u32)], links: &[Link]) {
+    for link in links {
+        let begin = link.start as usize;
+        let end = begin.saturating_add(link.size as usize);
+        if matches!(link.way, Way::Back) && begin <= end && end <= path.len() {
+            path[begin..end].reverse();
         }
     }
 }
 
 /// Directs all wires: from outputs, from driven inputs, as electrons run, and so that one wire leads to each input.
 /// Those that are left run onward, each with what it tells of others.
-pub fn direct_wires(alloc: Global, found: &mut Found, pattern: &Pattern) {
-    direct_at_once(found, pattern);
-    feed_ends(found);
-    let mut todo = Vec::new(alloc);
-    add_inputs(found, &mut todo);
-    settle_all(found, &mut todo);
-    for number in 0..u32::try_from(found.links.len()).unwrap_or(u32::MAX) {
-        direct(found, &mut todo, number, Way::Onward);
-        settle_all(found, &mut todo);
+pub fn direct_wires(links: &mut Links, board: &mut Board, pattern: &Pattern) {
+    direct_at_once(links, board, pattern);
+    feed_ends(links.all.as_slice(), links.are_fed.as_mut_slice());
+    add_inputs(links);
+    for number in 0..u32::try_from(links.all.len()).unwrap_or(u32::MAX) {
+        settle_all(links);
+        direct(links, number, Way::Onward);
     }
+    turn_about(board.path.as_mut_slice(), links.all.as_slice());
 }

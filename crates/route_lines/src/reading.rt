@@ -6,7 +6,7 @@ use gate_library::kind_named;
 use lists::OutOfMemory;
 use pattern_lines::number_in;
 use pattern_reading::Ports;
-use route_board::{Board, Owner, add_cells};
+use route_board::{Board, Owner, TableCells, Wiring};
 use routed_core::{Drawing, DrawnGate, DrawnPort, DrawnWire, GatePort};
 use std::alloc::Global;
 use ww_rule::Pattern;
@@ -79,38 +79,44 @@ fn start_bits(line: &[u8]) -> Option<&[u8]> {
     Some(bits)
 }
 
-// Adds the wire between two ports, whose cells are the path's from this place on.
-fn add_wire(board: &mut Board, from: DrawnPort, to: DrawnPort, start: usize, starts: &[u8]) {
-    let GatePort::In(input) = to.port else {
-        return;
-    };
-    let size = board.path.len().saturating_sub(start);
-    let wire = DrawnWire {
-        from,
-        gate: to.gate,
-        input,
-        start: u32::try_from(start).unwrap_or(u32::MAX),
-        size: u32::try_from(size).unwrap_or(u32::MAX),
-        latch: u32::try_from(board.starts.len()).unwrap_or(u32::MAX),
-        cycles: u32::try_from(starts.len()).unwrap_or(u32::MAX),
-    };
-    board.is_short |= board.wires.push(wire).is_err();
+// Adds a wire, and the start bits that a line has for it.
+fn add_wire(wiring: &mut Wiring, wire: DrawnWire, starts: &[u8]) {
+    let latch = u32::try_from(wiring.starts.len()).unwrap_or(u32::MAX);
+    wiring.is_short |= wiring.wires.push(DrawnWire { latch, ..wire }).is_err();
     for i in (0..starts.len()).rev() {
-        board.is_short |= board.starts.push(starts[i] == b'1').is_err();
+        wiring.is_short |= wiring.starts.push(starts[i] == b'1').is_err();
     }
 }
 
 // Follows a wire by its first cell, and adds it if it leads from a port to that at the cell `end`.
 fn follow(board: &mut Board, begin: (u32, u32), first: (u32, u32), end: (u32, u32), starts: &[u8]) {
-    let (Some(from), Owner::Open) = (board.port_at(begin), board.owner(first)) else {
+    let (Some(from), Owner::Open) = (board.port_at(begin), board.owners.of(first)) else {
         return;
     };
     let start = board.path.len();
     let last = board.trace(begin, first);
-    if let Some(to) = board.port_at(last) {
-        if last == end {
-            add_wire(board, from, to, start, starts);
-        }
+    let size = board.path.len().saturating_sub(start);
+    let to = board.port_at(last);
+    if let (
+        Some(
+            DrawnPort {
+                gate,
+                port: GatePort::In(input),
+            },
+        ),
+        true,
+    ) = (to, last == end)
+    {
+        let wire = DrawnWire {
+            from,
+            gate,
+            input,
+            start: u32::try_from(start).unwrap_or(u32::MAX),
+            size: u32::try_from(size).unwrap_or(u32::MAX),
+            latch: 0,
+            cycles: u32::try_from(starts.len()).unwrap_or(u32::MAX),
+        };
+        add_wire(&mut board.wiring, wire, starts);
     }
 }
 
@@ -148,10 +154,13 @@ fn read_lines(board: &mut Board, text: &[u8], of_wires: bool) {
 
 // Reads the wires, and answers whether each input and each output of the port table is at a port.
 fn read_wires(alloc: Global, board: &mut Board, text: &[u8], ports: &Ports) -> bool {
-    let mut table = Vec::new(alloc);
-    board.is_short |= add_cells(&mut table, ports);
     read_lines(board, text, true);
-    board.add_ports(table.as_slice())
+    let mut table = TableCells::new(alloc);
+    table.add_all(ports);
+    board.is_short |= table.is_short;
+    let are_there = board.add_ports(table.all.as_slice());
+    drop(table);
+    are_there
 }
 
 /// Reads the gates and the wires that a pattern's text names in comments (`gate_lines` has their forms), as a hint:
@@ -169,7 +178,7 @@ pub fn read(
     };
     read_lines(&mut board, text, false);
     let is_named = !board.gates.is_empty() && read_wires(alloc, &mut board, text, ports);
-    let is_short = board.is_short;
+    let is_short = board.is_short || board.wiring.is_short;
     if is_named && !is_short {
         return Ok(Some(board.into_drawing()));
     }

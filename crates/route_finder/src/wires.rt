@@ -1,9 +1,16 @@
-// What the search works on.
+// The wires between gates.
 
 use crate::error::FindError;
-use route_board::Board;
 use routed_core::DrawnPort;
 use ww_rule::{Pattern, State};
+
+/// Which way a wire runs.
+#[derive(Clone, Copy)]
+pub enum Way {
+    Unknown,
+    Onward,
+    Back,
+}
 
 /// A wire between two ports, whose own cells are `size` cells of the board's path from place `start` on, from the port
 /// `from` to the port `to`.
@@ -13,8 +20,8 @@ pub struct Link {
     pub to: DrawnPort,
     pub start: u32,
     pub size: u32,
-    /// Whether it is known that the wire runs so, and not from `to` to `from`.
-    pub is_directed: bool,
+    /// Which way it is known to run. A wire that runs back has had its ends change places.
+    pub way: Way,
     /// The number of the next wire at the gate of `from`, and at that of `to`.
     pub next_from: u32,
     pub next_to: u32,
@@ -27,16 +34,16 @@ pub struct Use {
     pub count: u32,
 }
 
-/// The board with its gates, and the wires that are found so far. Each gate has one use, two inputs that may be fed,
-/// and the generations of two times. The first fault is noted.
+/// The wires that are found so far. Each gate has one use, and two inputs that may be fed. The ports at which a wire
+/// may have found its direction are to do. The first fault is noted, and whether memory ran out.
 #[derive(Drop)]
-pub struct Found {
-    pub board: Board,
-    pub links: Vec<Link>,
+pub struct Links {
+    pub all: Vec<Link>,
     pub uses: Vec<Use>,
     pub are_fed: Vec<bool>,
-    pub times: Vec<Option<i64>>,
+    pub todo: Vec<DrawnPort>,
     pub fault: Option<FindError>,
+    pub is_short: bool,
 }
 
 impl Link {
@@ -50,7 +57,7 @@ impl Link {
     }
 }
 
-impl Found {
+impl Links {
     /// Notes a fault, if there is one and none was noted before.
     pub fn note(&mut self, fault: Option<FindError>) {
         if self.fault.is_none() {
@@ -59,31 +66,19 @@ impl Found {
     }
 
     /// Returns the number of the first wire at a gate.
-    pub fn first_link(&self, gate: u32) -> u32 {
+    pub fn first_at(&self, gate: u32) -> u32 {
         match self.uses.get(gate as usize) {
             Some(used) => used.link,
             None => u32::MAX,
         }
     }
+}
 
-    /// Returns the generation of a time, which is 0 if it is not known.
-    pub fn generation(&self, time: u32) -> i64 {
-        match self.times.get(time as usize) {
-            Some(Some(generation)) => *generation,
-            _ => 0,
-        }
-    }
-
-    /// Returns the cells of a wire, from its beginning on.
-    pub fn cells_of(&self, link: &Link) -> &[(u32, u32)] {
-        let start = link.start as usize;
-        let end = start.saturating_add(link.size as usize);
-        if start <= end && end <= self.board.path.len() {
-            &self.board.path[start..end]
-        } else {
-            &[]
-        }
-    }
+/// Returns the cells of a wire, from its beginning on.
+pub fn cells_of<'a>(path: &'a [(u32, u32)], link: &Link) -> &'a [(u32, u32)] {
+    let start = link.start as usize;
+    let end = start.saturating_add(link.size as usize);
+    path.get(start..end).unwrap_or(&[])
 }
 
 /// Returns the state of a cell.
