@@ -6,24 +6,30 @@ use crate::links::{follow_rings, follow_wires};
 use crate::lone::{add_ends, add_table_cells, fault_of_lone_cells, fault_of_table};
 use crate::periods::find_periods;
 use crate::result::{add_wires, time_gates};
-use crate::templates::Templates;
+use crate::templates::{SIDE, Templates};
 use crate::times::find_times;
 use crate::uses::{chain_links, fault_of_ends, note_table};
 use crate::ways::direct_wires;
 use crate::wires::{Links, Use};
 use pattern_reading::Ports;
-use route_board::{Board, TableCell, TableCells};
+use route_lines::{Board, Owners, TableCell, TableCells};
 use routed_core::Drawing;
 use std::alloc::Global;
 use ww_rule::Pattern;
 
 // The most generations of a period or a latency.
-const MOST_GENERATIONS: u32 = 2147483648;
+const MOST_GENERATIONS: u64 = 2147483648;
 
 // Finds all gates, lone cells among them, and returns the first fault of these.
 fn find_all_gates(alloc: Global, board: &mut Board, table: &[TableCell]) -> Option<FindError> {
-    let mut templates = Templates::new(alloc);
-    templates.add_all(&board.library);
+    let mut sheet = Owners::new(alloc, SIDE);
+    let mut templates = Templates {
+        all: Vec::new(alloc),
+        nears: Vec::new(alloc),
+        is_short: false,
+    };
+    templates.add_all(&board.library, &mut sheet);
+    drop(sheet);
     board.is_short |= templates.is_short;
     find_gates(board, &templates);
     add_table_cells(board, table);
@@ -51,7 +57,12 @@ fn find_wires(links: &mut Links, board: &mut Board, pattern: &Pattern, table: &[
         .resize(gates.saturating_mul(2), false)
         .is_err();
     chain_links(links.uses.as_mut_slice(), links.all.as_mut_slice());
-    note_table(links, board, table);
+    note_table(
+        links.uses.as_mut_slice(),
+        links.are_fed.as_mut_slice(),
+        board,
+        table,
+    );
     direct_wires(links, board, pattern);
     let fault = fault_of_ends(links, board, pattern);
     links.note(fault);
@@ -101,34 +112,25 @@ fn search(
     fault
 }
 
-// Finds all on the board of a pattern, and returns the first fault.
+// Finds the drawing of a pattern, on whose board nothing is found yet.
 fn find_on(
     alloc: Global,
-    board: &mut Board,
+    mut board: Board,
     pattern: &Pattern,
     ports: &Ports,
-) -> Option<FindError> {
-    let mut table = TableCells::new(alloc);
-    table.add_all(ports);
+) -> Result<Drawing, FindError> {
+    let table = TableCells::of(alloc, ports);
     board.is_short |= table.is_short;
-    let fault = search(alloc, board, pattern, table.all.as_slice());
+    let fault = search(alloc, &mut board, pattern, table.all.as_slice());
     drop(table);
-    fault
-}
-
-// The drawing on a board with this fault.
-fn drawn_on(board: Board, fault: Option<FindError>) -> Result<Drawing, FindError> {
     let is_short = board.is_short || board.wiring.is_short;
+    if fault.is_none() && !is_short {
+        return Ok(board.into_drawing());
+    }
+    drop(board);
     match fault {
-        None if !is_short => Ok(board.into_drawing()),
-        Some(fault) if !is_short => {
-            drop(board);
-            Err(fault)
-        }
-        _ => {
-            drop(board);
-            Err(FindError::NoMemory)
-        }
+        Some(fault) if !is_short => Err(fault),
+        _ => Err(FindError::NoMemory),
     }
 }
 
@@ -136,12 +138,12 @@ fn drawn_on(board: Board, fault: Option<FindError>) -> Result<Drawing, FindError
 /// the port table and from the electrons. Gates are the library's drawings in all turns; wires are rows of cells with
 /// two cells beside each; and cells at which wires end or meet are lone cells.
 pub fn find(alloc: Global, pattern: &Pattern, ports: &Ports) -> Result<Drawing, FindError> {
+    if ports.p.max(ports.l) > MOST_GENERATIONS {
+        return Err(FindError::TooLarge);
+    }
     match Board::new(alloc, pattern, ports) {
-        Ok(Some(mut board)) if board.period.max(board.latency) <= MOST_GENERATIONS => {
-            let fault = find_on(alloc, &mut board, pattern, ports);
-            drawn_on(board, fault)
-        }
-        Ok(_) => Err(FindError::TooLarge),
+        Ok(Some(board)) => find_on(alloc, board, pattern, ports),
+        Ok(None) => Err(FindError::TooLarge),
         Err(_) => Err(FindError::NoMemory),
     }
 }

@@ -2,7 +2,7 @@
 
 use crate::error::{DrawingFault, FindError};
 use crate::templates::{Template, Templates};
-use route_board::{Board, Owner, Owners};
+use route_lines::{Board, Owner, Owners};
 use routed_core::DrawnGate;
 
 // How many cells in and around a template, whose corner is at a cell, are not as drawn, and the last of these; no more

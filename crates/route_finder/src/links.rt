@@ -4,7 +4,7 @@
 use crate::error::{DrawingFault, FindError};
 use crate::lone::add_lone;
 use crate::wires::{Link, Links, Way, state_at};
-use route_board::{Board, Owner, STEPS, port_cell};
+use route_lines::{Board, Owner, STEPS, port_cell};
 use routed_core::{DrawnPort, GatePort};
 use ww_rule::{Pattern, State};
 
@@ -72,28 +72,19 @@ fn follow(
     cell: (u32, u32),
     first: (u32, u32),
 ) {
-    let start = small(board.path.len());
-    let last = board.trace(cell, first);
-    let size = small(board.path.len()).saturating_sub(start);
-    match (board.port_at(last), board.owners.of(last)) {
+    let trace = board.trace(cell, first);
+    let (start, size, end) = (trace.start, trace.size, trace.end);
+    match (board.port_at(end), board.owners.of(end)) {
         (Some(to), _) if to == from => add_ring(links, board, pattern, from, start, size),
         (Some(to), _) => add_link(links, from, to, start, size),
-        (None, Owner::Inner) => links.note(Some(FindError::at(DrawingFault::Gate, last))),
-        _ => links.note(Some(FindError::at(DrawingFault::Wire, last))),
-    }
-}
-
-// The cell of a port.
-fn cell_of(board: &Board, port: DrawnPort) -> Option<(u32, u32)> {
-    match board.gates.get(port.gate as usize) {
-        Some(gate) => port_cell(&board.library, *gate, port.port),
-        None => None,
+        (None, Owner::Inner) => links.note(Some(FindError::at(DrawingFault::Gate, end))),
+        _ => links.note(Some(FindError::at(DrawingFault::Wire, end))),
     }
 }
 
 // Follows the wires from a port.
 fn follow_from(links: &mut Links, board: &mut Board, pattern: &Pattern, port: DrawnPort) {
-    if let Some(cell) = cell_of(board, port) {
+    if let Some(cell) = port_cell(&board.library, &board.gates, port) {
         for step in STEPS {
             let first = step.from(cell);
             if let Owner::Open = board.owners.of(first) {

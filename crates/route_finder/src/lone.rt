@@ -3,7 +3,7 @@
 use crate::error::{DrawingFault, FindError};
 use crate::gates::fault_near;
 use crate::templates::Templates;
-use route_board::{Board, LineKind, Owner, TableCell};
+use route_lines::{Board, LineKind, Owner, TableCell};
 use routed_core::{DrawnGate, GateKind, Shape, Turn};
 
 /// Makes a cell a lone cell.

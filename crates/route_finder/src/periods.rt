@@ -2,7 +2,7 @@
 
 use crate::times::{Times, port_time};
 use crate::wires::Links;
-use route_board::{Board, LineKind, TableCell};
+use route_lines::{Board, LineKind, TableCell};
 use std::alloc::Global;
 use std::collections::BinaryHeap;
 
@@ -41,10 +41,10 @@ fn spread(times: &mut Times, todo: &mut Raised, links: &Links, time: u32) {
     let mut number = links.first_at(gate);
     for _ in 0..links.all.len() {
         let place = number as usize;
-        let (Some(link), Some(span)) = (links.all.get(place), times.spans.get(place).copied())
-        else {
+        if place >= links.all.len() || place >= times.spans.len() {
             break;
-        };
+        }
+        let (link, span) = (links.all[place], times.spans[place]);
         if span.to.number == time {
             let least = generation.saturating_sub(span.shift);
             raise(times, todo, span.from.number, least);
@@ -69,4 +69,5 @@ pub fn find_periods(
         };
         spread(times, &mut todo, links, time);
     }
+    drop(todo);
 }

@@ -5,7 +5,7 @@ use crate::error::{DrawingFault, FindError};
 use crate::times::{Span, Times};
 use crate::wires::{Link, Links, cells_of, state_at};
 use gate_library::Timing;
-use route_board::{Board, Wiring};
+use route_lines::{Board, Wiring};
 use routed_core::{DrawnGate, DrawnWire, GatePort};
 use ww_rule::{Pattern, State};
 
@@ -32,84 +32,67 @@ fn is_head_before(pattern: &Pattern, cells: &[(u32, u32)], distance: u32) -> boo
     }
 }
 
-// Adds the start bits of a wire of so many periods, whose end is lit at this generation; the last latch's last.
+// Adds the start bits of a wire of so many periods, the last latch's last.
 fn add_starts(
     wiring: &mut Wiring,
+    times: &Times,
     pattern: &Pattern,
     cells: &[(u32, u32)],
+    span: Span,
     cycles: u32,
-    (end, period): (u32, u32),
 ) {
+    let end = times
+        .generation(span.to.number)
+        .saturating_add(i64::from(span.to.after));
     for latch in 1..=cycles {
-        let wait = cycles.saturating_sub(latch).saturating_mul(period);
-        let is_head = is_head_before(pattern, cells, end.saturating_add(wait));
+        let wait = cycles.saturating_sub(latch);
+        let wait = wait.saturating_mul(times.period);
+        let distance = generation(end).saturating_add(wait);
+        let is_head = is_head_before(pattern, cells, distance);
         wiring.is_short |= wiring.starts.push(is_head).is_err();
     }
 }
 
-// Adds a wire that leads to an input, and its start bits.
-fn add_wire(
-    board: &mut Board,
-    times: &Times,
-    pattern: &Pattern,
-    link: &Link,
-    span: Span,
-    input: u32,
-) {
-    let latch = u32::try_from(board.wiring.starts.len()).unwrap_or(u32::MAX);
-    let wire = DrawnWire {
+// The wire of a link, whose start bits come next, or none if it leads to no input.
+fn wire_of(board: &Board, times: &Times, link: &Link, span: Span) -> Option<DrawnWire> {
+    let GatePort::In(input) = port_after(times, &board.gates, link.to).port else {
+        return None;
+    };
+    Some(DrawnWire {
         from: port_after(times, &board.gates, link.from),
         gate: link.to.gate,
         input,
         start: link.start,
         size: link.size,
-        latch,
+        latch: u32::try_from(board.wiring.starts.len()).unwrap_or(u32::MAX),
         cycles: periods_of(times, span, link),
-    };
-    board.wiring.is_short |= board.wiring.wires.push(wire).is_err();
-    let end = times
-        .generation(span.to.number)
-        .saturating_add(i64::from(span.to.after));
-    let cells = cells_of(&board.path, link);
-    add_starts(
-        &mut board.wiring,
-        pattern,
-        cells,
-        wire.cycles,
-        (generation(end), times.period),
-    );
+    })
 }
 
-/// Adds all wires, and returns the fault of the first that leads to no input.
+/// Adds all wires up to the first that leads to no input, and returns the fault of that.
 pub fn add_wires(
     board: &mut Board,
     times: &Times,
     pattern: &Pattern,
     links: &Links,
 ) -> Option<FindError> {
-    let mut fault = None;
-    for number in 0..links.all.len() {
-        let (Some(link), Some(span)) = (links.all.get(number), times.spans.get(number)) else {
-            break;
+    for number in 0..links.all.len().min(times.spans.len()) {
+        let (link, span) = (links.all[number], times.spans[number]);
+        let Some(wire) = wire_of(board, times, &link, span) else {
+            let cells = cells_of(&board.path, &link);
+            let first = cells.first().copied().unwrap_or((0, 0));
+            return Some(FindError::at(DrawingFault::Wire, first));
         };
-        match port_after(times, &board.gates, link.to).port {
-            GatePort::In(input) => add_wire(board, times, pattern, link, *span, input),
-            GatePort::Out(_) if fault.is_none() => {
-                let first = cells_of(&board.path, link)
-                    .first()
-                    .copied()
-                    .unwrap_or((0, 0));
-                fault = Some(FindError::at(DrawingFault::Wire, first));
-            }
-            GatePort::Out(_) => {}
-        }
+        board.wiring.is_short |= board.wiring.wires.push(wire).is_err();
+        let cells = cells_of(&board.path, &link);
+        add_starts(&mut board.wiring, times, pattern, cells, span, wire.cycles);
     }
-    fault
+    None
 }
 
 // A gate with this number and its times; it is mirrored if it is such a crossing.
-fn timed(times: &Times, board: &Board, number: u32) -> Option<DrawnGate> {
-    let mut gate = *board.gates.get(number as usize)?;
+fn timed(times: &Times, board: &Board, gate: DrawnGate, number: u32) -> DrawnGate {
+    let mut gate = gate;
     let time = number.saturating_mul(2);
     let (first, second) = (
         times.generation(time),
@@ -123,13 +106,15 @@ fn timed(times: &Times, board: &Board, number: u32) -> Option<DrawnGate> {
     } else if matches!(board.library.drawing(gate.kind).timing, Timing::Apart) {
         gate.later = generation(second.saturating_sub(first));
     }
-    Some(gate)
+    gate
 }
 
 /// Sets the times of all gates, and mirrors crossings.
 pub fn time_gates(board: &mut Board, times: &Times) {
-    for number in 0..u32::try_from(board.gates.len()).unwrap_or(u32::MAX) {
-        if let Some(gate) = timed(times, board, number) {
+    for place in 0..board.gates.len() {
+        if place < board.gates.len() {
+            let number = u32::try_from(place).unwrap_or(u32::MAX);
+            let gate = timed(times, board, board.gates[place], number);
             board.put_gate(gate, number);
         }
     }

@@ -2,7 +2,7 @@
 
 use crate::wires::{Links, cells_of, state_at};
 use gate_library::{Answer, GateDrawing, Timing};
-use route_board::{Board, LineKind, TableCell};
+use route_lines::{Board, LineKind, TableCell};
 use routed_core::{DrawnPort, GatePort};
 use std::alloc::Global;
 use ww_rule::{Pattern, State};
@@ -84,10 +84,13 @@ pub fn nearest_head(pattern: &Pattern, cells: &[(u32, u32)]) -> Option<u32> {
 impl Times {
     /// Returns the generation of a time, which is 0 if it is not known.
     pub fn generation(&self, time: u32) -> i64 {
-        match self.all.get(time as usize) {
-            Some(Some(generation)) => *generation,
-            _ => 0,
+        let place = time as usize;
+        if place < self.all.len() {
+            if let Some(generation) = self.all[place] {
+                return generation;
+            }
         }
+        0
     }
 
     // Adds the spans of all wires.
@@ -115,10 +118,10 @@ impl Times {
         let mut number = links.first_at(gate);
         for _ in 0..links.all.len() {
             let place = number as usize;
-            let (Some(link), Some(span)) = (links.all.get(place), self.spans.get(place).copied())
-            else {
+            if place >= links.all.len() || place >= self.spans.len() {
                 break;
-            };
+            }
+            let (link, span) = (links.all[place], self.spans[place]);
             if span.from.number == time {
                 self.note(span.to.number, generation.saturating_add(span.shift));
             } else if span.to.number == time {
@@ -151,25 +154,19 @@ impl Times {
     }
 
     // The nearest head of each wire tells when the wire's end is lit.
-    fn begin_at_heads(&mut self, links: &Links, path: &[(u32, u32)], pattern: &Pattern) {
-        for number in 0..self.spans.len() {
-            let cells = match links.all.get(number) {
-                Some(link) => cells_of(path, link),
-                None => &[],
-            };
-            let span = self.spans.get(number).copied();
-            if let (Some(span), Some(distance)) = (span, nearest_head(pattern, cells)) {
-                self.begin(links, span.to, distance);
+    fn begin_at_heads(&mut self, links: &Links, board: &Board, pattern: &Pattern) {
+        for link in &links.all {
+            if let Some(distance) = nearest_head(pattern, cells_of(&board.path, link)) {
+                self.begin(links, port_time(board, link.to), distance);
             }
         }
     }
 
     // A gate whose time is not known begins at generation 0.
-    fn begin_rest(&mut self, links: &Links) {
-        for number in 0..self.spans.len() {
-            if let Some(span) = self.spans.get(number).copied() {
-                self.begin(links, span.from, span.from.after);
-            }
+    fn begin_rest(&mut self, links: &Links, board: &Board) {
+        for link in &links.all {
+            let at = port_time(board, link.from);
+            self.begin(links, at, at.after);
         }
     }
 }
@@ -193,7 +190,7 @@ pub fn find_times(
     times.is_short |= times.all.resize(links.are_fed.len(), None).is_err();
     times.add_spans(links, board);
     times.begin_at_table(links, board, table);
-    times.begin_at_heads(links, &board.path, pattern);
-    times.begin_rest(links);
+    times.begin_at_heads(links, board, pattern);
+    times.begin_rest(links, board);
     times
 }

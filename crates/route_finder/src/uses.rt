@@ -4,7 +4,7 @@ use crate::error::{DrawingFault, FindError};
 use crate::times::nearest_head;
 use crate::ways::feed;
 use crate::wires::{Link, Links, Use, cells_of};
-use route_board::{Board, LineKind, TableCell};
+use route_lines::{Board, LineKind, TableCell};
 use routed_core::{DrawnPort, Shape};
 use ww_rule::Pattern;
 
@@ -36,15 +36,15 @@ pub fn chain_links(uses: &mut [Use], links: &mut [Link]) {
 }
 
 /// Notes at which gates the cells of the port table are, and which inputs it drives.
-pub fn note_table(links: &mut Links, board: &Board, table: &[TableCell]) {
+pub fn note_table(uses: &mut [Use], are_fed: &mut [bool], board: &Board, table: &[TableCell]) {
     for line in table {
         if let Some(port) = board.port_at(line.cell) {
-            let gate = port.gate as usize;
-            if gate < links.uses.len() {
-                links.uses[gate].count = links.uses[gate].count.saturating_add(1);
+            let place = port.gate as usize;
+            if place < uses.len() {
+                uses[place].count = uses[place].count.saturating_add(1);
             }
             if matches!(line.kind, LineKind::In) {
-                feed(links.are_fed.as_mut_slice(), port);
+                feed(are_fed, port);
             }
         }
     }

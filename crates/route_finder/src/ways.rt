@@ -1,7 +1,7 @@
 // In which direction each wire runs.
 
 use crate::wires::{Link, Links, Way, cells_of, state_at};
-use route_board::Board;
+use route_lines::Board;
 use routed_core::{DrawnPort, GatePort};
 use ww_rule::{Pattern, State};
 
@@ -107,9 +107,11 @@ fn direct(links: &mut Links, number: u32, way: Way) {
 fn open_count(links: &Links, port: DrawnPort) -> u32 {
     let (mut number, mut count) = (links.first_at(port.gate), 0u32);
     for _ in 0..links.all.len() {
-        let Some(link) = links.all.get(number as usize) else {
+        let place = number as usize;
+        if place >= links.all.len() {
             break;
-        };
+        }
+        let link = links.all[place];
         if let Way::Unknown = link.way {
             let (at_from, at_to) = (link.from == port, link.to == port);
             count = count.saturating_add(u32::from(at_from) + u32::from(at_to));
@@ -123,14 +125,14 @@ fn open_count(links: &Links, port: DrawnPort) -> u32 {
 // wire alone.
 fn settle(links: &mut Links, port: DrawnPort) {
     let is_source = is_source(links, port);
-    if !is_source && open_count(links, port) != 1 {
-        return;
-    }
+    let is_settled = is_source || open_count(links, port) == 1;
     let mut number = links.first_at(port.gate);
     for _ in 0..links.all.len() {
-        let Some(link) = links.all.get(number as usize).copied() else {
+        let place = number as usize;
+        if !is_settled || place >= links.all.len() {
             break;
-        };
+        }
+        let link = links.all[place];
         let at_from = link.from == port;
         if at_from || link.to == port {
             let way = if at_from == is_source {

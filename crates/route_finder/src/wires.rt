@@ -67,9 +67,11 @@ impl Links {
 
     /// Returns the number of the first wire at a gate.
     pub fn first_at(&self, gate: u32) -> u32 {
-        match self.uses.get(gate as usize) {
-            Some(used) => used.link,
-            None => u32::MAX,
+        let place = gate as usize;
+        if place < self.uses.len() {
+            self.uses[place].link
+        } else {
+            u32::MAX
         }
     }
 }

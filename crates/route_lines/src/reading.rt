@@ -1,13 +1,15 @@
 // Reading the lines of gates and wires.
 
+use crate::board::{Board, Wiring};
 use crate::comments::first_line;
+use crate::owners::Owner;
+use crate::table::TableCells;
 use crate::words::{step_named, word};
 use gate_library::kind_named;
 use lists::OutOfMemory;
 use pattern_lines::number_in;
 use pattern_reading::Ports;
-use route_board::{Board, Owner, TableCells, Wiring};
-use routed_core::{Drawing, DrawnGate, DrawnPort, DrawnWire, GatePort};
+use routed_core::{Drawing, DrawnGate, DrawnWire, GatePort};
 use std::alloc::Global;
 use ww_rule::Pattern;
 
@@ -81,8 +83,7 @@ fn start_bits(line: &[u8]) -> Option<&[u8]> {
 
 // Adds a wire, and the start bits that a line has for it.
 fn add_wire(wiring: &mut Wiring, wire: DrawnWire, starts: &[u8]) {
-    let latch = u32::try_from(wiring.starts.len()).unwrap_or(u32::MAX);
-    wiring.is_short |= wiring.wires.push(DrawnWire { latch, ..wire }).is_err();
+    wiring.is_short |= wiring.wires.push(wire).is_err();
     for i in (0..starts.len()).rev() {
         wiring.is_short |= wiring.starts.push(starts[i] == b'1').is_err();
     }
@@ -93,27 +94,18 @@ fn follow(board: &mut Board, begin: (u32, u32), first: (u32, u32), end: (u32, u3
     let (Some(from), Owner::Open) = (board.port_at(begin), board.owners.of(first)) else {
         return;
     };
-    let start = board.path.len();
-    let last = board.trace(begin, first);
-    let size = board.path.len().saturating_sub(start);
-    let to = board.port_at(last);
-    if let (
-        Some(
-            DrawnPort {
-                gate,
-                port: GatePort::In(input),
-            },
-        ),
-        true,
-    ) = (to, last == end)
-    {
+    let trace = board.trace(begin, first);
+    let Some(to) = board.port_at(trace.end) else {
+        return;
+    };
+    if let (GatePort::In(input), true) = (to.port, trace.end == end) {
         let wire = DrawnWire {
             from,
-            gate,
+            gate: to.gate,
             input,
-            start: u32::try_from(start).unwrap_or(u32::MAX),
-            size: u32::try_from(size).unwrap_or(u32::MAX),
-            latch: 0,
+            start: trace.start,
+            size: trace.size,
+            latch: u32::try_from(board.wiring.starts.len()).unwrap_or(u32::MAX),
             cycles: u32::try_from(starts.len()).unwrap_or(u32::MAX),
         };
         add_wire(&mut board.wiring, wire, starts);
@@ -155,8 +147,7 @@ fn read_lines(board: &mut Board, text: &[u8], of_wires: bool) {
 // Reads the wires, and answers whether each input and each output of the port table is at a port.
 fn read_wires(alloc: Global, board: &mut Board, text: &[u8], ports: &Ports) -> bool {
     read_lines(board, text, true);
-    let mut table = TableCells::new(alloc);
-    table.add_all(ports);
+    let table = TableCells::of(alloc, ports);
     board.is_short |= table.is_short;
     let are_there = board.add_ports(table.all.as_slice());
     drop(table);

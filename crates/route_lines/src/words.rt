@@ -1,6 +1,6 @@
 // The words of the lines.
 
-use route_board::{STEPS, Step};
+use crate::steps::{STEPS, Step};
 
 // The words of all steps, in the order of `STEPS`.
 const STEP_WORDS: &[&[u8]] = &[b"N", b"NE", b"E", b"SE", b"S", b"SW", b"W", b"NW"];

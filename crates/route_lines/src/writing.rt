@@ -1,10 +1,10 @@
 // Writing the lines of gates and wires.
 
+use crate::ports::port_cell;
 use crate::words::step_word;
 use gate_library::{GateLibrary, letter_of, word_of};
 use itoa::Buffer;
 use lists::{Bytes, List, OutOfMemory};
-use route_board::port_cell;
 use routed_core::{Drawing, DrawnGate, DrawnPort, DrawnWire, GatePort};
 use std::alloc::Global;
 
@@ -78,10 +78,6 @@ impl Lines {
     }
 }
 
-fn cell_of(library: &GateLibrary, gates: &[DrawnGate], port: DrawnPort) -> Option<(u32, u32)> {
-    port_cell(library, *gates.get(port.gate as usize)?, port.port)
-}
-
 fn starts_of<'a>(drawing: &'a Drawing, wire: &DrawnWire) -> &'a [bool] {
     let begin = wire.latch as usize;
     let end = begin.saturating_add(wire.cycles as usize);
@@ -97,8 +93,8 @@ fn add_wires(lines: &mut Lines, library: &GateLibrary, drawing: &Drawing) {
             port: GatePort::In(wire.input),
         };
         if let (Some(begin), Some(end)) = (
-            cell_of(library, gates, wire.from),
-            cell_of(library, gates, to),
+            port_cell(library, gates, wire.from),
+            port_cell(library, gates, to),
         ) {
             lines.add_wire(drawing, wire, begin, end);
         }

@@ -11,18 +11,15 @@ use gate_library::GateLibrary;
 use lists::{Bytes, List, OutOfMemory};
 use netlist_core::{Flat, FlatPort};
 use pattern_reading::{NetLine, PortLine, Ports};
-use route_board::port_cell;
+use route_lines::port_cell;
 use routed_core::{Drawing, DrawnPort};
 use std::alloc::Global;
 use ww_rule::Pattern;
 
 // The cell of a port in a drawing, by its column and its row. A port that is not there is at 0, 0.
 fn cell_of(library: &GateLibrary, drawing: &Drawing, ports: &[DrawnPort], i: usize) -> (u32, u32) {
-    let Some(port) = ports.get(i) else {
-        return (0, 0);
-    };
-    match drawing.gates.as_slice().get(port.gate as usize) {
-        Some(gate) => port_cell(library, *gate, port.port).unwrap_or((0, 0)),
+    match ports.get(i) {
+        Some(port) => port_cell(library, drawing.gates.as_slice(), *port).unwrap_or((0, 0)),
         None => (0, 0),
     }
 }

@@ -36,18 +36,16 @@ pub struct Board {
     pub is_short: bool,
 }
 
-impl Wiring {
-    fn new(alloc: Global) -> Wiring {
-        Wiring {
-            wires: Vec::new(alloc),
-            starts: Vec::new(alloc),
-            ins: Vec::new(alloc),
-            outs: Vec::new(alloc),
-            nets: Vec::new(alloc),
-            is_short: false,
-        }
-    }
+/// A wire that was followed: its own cells are `size` cells of the path from place `start` on. It leads to the cell
+/// `end` of a gate, or `end` is its last cell.
+#[derive(Clone, Copy)]
+pub struct Trace {
+    pub start: u32,
+    pub size: u32,
+    pub end: (u32, u32),
+}
 
+impl Wiring {
     // Adds the port of a line, and answers whether it is there, or that of a net.
     fn add_port(&mut self, kind: LineKind, port: Option<DrawnPort>) -> bool {
         self.is_short |= match (kind, port) {
@@ -85,7 +83,14 @@ impl Board {
             library,
             gates: Vec::new(alloc),
             path: Vec::new(alloc),
-            wiring: Wiring::new(alloc),
+            wiring: Wiring {
+                wires: Vec::new(alloc),
+                starts: Vec::new(alloc),
+                ins: Vec::new(alloc),
+                outs: Vec::new(alloc),
+                nets: Vec::new(alloc),
+                is_short: false,
+            },
             is_short: false,
         };
         board.add_cells(pattern);
@@ -144,21 +149,26 @@ impl Board {
         Some(DrawnPort { gate, port })
     }
 
-    /// Follows a wire from its first cell, which is open and beside the cell `before`, and returns the cell of a gate
-    /// to which it leads, or its last cell if it leads to none. Its cells are given to it and are added to the path.
-    pub fn trace(&mut self, before: (u32, u32), first: (u32, u32)) -> (u32, u32) {
-        let (mut last, mut cell) = (before, first);
+    /// Follows a wire from its first cell, which is open and beside the cell `before`. Its cells are given to it and are
+    /// added to the path.
+    pub fn trace(&mut self, before: (u32, u32), first: (u32, u32)) -> Trace {
+        let start = u32::try_from(self.path.len()).unwrap_or(u32::MAX);
+        let (mut last, mut end, mut size) = (before, first, 0u32);
         for _ in 0..self.owners.cells.len() {
-            self.owners.give(cell, Owner::Wire);
-            self.is_short |= self.path.push(cell).is_err();
-            let next = self.owners.next_cell(cell, last);
+            self.owners.give(end, Owner::Wire);
+            self.is_short |= self.path.push(end).is_err();
+            size = size.saturating_add(1);
+            let next = self.owners.next_cell(end, last);
             match self.owners.of(next) {
-                Owner::Open => (last, cell) = (cell, next),
+                Owner::Open => (last, end) = (end, next),
                 Owner::Nobody | Owner::Wire => break,
-                _ => return next,
+                _ => {
+                    end = next;
+                    break;
+                }
             }
         }
-        cell
+        Trace { start, size, end }
     }
 
     /// Adds the ports at the cells of the port table, and answers whether each input and each output is at one.

@@ -27,14 +27,6 @@ pub struct TableCells {
 }
 
 impl TableCells {
-    /// Makes an empty list.
-    pub fn new(alloc: Global) -> TableCells {
-        TableCells {
-            all: Vec::new(alloc),
-            is_short: false,
-        }
-    }
-
     // Adds a line's cell. A column or a row past 2^32 is outside every box.
     fn add(&mut self, kind: LineKind, x: u64, y: u64, generation: u64) {
         let x = u32::try_from(x).unwrap_or(u32::MAX);
@@ -54,12 +46,17 @@ impl TableCells {
         }
     }
 
-    /// Adds the cells of inputs, outputs and nets, in this order.
-    pub fn add_all(&mut self, ports: &Ports) {
-        self.add_lines(LineKind::In, ports.ins.as_slice(), 0);
-        self.add_lines(LineKind::Out, ports.outs.as_slice(), ports.l);
+    /// Returns the cells of inputs, outputs and nets, in this order.
+    pub fn of(alloc: Global, ports: &Ports) -> TableCells {
+        let mut cells = TableCells {
+            all: Vec::new(alloc),
+            is_short: false,
+        };
+        cells.add_lines(LineKind::In, ports.ins.as_slice(), 0);
+        cells.add_lines(LineKind::Out, ports.outs.as_slice(), ports.l);
         for line in ports.nets.as_slice() {
-            self.add(LineKind::Net, line.x, line.y, line.offset);
+            cells.add(LineKind::Net, line.x, line.y, line.offset);
         }
+        cells
     }
 }
