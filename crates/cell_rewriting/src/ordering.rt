@@ -31,6 +31,18 @@ fn reads(subst: &Substitution, number: u32) -> (Src, Src) {
     }
 }
 
+// Marks a cell, and answers whether it was not marked.
+fn mark(seen: &mut [bool], number: u32) -> bool {
+    match seen.get_mut(number as usize) {
+        Some(known) => {
+            let is_new = !*known;
+            *known = true;
+            is_new
+        }
+        None => false,
+    }
+}
+
 impl Walk {
     fn begin(alloc: Global, count: usize) -> Result<Walk, RewriteError> {
         Ok(Walk {
@@ -38,18 +50,6 @@ impl Walk {
             order: Vec::with_capacity(alloc, count)?,
             todo: Vec::new(alloc),
         })
-    }
-
-    // Marks a cell, and answers whether it was not marked.
-    fn mark(&mut self, number: u32) -> bool {
-        match self.seen.get_mut(number as usize) {
-            Some(known) => {
-                let is_new = !*known;
-                *known = true;
-                is_new
-            }
-            None => false,
-        }
     }
 
     fn push(&mut self, src: Src) -> Result<(), RewriteError> {
@@ -60,7 +60,7 @@ impl Walk {
     }
 
     fn enter(&mut self, subst: &Substitution, number: u32) -> Result<(), RewriteError> {
-        if !self.mark(number) {
+        if !mark(&mut self.seen, number) {
             return Ok(());
         }
         let (first, second) = reads(subst, number);
@@ -69,20 +69,14 @@ impl Walk {
         self.push(first)
     }
 
-    fn step(&mut self, subst: &Substitution, visit: Visit) -> Result<(), RewriteError> {
-        match visit {
-            Visit::Enter(number) => self.enter(subst, number),
-            Visit::Leave(number) => Ok(self.order.push(number)?),
-        }
-    }
-
     // Walks down from a source. Each cell is entered once, so there are at most three visits a
     // cell.
     fn from(&mut self, subst: &Substitution, src: Src) -> Result<(), RewriteError> {
         self.push(src)?;
         for _ in 0..=self.seen.len().saturating_mul(3) {
             match self.todo.pop() {
-                Some(visit) => self.step(subst, visit)?,
+                Some(Visit::Enter(number)) => self.enter(subst, number)?,
+                Some(Visit::Leave(number)) => self.order.push(number)?,
                 None => break,
             }
         }

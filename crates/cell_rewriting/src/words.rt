@@ -170,10 +170,7 @@ pub fn have_one_word(
         return Ok(false);
     }
     let words = cone_words(alloc, subst, leaves, cone)?;
-    let Some(first) = source_word(subst, leaves, &words, a) else {
-        return Ok(false);
-    };
-    let Some(second) = source_word(subst, leaves, &words, b) else {
+    let Some((first, second)) = source_words(subst, leaves, &words, a, b) else {
         return Ok(false);
     };
     Ok(first == second)
