@@ -9,7 +9,12 @@ use std::alloc::{AllocError, Global};
 fn bytes_before_space(bytes: &[u8]) -> usize
     ensures { result ≡ prefix_len (λ b. not (b == 32)) bytes.now }
 {
-    bytes.iter().take_while(|b| **b != b' ').count()
+    for (i, byte) in bytes.iter().enumerate() {
+        if *byte == b' ' {
+            return i;
+        }
+    }
+    bytes.len()
 }
 
 /// Returns the bytes before and after the first space; without a space, all bytes and none.

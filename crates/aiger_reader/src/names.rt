@@ -129,8 +129,10 @@ pub fn first_repeat(alloc: Global, names: &[Bytes], line: u64) -> Result<Option<
     for i in 0..names.len() {
         let is_new = note(&mut seen, names, i)?;
         if !is_new {
+            drop(seen);
             return Ok(Some(line + i as u64));
         }
     }
+    drop(seen);
     Ok(None)
 }
