@@ -12,12 +12,29 @@ use Rattle.vcd_write.proofs.Dumped.{fits_of, same_waves}
 use Rattle.vcd_write.proofs.Words.{references_words}
 use Rattle.vcd_write.proofs.dump.of.Goals as goal
 
+pub bits_of_nets-requires-clause-run : goal.bits_of_nets-requires-clause-run
+bits_of_nets-requires-clause-run c = c.in_ok-run.ensures.run
+
+pub bits_of_nets-requires-clause-begun : goal.bits_of_nets-requires-clause-begun
+bits_of_nets-requires-clause-begun c = c.in_ok-run.ensures.begun
+
 pub bits_of_nets-requires-clause-fits : goal.bits_of_nets-requires-clause-fits
 bits_of_nets-requires-clause-fits c =
     let ports = c.args.ports.now in
     let streams = c.args.streams.now in
     let many = c.len.ensures ∙ ap length c.in_ok-references.ensures.references ∙ length-map (nets_in_contexts ports) (reference_of ports.c) in
     (streams.cycles, fits_of ports streams c.len.result _ c.in-Some.raster c.in-Some.ensures.raster many c.requires.cycles c.last_of_all_nets-generations.ensures (omega (arith, c.if-generations-gt-GREATEST_GENERATION.false)))
+
+pub pass_injections-requires : goal.pass_injections-requires
+pass_injections-requires c =
+    let gone = c.in_ok-bits.ensures.gone in
+    record { run = gone.run; order = omega (arith, gone.order, ap (λ r. r.last) c.in-Some.ensures.raster) }
+
+pub quiet-requires : goal.quiet-requires
+quiet-requires c = record { run = c.pass_injections.ensures.run; room = omega (arith, c.pass_injections.ensures.order, c.if-generations-gt-GREATEST_GENERATION.false) }
+
+pub returns-clause-near : goal.returns-clause-near
+returns-clause-near c = omega (arith, c.if-generations-gt-GREATEST_GENERATION.false, c.last_of_all_nets-generations.ensures)
 
 pub returns-clause-quiet : goal.returns-clause-quiet
 returns-clause-quiet c =

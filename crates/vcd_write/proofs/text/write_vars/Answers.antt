@@ -1,7 +1,7 @@
-use Rattle.std.proofs.Common.{◌+◌, ◌-◌, ℕ, List, ◌∷◌, ◌++◌, length, sym, ap, ◌∙◌, arith}
+use Rattle.std.proofs.Common.{◌≡◌, ◌+◌, ◌-◌, ℕ, List, ◌∷◌, ◌++◌, length, sym, ap, ◌∙◌, arith}
 use Rattle.ww_base.specs.Pages.{held}
 use Rattle.lists.proofs.Results.{on_err}
-use Rattle.ww_base.proofs.Steps.{wrote_then, wrote_broke, wrote_to}
+use Rattle.ww_base.proofs.Steps.{wrote_none, wrote_then, wrote_broke, wrote_to}
 use Rattle.vcd_write.specs.Vcd.{waves_in, vars_text}
 use Rattle.vcd_write.proofs.text.write_vars.Goals as goal
 use Rattle.vcd_write.proofs.Texts.{vars_next, vars_none}
@@ -20,6 +20,11 @@ returns-in_err-write_var-clause-err g c =
     let here = ap (λ reference. held c.loop-n.page ++ (var_line (record { id = vcd_id n; reference = reference }) ++ (10 ∷ later))) (sym c.reference.ensures) in
     wrote_broke (wrote_to (next ∙ here) (c.loop-n.invariant rest)) (c.in_err-write_var.ensures.err later) in
     on_err _ f
+
+pub loop-n-init : goal.loop-n-init
+loop-n-init g c = λ (rest : List ℕ).
+    let all : length c.args.vcd.now.references ≡ length c.args.vcd.now.references - 0 = omega arith in
+    wrote_to (ap (λ (many : ℕ). held c.args.page.now ++ (vars_text (waves_in c.args.vcd.now) 0 many ++ rest)) all) (wrote_none _ _ _)
 
 pub loop-n-preserved : goal.loop-n-preserved
 loop-n-preserved g c = λ rest.
