@@ -1,4 +1,4 @@
-use Rattle.std.proofs.Common.{◌≡◌, refl, ℕ, List, ◌∷◌, ◌++◌, decimal}
+use Rattle.std.proofs.Common.{refl, sym, ◌∙◌, ℕ, List, ◌∷◌, ◌++◌, decimal}
 use Rattle.std.proofs.lemmas.Result.{on_ok_weaker, on_err_weaker}
 use Rattle.ww_base.specs.Pages.{held}
 use Rattle.lists.proofs.Results.{on_err}
@@ -22,7 +22,7 @@ returns-in_err-put-clause-err g c =
 
 pub returns-clause-ok : goal.returns-clause-ok
 returns-clause-ok g c =
-    let e : decimal c.args.number ≡ c.as_bytes.result.now = cc in
+    let e = sym (c.as_bytes.ensures.value ∙ c.format-digits.ensures.text) in
     on_ok_weaker c.put-2.result (λ wrote rest.
     wrote_as (numbered_joined (held c.args.page.now) (mark_after c.args.leading) c.args.letter e rest)
     (wrote_then (wrote_then (c.in_ok-write_mark.ensures.ok (c.args.letter ∷ (c.as_bytes.result.now ++ rest))) (c.in_ok-put.ensures.ok (c.as_bytes.result.now ++ rest))) (wrote rest)))
@@ -30,7 +30,7 @@ returns-clause-ok g c =
 
 pub returns-clause-err : goal.returns-clause-err
 returns-clause-err g c =
-    let e : decimal c.args.number ≡ c.as_bytes.result.now = cc in
+    let e = sym (c.as_bytes.ensures.value ∙ c.format-digits.ensures.text) in
     on_err_weaker c.put-2.result (λ broke rest.
     broke_as (numbered_joined (held c.args.page.now) (mark_after c.args.leading) c.args.letter e rest)
     (wrote_broke (wrote_then (c.in_ok-write_mark.ensures.ok (c.args.letter ∷ (c.as_bytes.result.now ++ rest))) (c.in_ok-put.ensures.ok (c.as_bytes.result.now ++ rest))) (broke rest)))
