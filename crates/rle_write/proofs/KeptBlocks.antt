@@ -65,9 +65,9 @@ motif_next plan lane size k east goes_on next is same (inr (inr on)) =
     (motif_goes_on plan lane size k east.motif east.reach next.1 is (same on.0) on.1.1.0 on.1.1.1)
 
 -- a block alone
-pub alone : (plan : Plan) (lane size k : ℕ) (slot : Slot) → k < size → slot_of slot ≡ drawn_tiling plan k lane
-    → IsStretch plan lane size k (record { slot = slot; motif = 1; count = 1; reach = 1 })
-alone plan lane size k slot inside stands = record {
+pub alone : (plan : Plan) (lane size k : ℕ) (slot : Slot) (above : ℕ) → k < size → slot_of slot ≡ drawn_tiling plan k lane
+    → IsStretch plan lane size k (record { slot = slot; motif = 1; count = 1; reach = 1; above = above })
+alone plan lane size k slot above inside stands = record {
   some = omega arith;
   within = omega (arith, inside);
   alike = λ i lt. (let here : k ≡ k + i = omega (arith, lt) in stands ∙ ap (λ n. drawn_tiling plan n lane) here);
@@ -75,11 +75,11 @@ alone plan lane size k slot inside stands = record {
 }
 
 -- a block west of a stretch
-pub longer : (plan : Plan) (lane size k : ℕ) (slot : Slot) (east : Stretch) (count : ℕ) (goes_on : Bool) (next : ℕ × ℕ) → IsStretch plan lane size (k + 1) east
+pub longer : (plan : Plan) (lane size k : ℕ) (slot : Slot) (above : ℕ) (east : Stretch) (count : ℕ) (goes_on : Bool) (next : ℕ × ℕ) → IsStretch plan lane size (k + 1) east
     → slot_of slot ≡ drawn_tiling plan k lane → 1 ≤ count → (2 ≤ count → (slot ≡ east.slot) × (count ≤ east.count + 1))
     → (IsTrue goes_on → drawn_tiling plan (k + east.motif) lane ≡ drawn_tiling plan k lane) → IsNextMotif east goes_on next
-    → IsStretch plan lane size k (record { slot = slot; motif = next.0; count = count; reach = next.1 })
-longer plan lane size k slot east count goes_on next is stands some alike same motif = record {
+    → IsStretch plan lane size k (record { slot = slot; motif = next.0; count = count; reach = next.1; above = above })
+longer plan lane size k slot above east count goes_on next is stands some alike same motif = record {
   some = some;
   within = elim (cases_lt count 2) [
     | inl one ↦ omega (arith, one, is.some, is.within)

@@ -37,7 +37,7 @@ IsNextMotif east goes_on next =
 
 -- no stretch, in place of one that is not kept
 abbrev pub no_stretch : Stretch
-no_stretch = record { slot = Nothing; motif = 0; count = 0; reach = 0 }
+no_stretch = record { slot = Nothing; motif = 0; count = 0; reach = 0; above = 0 }
 
 -- the kept stretches are those of the first blocks of a lane of the drawing, from this block on
 abbrev pub AreBlocksFrom : Plan → (lane first : ℕ) → List Stretch → Type 0

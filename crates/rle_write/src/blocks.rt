@@ -1,22 +1,26 @@
 // The first blocks of a lane, looked up once for the sixteen rows of cells that cross them.
 ghost use Rattle.std.specs.Prelude.{◌≡◌, ◌≢◌, ◌≤◌, ◌<◌, ◌+◌, ◌/◌, ◌%◌, IsTrue, length};
 ghost use Rattle.lane_core.specs.Plans.{IsAdmissible};
+ghost use Rattle.plan_layout.specs.Layout.{tiling_of};
 ghost use Rattle.plan_layout.specs.Tape.{drawn_tiling};
 ghost use Rattle.plan_layout.specs.Slots.{slot_of};
 ghost use Rattle.rle_write.specs.Blocks.{AreBlocks, AreBlocksFrom, IsNextMotif, IsStretch};
 
+use crate::body::body_block;
 use lane_core::Plan;
 use plan_layout::{Piece, Slot, slot_at, slot_drawn_at};
 
 /// What stands in a block, and in how many blocks from it eastward, itself among them, the same
 /// stands. The motif is so many blocks from it eastward as stand again and again, as far as the
-/// reach: so many blocks, those of the motif among them.
+/// reach: so many blocks, those of the motif among them. Above the lane lie so many instructions of
+/// the block's column of the body; nothing rests on this number.
 #[derive(Clone, Copy)]
 pub struct Stretch {
     pub slot: Slot,
     pub motif: u8,
     pub count: u32,
     pub reach: u32,
+    pub above: u32,
 }
 
 // The most blocks of a motif.
@@ -46,15 +50,35 @@ fn is_same(a: Slot, b: Slot) -> bool
     }
 }
 
-// What stands in a block of the drawing: if the plan has no tape, what the plan has there.
-fn block_at(plan: &Plan, column: u64, lane: u64) -> Slot
+// What stands in a block of a plan without its tape, and how many instructions of its column of the
+// body lie above its lane, if so many lie above the lane before it.
+fn bare_block(plan: &Plan, column: u64, lane: u64, before: u32) -> (Slot, u32)
     requires admissible { IsAdmissible plan.now }
-    ensures { slot_of result ≡ drawn_tiling plan.now column lane }
+    ensures { slot_of result.0 ≡ tiling_of plan.now column lane }
+{
+    let loops = plan.latches as u64;
+    let end = loops + plan.columns.len() as u64;
+    if loops <= column && column < end && lane < plan.lanes as u64 {
+        body_block(
+            plan.columns.get((column - loops) as usize),
+            lane as u32,
+            before,
+        )
+    } else {
+        (slot_at(plan, column, lane), before)
+    }
+}
+
+// What stands in a block of the drawing: if the plan has no tape, what the plan has there. The
+// numbers are those of `bare_block`.
+fn block_at(plan: &Plan, column: u64, lane: u64, before: u32) -> (Slot, u32)
+    requires admissible { IsAdmissible plan.now }
+    ensures { slot_of result.0 ≡ drawn_tiling plan.now column lane }
 {
     if plan.tape.len() == 0 {
-        slot_at(plan, column, lane)
+        bare_block(plan, column, lane, before)
     } else {
-        slot_drawn_at(plan, column, lane)
+        (slot_drawn_at(plan, column, lane), before)
     }
 }
 
@@ -92,13 +116,14 @@ fn stretch_at(plan: &Plan, lane: u64, blocks: &[Stretch], i: usize) -> Stretch
     requires east { AreBlocksFrom plan.now lane (i + 1) blocks.now }
     ensures { IsStretch plan.now lane (length blocks.now) i result }
 {
-    let slot = block_at(plan, i as u64, lane);
+    let (slot, above) = block_at(plan, i as u64, lane, blocks[i].above);
     if i + 1 == blocks.len() {
         return Stretch {
             slot,
             motif: 1,
             count: 1,
             reach: 1,
+            above,
         };
     }
     let east = blocks[i + 1];
@@ -109,6 +134,7 @@ fn stretch_at(plan: &Plan, lane: u64, blocks: &[Stretch], i: usize) -> Stretch
         motif,
         count: next_count(slot, east),
         reach,
+        above,
     }
 }
 
@@ -145,6 +171,6 @@ pub fn kept_block(plan: &Plan, blocks: &[Stretch], column: u64, lane: u64) -> Sl
     if column < blocks.len() as u64 {
         blocks[column as usize].slot
     } else {
-        block_at(plan, column, lane)
+        block_at(plan, column, lane, 0).0
     }
 }

@@ -5,6 +5,7 @@
 
 mod bare;
 mod blocks;
+mod body;
 mod copies;
 mod dark;
 mod items;
