@@ -3,6 +3,7 @@ use Rattle.std.specs.Prelude.{◌≡◌, ◌≢◌, ℕ, zero, suc, List, [], �
 use Rattle.ww_rule.specs.declared.pattern.State.{State}
 use Rattle.ww_rule.specs.declared.pattern.State.TheVariants.{Empty}
 use Rattle.pattern_writing.specs.Writer.{TagRun, tag_of, row_end, without_end, row_tags, runs_of, run_text, wrapped}
+use Rattle.rle_write.specs.declared.rows.Kept.{Kept}
 
 -- the tags of rows, if row ends are due before them
 abbrev pub rows_left : ℕ → List (List State) → List ℕ
@@ -30,6 +31,11 @@ items_left held column items = line_left held column (map run_text items ++ code
 -- the same for the items of tags
 abbrev pub text_left : List ℕ → ℕ → List ℕ → List ℕ
 text_left held column tags = items_left held column (runs_of tags)
+
+-- the same for the tags that are still to come in a row after what is kept of it
+abbrev pub kept_left : List ℕ → ℕ → Kept → List ℕ → List (List State) → List ℕ
+kept_left held column kept tags rows =
+    text_left held column (row_left kept.due (replicate kept.run.count kept.run.tag ++ tags) rows)
 
 -- the tags do not begin with this one
 abbrev pub BeginsOther : ℕ → List ℕ → Type 0

@@ -1,8 +1,8 @@
 // Copies of the same cells, run by run.
-ghost use Rattle.std.specs.Prelude.{◌≢◌, ◌≤◌, ◌<◌, ◌+◌, ◌^◌, ℕ, List, ◌++◌, replicate, length, All, IfOk, OnErr};
+ghost use Rattle.std.specs.Prelude.{◌≢◌, ◌≤◌, ◌<◌, ◌+◌, ◌^◌, ℕ, List, ◌++◌, length, All, IfOk, OnErr};
 ghost use Rattle.ww_rule.specs.declared.pattern.State.{State};
 ghost use Rattle.pattern_writing.specs.Writer.{row_end};
-ghost use Rattle.rle_write.specs.Left.{row_left, text_left};
+ghost use Rattle.rle_write.specs.Left.{kept_left};
 ghost use Rattle.rle_write.specs.Runs.{IsCellRun, repeated, spelled};
 ghost use Rattle.ww_base.specs.Pages.{held, column_of};
 ghost use Rattle.ww_base.specs.Progress.{Wrote, Broke};
@@ -25,16 +25,11 @@ pub fn add_runs<O: Sink>(
     ensures short { IfOk result (λ k. k.run.count ≤ kept.run.count + length (spelled runs.now)) }
     ensures ok { IfOk result (λ k. (more : List ℕ) (rows : List (List State)) →
         Wrote (O.written sink.old) (O.written sink.new) (O.faults sink.old) (O.faults sink.new)
-        (text_left (held page.old) (column_of page.old)
-        (row_left kept.due (replicate kept.run.count kept.run.tag ++
-        (spelled runs.now ++ more)) rows))
-        (text_left (held page.new) (column_of page.new)
-        (row_left k.due (replicate k.run.count k.run.tag ++ more) rows))) }
+        (kept_left (held page.old) (column_of page.old) kept (spelled runs.now ++ more) rows)
+        (kept_left (held page.new) (column_of page.new) k more rows)) }
     ensures err { OnErr result ((more : List ℕ) (rows : List (List State)) →
         Broke (O.written sink.old) (O.written sink.new) (O.faults sink.old) (O.faults sink.new)
-        (text_left (held page.old) (column_of page.old)
-        (row_left kept.due (replicate kept.run.count kept.run.tag ++
-        (spelled runs.now ++ more)) rows))) }
+        (kept_left (held page.old) (column_of page.old) kept (spelled runs.now ++ more) rows)) }
 {
     let mut kept = kept;
     for run in runs {
@@ -59,16 +54,11 @@ pub fn add_copies<O: Sink>(
     ensures short { IfOk result (λ k. k.run.count ≤ kept.run.count + length (repeated count (spelled runs.now))) }
     ensures ok { IfOk result (λ k. (more : List ℕ) (rows : List (List State)) →
         Wrote (O.written sink.old) (O.written sink.new) (O.faults sink.old) (O.faults sink.new)
-        (text_left (held page.old) (column_of page.old)
-        (row_left kept.due (replicate kept.run.count kept.run.tag ++
-        (repeated count (spelled runs.now) ++ more)) rows))
-        (text_left (held page.new) (column_of page.new)
-        (row_left k.due (replicate k.run.count k.run.tag ++ more) rows))) }
+        (kept_left (held page.old) (column_of page.old) kept (repeated count (spelled runs.now) ++ more) rows)
+        (kept_left (held page.new) (column_of page.new) k more rows)) }
     ensures err { OnErr result ((more : List ℕ) (rows : List (List State)) →
         Broke (O.written sink.old) (O.written sink.new) (O.faults sink.old) (O.faults sink.new)
-        (text_left (held page.old) (column_of page.old)
-        (row_left kept.due (replicate kept.run.count kept.run.tag ++
-        (repeated count (spelled runs.now) ++ more)) rows))) }
+        (kept_left (held page.old) (column_of page.old) kept (repeated count (spelled runs.now) ++ more) rows)) }
 {
     let mut kept = kept;
     for _ in 0..count {

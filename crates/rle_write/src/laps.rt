@@ -1,11 +1,11 @@
 // Laps: copies of the same cells after which the column on the line and the kept run are again what
 // they were. So the bytes of the next lap are the same, and are put on the page at once.
-ghost use Rattle.std.specs.Prelude.{◌≡◌, ◌≢◌, ◌≤◌, ◌<◌, ◌+◌, ◌^◌, ℕ, List, [], ◌++◌, replicate, length, All, IfOk, IfSome, OnErr, IsTrue};
+ghost use Rattle.std.specs.Prelude.{◌≡◌, ◌≢◌, ◌≤◌, ◌<◌, ◌+◌, ◌^◌, ℕ, List, [], ◌++◌, length, All, IfOk, IfSome, OnErr, IsTrue};
 ghost use Rattle.ww_rule.specs.declared.pattern.State.{State};
 ghost use Rattle.pattern_writing.specs.Writer.{row_end};
 ghost use Rattle.rle_write.specs.LapBytes.{bytes_of};
 ghost use Rattle.rle_write.specs.Laps.{IsLap};
-ghost use Rattle.rle_write.specs.Left.{row_left, text_left};
+ghost use Rattle.rle_write.specs.Left.{kept_left};
 ghost use Rattle.rle_write.specs.Runs.{IsCellRun, repeated, spelled};
 ghost use Rattle.ww_base.specs.Pages.{held, column_of};
 ghost use Rattle.ww_base.specs.Progress.{Wrote, Broke};
@@ -57,47 +57,8 @@ fn find_lap(lap: &mut Lap, column: usize, kept: Kept, runs: &[Run], most: usize)
     None
 }
 
-// Takes `count` copies of the cells that these runs spell: the bytes of the lap as often as its
-// copies are among them, and then those that are left.
-fn write_laps<O: Sink>(
-    sink: &mut O,
-    page: &mut Page,
-    kept: Kept,
-    runs: &[Run],
-    lap: &[u8],
-    copies: usize,
-    count: usize,
-) -> Result<Kept, Failed>
-    requires cell { kept.run.tag ≢ row_end }
-    requires runs { All IsCellRun runs.now }
-    requires short { kept.run.count + length (repeated count (spelled runs.now)) < 2 ^ 64 }
-    requires some { 1 ≤ copies }
-    requires lap { IsLap (column_of page.old) kept runs.now copies lap.now }
-    ensures cell { IfOk result (λ k. k.run.tag ≢ row_end) }
-    ensures fewer { IfOk result (λ k. k.due ≤ kept.due) }
-    ensures short { IfOk result (λ k. k.run.count ≤ kept.run.count + length (repeated count (spelled runs.now))) }
-    ensures ok { IfOk result (λ k. (more : List ℕ) (rows : List (List State)) →
-        Wrote (O.written sink.old) (O.written sink.new) (O.faults sink.old) (O.faults sink.new)
-        (text_left (held page.old) (column_of page.old)
-        (row_left kept.due (replicate kept.run.count kept.run.tag ++
-        (repeated count (spelled runs.now) ++ more)) rows))
-        (text_left (held page.new) (column_of page.new)
-        (row_left k.due (replicate k.run.count k.run.tag ++ more) rows))) }
-    ensures err { OnErr result ((more : List ℕ) (rows : List (List State)) →
-        Broke (O.written sink.old) (O.written sink.new) (O.faults sink.old) (O.faults sink.new)
-        (text_left (held page.old) (column_of page.old)
-        (row_left kept.due (replicate kept.run.count kept.run.tag ++
-        (repeated count (spelled runs.now) ++ more)) rows))) }
-{
-    let mut left = count;
-    'laps: while copies <= left {
-        page.put(sink, lap)?;
-        left -= copies;
-    }
-    add_copies(sink, page, kept, runs, left)
-}
-
-// Takes `count` copies of the cells that these runs spell, lap by lap if a lap begins here.
+// Takes `count` copies of the cells that these runs spell: if a lap begins here, its bytes as often
+// as its copies are among them, and then those that are left.
 fn add_laps<O: Sink>(
     sink: &mut O,
     page: &mut Page,
@@ -113,23 +74,21 @@ fn add_laps<O: Sink>(
     ensures short { IfOk result (λ k. k.run.count ≤ kept.run.count + length (repeated count (spelled runs.now))) }
     ensures ok { IfOk result (λ k. (more : List ℕ) (rows : List (List State)) →
         Wrote (O.written sink.old) (O.written sink.new) (O.faults sink.old) (O.faults sink.new)
-        (text_left (held page.old) (column_of page.old)
-        (row_left kept.due (replicate kept.run.count kept.run.tag ++
-        (repeated count (spelled runs.now) ++ more)) rows))
-        (text_left (held page.new) (column_of page.new)
-        (row_left k.due (replicate k.run.count k.run.tag ++ more) rows))) }
+        (kept_left (held page.old) (column_of page.old) kept (repeated count (spelled runs.now) ++ more) rows)
+        (kept_left (held page.new) (column_of page.new) k more rows)) }
     ensures err { OnErr result ((more : List ℕ) (rows : List (List State)) →
         Broke (O.written sink.old) (O.written sink.new) (O.faults sink.old) (O.faults sink.new)
-        (text_left (held page.old) (column_of page.old)
-        (row_left kept.due (replicate kept.run.count kept.run.tag ++
-        (repeated count (spelled runs.now) ++ more)) rows))) }
+        (kept_left (held page.old) (column_of page.old) kept (repeated count (spelled runs.now) ++ more) rows)) }
 {
     let mut lap = Lap::new();
     let most = count.min(COPIES);
-    let Some(copies) = find_lap(&mut lap, page.column(), kept, runs, most) else {
-        return add_copies(sink, page, kept, runs, count);
-    };
-    write_laps(sink, page, kept, runs, lap.bytes(), copies, count)
+    let copies = find_lap(&mut lap, page.column(), kept, runs, most).unwrap_or(0);
+    let mut left = count;
+    'laps: while copies > 0 && copies <= left {
+        page.put(sink, lap.bytes())?;
+        left -= copies;
+    }
+    add_copies(sink, page, kept, runs, left)
 }
 
 // Takes `count` copies of the cells that these runs spell, the first of them one by one.
@@ -150,16 +109,11 @@ fn add_after<O: Sink>(
     ensures short { IfOk result (λ k. k.run.count ≤ kept.run.count + length (repeated count (spelled runs.now))) }
     ensures ok { IfOk result (λ k. (more : List ℕ) (rows : List (List State)) →
         Wrote (O.written sink.old) (O.written sink.new) (O.faults sink.old) (O.faults sink.new)
-        (text_left (held page.old) (column_of page.old)
-        (row_left kept.due (replicate kept.run.count kept.run.tag ++
-        (repeated count (spelled runs.now) ++ more)) rows))
-        (text_left (held page.new) (column_of page.new)
-        (row_left k.due (replicate k.run.count k.run.tag ++ more) rows))) }
+        (kept_left (held page.old) (column_of page.old) kept (repeated count (spelled runs.now) ++ more) rows)
+        (kept_left (held page.new) (column_of page.new) k more rows)) }
     ensures err { OnErr result ((more : List ℕ) (rows : List (List State)) →
         Broke (O.written sink.old) (O.written sink.new) (O.faults sink.old) (O.faults sink.new)
-        (text_left (held page.old) (column_of page.old)
-        (row_left kept.due (replicate kept.run.count kept.run.tag ++
-        (repeated count (spelled runs.now) ++ more)) rows))) }
+        (kept_left (held page.old) (column_of page.old) kept (repeated count (spelled runs.now) ++ more) rows)) }
 {
     let begun = add_copies(sink, page, kept, runs, first)?;
     add_laps(sink, page, begun, runs, count - first)
@@ -181,16 +135,11 @@ pub fn add_many<O: Sink>(
     ensures short { IfOk result (λ k. k.run.count ≤ kept.run.count + length (repeated count (spelled runs.now))) }
     ensures ok { IfOk result (λ k. (more : List ℕ) (rows : List (List State)) →
         Wrote (O.written sink.old) (O.written sink.new) (O.faults sink.old) (O.faults sink.new)
-        (text_left (held page.old) (column_of page.old)
-        (row_left kept.due (replicate kept.run.count kept.run.tag ++
-        (repeated count (spelled runs.now) ++ more)) rows))
-        (text_left (held page.new) (column_of page.new)
-        (row_left k.due (replicate k.run.count k.run.tag ++ more) rows))) }
+        (kept_left (held page.old) (column_of page.old) kept (repeated count (spelled runs.now) ++ more) rows)
+        (kept_left (held page.new) (column_of page.new) k more rows)) }
     ensures err { OnErr result ((more : List ℕ) (rows : List (List State)) →
         Broke (O.written sink.old) (O.written sink.new) (O.faults sink.old) (O.faults sink.new)
-        (text_left (held page.old) (column_of page.old)
-        (row_left kept.due (replicate kept.run.count kept.run.tag ++
-        (repeated count (spelled runs.now) ++ more)) rows))) }
+        (kept_left (held page.old) (column_of page.old) kept (repeated count (spelled runs.now) ++ more) rows)) }
 {
     if count < MANY {
         return add_copies(sink, page, kept, runs, count);

@@ -4,7 +4,7 @@ ghost use Rattle.std.specs.Prelude.{◌≡◌, ◌≢◌, ◌≤◌, ◌<◌, �
 ghost use Rattle.ww_rule.specs.declared.pattern.State.{State};
 ghost use Rattle.pattern_writing.specs.Writer.{TagRun, tag_of, row_end};
 ghost use Rattle.rle_write.specs.Runs.{IsCellRun};
-ghost use Rattle.rle_write.specs.Left.{rows_left, row_left, end_items, items_left, text_left, IsRunBefore};
+ghost use Rattle.rle_write.specs.Left.{rows_left, row_left, kept_left, end_items, items_left, text_left, IsRunBefore};
 ghost use Rattle.ww_base.specs.Pages.{held, column_of};
 ghost use Rattle.ww_base.specs.Progress.{Wrote, Broke};
 
@@ -115,13 +115,11 @@ pub fn end_row<O: Sink>(sink: &mut O, page: &mut Page, kept: Kept) -> Result<usi
     ensures one_more { IfOk result (λ after. after ≤ kept.due + 1) }
     ensures ok { IfOk result (λ after. (rows : List (List State)) →
         Wrote (O.written sink.old) (O.written sink.new) (O.faults sink.old) (O.faults sink.new)
-        (text_left (held page.old) (column_of page.old)
-        (row_left kept.due (replicate kept.run.count kept.run.tag ++ []) rows))
+        (kept_left (held page.old) (column_of page.old) kept [] rows)
         (text_left (held page.new) (column_of page.new) (rows_left after rows))) }
     ensures err { OnErr result ((rows : List (List State)) →
         Broke (O.written sink.old) (O.written sink.new) (O.faults sink.old) (O.faults sink.new)
-        (text_left (held page.old) (column_of page.old)
-        (row_left kept.due (replicate kept.run.count kept.run.tag ++ []) rows))) }
+        (kept_left (held page.old) (column_of page.old) kept [] rows)) }
 {
     let last = end_run(sink, page, kept.due, kept.run)?;
     Ok(last + 1)
@@ -138,16 +136,11 @@ pub fn add_run<O: Sink>(sink: &mut O, page: &mut Page, kept: Kept, run: Run) -> 
     ensures short { IfOk result (λ k. k.run.count ≤ kept.run.count + run.count) }
     ensures ok { IfOk result (λ k. (more : List ℕ) (rows : List (List State)) →
         Wrote (O.written sink.old) (O.written sink.new) (O.faults sink.old) (O.faults sink.new)
-        (text_left (held page.old) (column_of page.old)
-        (row_left kept.due (replicate kept.run.count kept.run.tag ++
-        (replicate run.count run.tag ++ more)) rows))
-        (text_left (held page.new) (column_of page.new)
-        (row_left k.due (replicate k.run.count k.run.tag ++ more) rows))) }
+        (kept_left (held page.old) (column_of page.old) kept (replicate run.count run.tag ++ more) rows)
+        (kept_left (held page.new) (column_of page.new) k more rows)) }
     ensures err { OnErr result ((more : List ℕ) (rows : List (List State)) →
         Broke (O.written sink.old) (O.written sink.new) (O.faults sink.old) (O.faults sink.new)
-        (text_left (held page.old) (column_of page.old)
-        (row_left kept.due (replicate kept.run.count kept.run.tag ++
-        (replicate run.count run.tag ++ more)) rows))) }
+        (kept_left (held page.old) (column_of page.old) kept (replicate run.count run.tag ++ more) rows)) }
 {
     let tag = run.tag;
     if tag == kept.run.tag {
@@ -177,16 +170,11 @@ pub fn write_same<O: Sink>(
     ensures short { IfOk result (λ k. k.run.count ≤ kept.run.count + count) }
     ensures ok { IfOk result (λ k. (more : List ℕ) (rows : List (List State)) →
         Wrote (O.written sink.old) (O.written sink.new) (O.faults sink.old) (O.faults sink.new)
-        (text_left (held page.old) (column_of page.old)
-        (row_left kept.due (replicate kept.run.count kept.run.tag ++
-        (replicate count (tag_of state) ++ more)) rows))
-        (text_left (held page.new) (column_of page.new)
-        (row_left k.due (replicate k.run.count k.run.tag ++ more) rows))) }
+        (kept_left (held page.old) (column_of page.old) kept (replicate count (tag_of state) ++ more) rows)
+        (kept_left (held page.new) (column_of page.new) k more rows)) }
     ensures err { OnErr result ((more : List ℕ) (rows : List (List State)) →
         Broke (O.written sink.old) (O.written sink.new) (O.faults sink.old) (O.faults sink.new)
-        (text_left (held page.old) (column_of page.old)
-        (row_left kept.due (replicate kept.run.count kept.run.tag ++
-        (replicate count (tag_of state) ++ more)) rows))) }
+        (kept_left (held page.old) (column_of page.old) kept (replicate count (tag_of state) ++ more) rows)) }
 {
     let tag = tag_of(state);
     add_run(sink, page, kept, Run { count, tag })

@@ -1,14 +1,14 @@
 // The rows of stretches of blocks, where no electron stands. The runs of such a row are those of what
 // stands in the blocks. Where the same stands again and again, in each block or in a motif of some
 // blocks, they are found once, and copies of their cells are written.
-ghost use Rattle.std.specs.Prelude.{◌≡◌, ◌≢◌, ◌≤◌, ◌<◌, ◌+◌, ◌*◌, ◌^◌, ◌/◌, ℕ, List, ◌∷◌, ◌++◌, map, drop, replicate, take, length, All, IfOk, OnErr};
+ghost use Rattle.std.specs.Prelude.{◌≡◌, ◌≢◌, ◌≤◌, ◌<◌, ◌+◌, ◌*◌, ◌^◌, ◌/◌, ℕ, List, ◌∷◌, ◌++◌, map, drop, take, length, All, IfOk, OnErr};
 ghost use Rattle.ww_rule.specs.declared.pattern.State.{State};
 ghost use Rattle.lane_core.specs.Plans.{IsAdmissible, size_of};
 ghost use Rattle.grid_assembly.specs.PlanDrawing.{start_row};
 ghost use Rattle.pattern_writing.specs.Writer.{tag_of, row_end};
 ghost use Rattle.rle_write.specs.Blocks.{AreBlocks, IsFigure, IsStretch, tags_of_blocks};
 ghost use Rattle.rle_write.specs.Dark.{IsDark};
-ghost use Rattle.rle_write.specs.Left.{rows_left, row_left, text_left};
+ghost use Rattle.rle_write.specs.Left.{rows_left, kept_left, text_left};
 ghost use Rattle.rle_write.specs.Runs.{IsCellRun, repeated, spelled};
 ghost use Rattle.ww_base.specs.Pages.{held, column_of};
 ghost use Rattle.ww_base.specs.Progress.{Wrote, Broke};
@@ -43,16 +43,11 @@ fn add_stretch<O: Sink>(
     ensures short { IfOk result (λ k. k.run.count ≤ kept.run.count + length (repeated count (spelled runs.now))) }
     ensures ok { IfOk result (λ k. (more : List ℕ) (rows : List (List State)) →
         Wrote (O.written sink.old) (O.written sink.new) (O.faults sink.old) (O.faults sink.new)
-        (text_left (held page.old) (column_of page.old)
-        (row_left kept.due (replicate kept.run.count kept.run.tag ++
-        (repeated count (spelled runs.now) ++ more)) rows))
-        (text_left (held page.new) (column_of page.new)
-        (row_left k.due (replicate k.run.count k.run.tag ++ more) rows))) }
+        (kept_left (held page.old) (column_of page.old) kept (repeated count (spelled runs.now) ++ more) rows)
+        (kept_left (held page.new) (column_of page.new) k more rows)) }
     ensures err { OnErr result ((more : List ℕ) (rows : List (List State)) →
         Broke (O.written sink.old) (O.written sink.new) (O.faults sink.old) (O.faults sink.new)
-        (text_left (held page.old) (column_of page.old)
-        (row_left kept.due (replicate kept.run.count kept.run.tag ++
-        (repeated count (spelled runs.now) ++ more)) rows))) }
+        (kept_left (held page.old) (column_of page.old) kept (repeated count (spelled runs.now) ++ more) rows)) }
 {
     if runs.len() == 1 {
         let run = Run {
@@ -123,9 +118,8 @@ pub fn write_stretches<O: Sink>(
         Wrote (O.written sink.old) (O.written sink.new) (O.faults sink.old) (O.faults sink.new)
         (text_left (held page.old) (column_of page.old)
         (rows_left ends (start_row plan.now y ∷ rows)))
-        (text_left (held page.new) (column_of page.new)
-        (row_left k.due (replicate k.run.count k.run.tag ++
-        map tag_of (drop (32 * length blocks.now) (start_row plan.now y))) rows))) }
+        (kept_left (held page.new) (column_of page.new) k
+        (map tag_of (drop (32 * length blocks.now) (start_row plan.now y))) rows)) }
     ensures err { OnErr result ((rows : List (List State)) →
         Broke (O.written sink.old) (O.written sink.new) (O.faults sink.old) (O.faults sink.new)
         (text_left (held page.old) (column_of page.old)

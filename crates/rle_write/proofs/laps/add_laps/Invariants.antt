@@ -4,7 +4,7 @@ use Rattle.rle_write.specs.Left.{row_left, text_left}
 use Rattle.rle_write.specs.Runs.{repeated, spelled}
 use Rattle.ww_base.specs.Pages.{held, column_of}
 use Rattle.ww_base.specs.Progress.{Wrote}
-use Rattle.rle_write.proofs.laps.write_laps.Given as goal
+use Rattle.rle_write.proofs.laps.add_laps.Given as goal
 
 abbrev pub invariant-laps : goal.invariant-laps
 invariant-laps g l = record {
