@@ -1,5 +1,5 @@
 -- A plan of one of several lists.
-use Rattle.std.proofs.Common.{◌≡◌, sym, ap, ap₂, subst, ℕ, ◌<◌, Bool, List, [], ◌∷◌, length, get_or, arith}
+use Rattle.std.proofs.Common.{◌≡◌, sym, ap, ap₂, subst, ℕ, Bool, List, [], ◌∷◌, length, get_or, arith}
 use Rattle.std.specs.Prelude.{All}
 use Rattle.cell_core.specs.declared.list.CellList.{CellList}
 use Rattle.lane_core.specs.declared.plan.Plan.{Plan}

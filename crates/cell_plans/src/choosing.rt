@@ -24,6 +24,9 @@ use std::slice::from_ref;
 // The most cells of a list for which all orders are tried.
 const LONG_LIST: usize = 4096;
 
+// How many loops a list has for each of its cells, at least, if its cells are few beside them.
+const LOOPS_FOR_A_CELL: usize = 16;
+
 /// A plan, and the number of the list that it computes.
 #[derive(Drop)]
 pub struct Chosen {
@@ -47,12 +50,18 @@ fn smaller(lists: &[CellList], first: Chosen, second: Chosen) -> Chosen
     }
 }
 
-// The reaches for which orders are tried: 2, 3 and 4, or 3 alone for a long list, whose placing
-// takes long; 3 serves best. A list of fewer than two cells has one order.
+// Whether a list has few cells beside its loops, whose lanes then make the drawing large.
+fn has_few_cells(list: &CellList) -> bool {
+    list.cells.len().saturating_mul(LOOPS_FOR_A_CELL) <= list.latches.len()
+}
+
+// The reaches for which orders are tried: 2, 3 and 4, or 3 alone for a list that is long or has few
+// cells beside its loops, whose placing takes long; 3 serves best. A list of fewer than two cells
+// has one order.
 fn reaches(list: &CellList) -> Range<u32> {
     if list.cells.len() < 2 {
         2..2
-    } else if list.cells.len() > LONG_LIST {
+    } else if list.cells.len() > LONG_LIST || has_few_cells(list) {
         3..4
     } else {
         2..5
@@ -92,11 +101,19 @@ fn push_starts(
     Ok(())
 }
 
-// Whether the orders of a list are tried: of lists without cells only the first one's are.
+// Whether the orders of a list are tried: those of a list that has few cells beside its loops are
+// tried only if each list before it has more cells.
 fn is_tried(lists: &[CellList], number: usize) -> bool
     requires { number < length lists.now }
 {
-    number == 0 || lists[0].cells.len() > 0 || lists[number].cells.len() > 0
+    if has_few_cells(&lists[number]) {
+        for before in 0..number {
+            if lists[before].cells.len() <= lists[number].cells.len() {
+                return false;
+            }
+        }
+    }
+    true
 }
 
 // The orders of the lists that are tried, the first list's own at the front.
@@ -174,6 +191,9 @@ fn better(
     ensures plan { IfOk result (λ next. IsPlanOfOne lists.now next.list next.plan) }
     ensures no_larger { IfOk result (λ next. tiles next.plan ≤ tiles chosen.plan) }
 {
+    if found.tiles as u128 >= tiles(&chosen.plan) {
+        return Ok(chosen);
+    }
     match climbed_plan(alloc, &lists[found.list], found)? {
         None => Ok(chosen),
         Some(plan) => {
