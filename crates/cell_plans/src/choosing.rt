@@ -27,6 +27,9 @@ const LONG_LIST: usize = 4096;
 // How many loops a list has for each of its cells, at least, if its cells are few beside them.
 const LOOPS_FOR_A_CELL: usize = 16;
 
+// With so many loops a list is dear to place.
+const MANY_LOOPS: usize = 1024;
+
 /// A plan, and the number of the list that it computes.
 #[derive(Drop)]
 pub struct Chosen {
@@ -50,18 +53,20 @@ fn smaller(lists: &[CellList], first: Chosen, second: Chosen) -> Chosen
     }
 }
 
-// Whether a list has few cells beside its loops, whose lanes then make the drawing large.
-fn has_few_cells(list: &CellList) -> bool {
-    list.cells.len().saturating_mul(LOOPS_FOR_A_CELL) <= list.latches.len()
+// Whether the lanes of a list's loops make its drawing large: there are many of them, or few cells
+// beside them.
+fn is_mostly_loops(list: &CellList) -> bool {
+    list.latches.len() >= MANY_LOOPS
+        || list.cells.len().saturating_mul(LOOPS_FOR_A_CELL) <= list.latches.len()
 }
 
-// The reaches for which orders are tried: 2, 3 and 4, or 3 alone for a list that is long or has few
-// cells beside its loops, whose placing takes long; 3 serves best. A list of fewer than two cells
-// has one order.
+// The reaches for which orders are tried: 2, 3 and 4, or 3 alone for a list that is long or mostly
+// loops, whose placing takes long; 3 serves best. With fewer than two cells there is one order, and
+// with many loops only the list's own is tried.
 fn reaches(list: &CellList) -> Range<u32> {
-    if list.cells.len() < 2 {
+    if list.cells.len() < 2 || list.latches.len() >= MANY_LOOPS {
         2..2
-    } else if list.cells.len() > LONG_LIST || has_few_cells(list) {
+    } else if list.cells.len() > LONG_LIST || is_mostly_loops(list) {
         3..4
     } else {
         2..5
@@ -101,12 +106,12 @@ fn push_starts(
     Ok(())
 }
 
-// Whether the orders of a list are tried: those of a list that has few cells beside its loops are
-// tried only if each list before it has more cells.
+// Whether the orders of a list are tried: those of a list that is mostly loops are tried only if
+// each list before it has more cells.
 fn is_tried(lists: &[CellList], number: usize) -> bool
     requires { number < length lists.now }
 {
-    if has_few_cells(&lists[number]) {
+    if is_mostly_loops(&lists[number]) {
         for before in 0..number {
             if lists[before].cells.len() <= lists[number].cells.len() {
                 return false;
