@@ -1,12 +1,11 @@
 // Circles of models, whose subckt lines name one another.
 use crate::pages::Page;
-use lists::{Bytes, List};
+use lists::List;
 use model_circles::circle_fault;
 use model_index::NamedModels;
 use netlist_core::{Model, Subckt};
 use netlist_rules::Fault;
 use std::alloc::{AllocError, Global};
-use std::test::Fail;
 
 // A model: its name, and for each of its subckt lines the line's number and the name of the model
 // that it instantiates. Names are single letters.
@@ -29,7 +28,10 @@ fn subckts_of(page: &mut Page, written: &[(u64, u8)]) -> Vec<Subckt> {
     subckts
 }
 
-fn model_with(alloc: Global, name: Bytes, subckts: Vec<Subckt>) -> Model {
+fn model_of(page: &mut Page, written: &Written) -> Model {
+    let alloc = page.alloc();
+    let name = page.copy(&[written.name]);
+    let subckts = subckts_of(page, written.subckts);
     Model {
         line: 1,
         name,
@@ -42,17 +44,12 @@ fn model_with(alloc: Global, name: Bytes, subckts: Vec<Subckt>) -> Model {
     }
 }
 
-fn push_model(page: &mut Page, models: &mut Vec<Model>, written: &Written) {
-    let name = page.copy(&[written.name]);
-    let subckts = subckts_of(page, written.subckts);
-    page.put(models, model_with(page.alloc(), name, subckts));
-}
-
 // The models. The page notes if one is missing.
 fn models_of(page: &mut Page, written: &[Written]) -> Vec<Model> {
     let mut models = Vec::new(page.alloc());
     for it in written {
-        push_model(page, &mut models, it);
+        let model = model_of(page, it);
+        page.put(&mut models, model);
     }
     models
 }
@@ -62,13 +59,15 @@ fn fault_of(alloc: Global, models: &[Model]) -> Result<Option<Fault>, AllocError
     circle_fault(alloc, models, &named)
 }
 
-// The fault, or nothing.
-fn push_fault(page: &mut Page, found: &Result<Option<Fault>, AllocError>) {
-    match found {
+// The fault of the models, or nothing.
+fn push_fault(page: &mut Page, models: &[Model]) {
+    let found = fault_of(page.alloc(), models);
+    match &found {
         Ok(Some(fault)) => page.push_fault(fault),
         Ok(None) => {}
         Err(_) => page.cut(),
     }
+    drop(found);
 }
 
 // Many subckt lines of one model, which make no circle.
@@ -174,13 +173,12 @@ const CIRCLES: &[(&[Written], &[u8])] = &[
     ),
 ];
 
-#[test]
-fn the_earliest_line_on_a_circle_is_the_fault(rt: HostRuntime) -> Result<(), Fail> {
-    let mut page = Page::new(rt.alloc());
+/// Notes it unless the earliest line on a circle is the fault.
+pub fn expect_circles(page: &mut Page) {
     for (written, want) in CIRCLES {
-        let models = models_of(&mut page, written);
-        push_fault(&mut page, &fault_of(rt.alloc(), &models));
+        let models = models_of(page, written);
+        push_fault(page, &models);
+        drop(models);
         page.expect(want);
     }
-    page.end()
 }

@@ -2,22 +2,17 @@
 use crate::pages::Page;
 use crate::rewriting::{list_of, push_list};
 use cell_core::{Cell, Src};
-use cell_polarity::{KeptList, PolarityError, complemented};
-use std::test::Fail;
-
-fn push_low(page: &mut Page, low: &Result<KeptList, PolarityError>) {
-    match low {
-        Ok(low) => push_list(page, &low.list),
-        Err(_) => page.cut(),
-    }
-}
+use cell_polarity::complemented;
 
 // The list that the list of these cells and nets becomes. The sources in `kept` are kept.
 fn push_complemented(page: &mut Page, cells: &[Cell], nets: &[Src], kept: &[Src]) {
     let list = list_of(page, cells, nets);
     let low = complemented(page.alloc(), &list, kept);
     drop(list);
-    push_low(page, &low);
+    match &low {
+        Ok(low) => push_list(page, &low.list),
+        Err(_) => page.cut(),
+    }
     drop(low);
 }
 
@@ -64,12 +59,10 @@ const LISTS: &[(&[Cell], &[Src], &[Src], &str)] = &[
     ),
 ];
 
-#[test]
-fn what_is_one_at_zero_is_kept_as_its_complement(rt: HostRuntime) -> Result<(), Fail> {
-    let mut page = Page::new(rt.alloc());
+/// Notes it unless what is one at zero is kept as its complement.
+pub fn expect_complements(page: &mut Page) {
     for (cells, nets, kept, want) in LISTS {
-        push_complemented(&mut page, cells, nets, kept);
+        push_complemented(page, cells, nets, kept);
         page.expect(want.as_bytes());
     }
-    page.end()
 }

@@ -1,11 +1,9 @@
 // The values of covers.
 use crate::pages::Page;
 use crate::texts::copies_of;
-use lists::{Bytes, List};
+use lists::List;
 use netlist_core::Cover;
 use netlist_meaning::cover_value;
-use std::alloc::Global;
-use std::test::Fail;
 
 // A cover: its rows, whether they end in `1`, some lists of input bits, and its value for each of
 // these as a letter.
@@ -82,36 +80,30 @@ const COVERS: &[Written] = &[
     },
 ];
 
-// A cover of which only the fields that `cover_value` reads are filled in.
-fn cover(alloc: Global, rows: Vec<Bytes>, on: bool) -> Cover {
-    Cover {
-        line: 1,
-        ins: List::of(Vec::new(alloc)),
-        out: List::of(Vec::new(alloc)),
-        rows: List::of(rows),
-        on,
-    }
-}
-
 fn push_values(page: &mut Page, cover: &Cover, inputs: &[&[bool]]) {
     for bits in inputs {
         page.push(if cover_value(cover, bits) { b"1" } else { b"0" });
     }
 }
 
+// Appends the values of a cover, of which only the fields that `cover_value` reads are filled in.
 fn push_cover(page: &mut Page, written: &Written) {
-    let rows = copies_of(page, written.rows);
-    let cover = cover(page.alloc(), rows, written.on);
+    let alloc = page.alloc();
+    let cover = Cover {
+        line: 1,
+        ins: List::of(Vec::new(alloc)),
+        out: List::of(Vec::new(alloc)),
+        rows: List::of(copies_of(page, written.rows)),
+        on: written.on,
+    };
     push_values(page, &cover, written.inputs);
     drop(cover);
 }
 
-#[test]
-fn covers_have_the_values_of_their_rows(rt: HostRuntime) -> Result<(), Fail> {
-    let mut page = Page::new(rt.alloc());
+/// Notes it unless covers have the values of their rows.
+pub fn expect_values(page: &mut Page) {
     for written in COVERS {
-        push_cover(&mut page, written);
+        push_cover(page, written);
         page.expect(written.values);
     }
-    page.end()
 }

@@ -9,7 +9,6 @@ use cell_sharing::Places;
 use cover_cells::map_cover;
 use lists::{Bytes, List};
 use std::alloc::Global;
-use std::test::Fail;
 
 /// Returns a list with this many inputs and nothing else.
 pub fn empty(alloc: Global, inputs: u32) -> CellList {
@@ -28,9 +27,13 @@ pub fn are_there(list: &CellList, sources: &[Src]) -> bool
     ensures { result
         ≡ are_there list.now.inputs (length list.now.starts) (length list.now.cells) sources.now }
 {
-    sources.iter().all(|src| {
-        src.is_there(list.inputs as usize, list.starts.len(), list.cells.len())
-    })
+    let (inputs, latches, cells) = (list.inputs as usize, list.starts.len(), list.cells.len());
+    for (i, src) in sources.iter().enumerate() {
+        if !src.is_there(inputs, latches, cells) {
+            return false;
+        }
+    }
+    true
 }
 
 // A cover: its sources, its rows and whether they end in `1`, and how many cells it takes.
@@ -200,11 +203,9 @@ fn expect_count(page: &mut Page, written: &Written) {
     }
 }
 
-#[test]
-fn covers_take_few_cells(rt: HostRuntime) -> Result<(), Fail> {
-    let mut page = Page::new(rt.alloc());
+/// Notes it unless covers take few cells.
+pub fn expect_counts(page: &mut Page) {
     for written in COVERS {
-        expect_count(&mut page, written);
+        expect_count(page, written);
     }
-    page.end()
 }

@@ -21,3 +21,5 @@ mod pages;
 mod rewriting;
 #[cfg(test)]
 mod texts;
+#[cfg(test)]
+mod told;

@@ -1,8 +1,6 @@
 // Texts and their logical lines, each written as `number:word,word,;`.
 use crate::pages::Page;
-use blif_lex::{LexError, Logical, lines};
-use lists::List;
-use std::test::Fail;
+use blif_lex::{Logical, lines};
 
 fn push_line(page: &mut Page, line: &Logical) {
     page.push_number(line.line);
@@ -14,15 +12,14 @@ fn push_line(page: &mut Page, line: &Logical) {
     page.push(b";");
 }
 
-fn push_lines(page: &mut Page, lines: &[Logical]) {
-    for line in lines {
-        push_line(page, line);
-    }
-}
-
-fn push_found(page: &mut Page, found: &Result<List<Logical>, LexError>) {
-    match found {
-        Ok(lines) => push_lines(page, lines.as_slice()),
+fn push_lines(page: &mut Page, text: &[u8]) {
+    match lines(page.alloc(), text) {
+        Ok(lines) => {
+            for line in lines.as_slice() {
+                push_line(page, line);
+            }
+            drop(lines);
+        }
         Err(_) => page.cut(),
     }
 }
@@ -56,12 +53,10 @@ const LINES: &[(&[u8], &[u8])] = &[
     ),
 ];
 
-#[test]
-fn lines_are_joined_and_cut(rt: HostRuntime) -> Result<(), Fail> {
-    let mut page = Page::new(rt.alloc());
+/// Notes it unless lines are joined and cut.
+pub fn expect_lines(page: &mut Page) {
     for (text, want) in LINES {
-        push_found(&mut page, &lines(rt.alloc(), text));
+        push_lines(page, text);
         page.expect(want);
     }
-    page.end()
 }

@@ -1,38 +1,31 @@
 // The first numbers that are drawn, and the text and the state that `make` returns.
-use made_netlists::{Made, draw, make};
-use std::test::Fail;
-use ww_base::expect;
+use crate::pages::Page;
+use made_netlists::{draw, make};
 
-#[test]
-fn numbers_are_drawn(rt: HostRuntime) -> Result<(), Fail> {
+/// Notes it unless these numbers are drawn.
+pub fn expect_drawn(page: &mut Page) {
     let mut state = 1;
-    let first = draw(&mut state, 32768);
-    let second = draw(&mut state, 32768);
-    let third = draw(&mut state, 32768);
-    if [first, second, third] == [16838, 5758, 10113] {
-        Ok(())
-    } else {
-        Err(Fail::new("other numbers"))
+    page.push_number(u64::from(draw(&mut state, 32768)));
+    page.push(b" ");
+    page.push_number(u64::from(draw(&mut state, 32768)));
+    page.push(b" ");
+    page.push_number(u64::from(draw(&mut state, 32768)));
+    page.expect(b"16838 5758 10113");
+}
+
+// The text, and the state after it.
+const MADE: &[u8] =
+    b".model made\n.inputs i0 i1 i2 i3\n.outputs g1 q0 q1\n.latch i2 q0 0\n.latch i3 q1 1\n.names q0 i3 g0\n10 1\n01 1\n.names g0 g0 g1\n11 0\n.end\n486256185";
+
+/// Notes it unless these two gates are made.
+pub fn expect_made(page: &mut Page) {
+    match make(page.alloc(), 1, 2) {
+        Ok(made) => {
+            page.push(made.text.as_slice());
+            page.push_number(u64::from(made.state));
+            drop(made);
+        }
+        Err(_) => page.cut(),
     }
-}
-
-const TEXT: &[u8] =
-    b".model made\n.inputs i0 i1 i2 i3\n.outputs g1 q0 q1\n.latch i2 q0 0\n.latch i3 q1 1\n.names q0 i3 g0\n10 1\n01 1\n.names g0 g0 g1\n11 0\n.end\n";
-
-fn expect_state(state: u32, want: u32) -> Result<(), Fail> {
-    if state == want {
-        Ok(())
-    } else {
-        Err(Fail::new(format_args!("the state: {state}, and not {want}")))
-    }
-}
-
-fn expect_made(made: &Made, text: &[u8], state: u32) -> Result<(), Fail> {
-    expect(made.text.as_slice(), text)?;
-    expect_state(made.state, state)
-}
-
-#[test]
-fn two_gates_are_made(rt: HostRuntime) -> Result<(), Fail> {
-    expect_made(&make(rt.alloc(), 1, 2)?, TEXT, 486256185)
+    page.expect(MADE);
 }

@@ -2,9 +2,8 @@
 use crate::pages::Page;
 use crate::texts::{cut, models_of};
 use blif_reader::{Model, ReadError};
-use lists::{Bytes, List};
+use lists::Bytes;
 use netlist_core::{Cover, LatchRow, Port, Subckt};
-use std::test::Fail;
 
 fn push_words(page: &mut Page, words: &[Bytes]) {
     for word in words {
@@ -83,18 +82,16 @@ fn push_model(page: &mut Page, model: &Model) {
     }
 }
 
-// The models as text, one after the other.
-fn push_models(page: &mut Page, models: &[Model]) {
-    for model in models {
-        push_model(page, model);
-    }
-}
-
-// The models that were read, or the fault.
-fn push_read(page: &mut Page, read: &Result<List<Model>, ReadError>) {
-    match read {
-        Ok(models) => push_models(page, models.as_slice()),
-        Err(ReadError::Fault(fault)) => page.push_fault(fault),
+// The models of a text, one after the other, or its fault.
+fn push_read(page: &mut Page, text: &[u8]) {
+    match models_of(page.alloc(), text) {
+        Ok(models) => {
+            for model in models.as_slice() {
+                push_model(page, model);
+            }
+            drop(models);
+        }
+        Err(ReadError::Fault(fault)) => page.push_fault(&fault),
         Err(ReadError::NoMemory) => page.cut(),
     }
 }
@@ -241,14 +238,11 @@ no lines
 .latch x y re
 == B8 line 3: .latch";
 
-// The fault is on the earliest line at fault, and there of the lowest rule.
-#[test]
-fn models_are_read(rt: HostRuntime) -> Result<(), Fail> {
-    let mut page = Page::new(rt.alloc());
+/// Notes it unless models are read, or the fault is on the earliest line at fault, and there of the lowest rule.
+pub fn expect_models(page: &mut Page) {
     for case in TEXTS.split("\n>") {
         let (text, want) = cut(case);
-        push_read(&mut page, &models_of(rt.alloc(), text.as_bytes()));
+        push_read(page, text.as_bytes());
         page.expect(want.as_bytes());
     }
-    page.end()
 }

@@ -2,20 +2,15 @@
 use crate::covers::{are_there, empty};
 use crate::pages::Page;
 use cell_core::{Cell, CellList, Src};
-use cell_rewriting::{RewriteError, rewritten};
+use cell_rewriting::rewritten;
 use lists::List;
-use std::test::Fail;
-
-fn push_cell(page: &mut Page, list: &mut CellList, cell: Cell) {
-    if cell.reads_there(list.inputs as usize, list.starts.len(), list.cells.len()) {
-        page.note_refusal(list.push(page.alloc(), cell).is_err());
-    }
-}
 
 // Adds these cells, and skips those that read a source that is not there.
 fn push_cells(page: &mut Page, list: &mut CellList, cells: &[Cell]) {
     for cell in cells {
-        push_cell(page, list, *cell);
+        if cell.reads_there(list.inputs as usize, list.starts.len(), list.cells.len()) {
+            page.note_refusal(list.push(page.alloc(), *cell).is_err());
+        }
     }
 }
 
@@ -71,23 +66,20 @@ fn count_of(page: &mut Page, lists: &[CellList], want: &str) -> u64 {
     count
 }
 
-fn expect_eight(page: &mut Page, lists: &Result<Vec<CellList>, RewriteError>, want: &str) {
-    match lists {
-        Ok(lists) => {
-            let count = count_of(page, lists, want);
-            page.expect_number(want, count, 8);
-        }
-        Err(_) => page.cut(),
-    }
-}
-
 // Notes it unless exactly eight of the lists to which these cells and nets are rewritten have this
 // text, the first one among them. The sources in `kept` are kept.
 fn expect_lists(page: &mut Page, cells: &[Cell], nets: &[Src], kept: &[Src], want: &str) {
     let list = list_of(page, cells, nets);
     let lists = rewritten(page.alloc(), &list, kept);
     drop(list);
-    expect_eight(page, &lists, want);
+    match &lists {
+        Ok(lists) => {
+            let count = count_of(page, lists, want);
+            page.expect_number(want, count, 8);
+        }
+        Err(_) => page.cut(),
+    }
+    drop(lists);
 }
 
 // An XOR of two inputs as two AND-NOTs and an OR.
@@ -125,11 +117,9 @@ const LISTS: &[(&[Cell], &[Src], &[Src], &str)] = &[
     ),
 ];
 
-#[test]
-fn lists_come_to_have_fewer_cells(rt: HostRuntime) -> Result<(), Fail> {
-    let mut page = Page::new(rt.alloc());
+/// Notes it unless lists come to have fewer cells.
+pub fn expect_rewritten(page: &mut Page) {
     for (cells, nets, kept, want) in LISTS {
-        expect_lists(&mut page, cells, nets, kept, want);
+        expect_lists(page, cells, nets, kept, want);
     }
-    page.end()
 }
