@@ -6,11 +6,9 @@ mod orders;
 mod shown;
 
 use crate::pages::Page;
-use crate::texts::{cut, halves};
+use crate::texts::halves;
 use band_core::{Bands, NotReady, NotSkipped};
-use rle_read::read;
 use shown::push_row;
-use std::test::Fail;
 use ww_rule::Pattern;
 
 fn push_not_ready(page: &mut Page, refusal: NotReady) {
@@ -100,8 +98,11 @@ fn push_calls(page: &mut Page, bands: &mut Bands, calls: &str, height: u32, widt
     push_rows(page, bands, height, width, count);
 }
 
-// Appends what the calls on bands of this height answer, and the cells of the pattern after them.
-fn push_moved(page: &mut Page, pattern: Pattern, height: u32, calls: &str) {
+/// Appends what calls on bands of a pattern answer, and the cells after them. A text has the height of the bands and the
+/// calls.
+pub fn push_moved(page: &mut Page, asked: &str, pattern: Pattern) {
+    let (height, calls) = halves(asked, ", ", "");
+    let height = height.parse::<u32>().unwrap_or(0);
     if height == 0 {
         drop(pattern);
         return;
@@ -116,20 +117,8 @@ fn push_moved(page: &mut Page, pattern: Pattern, height: u32, calls: &str) {
     }
 }
 
-// Notes it unless the calls of a case answer, and leave the cells, that it says. The case's first line
-// has the height of the bands and the calls.
-fn expect_case(page: &mut Page, case: &str) {
-    let (head, text, want) = cut(case);
-    let (height, calls) = halves(head, ", ", "");
-    let height = height.parse::<u32>().unwrap_or(0);
-    match read(page.alloc(), text.as_bytes()) {
-        Ok(pattern) => push_moved(page, pattern, height, calls),
-        Err(_) => page.cut(),
-    }
-    page.expect(want.as_bytes());
-}
-
-const ORDERS: &str = "\
+/// Heights of bands with calls, patterns, and what the calls answer with the cells after them.
+pub const ORDERS: &str = "\
 1, advance 2, advance 2, advance 3
 x = 1, y = 3, rule = WireWorld
 A$C$C!
@@ -178,12 +167,3 @@ x = 0, y = 18446744073709551615, rule = WireWorld
 x = 1, y = 3, rule = WireWorld
 A$C$C!
 == no band, moved, BAC";
-
-#[test]
-fn bands_move_in_any_order(rt: HostRuntime) -> Result<(), Fail> {
-    let mut page = Page::new(rt.alloc());
-    for case in ORDERS.split("\n>") {
-        expect_case(&mut page, case);
-    }
-    page.end()
-}

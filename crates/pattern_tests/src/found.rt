@@ -1,12 +1,9 @@
 // Tests of the search that finds gates and wires, and of the lines that name them.
-use crate::cases::CASES;
 use crate::pages::Page;
-use crate::texts::halves;
 use pattern_reading::Ports;
 use route_finder::{FindError, find};
 use route_lines::{gate_lines, read};
 use routed_core::Drawing;
-use std::test::Fail;
 use ww_rule::Pattern;
 
 // Appends the lines of a drawing.
@@ -47,41 +44,20 @@ fn push_read(page: &mut Page, lines: &[u8], pattern: &Pattern, ports: &Ports) {
     }
 }
 
-// Notes it unless a pattern is told as it should be, and its lines are read as they are written.
-fn expect_told(page: &mut Page, wanted: &[u8], pattern: &Pattern, ports: &Ports) {
+// Notes it unless a pattern is told as it should be, and appends what is read of the lines as they are written.
+fn push_told(page: &mut Page, wanted: &[u8], pattern: &Pattern, ports: &Ports) {
     push_found(page, pattern, ports);
     page.expect(wanted);
     push_read(page, wanted, pattern, ports);
-    page.expect(wanted);
 }
 
-fn expect_pattern(page: &mut Page, text: &[u8], wanted: &[u8], pattern: &Pattern) {
-    match port_table::read(page.alloc(), text, pattern.width, pattern.height) {
+/// Notes it unless what is found in a pattern is wanted, and appends what is read of the wanted lines.
+pub fn push_pattern(page: &mut Page, text: &str, wanted: &str, pattern: &Pattern) {
+    match port_table::read(page.alloc(), text.as_bytes(), pattern.width, pattern.height) {
         Ok(ports) => {
-            expect_told(page, wanted, pattern, &ports);
+            push_told(page, wanted.as_bytes(), pattern, &ports);
             drop(ports);
         }
         Err(_) => page.cut(),
     }
-}
-
-fn expect_case(page: &mut Page, case: &str) {
-    let (_, rest) = halves(case, "\n", "");
-    let (text, wanted) = halves(rest, "==\n", "no case");
-    match rle_read::read(page.alloc(), text.as_bytes()) {
-        Ok(pattern) => {
-            expect_pattern(page, text.as_bytes(), wanted.as_bytes(), &pattern);
-            drop(pattern);
-        }
-        Err(_) => page.cut(),
-    }
-}
-
-#[test]
-fn gates_and_wires_are_found(rt: HostRuntime) -> Result<(), Fail> {
-    let mut page = Page::new(rt.alloc());
-    for case in CASES.split('>').skip(1) {
-        expect_case(&mut page, case);
-    }
-    page.end()
 }

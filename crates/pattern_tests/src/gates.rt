@@ -194,7 +194,7 @@ fn push_name(page: &mut Page, kind: GateKind) {
     page.push_byte(letter_of(kind.turn));
 }
 
-// Notes a kind whose drawing is at fault, and each part that is not on the page of all gates.
+// Notes a kind whose drawing is at fault, each part that is not on the page of all gates, and each name that is not read.
 fn expect_library(page: &mut Page, library: &GateLibrary) {
     if let Some(kind) = first_fault(library) {
         push_name(page, kind);
@@ -202,22 +202,8 @@ fn expect_library(page: &mut Page, library: &GateLibrary) {
     page.expect(b"");
     for shape in SHAPES {
         expect_section(page, library, *shape);
+        expect_names(page, *shape);
     }
-}
-
-#[test]
-fn each_drawing_keeps_its_law_with_its_time_and_is_on_the_page(
-    rt: HostRuntime,
-) -> Result<(), Fail> {
-    let mut page = Page::new(rt.alloc());
-    match GateLibrary::new(rt.alloc()) {
-        Ok(library) => {
-            expect_library(&mut page, &library);
-            drop(library);
-        }
-        Err(_) => page.cut(),
-    }
-    page.end()
 }
 
 // Notes the name that is written of a kind unless it is read as the name of this kind.
@@ -244,10 +230,16 @@ fn expect_names(page: &mut Page, shape: Shape) {
 }
 
 #[test]
-fn names_are_read_as_they_are_written(rt: HostRuntime) -> Result<(), Fail> {
+fn each_drawing_keeps_its_law_with_its_time_and_is_on_the_page_and_names_are_read(
+    rt: HostRuntime,
+) -> Result<(), Fail> {
     let mut page = Page::new(rt.alloc());
-    for shape in SHAPES {
-        expect_names(&mut page, *shape);
+    match GateLibrary::new(rt.alloc()) {
+        Ok(library) => {
+            expect_library(&mut page, &library);
+            drop(library);
+        }
+        Err(_) => page.cut(),
     }
     expect_no_name(&mut page, b"CROSS-X");
     expect_no_name(&mut page, b"CROSS");

@@ -1,8 +1,9 @@
 // Rows written by hand: the heads above, the row's heads, the heads below, the row's tails and
-// wires, and its new heads and wires.
+// wires, and its new heads and wires. Bits that are packed into words.
 use crate::fails::expect_holds;
 use lane_kernel::step_rows;
 use std::test::Fail;
+use vcd_write::PackedBits;
 
 // Whether a head crosses the border of the words of a row.
 fn crosses_border() -> bool {
@@ -28,9 +29,25 @@ fn lights_nothing() -> bool {
     heads == [8] && wires == [2]
 }
 
+// Whether bits at the borders of words are right after bits 64 and 129 are set.
+fn are_packed(bits: &mut PackedBits) -> bool {
+    if bits.len() < 130 {
+        return false;
+    }
+    bits.set(64);
+    bits.set(129);
+    !bits.get(0) && !bits.get(63) && bits.get(64) && !bits.get(65) && bits.get(129)
+}
+
 #[test]
-fn a_head_crosses_the_border_of_words_and_three_light_nothing() -> Result<(), Fail> {
+fn a_head_crosses_the_border_of_words_three_light_nothing_and_bits_are_packed(
+    rt: HostRuntime,
+) -> Result<(), Fail> {
     step_rows(&[], &[], &[], &[], &[], &mut [], &mut []);
     expect_holds("a row of two words", crosses_border())?;
-    expect_holds("a row of one word", lights_nothing())
+    expect_holds("a row of one word", lights_nothing())?;
+    let mut bits = PackedBits::zeros(rt.alloc(), 130)?;
+    let are_packed = are_packed(&mut bits);
+    drop(bits);
+    expect_holds("packed bits", are_packed)
 }

@@ -18,8 +18,6 @@ mod kernel;
 #[cfg(test)]
 mod lines;
 #[cfg(test)]
-mod packed;
-#[cfg(test)]
 mod pages;
 #[cfg(test)]
 mod patterns;
@@ -29,3 +27,5 @@ mod rule;
 mod tables;
 #[cfg(test)]
 mod texts;
+#[cfg(test)]
+mod told;

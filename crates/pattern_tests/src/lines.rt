@@ -1,5 +1,6 @@
 // The lines and numbers of small texts.
 use crate::fails::expect_holds;
+use crate::tables::reads_back_all_bytes;
 use pattern_lines::{number_in, split_line};
 use std::test::Fail;
 
@@ -54,7 +55,8 @@ fn numbers_are_read() -> bool {
 }
 
 #[test]
-fn lines_and_numbers_by_their_texts() -> Result<(), Fail> {
+fn lines_numbers_and_names_by_their_texts(rt: HostRuntime) -> Result<(), Fail> {
     expect_holds("the lines", lines_are_cut())?;
-    expect_holds("the numbers", numbers_are_read())
+    expect_holds("the numbers", numbers_are_read())?;
+    expect_holds("a name of all bytes", reads_back_all_bytes(rt.alloc()))
 }

@@ -1,35 +1,27 @@
 // Texts, and what is read from each: rows in the letters of extended RLE, or a fault and its line.
 use crate::pages::Page;
-use crate::texts::cut;
-use rle_read::{RleReadError, read};
-use std::test::Fail;
-use ww_rule::Pattern;
+use rle_read::RleReadError;
 
-// Appends the rows of the pattern of a text, or the text's fault and its line, or the size of a box
-// past the limit.
-fn push_read(page: &mut Page, read: Result<Pattern, RleReadError>) {
-    match read {
-        Ok(pattern) => {
-            page.push_rows(&pattern.rows);
-            drop(pattern);
-        }
-        Err(RleReadError::Fault(fault)) => {
+/// Appends the fault of a text and its line, or the size of a box past the limit.
+pub fn push_error(page: &mut Page, error: RleReadError) {
+    match error {
+        RleReadError::Fault(fault) => {
             page.push_item(&fault.kind);
             page.push_number(fault.line);
         }
-        Err(RleReadError::TooLarge { width, height }) => {
+        RleReadError::TooLarge { width, height } => {
             page.push(b"TooLarge ");
             page.push_number(width);
             page.push(b" ");
             page.push_number(height);
         }
-        Err(RleReadError::NoMemory) => page.cut(),
+        RleReadError::NoMemory => page.cut(),
     }
 }
 
-// Texts, and after `== ` their rows or faults. A line that begins with `>` parts two texts, and may
-// have a remark.
-const TEXTS: &str = "
+/// Texts, and after `== ` their rows or faults. A line that begins with `>` parts two texts, and may
+/// have a remark.
+pub const TEXTS: &str = "
 #CXRLE Pos=0,0
 x = 3, y = 1, rule = wireworld
 3C$!
@@ -244,14 +236,3 @@ x = 3, y = 1, rule = WireWorld
 x = 3, y = 1, rule = WireWorld
 3C18446744073709551616
 == NoEnd 2";
-
-#[test]
-fn texts_are_read(rt: HostRuntime) -> Result<(), Fail> {
-    let mut page = Page::new(rt.alloc());
-    for case in TEXTS.split("\n>") {
-        let (_, text, want) = cut(case);
-        push_read(&mut page, read(rt.alloc(), text.as_bytes()));
-        page.expect(want.as_bytes());
-    }
-    page.end()
-}

@@ -1,57 +1,39 @@
 // Small patterns in the letters of RLE: '.' is an empty cell, A a head, B a tail and C a
 // conductor.
 use crate::pages::Page;
-use rle_read::read;
-use std::test::Fail;
 use ww_rule::{Pattern, Plane, RuleError, mirror_x, step_driven, step_plain};
 
-// What is shown of a pattern: its planes at generations 0 and 1, its plane at generation 1 with an
-// injection at the first cell then, or the plane of its mirror image.
-#[derive(Clone, Copy)]
-enum View {
-    Generations,
-    Driven,
-    Mirror,
-}
-
-// Patterns, and what is shown of them: the rows of planes, and the width and height of each.
-const VIEWS: &[(&[u8], View, &[u8])] = &[
-    (
-        b"x = 3, y = 1, rule = WireWorld\nACC!",
-        View::Generations,
-        b"ACC$3 1, BAC$3 1, ",
-    ),
-    (
-        b"x = 3, y = 2, rule = WireWorld\nA..$.C.!",
-        View::Generations,
-        b"A..$.C.$3 2, B..$.A.$3 2, ",
-    ),
-    (
-        b"x = 3, y = 2, rule = WireWorld\nAA.$.C.!",
-        View::Generations,
-        b"AA.$.C.$3 2, BB.$.A.$3 2, ",
-    ),
-    (
-        b"x = 3, y = 2, rule = WireWorld\nAAA$.C.!",
-        View::Generations,
-        b"AAA$.C.$3 2, BBB$.C.$3 2, ",
-    ),
-    (
-        b"x = 3, y = 3, rule = WireWorld\n..C$.C.$A.B!",
-        View::Generations,
-        b"..C$.C.$A.B$3 3, ..C$.A.$B.C$3 3, ",
-    ),
-    (
-        b"x = 3, y = 1, rule = WireWorld\nCCA!",
-        View::Driven,
-        b"AAB$3 1, ",
-    ),
-    (
-        b"x = 3, y = 1, rule = WireWorld\nCA.!",
-        View::Mirror,
-        b".AC$3 1, ",
-    ),
-];
+/// Patterns, and what is shown of each: its planes at generations 0 and 1, its plane at generation 1 with an injection at
+/// the first cell then, or the plane of its mirror image. A plane is shown by its rows, its width and its height.
+pub const VIEWS: &str = "\
+generations
+x = 3, y = 1, rule = WireWorld
+ACC!
+== ACC$3 1, BAC$3 1,\x20
+> generations
+x = 3, y = 2, rule = WireWorld
+A..$.C.!
+== A..$.C.$3 2, B..$.A.$3 2,\x20
+> generations
+x = 3, y = 2, rule = WireWorld
+AA.$.C.!
+== AA.$.C.$3 2, BB.$.A.$3 2,\x20
+> generations
+x = 3, y = 2, rule = WireWorld
+AAA$.C.!
+== AAA$.C.$3 2, BBB$.C.$3 2,\x20
+> generations
+x = 3, y = 3, rule = WireWorld
+..C$.C.$A.B!
+== ..C$.C.$A.B$3 3, ..C$.A.$B.C$3 3,\x20
+> driven
+x = 3, y = 1, rule = WireWorld
+CCA!
+== AAB$3 1,\x20
+> mirror
+x = 3, y = 1, rule = WireWorld
+CA.!
+== .AC$3 1,\x20";
 
 fn push_plane(page: &mut Page, plane: &Plane) {
     page.push_rows(&plane.rows);
@@ -109,30 +91,11 @@ fn push_mirror(page: &mut Page, pattern: &Pattern) {
     }
 }
 
-fn push_view(page: &mut Page, view: View, pattern: &Pattern) {
-    match view {
-        View::Generations => push_evolved(page, false, pattern),
-        View::Driven => push_evolved(page, true, pattern),
-        View::Mirror => push_mirror(page, pattern),
+/// Appends what is shown of a pattern.
+pub fn push_view(page: &mut Page, view: &str, pattern: &Pattern) {
+    if view == "mirror" {
+        push_mirror(page, pattern);
+    } else {
+        push_evolved(page, view == "driven", pattern);
     }
-}
-
-fn push_case(page: &mut Page, text: &[u8], view: View) {
-    match read(page.alloc(), text) {
-        Ok(pattern) => {
-            push_view(page, view, &pattern);
-            drop(pattern);
-        }
-        Err(_) => page.cut(),
-    }
-}
-
-#[test]
-fn planes_follow_the_rule_are_injected_and_mirrored(rt: HostRuntime) -> Result<(), Fail> {
-    let mut page = Page::new(rt.alloc());
-    for (text, view, want) in VIEWS {
-        push_case(&mut page, text, *view);
-        page.expect(want);
-    }
-    page.end()
 }

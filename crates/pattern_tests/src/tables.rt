@@ -2,13 +2,11 @@
 ghost use Rattle.std.specs.Prelude.{◌<◌, length, IfOk};
 ghost use Rattle.pattern_reading.specs.Spelling.{port_lines};
 
-use crate::fails::expect_holds;
 use crate::pages::Page;
-use crate::texts::{cut, halves};
+use crate::texts::halves;
 use lists::List;
 use port_table::{NetLine, PortLine, PortReadError, Ports, read, write_line};
 use std::alloc::{AllocError, Global};
-use std::test::Fail;
 use ww_base::MemSink;
 
 // Appends the kind of a line, and the cell that it names.
@@ -66,10 +64,10 @@ fn push_read(page: &mut Page, read: Result<Ports, PortReadError>) {
     }
 }
 
-// The widths and heights of patterns, their texts, and after `== ` the tables as one line each, or
-// the kinds and lines of the first faults. A line that begins with `>` parts two cases, and a remark
-// after ` -- ` is about the cases from there on.
-const TABLES: &str = "\
+/// The widths and heights of patterns, their texts, and after `== ` the tables as one line each, or
+/// the kinds and lines of the first faults. A line that begins with `>` parts two cases, and a remark
+/// after ` -- ` is about the cases from there on.
+pub const TABLES: &str = "\
 33 32
 #C BLIFWW 2 P 32 L 32 C 1
 #C BLIFWW IN 0 8 a
@@ -268,16 +266,10 @@ fn size_in(text: &str) -> (u64, u64) {
     )
 }
 
-#[test]
-fn tables_are_read(rt: HostRuntime) -> Result<(), Fail> {
-    let mut page = Page::new(rt.alloc());
-    for case in TABLES.split("\n>") {
-        let (size, text, want) = cut(case);
-        let (width, height) = size_in(size);
-        push_read(&mut page, read(rt.alloc(), text.as_bytes(), width, height));
-        page.expect(want.as_bytes());
-    }
-    page.end()
+/// Appends the table of a text, or its fault, for patterns of a size.
+pub fn push_text(page: &mut Page, size: &str, text: &str) {
+    let (width, height) = size_in(size);
+    push_read(page, read(page.alloc(), text.as_bytes(), width, height));
 }
 
 // Appends each byte but the line feed.
@@ -350,14 +342,14 @@ fn tells_name(said: &[u8], name: &[u8]) -> bool {
         && said.ends_with(name)
 }
 
-#[test]
-fn a_name_of_all_bytes_is_read_back(rt: HostRuntime) -> Result<(), Fail> {
-    let mut name = Page::new(rt.alloc());
+/// Returns whether a name of all bytes but the line feed is read back as it is written.
+pub fn reads_back_all_bytes(alloc: Global) -> bool {
+    let mut name = Page::new(alloc);
     push_all_bytes(&mut name);
-    let mut page = Page::new(rt.alloc());
+    let mut page = Page::new(alloc);
     push_named(&mut page, name.said());
     let is_told = tells_name(page.said(), name.said());
     drop(name);
     drop(page);
-    expect_holds("a name of all bytes", is_told)
+    is_told
 }

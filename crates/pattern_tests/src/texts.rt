@@ -9,10 +9,22 @@ pub fn halves<'a>(text: &'a str, mark: &str, other: &'a str) -> (&'a str, &'a st
     }
 }
 
-/// Cuts a case into its first line without its remark, its text and what is wanted.
-pub fn cut(case: &str) -> (&str, &str, &str) {
+/// A case: its first line without its remark, its text and what is wanted.
+#[derive(Clone, Copy)]
+pub struct Case<'a> {
+    pub head: &'a str,
+    pub text: &'a str,
+    pub want: &'a str,
+}
+
+/// Cuts a case apart. A remark stands after ` -- `, and what is wanted after `== `.
+pub fn cut(case: &str) -> Case<'_> {
     let (line, rest) = halves(case, "\n", "");
     let (head, _) = halves(line, " -- ", "");
     let (text, want) = halves(rest, "\n== ", "no case");
-    (head.trim(), text, want)
+    Case {
+        head: head.trim(),
+        text,
+        want,
+    }
 }

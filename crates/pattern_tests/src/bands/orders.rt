@@ -1,16 +1,15 @@
 // Bands of random patterns, which are moved in random orders and compared with whole planes.
-ghost use Rattle.std.specs.Prelude.{◌≡◌, ◌<◌, true, length, IfOk};
+ghost use Rattle.std.specs.Prelude.{◌≡◌, ◌<◌, true, length, IfSome};
 ghost use Rattle.ww_rule.specs.Due.{AreInOrderFrom};
 ghost use Rattle.ww_rule.specs.Injections.{AreInside};
 ghost use Rattle.band_core.specs.Bands.{IsSamePattern, generation_of};
 
-use super::shown::letter_at;
+use super::shown::push_row;
 use crate::fails::expect_holds;
 use crate::pages::Page;
 use band_core::Bands;
-use pattern_writing::tag_of;
 use rle_read::read;
-use std::alloc::{AllocError, Global};
+use std::alloc::Global;
 use std::test::Fail;
 use ww_rule::{Injection, Pattern, Plane, step_plain};
 
@@ -57,27 +56,26 @@ fn push_random(page: &mut Page, draw: &mut Draw, width: u64) {
 }
 
 // A random pattern of five rows.
-fn random_pattern(page: &mut Page, draw: &mut Draw, width: u64) -> Result<Pattern, Fail>
-    ensures width { IfOk result (λ pattern. pattern.width ≡ width) }
-    ensures height { IfOk result (λ pattern. pattern.height ≡ 5) }
-    ensures rows { IfOk result (λ pattern. length pattern.rows ≡ 5) }
+fn random_pattern(page: &mut Page, draw: &mut Draw, width: u64) -> Option<Pattern>
+    ensures width { IfSome result (λ pattern. pattern.width ≡ width) }
+    ensures height { IfSome result (λ pattern. pattern.height ≡ 5) }
+    ensures rows { IfSome result (λ pattern. length pattern.rows ≡ 5) }
 {
     page.clear();
     push_random(page, draw, width);
-    let pattern = read(page.alloc(), page.said())?;
-    if pattern.width != width || pattern.height != 5 || pattern.rows.len() != 5 {
-        drop(pattern);
-        return Err(Fail::new("another size"));
+    match read(page.alloc(), page.said()) {
+        Ok(pattern) if pattern.width == width && pattern.height == 5 && pattern.rows.len() == 5 =>
+            Some(pattern),
+        _ => None,
     }
-    Ok(pattern)
 }
 
 // Two injections at one cell and generation, one at most two generations later, and one that is
 // never reached.
-fn random_drive(alloc: Global, draw: &mut Draw, width: u64) -> Result<Vec<Injection>, AllocError>
+fn random_drive(alloc: Global, draw: &mut Draw, width: u64) -> Option<Vec<Injection>>
     requires { 0 < width }
-    ensures in_order { IfOk result (λ drive. AreInOrderFrom 0 drive.items) }
-    ensures inside { IfOk result (λ drive. AreInside width 5 drive.items) }
+    ensures in_order { IfSome result (λ drive. AreInOrderFrom 0 drive.items) }
+    ensures inside { IfSome result (λ drive. AreInside width 5 drive.items) }
 {
     let first = Injection {
         generation: draw.below(3) as u128,
@@ -94,7 +92,10 @@ fn random_drive(alloc: Global, draw: &mut Draw, width: u64) -> Result<Vec<Inject
         x: next.x,
         y: next.y,
     };
-    Ok(Vec::from_array(alloc, [first, first, next, never])?)
+    match Vec::from_array(alloc, [first, first, next, never]) {
+        Ok(drive) => Some(drive),
+        Err(_) => None,
+    }
 }
 
 // Whether an injection is at this generation, and its cell in the plane.
@@ -118,43 +119,36 @@ fn injected(plane: Plane, drive: &[Injection], generation: u64) -> Plane {
     plane
 }
 
-// A pattern's plane at generation 0.
-fn first_plane(alloc: Global, pattern: &Pattern, drive: &[Injection]) -> Result<Plane, Fail> {
-    Ok(injected(Plane::from_pattern(alloc, pattern)?, drive, 0))
-}
-
 // The plane of a generation, from that of the generation before.
-fn next_plane(
-    alloc: Global,
-    plane: &Plane,
-    drive: &[Injection],
-    generation: u64,
-) -> Result<Plane, Fail> {
-    Ok(injected(step_plain(alloc, plane)?, drive, generation))
-}
-
-// Appends the plane of this generation.
-fn push_plane(
-    planes: &mut Vec<Plane>,
-    alloc: Global,
-    drive: &[Injection],
-    generation: u64,
-) -> Result<(), Fail> {
-    if let Some(plane) = planes.last() {
-        let next = next_plane(alloc, plane, drive, generation)?;
-        planes.push(next)?;
+fn next_plane(planes: &mut Page, plane: Plane, drive: &[Injection], generation: u64) -> Plane {
+    match step_plain(planes.alloc(), &plane) {
+        Ok(next) => {
+            drop(plane);
+            injected(next, drive, generation)
+        }
+        Err(_) => {
+            planes.cut();
+            plane
+        }
     }
-    Ok(())
 }
 
-// The planes of generations 0 to LAST.
-fn planes(alloc: Global, pattern: &Pattern, drive: &[Injection]) -> Result<Vec<Plane>, Fail> {
-    let mut planes = Vec::new(alloc);
-    planes.push(first_plane(alloc, pattern, drive)?)?;
+// Appends the rows of the planes from generation 0 to LAST.
+fn push_driven(planes: &mut Page, first: Plane, drive: &[Injection]) {
+    let mut plane = injected(first, drive, 0);
+    planes.push_rows(&plane.rows);
     for generation in 1..LAST + 1 {
-        push_plane(&mut planes, alloc, drive, generation)?;
+        plane = next_plane(planes, plane, drive, generation);
+        planes.push_rows(&plane.rows);
     }
-    Ok(planes)
+    drop(plane);
+}
+
+fn push_planes(planes: &mut Page, pattern: &Pattern, drive: &[Injection]) {
+    match Plane::from_pattern(planes.alloc(), pattern) {
+        Ok(plane) => push_driven(planes, plane, drive),
+        Err(_) => planes.cut(),
+    }
 }
 
 // Makes one call on a band, whatever it answers.
@@ -184,101 +178,88 @@ fn call_at_random(bands: &mut Bands, draw: &mut Draw)
     }
 }
 
-// Whether a row has cells, and the bands show it as the plane of its band's generation has it.
-fn is_right(bands: &Bands, height: u32, width: u64, y: u64, planes: &[Plane]) -> bool
+// Whether the bands show a row as the plane of its band's generation has it. The planes are letters, five rows each, with
+// `$` after each row.
+fn is_right(page: &mut Page, bands: &Bands, height: u32, width: u64, y: u64, planes: &[u8]) -> bool
     requires height { height ≡ bands.now.height }
     requires width { width ≡ bands.now.grid.width }
     requires row { y < length bands.now.grid.rows }
 {
-    let count = bands.bands();
-    let b = y as usize / height as usize;
-    if b >= count {
+    let b = y as usize / height.max(1) as usize;
+    if b >= bands.bands() {
         return false;
     }
-    let Some(plane) = planes.get(bands.generation(b) as usize) else {
-        return false;
-    };
-    let row = plane.rows.row_or_none(y as usize);
-    let mut is_right = !row.is_empty() && row.len() as u64 == width;
-    for x in 0..width {
-        if let Some(state) = row.get(x as usize) {
-            is_right &= tag_of(*state) == letter_at(bands, height, x, y);
-        }
+    page.clear();
+    push_row(page, bands, height, width, y);
+    page.push(b"$");
+    let before = bands.generation(b).saturating_mul(5).saturating_add(y);
+    let first = before.saturating_mul(page.said().len() as u64) as usize;
+    match planes.get(first..) {
+        Some(rows) => rows.starts_with(page.said()),
+        None => false,
     }
-    is_right
 }
 
 // Whether the bands show all five rows as the planes have them.
-fn are_right(bands: &Bands, height: u32, width: u64, planes: &[Plane]) -> bool
+fn are_right(page: &mut Page, bands: &Bands, height: u32, width: u64, planes: &[u8]) -> bool
     requires height { height ≡ bands.now.height }
     requires width { width ≡ bands.now.grid.width }
     requires rows { length bands.now.grid.rows ≡ 5 }
 {
     let mut are_right = true;
     for y in 0..5 {
-        are_right &= is_right(bands, height, width, y, planes);
+        are_right &= is_right(page, bands, height, width, y, planes);
     }
     are_right
 }
 
-// Makes random calls, and returns whether the bands then show all rows as the planes have them.
-fn calls_are_right(
-    draw: &mut Draw,
-    bands: &mut Bands,
-    height: u32,
-    width: u64,
-    planes: &[Plane],
-) -> bool
-    requires height { height ≡ bands.old.height }
-    requires width { width ≡ bands.old.grid.width }
-    requires rows { length bands.old.grid.rows ≡ 5 }
-{
-    call_at_random(bands, draw);
-    are_right(bands, height, width, planes)
-}
-
 // Whether the bands of a random pattern with random injections are right after random calls.
-fn order_is_right(page: &mut Page, draw: &mut Draw, height: u32, width: u64) -> Result<bool, Fail>
+fn order_is_right(page: &mut Page, draw: &mut Draw, height: u32, width: u64) -> Option<bool>
     requires height { 0 < height }
     requires width { 0 < width }
 {
     let drive = random_drive(page.alloc(), draw, width)?;
     let pattern = random_pattern(page, draw, width)?;
-    let planes = planes(page.alloc(), &pattern, &drive)?;
+    let mut planes = Page::new(page.alloc());
+    push_planes(&mut planes, &pattern, &drive);
     let is_right = match Bands::new(page.alloc(), pattern, drive, height) {
         Ok(mut bands) => {
-            let is_right = calls_are_right(draw, &mut bands, height, width, &planes);
+            call_at_random(&mut bands, draw);
+            let is_right = are_right(page, &bands, height, width, planes.said());
             drop(bands);
             is_right
         }
         Err(_) => false,
     };
     drop(planes);
-    Ok(is_right)
+    Some(is_right)
 }
 
 // The heights of bands, and the widths of patterns.
 const SIZES: &[(u32, u64)] = &[(1, 3), (2, 3), (3, 65), (1, 65), (2, 64), (7, 1)];
 
 // Whether all sizes are right, in turn.
-fn orders_are_right(page: &mut Page, draw: &mut Draw) -> Result<bool, Fail> {
+fn orders_are_right(page: &mut Page, draw: &mut Draw) -> bool {
     for (height, width) in SIZES {
-        if *height == 0 || *width == 0 || !order_is_right(page, draw, *height, *width)? {
-            return Ok(false);
+        if *height == 0
+            || *width == 0
+            || order_is_right(page, draw, *height, *width) != Some(true)
+        {
+            return false;
         }
     }
-    Ok(true)
+    true
 }
 
 // Whether all sizes are right in each of 334 rounds.
-fn rounds_are_right(page: &mut Page) -> Result<bool, Fail> {
+fn rounds_are_right(page: &mut Page) -> bool {
     let mut draw = Draw { state: 1 };
     for _round in 0..334 {
-        if !orders_are_right(page, &mut draw)? {
-            return Ok(false);
+        if !orders_are_right(page, &mut draw) {
+            return false;
         }
     }
-    Ok(true)
+    true
 }
 
 #[test]
@@ -286,5 +267,5 @@ fn random_orders_show_the_driven_planes(rt: HostRuntime) -> Result<(), Fail> {
     let mut page = Page::new(rt.alloc());
     let are_right = rounds_are_right(&mut page);
     drop(page);
-    expect_holds("random orders", are_right?)
+    expect_holds("random orders", are_right)
 }
