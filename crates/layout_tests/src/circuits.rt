@@ -1,47 +1,34 @@
 // A circuit and a loop run by the rule, compared with lanes and macro steps.
-ghost use Rattle.std.specs.Prelude.{◌≡◌, ◌<◌, IfOk};
+ghost use Rattle.std.specs.Prelude.{◌≡◌, ◌<◌};
 ghost use Rattle.lane_core.specs.Plans.{IsAdmissible};
 ghost use Rattle.plan_layout.specs.Starts.{HasStartEdges};
 
-use crate::fails::expect_holds;
 use crate::macro_steps::edges_after;
-use crate::plans::{Written, admitted};
+use crate::plans::admitted;
 use crate::samples::{Sample, written};
-use grid_assembly::fill_row;
+use grid_assembly::pattern_of;
 use lane_core::{Plan, Start, run_columns};
 use macro_grid::Edges;
 use std::alloc::Global;
-use std::test::Fail;
-use ww_rule::{CellRows, Plane, RuleError, State, step_driven};
+use ww_rule::{Plane, RuleError, State, step_driven};
 
-// The first 129 columns and 80 rows of a plan's drawing: all of the circuit's, and more rows than
-// the loop's has.
+// The plane of a plan's drawing.
 fn drawn(alloc: Global, plan: &Plan) -> Result<Plane, RuleError>
     requires { IsAdmissible plan.now }
-    ensures width { IfOk result (λ plane. plane.width ≡ 129) }
-    ensures height { IfOk result (λ plane. plane.height ≡ 80) }
 {
-    let mut rows = CellRows::with_room(alloc, 129, 80)?;
-    for y in 0..80 {
-        let mut row = [State::Empty; 129];
-        fill_row(plan, y, 0, &mut row);
-        rows.push_row(&row)?;
-    }
-    Ok(Plane {
-        width: 129,
-        height: 80,
-        rows,
-    })
+    let pattern = pattern_of(alloc, plan)?;
+    let plane = Plane::from_pattern(alloc, &pattern);
+    drop(pattern);
+    plane
 }
 
 // The plane with a head at x = 0 in row `y`, where an input is, if the input's bit is 1.
-fn with_input(plane: Plane, y: u64, bit: bool) -> Plane
-    requires wide { 0 < plane.width }
-    requires high { y < plane.height }
-    ensures width { result.width ≡ plane.width }
-    ensures height { result.height ≡ plane.height }
-{
-    if bit { plane.inject(&[(0, y)]) } else { plane }
+fn with_input(plane: Plane, y: u64, bit: bool) -> Plane {
+    if bit && 0 < plane.width && y < plane.height {
+        plane.inject(&[(0, y)])
+    } else {
+        plane
+    }
 }
 
 // The plane after this many generations by the rule.
@@ -69,16 +56,6 @@ fn answered(alloc: Global, plan: &Plan, ins: [bool; 3]) -> Result<Plane, RuleErr
     evolved(alloc, start, 128)
 }
 
-// The bits of five lanes after the columns of a plan have run on them.
-fn after_columns(plan: &Plan, bits: [bool; 5]) -> [bool; 5]
-    requires admissible { IsAdmissible plan.now }
-    requires lanes { plan.now.lanes ≡ 5 }
-{
-    let mut bits = bits;
-    run_columns(plan.columns.as_slice(), &mut bits);
-    bits
-}
-
 // Which of the cells of the circuit's outputs are heads.
 fn out_heads(plane: &Plane) -> [bool; 5] {
     [
@@ -90,32 +67,39 @@ fn out_heads(plane: &Plane) -> [bool; 5] {
     ]
 }
 
-fn is_answered(alloc: Global, plan: &Plan, choice: u64) -> Result<bool, RuleError>
+fn is_answered(alloc: Global, plan: &Plan, choice: u64) -> bool
     requires admissible { IsAdmissible plan.now }
     requires lanes { plan.now.lanes ≡ 5 }
 {
     let [a, b, c] = [choice & 1 == 1, choice & 2 == 2, choice & 4 == 4];
-    let bits = after_columns(plan, [a, false, b, false, c]);
-    let end = answered(alloc, plan, [a, b, c])?;
-    Ok(out_heads(&end) == bits)
+    let mut bits = [a, false, b, false, c];
+    run_columns(plan.columns.as_slice(), &mut bits);
+    match answered(alloc, plan, [a, b, c]) {
+        Ok(end) => {
+            let heads = out_heads(&end);
+            drop(end);
+            heads == bits
+        }
+        Err(_) => false,
+    }
 }
 
 /// Returns whether the circuit's plan answers any bits of its inputs by the rule as its columns do.
-pub fn answers(alloc: Global, plan: &Plan) -> Result<bool, Fail>
+pub fn answers(alloc: Global, plan: &Plan) -> bool
     requires { IsAdmissible plan.now }
 {
     if plan.lanes != 5 {
-        return Ok(false);
+        return false;
     }
     for choice in 0..8 {
-        if !is_answered(alloc, plan, choice)? {
-            return Ok(false);
+        if !is_answered(alloc, plan, choice) {
+            return false;
         }
     }
-    Ok(true)
+    true
 }
 
-// How many heads there are in the first 129 columns and 80 rows.
+// How many heads there are in the first 129 columns and 80 rows: all of the circuit's and of the loop's.
 fn heads_of(plane: &Plane) -> usize {
     let mut heads = 0usize;
     for place in 0..10_320 {
@@ -165,27 +149,36 @@ fn plane_after(alloc: Global, plan: &Plan, steps: u64) -> Result<Plane, RuleErro
 
 // Whether, after `steps` times 32 generations, the heads are at these cells, and agree with the edges
 // after `steps` macro steps.
-fn has_heads_after(alloc: Global, plan: &Plan, steps: u64, heads: &[Start]) -> Result<bool, Fail>
+fn has_heads_after(alloc: Global, plan: &Plan, steps: u64, heads: &[Start]) -> bool
     requires admissible { IsAdmissible plan.now }
     requires starts { HasStartEdges plan.now }
 {
-    let plane = plane_after(alloc, plan, steps)?;
-    let edges = edges_after(alloc, plan, steps)?;
-    Ok(has_heads_at(&plane, heads) && has_heads_of(&plane, &edges))
+    match (
+        plane_after(alloc, plan, steps),
+        edges_after(alloc, plan, steps),
+    ) {
+        (Ok(plane), Ok(edges)) => {
+            let are_there = has_heads_at(&plane, heads) && has_heads_of(&plane, &edges);
+            drop(plane);
+            drop(edges);
+            are_there
+        }
+        _ => false,
+    }
 }
 
 /// Returns whether the heads are at these cells after each 32 generations, and agree with the edges
 /// after each macro step.
-pub fn has_heads_in_turn(alloc: Global, plan: &Plan, turns: &[&[Start]]) -> Result<bool, Fail>
+pub fn has_heads_in_turn(alloc: Global, plan: &Plan, turns: &[&[Start]]) -> bool
     requires admissible { IsAdmissible plan.now }
     requires starts { HasStartEdges plan.now }
 {
     for (steps, heads) in turns.iter().enumerate() {
-        if !has_heads_after(alloc, plan, steps as u64, heads)? {
-            return Ok(false);
+        if !has_heads_after(alloc, plan, steps as u64, heads) {
+            return false;
         }
     }
-    Ok(true)
+    true
 }
 
 /// The heads after each 32 generations: the electron goes through the Or and the Fork, to the output
@@ -202,30 +195,26 @@ pub const LOOP_HEADS: &[&[Start]] = &[
     &[Start { x: 32, y: 24 }],
 ];
 
-fn expect_heads(alloc: Global, plan: &Plan, heads: &[Start]) -> Result<(), Fail>
-    requires admissible { IsAdmissible plan.now }
-    requires starts { HasStartEdges plan.now }
-{
-    expect_holds("a start", has_heads_after(alloc, plan, 0, heads)?)
-}
-
-// Fails if the plan of the loop with starts at these cells has not its heads there.
-fn expect_start(alloc: Global, heads: &'static [Start]) -> Result<(), Fail> {
-    let started = Written {
-        starts: heads,
-        ..written(Sample::Loop)
-    };
-    let plan = admitted(alloc, &started)?;
-    let told = expect_heads(alloc, &plan, heads);
-    drop(plan);
-    told
-}
-
-// A plan whose starts name these cells has its heads there.
-#[test]
-fn a_loop_starts_anywhere_on_its_way(rt: HostRuntime) -> Result<(), Fail> {
-    for heads in LOOP_HEADS {
-        expect_start(rt.alloc(), heads)?;
+// Whether the plan of the loop with starts at these cells has its heads there.
+fn starts_at(alloc: Global, heads: &'static [Start]) -> bool {
+    let mut started = written(Sample::Loop);
+    started.starts = heads;
+    match admitted(alloc, &started) {
+        Some(plan) => {
+            let are_there = has_heads_after(alloc, &plan, 0, heads);
+            drop(plan);
+            are_there
+        }
+        None => false,
     }
-    Ok(())
+}
+
+/// Returns the first turn of which the heads, named as starts of the loop's plan, are not its heads at the start.
+pub fn wrong_start(alloc: Global) -> Option<usize> {
+    for (turn, heads) in LOOP_HEADS.iter().enumerate() {
+        if !starts_at(alloc, heads) {
+            return Some(turn);
+        }
+    }
+    None
 }

@@ -1,5 +1,5 @@
 // Plans of small programs.
-ghost use Rattle.std.specs.Prelude.{◌<◌, ◌^◌, IfOk, length};
+ghost use Rattle.std.specs.Prelude.{◌<◌, ◌^◌, IfSome, length};
 ghost use Rattle.lane_core.specs.Plans.{IsAdmissible};
 ghost use Rattle.plan_layout.specs.Starts.{HasStartEdges};
 
@@ -9,7 +9,6 @@ use lane_core::{Instr, NetPlace, Plan, Program};
 use latch_loops::close;
 use std::alloc::Global;
 use std::slice::from_ref;
-use std::test::Fail;
 
 /// A program that takes three columns. Net 1 names an instruction that does not work on the net's
 /// lane, and net 2 a place on its lane before the lane's first use.
@@ -59,19 +58,24 @@ pub const THREE_COLUMNS: Listed<'static> = Listed {
     nets: &[],
 };
 
-fn closed_of(alloc: Global, program: &Program) -> Result<Plan, Fail>
+fn closed_of(alloc: Global, program: &Program) -> Option<Plan>
     requires { length program.now.instrs < 2 ^ 40 }
-    ensures admissible { IfOk result IsAdmissible }
-    ensures starts { IfOk result HasStartEdges }
+    ensures admissible { IfSome result IsAdmissible }
+    ensures starts { IfSome result HasStartEdges }
 {
-    let columns = pack(alloc, program)?;
-    Ok(close(alloc, columns, program, from_ref(&program.latches))?)
+    match pack(alloc, program) {
+        Ok(columns) => match close(alloc, columns, program, from_ref(&program.latches)) {
+            Ok(plan) => Some(plan),
+            Err(_) => None,
+        },
+        Err(_) => None,
+    }
 }
 
 /// Makes the plan of a program that is written down.
-pub fn closed(alloc: Global, listed: &Listed<'_>) -> Result<Plan, Fail>
-    ensures admissible { IfOk result IsAdmissible }
-    ensures starts { IfOk result HasStartEdges }
+pub fn closed(alloc: Global, listed: &Listed<'_>) -> Option<Plan>
+    ensures admissible { IfSome result IsAdmissible }
+    ensures starts { IfSome result HasStartEdges }
 {
     let program = program_of(alloc, listed)?;
     let plan = closed_of(alloc, &program);

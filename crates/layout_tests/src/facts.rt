@@ -3,18 +3,17 @@ ghost use Rattle.lane_core.specs.Plans.{IsAdmissible};
 ghost use Rattle.plan_layout.specs.Starts.{HasStartEdges};
 
 use crate::circuits::{answers, has_heads_in_turn};
-use crate::macro_steps::{goes_round, runs_in, stays_dark};
-use crate::slots::has_slots;
+use crate::macro_steps::{Course, keeps_course};
+use crate::slots::is_row_of_slots;
 use grid_assembly::{cell, fill_row, size};
 use lane_core::{NetPlace, Plan, Start, in_cell, latency, net_cell, out_cell, period};
 use std::alloc::Global;
-use std::test::Fail;
 use ww_rule::State;
 
-/// A fact about a plan. `Size` is the width and height of its drawing, and `Cells`, `Rows` and
-/// `Slots` are parts of the drawing. `InCells`, `OutCells` and `NetCells` give x, y and the offset
-/// of each input, output or net. `Heads` are the heads after each 32 generations, and the variants
-/// without values are what the functions of their names in `circuits` and `macro_steps` return.
+/// A fact about a plan, which does not hold if memory runs out while it is looked at. `Size` is the width and height of its
+/// drawing, and `Cells`, `Rows` and `Slots` are parts of the drawing: rows are lines of letters, from the top down.
+/// `Ports` gives x, y and the offset of each input, output or net. `Heads` are the heads after each 32 generations, and
+/// `Answers` is what the function of its name in `circuits` returns.
 pub enum Fact {
     Size(u64, u64),
     Period(u64),
@@ -23,50 +22,44 @@ pub enum Fact {
     Latches(u32),
     Starts(&'static [Start]),
     Nets(&'static [NetPlace]),
-    InCells(&'static [(u64, u64, u64)]),
-    OutCells(&'static [(u64, u64, u64)]),
-    NetCells(&'static [(u64, u64, u64)]),
+    Ports(Port, &'static [(u64, u64, u64)]),
     Cells(&'static [(u64, u64, State)]),
     Rows(&'static str),
     Slots(&'static str),
     Answers,
-    StaysDark,
-    GoesRound,
-    RunsIn,
+    Keeps(Course),
     Heads(&'static [&'static [Start]]),
 }
 
-fn has_in_cells(plan: &Plan, cells: &[(u64, u64, u64)]) -> bool
-    requires { IsAdmissible plan.now }
-{
-    for (i, at) in cells.iter().enumerate() {
-        if i >= plan.ins.len() || in_cell(plan, i) != *at {
-            return false;
-        }
-    }
-    plan.ins.len() == cells.len()
+/// A kind of port, of which a plan has a list.
+#[derive(Clone, Copy)]
+pub enum Port {
+    In,
+    Out,
+    Net,
 }
 
-fn has_out_cells(plan: &Plan, cells: &[(u64, u64, u64)]) -> bool
+// Where a port is and when it is read, if the plan has it.
+fn port_of(plan: &Plan, port: Port, i: usize) -> Option<(u64, u64, u64)>
     requires { IsAdmissible plan.now }
 {
-    for (i, at) in cells.iter().enumerate() {
-        if i >= plan.outs.len() || out_cell(plan, i) != *at {
-            return false;
-        }
+    match port {
+        Port::In if i < plan.ins.len() => Some(in_cell(plan, i)),
+        Port::Out if i < plan.outs.len() => Some(out_cell(plan, i)),
+        Port::Net if i < plan.nets.len() => Some(net_cell(plan, i)),
+        _ => None,
     }
-    plan.outs.len() == cells.len()
 }
 
-fn has_net_cells(plan: &Plan, cells: &[(u64, u64, u64)]) -> bool
+fn has_ports(plan: &Plan, port: Port, cells: &[(u64, u64, u64)]) -> bool
     requires { IsAdmissible plan.now }
 {
     for (i, at) in cells.iter().enumerate() {
-        if i >= plan.nets.len() || net_cell(plan, i) != *at {
+        if port_of(plan, port, i) != Some(*at) {
             return false;
         }
     }
-    plan.nets.len() == cells.len()
+    port_of(plan, port, cells.len()).is_none()
 }
 
 // Whether the plan's drawing has these cells.
@@ -102,13 +95,19 @@ fn is_row(plan: &Plan, y: u64, letters: &[u8]) -> bool
     letters.len() == 33
 }
 
-// Whether the plan's drawing has these rows, a line each, from the top down.
-fn has_rows(plan: &Plan, rows: &str) -> bool
+// Whether the plan's drawing, or its slots, have these rows.
+fn has_rows(plan: &Plan, rows: &str, are_slots: bool) -> bool
     requires { IsAdmissible plan.now }
 {
     let mut y = 0u64;
-    for letters in rows.lines() {
-        if !is_row(plan, y, letters.as_bytes()) {
+    for line in rows.lines() {
+        let letters = line.as_bytes();
+        let is_there = if are_slots {
+            is_row_of_slots(plan, y, letters)
+        } else {
+            is_row(plan, y, letters)
+        };
+        if !is_there {
             return false;
         }
         y = y.saturating_add(1);
@@ -125,9 +124,9 @@ fn are_places(places: &[NetPlace], want: &[NetPlace]) -> bool {
     places.len() == want.len()
 }
 
-// Whether the plan or its drawing has what a fact tells of it as it stands.
-fn has_at_rest(plan: &Plan, fact: &Fact) -> bool
-    requires { IsAdmissible plan.now }
+fn has(alloc: Global, plan: &Plan, fact: &Fact) -> bool
+    requires admissible { IsAdmissible plan.now }
+    requires starts { HasStartEdges plan.now }
 {
     match fact {
         Fact::Size(width, height) => size(plan) == (*width, *height),
@@ -137,39 +136,25 @@ fn has_at_rest(plan: &Plan, fact: &Fact) -> bool
         Fact::Latches(count) => plan.latches == *count,
         Fact::Starts(starts) => plan.starts.list.as_slice() == *starts,
         Fact::Nets(places) => are_places(plan.nets.as_slice(), places),
-        Fact::InCells(cells) => has_in_cells(plan, cells),
-        Fact::OutCells(cells) => has_out_cells(plan, cells),
-        Fact::NetCells(cells) => has_net_cells(plan, cells),
+        Fact::Ports(port, cells) => has_ports(plan, *port, cells),
         Fact::Cells(cells) => has_cells(plan, cells),
-        Fact::Rows(rows) => has_rows(plan, rows),
-        Fact::Slots(rows) => has_slots(plan, rows),
-        _ => false,
-    }
-}
-
-fn has(alloc: Global, plan: &Plan, fact: &Fact) -> Result<bool, Fail>
-    requires admissible { IsAdmissible plan.now }
-    requires starts { HasStartEdges plan.now }
-{
-    match fact {
+        Fact::Rows(rows) => has_rows(plan, rows, false),
+        Fact::Slots(rows) => has_rows(plan, rows, true),
         Fact::Answers => answers(alloc, plan),
-        Fact::StaysDark => stays_dark(alloc, plan),
-        Fact::GoesRound => goes_round(alloc, plan),
-        Fact::RunsIn => runs_in(alloc, plan),
+        Fact::Keeps(course) => keeps_course(alloc, plan, *course),
         Fact::Heads(turns) => has_heads_in_turn(alloc, plan, turns),
-        _ => Ok(has_at_rest(plan, fact)),
     }
 }
 
-/// Fails if a fact does not hold of the plan, with the number of the first such fact.
-pub fn expect_facts(alloc: Global, about: &str, plan: &Plan, facts: &[Fact]) -> Result<(), Fail>
+/// Returns the number of the first fact that does not hold of the plan.
+pub fn wrong_fact(alloc: Global, plan: &Plan, facts: &[Fact]) -> Option<usize>
     requires admissible { IsAdmissible plan.now }
     requires starts { HasStartEdges plan.now }
 {
     for (number, fact) in facts.iter().enumerate() {
-        if !has(alloc, plan, fact)? {
-            return Err(Fail::new(format_args!("{about}: fact {number}")));
+        if !has(alloc, plan, fact) {
+            return Some(number);
         }
     }
-    Ok(())
+    None
 }

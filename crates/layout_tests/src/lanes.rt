@@ -1,10 +1,12 @@
-// What each instruction does.
+// What each instruction does, how lanes are brought to others, and columns.
 ghost use Rattle.std.specs.Prelude.{◌≡◌};
 ghost use Rattle.lane_core.specs.Plans.{IsAdmissible};
 
-use crate::fails::expect_holds;
+use crate::bringing::wrong_route;
+use crate::fails::{expect_holds, expect_none};
 use crate::plans::{Written, admitted, column_of};
 use lane_core::{Column, Instr, Plan, run_columns, run_instrs};
+use std::alloc::Global;
 use std::test::Fail;
 
 // A Fork, and an Xor in the next column.
@@ -44,64 +46,49 @@ const ANSWERS: &[(Instr, (bool, bool), (bool, bool))] = &[
     (Instr::AndNot(1), (true, true), (false, false)),
 ];
 
-// The bits of four lanes after an instruction on the middle two, or `None` if it works on others.
-fn after(instr: Instr, bits: [bool; 4]) -> Option<[bool; 4]> {
+// Whether an instruction on the middle two of four lanes leaves these bits there, and the lanes beside them as they are.
+fn is_answer(instr: Instr, found: (bool, bool), left: (bool, bool)) -> bool {
     if instr.lane() != 1 {
-        return None;
+        return false;
     }
-    let mut bits = bits;
+    let mut bits = [true, found.0, found.1, true];
     run_instrs(&[instr], &mut bits);
-    Some(bits)
+    bits == [true, left.0, left.1, true]
 }
 
-// Fails if an instruction leaves other bits on its two lanes, or changes the lanes beside them.
-fn expect_answer(instr: Instr, found: (bool, bool), left: (bool, bool)) -> Result<(), Fail> {
-    if after(instr, [true, found.0, found.1, true]) == Some([true, left.0, left.1, true]) {
-        Ok(())
-    } else {
-        Err(Fail::new(format_args!("{instr:?} on {} {}", found.0, found.1)))
+fn wrong_answer() -> Option<usize> {
+    for (turn, (instr, found, left)) in ANSWERS.iter().enumerate() {
+        if !is_answer(*instr, *found, *left) {
+            return Some(turn);
+        }
     }
+    None
 }
 
-#[test]
-fn each_instruction_changes_its_two_lanes(rt: HostRuntime) -> Result<(), Fail> {
-    for (instr, found, left) in ANSWERS {
-        expect_answer(*instr, *found, *left)?;
-    }
-    Ok(())
-}
-
-// The bits of three lanes after the columns of a plan have run on them.
-fn after_columns(plan: &Plan, bits: [bool; 3]) -> [bool; 3]
+// Whether instructions, and the columns of a plan, are done in order.
+fn are_in_order(plan: &Plan) -> bool
     requires admissible { IsAdmissible plan.now }
     requires lanes { plan.now.lanes ≡ 3 }
 {
-    let mut bits = bits;
-    run_columns(plan.columns.as_slice(), &mut bits);
-    bits
+    let mut by_instrs = [true, false, true];
+    run_instrs(&[Instr::Fork(0), Instr::Xor(1)], &mut by_instrs);
+    let mut by_columns = [true, false, true];
+    run_columns(plan.columns.as_slice(), &mut by_columns);
+    by_instrs == [true, false, false] && by_columns == [true, false, false]
 }
 
-// Fails if instructions, or the columns of a plan, are not done in order.
-fn expect_order(plan: &Plan) -> Result<(), Fail>
-    requires admissible { IsAdmissible plan.now }
-    requires lanes { plan.now.lanes ≡ 3 }
-{
-    let mut bits = [true, false, true];
-    run_instrs(&[Instr::Fork(0), Instr::Xor(1)], &mut bits);
-    expect_holds("the order of instructions", bits == [true, false, false])?;
-    let bits = after_columns(plan, [true, false, true]);
-    expect_holds("the order of columns", bits == [true, false, false])
+fn is_ordered(alloc: Global) -> bool {
+    match admitted(alloc, &FORK_AND_XOR) {
+        Some(plan) => {
+            let are_in_order = are_in_order(&plan);
+            drop(plan);
+            are_in_order
+        }
+        None => false,
+    }
 }
 
-#[test]
-fn instructions_and_columns_are_done_in_order(rt: HostRuntime) -> Result<(), Fail> {
-    let plan = admitted(rt.alloc(), &FORK_AND_XOR)?;
-    let told = expect_order(&plan);
-    drop(plan);
-    told
-}
-
-// Lanes, and the instruction that the column has on each.
+// Lanes, and the instruction that a column of an Or and a Swap has on each.
 const FOUND: &[(u32, Option<Instr>)] = &[
     (0, None),
     (1, Some(Instr::Or(1))),
@@ -112,19 +99,33 @@ const FOUND: &[(u32, Option<Instr>)] = &[
     (6, None),
 ];
 
-fn expect_found(column: &Column) -> Result<(), Fail> {
+// Whether a column has these instructions on its lanes.
+fn is_searched(column: &Column) -> bool {
     for (lane, instr) in FOUND {
         if column.instr_on(*lane) != *instr {
-            return Err(Fail::new(format_args!("at lane {lane}")));
+            return false;
         }
     }
-    Ok(())
+    true
+}
+
+fn are_found(alloc: Global) -> bool {
+    match column_of(alloc, &[Instr::Or(1), Instr::Swap(4)]) {
+        Some(column) => {
+            let is_searched = is_searched(&column);
+            drop(column);
+            is_searched
+        }
+        None => false,
+    }
 }
 
 #[test]
-fn a_column_is_searched_by_lane(rt: HostRuntime) -> Result<(), Fail> {
-    let column = column_of(rt.alloc(), &[Instr::Or(1), Instr::Swap(4)])?;
-    let told = expect_found(&column);
-    drop(column);
-    told
+fn instructions_change_two_lanes_in_order_and_are_found_by_lane(
+    rt: HostRuntime,
+) -> Result<(), Fail> {
+    expect_none("an instruction", wrong_answer())?;
+    expect_none("a route", wrong_route(rt.alloc()))?;
+    expect_holds("the lanes of a column", are_found(rt.alloc()))?;
+    expect_holds("the order", is_ordered(rt.alloc()))
 }

@@ -32,6 +32,4 @@ mod tapes;
 #[cfg(test)]
 mod tiles;
 #[cfg(test)]
-mod windows;
-#[cfg(test)]
 mod worked;

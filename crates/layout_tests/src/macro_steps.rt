@@ -10,7 +10,15 @@ use lane_core::Plan;
 use macro_grid::{Edges, EdgesError, macro_step};
 use std::alloc::Global;
 use std::mem;
-use std::test::Fail;
+
+/// What the signals of a plan do: they stay dark; or an electron goes round the first of three loops; or the 1 of the
+/// second cycle of a tape moves to the west side of the next tile with each macro step.
+#[derive(Clone, Copy)]
+pub enum Course {
+    StaysDark,
+    GoesRound,
+    RunsIn,
+}
 
 // A macro step: 32 generations of the plane with the shipped drawings.
 fn step_shipped(plan: &Plan, old: &Edges, new: &mut Edges)
@@ -47,22 +55,6 @@ fn are_dark(edges: &Edges) -> bool {
     true
 }
 
-fn is_dark(alloc: Global, plan: &Plan, steps: u64) -> Result<bool, EdgesError>
-    requires admissible { IsAdmissible plan.now }
-    requires starts { HasStartEdges plan.now }
-{
-    let edges = edges_after(alloc, plan, steps)?;
-    Ok(are_dark(&edges))
-}
-
-/// Returns whether no edge is lit at the start, nor a macro step later.
-pub fn stays_dark(alloc: Global, plan: &Plan) -> Result<bool, Fail>
-    requires admissible { IsAdmissible plan.now }
-    requires starts { HasStartEdges plan.now }
-{
-    Ok(is_dark(alloc, plan, 0)? && is_dark(alloc, plan, 1)?)
-}
-
 // Which of the edges on the west sides of a column's first three blocks are lit.
 fn lit(edges: &Edges, column: u64) -> [bool; 3] {
     [
@@ -72,46 +64,44 @@ fn lit(edges: &Edges, column: u64) -> [bool; 3] {
     ]
 }
 
-fn is_round(alloc: Global, plan: &Plan, steps: u64) -> Result<bool, EdgesError>
-    requires admissible { IsAdmissible plan.now }
-    requires starts { HasStartEdges plan.now }
-{
-    let edges = edges_after(alloc, plan, steps)?;
-    Ok(lit(&edges, 3) == [steps % 36 == 0, false, steps == 18])
+// Whether the edges after so many macro steps are as the signals do. With three columns, a loop has 2 * 3 + 4 * 3 tiles.
+// The return reverses the lanes: lane 0 leads to lane 2, and lane 2 to lane 0.
+fn is_kept(edges: &Edges, course: Course, steps: u64) -> bool {
+    match course {
+        Course::StaysDark => are_dark(edges),
+        Course::GoesRound => lit(edges, 3) == [steps % 36 == 0, false, steps == 18],
+        Course::RunsIn => edges.beside(steps, 0),
+    }
 }
 
-/// Returns whether an electron goes round the first of three loops. With three columns, a loop has
-/// 2 * 3 + 4 * 3 tiles. The return reverses the lanes: lane 0 leads to lane 2, and lane 2 to lane 0.
-pub fn goes_round(alloc: Global, plan: &Plan) -> Result<bool, Fail>
+fn is_kept_after(alloc: Global, plan: &Plan, course: Course, steps: u64) -> bool
     requires admissible { IsAdmissible plan.now }
     requires starts { HasStartEdges plan.now }
 {
-    for steps in 0..37 {
-        if !is_round(alloc, plan, steps)? {
-            return Ok(false);
+    match edges_after(alloc, plan, steps) {
+        Ok(edges) => {
+            let is_kept = is_kept(&edges, course, steps);
+            drop(edges);
+            is_kept
+        }
+        Err(_) => false,
+    }
+}
+
+/// Returns whether the signals of a plan do this, from the start on: for a macro step, for 36 or for 8.
+pub fn keeps_course(alloc: Global, plan: &Plan, course: Course) -> bool
+    requires admissible { IsAdmissible plan.now }
+    requires starts { HasStartEdges plan.now }
+{
+    let states = match course {
+        Course::StaysDark => 2,
+        Course::GoesRound => 37,
+        Course::RunsIn => 9,
+    };
+    for steps in 0..states {
+        if !is_kept_after(alloc, plan, course, steps) {
+            return false;
         }
     }
-    Ok(true)
-}
-
-fn is_run_in(alloc: Global, plan: &Plan, column: u64) -> Result<bool, EdgesError>
-    requires admissible { IsAdmissible plan.now }
-    requires starts { HasStartEdges plan.now }
-{
-    let edges = edges_after(alloc, plan, column)?;
-    Ok(edges.beside(column, 0))
-}
-
-/// Returns whether, with each macro step, the 1 of the second cycle of a tape moves to the west side
-/// of the next tile.
-pub fn runs_in(alloc: Global, plan: &Plan) -> Result<bool, Fail>
-    requires admissible { IsAdmissible plan.now }
-    requires starts { HasStartEdges plan.now }
-{
-    for column in 0..9 {
-        if !is_run_in(alloc, plan, column)? {
-            return Ok(false);
-        }
-    }
-    Ok(true)
+    true
 }

@@ -88,27 +88,35 @@ fn are_columns(columns: &[Column], want: &[&[Instr]]) -> bool {
     columns.len() == want.len()
 }
 
-fn expect_packed(alloc: Global, case: &Case, program: &Program) -> Result<(), Fail>
+fn is_packed(alloc: Global, case: &Case, program: &Program) -> bool
     requires { length program.now.instrs < 2 ^ 40 }
 {
-    let columns = pack(alloc, program)?;
-    let is_so = are_columns(&columns, case.columns)
-        && most_contexts(&columns, program) == case.contexts;
-    drop(columns);
-    expect_holds(case.about, is_so)
+    match pack(alloc, program) {
+        Ok(columns) => {
+            let is_so = are_columns(&columns, case.columns)
+                && most_contexts(&columns, program) == case.contexts;
+            drop(columns);
+            is_so
+        }
+        Err(_) => false,
+    }
 }
 
-fn expect_case(alloc: Global, case: &Case) -> Result<(), Fail> {
-    let program = program_of(alloc, case.program)?;
-    let told = expect_packed(alloc, case, &program);
-    drop(program);
-    told
+fn is_met(alloc: Global, case: &Case) -> bool {
+    match program_of(alloc, case.program) {
+        Some(program) => {
+            let is_packed = is_packed(alloc, case, &program);
+            drop(program);
+            is_packed
+        }
+        None => false,
+    }
 }
 
 #[test]
 fn programs_are_packed_and_have_room_for_contexts(rt: HostRuntime) -> Result<(), Fail> {
     for case in PACKED {
-        expect_case(rt.alloc(), case)?;
+        expect_holds(case.about, is_met(rt.alloc(), case))?;
     }
     Ok(())
 }

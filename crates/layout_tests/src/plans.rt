@@ -1,5 +1,5 @@
 // How a test writes down a plan.
-ghost use Rattle.std.specs.Prelude.{◌≡◌, IsTrue, IfOk};
+ghost use Rattle.std.specs.Prelude.{◌≡◌, IsTrue, IfSome};
 ghost use Rattle.lane_core.specs.Instrs.{are_sorted_apart, is_above};
 ghost use Rattle.lane_core.specs.Plans.{IsAdmissible};
 ghost use Rattle.plan_layout.specs.Starts.{HasStartEdges};
@@ -8,7 +8,6 @@ use lane_core::{Column, Instr, NetPlace, Plan, Start, Starts};
 use lists::List;
 use macro_grid::admissible;
 use std::alloc::Global;
-use std::test::Fail;
 
 /// A plan as a test writes it down. Each column has at most two instructions, and the tape has the
 /// bits of each input, a letter for each bit.
@@ -39,18 +38,16 @@ fn are_apart(instrs: &[Instr]) -> bool
     instrs.len() < 2 || instrs.len() == 2 && is_above(instrs[0], instrs[1])
 }
 
-/// Makes the column of these instructions. It fails if there are more than two, or if the lanes of
-/// the second are not below those of the first.
-pub fn column_of(alloc: Global, instrs: &[Instr]) -> Result<Column, Fail>
-    ensures { IfOk result (λ column. column.instrs ≡ instrs.now) }
-{
-    if are_apart(instrs) {
-        Ok(Column {
-            instrs: List::of(instrs.to_vec(alloc)?),
-        })
-    } else {
-        Err(Fail::new("no column has these instructions"))
+/// Makes the column of these instructions. There is none if there are more than two, or if the lanes of the second are
+/// not below those of the first, or if memory runs out.
+pub fn column_of(alloc: Global, instrs: &[Instr]) -> Option<Column> {
+    let mut refused = false;
+    let instrs = list_of(alloc, instrs, &mut refused);
+    if refused || !are_apart(instrs.as_slice()) {
+        drop(instrs);
+        return None;
     }
+    Some(Column { instrs })
 }
 
 /// Returns the items in a list of their own, or notes in `refused` that memory ran out.
@@ -69,17 +66,15 @@ fn put<T: Drop>(items: &mut Vec<T>, item: T, refused: &mut bool) {
     *refused |= items.push(item).is_err();
 }
 
-fn columns_of(
-    alloc: Global,
-    written: &[&[Instr]],
-    refused: &mut bool,
-) -> Result<List<Column>, Fail> {
+fn columns_of(alloc: Global, written: &[&[Instr]], refused: &mut bool) -> List<Column> {
     let mut columns = Vec::new(alloc);
     for instrs in written {
-        let column = column_of(alloc, instrs)?;
-        put(&mut columns, column, refused);
+        match column_of(alloc, instrs) {
+            Some(column) => put(&mut columns, column, refused),
+            None => *refused = true,
+        }
     }
-    Ok(List::of(columns))
+    List::of(columns)
 }
 
 fn bits_of(alloc: Global, letters: &[u8], refused: &mut bool) -> List<bool> {
@@ -101,18 +96,13 @@ pub fn lists_of(alloc: Global, written: &[&[u8]], refused: &mut bool) -> Vec<Lis
     lists
 }
 
-// The plan of these columns, with all else as it is written down.
-fn with_columns(
-    alloc: Global,
-    written: &Written<'_>,
-    columns: List<Column>,
-    refused: &mut bool,
-) -> Plan
+// The plan that is written down. Notes in `refused` that there is none, or that memory ran out.
+fn made(alloc: Global, written: &Written<'_>, refused: &mut bool) -> Plan
     ensures { result.lanes ≡ written.now.lanes }
 {
     Plan {
         lanes: written.lanes,
-        columns,
+        columns: columns_of(alloc, written.columns, refused),
         latches: written.latches,
         starts: Starts::of(list_of(alloc, written.starts, refused).into_vec()),
         ins: list_of(alloc, written.ins, refused),
@@ -122,38 +112,38 @@ fn with_columns(
     }
 }
 
-/// Makes the plan that is written down, admissible or not.
-pub fn plan_of(alloc: Global, written: &Written<'_>) -> Result<Plan, Fail>
-    ensures { IfOk result (λ plan. plan.lanes ≡ written.now.lanes) }
+/// Makes the plan that is written down, admissible or not. There is none if it has a column that is none, or if memory
+/// runs out.
+pub fn plan_of(alloc: Global, written: &Written<'_>) -> Option<Plan>
+    ensures { IfSome result (λ plan. plan.lanes ≡ written.now.lanes) }
 {
     let mut refused = false;
-    let columns = columns_of(alloc, written.columns, &mut refused)?;
-    let plan = with_columns(alloc, written, columns, &mut refused);
+    let plan = made(alloc, written, &mut refused);
     if refused {
         drop(plan);
-        return Err(Fail::new("no memory for a plan"));
+        return None;
     }
-    Ok(plan)
+    Some(plan)
 }
 
-/// Returns the plan if it is admissible, and fails if not.
-pub fn checked(plan: Plan) -> Result<Plan, Fail>
-    ensures admissible { IfOk result IsAdmissible }
-    ensures starts { IfOk result HasStartEdges }
-    ensures lanes { IfOk result (λ p. p.lanes ≡ plan.lanes) }
+/// Returns the plan if it is admissible.
+pub fn checked(plan: Plan) -> Option<Plan>
+    ensures admissible { IfSome result IsAdmissible }
+    ensures starts { IfSome result HasStartEdges }
+    ensures lanes { IfSome result (λ p. p.lanes ≡ plan.lanes) }
 {
     if !admissible(&plan) {
         drop(plan);
-        return Err(Fail::new("the plan is refused"));
+        return None;
     }
-    Ok(plan)
+    Some(plan)
 }
 
-/// Makes the plan that is written down, and fails if it is not admissible.
-pub fn admitted(alloc: Global, written: &Written<'_>) -> Result<Plan, Fail>
-    ensures admissible { IfOk result IsAdmissible }
-    ensures starts { IfOk result HasStartEdges }
-    ensures lanes { IfOk result (λ plan. plan.lanes ≡ written.now.lanes) }
+/// Makes the plan that is written down, if it is admissible.
+pub fn admitted(alloc: Global, written: &Written<'_>) -> Option<Plan>
+    ensures admissible { IfSome result IsAdmissible }
+    ensures starts { IfSome result HasStartEdges }
+    ensures lanes { IfSome result (λ plan. plan.lanes ≡ written.now.lanes) }
 {
     checked(plan_of(alloc, written)?)
 }

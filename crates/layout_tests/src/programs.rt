@@ -1,5 +1,5 @@
 // How a test writes down a program.
-ghost use Rattle.std.specs.Prelude.{◌<◌, ◌≤◌, ◌^◌, IsTrue, All, IfOk, length};
+ghost use Rattle.std.specs.Prelude.{◌<◌, ◌≤◌, ◌^◌, IsTrue, All, IfSome, length};
 ghost use Rattle.lane_core.specs.Instrs.{IsOnLanes};
 ghost use Rattle.lane_core.specs.Places.{IsPlaceWithin};
 
@@ -7,7 +7,6 @@ use crate::plans::list_of;
 use lane_core::{Instr, NetPlace, Program};
 use lists::List;
 use std::alloc::Global;
-use std::test::Fail;
 
 /// A program without ports as a test writes it down. `latches` says for each loop whether it starts
 /// with 1.
@@ -56,10 +55,10 @@ fn is_program(lanes: u32, instrs: &[Instr], latches: &[bool], nets: &[NetPlace])
         && are_within(nets, lanes, instrs.len() as u64)
 }
 
-/// Makes the program that is written down. It fails if the program has 1000 instructions or more,
-/// or more loops than lanes, or names lanes or instructions that it does not have.
-pub fn program_of(alloc: Global, listed: &Listed<'_>) -> Result<Program, Fail>
-    ensures { IfOk result (λ program. length program.instrs < 2 ^ 40) }
+/// Makes the program that is written down. There is none if the program has 1000 instructions or more,
+/// or more loops than lanes, or names lanes or instructions that it does not have, or if memory runs out.
+pub fn program_of(alloc: Global, listed: &Listed<'_>) -> Option<Program>
+    ensures { IfSome result (λ program. length program.instrs < 2 ^ 40) }
 {
     let mut refused = false;
     let instrs = list_of(alloc, listed.instrs, &mut refused);
@@ -76,9 +75,9 @@ pub fn program_of(alloc: Global, listed: &Listed<'_>) -> Result<Program, Fail>
         drop(instrs);
         drop(latches);
         drop(nets);
-        return Err(Fail::new("no program"));
+        return None;
     }
-    Ok(Program {
+    Some(Program {
         lanes: listed.lanes,
         instrs,
         ins: List::of(Vec::new(alloc)),

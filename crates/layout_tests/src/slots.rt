@@ -39,28 +39,14 @@ fn pair_letter(kind: Kind) -> u8 {
     }
 }
 
-fn has_row(plan: &Plan, lane: u64, letters: &[u8]) -> bool
+/// Returns whether the plan's slots on a lane have these letters.
+pub fn is_row_of_slots(plan: &Plan, lane: u64, letters: &[u8]) -> bool
     requires { IsAdmissible plan.now }
 {
     for (column, want) in letters.iter().enumerate() {
         if letter(slot_at(plan, column as u64, lane)) != *want {
             return false;
         }
-    }
-    true
-}
-
-/// Returns whether the plan's slots have the letters of the rows, a line for each lane from the top
-/// down.
-pub fn has_slots(plan: &Plan, rows: &str) -> bool
-    requires { IsAdmissible plan.now }
-{
-    let mut lane = 0u64;
-    for letters in rows.lines() {
-        if !has_row(plan, lane, letters.as_bytes()) {
-            return false;
-        }
-        lane = lane.saturating_add(1);
     }
     true
 }

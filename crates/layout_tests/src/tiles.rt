@@ -1,10 +1,10 @@
-// Tests of the timing law, of the page of all tiles, and of tiles by themselves.
+// Tests of the timing law, of a window's step, of the page of all tiles, and of tiles by themselves.
 use crate::fails::expect_holds;
 use page::PAGE;
 use std::test::Fail;
 use tile_core::{Kind, Library, Tile};
 use tile_library::{Shipped, tiles};
-use tile_timing::law_holds;
+use tile_timing::{law_holds, window_step};
 use ww_rule::State;
 
 mod page;
@@ -193,6 +193,18 @@ fn lights() -> [[bool; 2]; 4] {
     ]
 }
 
+// The four cells of a wire after a step, laid out as one row, as two rows and as a column.
+fn stepped() -> [[State; 4]; 3] {
+    let wire = [State::Tail, State::Head, State::Conductor, State::Conductor];
+    let mut row = [State::Empty; 4];
+    window_step(&wire, &mut row, 4);
+    let mut rows = [State::Empty; 4];
+    window_step(&wire, &mut rows, 2);
+    let mut column = [State::Empty; 4];
+    window_step(&wire, &mut column, 1);
+    [row, rows, column]
+}
+
 #[test]
 fn tiles_answer_by_themselves_and_the_law_holds_of_the_or_drawing_alone(
     rt: HostRuntime,
@@ -203,5 +215,8 @@ fn tiles_answer_by_themselves_and_the_law_holds_of_the_or_drawing_alone(
         tiles::SouthWest::ENTRIES == [(16, 0), (0, 0)],
     )?;
     let want = [[false, true], [true, true], [true, false], [true, false]];
-    expect_holds("the answers", lights() == want)
+    expect_holds("the answers", lights() == want)?;
+    let moved = [State::Conductor, State::Tail, State::Head, State::Conductor];
+    let lit_below = [State::Conductor, State::Tail, State::Head, State::Head];
+    expect_holds("a window's step", stepped() == [moved, lit_below, moved])
 }

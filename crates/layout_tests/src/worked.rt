@@ -1,11 +1,13 @@
 // Small plans and their worked values.
-ghost use Rattle.std.specs.Prelude.{IfOk};
+ghost use Rattle.std.specs.Prelude.{IfSome};
 ghost use Rattle.lane_core.specs.Plans.{IsAdmissible};
 ghost use Rattle.plan_layout.specs.Starts.{HasStartEdges};
 
-use crate::circuits::LOOP_HEADS;
+use crate::circuits::{LOOP_HEADS, wrong_start};
 use crate::closing::{FIVE_LANES, THREE_COLUMNS, TWO_LOOPS, closed};
-use crate::facts::{Fact, expect_facts};
+use crate::facts::{Fact, Port, wrong_fact};
+use crate::fails::expect_none;
+use crate::macro_steps::Course;
 use crate::plans::admitted;
 use crate::samples::{Sample, written};
 use crate::tapes::taped;
@@ -73,9 +75,9 @@ const PLANS: &[Case] = &[
             Fact::Size(33, 32),
             Fact::Period(32),
             Fact::Latency(32),
-            Fact::InCells(&[(0, 8, 0), (0, 24, 0)]),
-            Fact::OutCells(&[(32, 8, 32)]),
-            Fact::NetCells(&[(0, 8, 0), (0, 24, 0), (31, 8, 31)]),
+            Fact::Ports(Port::In, &[(0, 8, 0), (0, 24, 0)]),
+            Fact::Ports(Port::Out, &[(32, 8, 32)]),
+            Fact::Ports(Port::Net, &[(0, 8, 0), (0, 24, 0), (31, 8, 31)]),
             Fact::Cells(&[
                 (5, 8, State::Empty),
                 (32, 8, State::Conductor),
@@ -85,7 +87,7 @@ const PLANS: &[Case] = &[
             ]),
             Fact::Rows(OR_ROWS),
             Fact::Slots("O*.\no..\n..."),
-            Fact::StaysDark,
+            Fact::Keeps(Course::StaysDark),
         ],
     },
     Case {
@@ -93,14 +95,17 @@ const PLANS: &[Case] = &[
         plan: Origin::Written(Sample::Circuit),
         facts: &[
             Fact::Size(129, 80),
-            Fact::InCells(&[(0, 8, 0), (0, 40, 0), (0, 72, 0)]),
-            Fact::OutCells(&[
-                (128, 8, 128),
-                (128, 24, 128),
-                (128, 40, 128),
-                (128, 56, 128),
-                (128, 72, 128),
-            ]),
+            Fact::Ports(Port::In, &[(0, 8, 0), (0, 40, 0), (0, 72, 0)]),
+            Fact::Ports(
+                Port::Out,
+                &[
+                    (128, 8, 128),
+                    (128, 24, 128),
+                    (128, 40, 128),
+                    (128, 56, 128),
+                    (128, 72, 128),
+                ],
+            ),
             Fact::Answers,
         ],
     },
@@ -131,7 +136,7 @@ const PLANS: &[Case] = &[
         plan: Origin::Written(Sample::ThreeLoops),
         facts: &[
             Fact::Slots("r>>>>>>>7\n^r>>>>>7v\n^^r>>>7vv\n^^LW<WJvv\n^L<wWw<Jv\nL<<<w<<<J"),
-            Fact::GoesRound,
+            Fact::Keeps(Course::GoesRound),
         ],
     },
     Case {
@@ -140,7 +145,7 @@ const PLANS: &[Case] = &[
         facts: &[
             Fact::Period(448),
             Fact::Latency(96),
-            Fact::OutCells(&[(160, 40, 96)]),
+            Fact::Ports(Port::Out, &[(160, 40, 96)]),
         ],
     },
     Case {
@@ -148,7 +153,7 @@ const PLANS: &[Case] = &[
         plan: Origin::Taped(Sample::Or, &[b"01", b"11"]),
         facts: &[
             Fact::Size(65, 32),
-            Fact::OutCells(&[(64, 8, 32)]),
+            Fact::Ports(Port::Out, &[(64, 8, 32)]),
             Fact::Cells(&[
                 (0, 8, State::Head),
                 (1, 8, State::Conductor),
@@ -193,7 +198,7 @@ const PLANS: &[Case] = &[
                 (0, 24, State::Empty),
                 (320, 8, State::Conductor),
             ]),
-            Fact::RunsIn,
+            Fact::Keeps(Course::RunsIn),
         ],
     },
     Case {
@@ -280,9 +285,9 @@ const PLANS: &[Case] = &[
     },
 ];
 
-fn made(alloc: Global, origin: &Origin) -> Result<Plan, Fail>
-    ensures admissible { IfOk result IsAdmissible }
-    ensures starts { IfOk result HasStartEdges }
+fn made(alloc: Global, origin: &Origin) -> Option<Plan>
+    ensures admissible { IfSome result IsAdmissible }
+    ensures starts { IfSome result HasStartEdges }
 {
     match origin {
         Origin::Written(sample) => admitted(alloc, &written(*sample)),
@@ -294,10 +299,14 @@ fn made(alloc: Global, origin: &Origin) -> Result<Plan, Fail>
 }
 
 fn expect_case(alloc: Global, case: &Case) -> Result<(), Fail> {
-    let plan = made(alloc, &case.plan)?;
-    let told = expect_facts(alloc, case.about, &plan, case.facts);
-    drop(plan);
-    told
+    match made(alloc, &case.plan) {
+        Some(plan) => {
+            let wrong = wrong_fact(alloc, &plan, case.facts);
+            drop(plan);
+            expect_none(case.about, wrong)
+        }
+        None => Err(Fail::new(case.about)),
+    }
 }
 
 #[test]
@@ -305,5 +314,5 @@ fn plans_have_their_worked_values(rt: HostRuntime) -> Result<(), Fail> {
     for case in PLANS {
         expect_case(rt.alloc(), case)?;
     }
-    Ok(())
+    expect_none("the starts of a turn", wrong_start(rt.alloc()))
 }
