@@ -1,7 +1,6 @@
 // Circuits and faults as text.
-
-use aiger_reader::{Aig, AigAnd, AigFault, AigLatch};
-use std::alloc::{AllocError, Global};
+use crate::writing::Page;
+use aiger_reader::{Aig, AigFault};
 
 /// Cuts a case after its first line, which may be a remark, into its text and what is wanted.
 pub fn cut(case: &str) -> (&str, &str) {
@@ -9,58 +8,52 @@ pub fn cut(case: &str) -> (&str, &str) {
     rest.split_once("\n== ").unwrap_or((rest, "no case"))
 }
 
-fn push_lits(line: &mut String, kind: &str, lits: &[u64]) -> Result<(), AllocError> {
+// Appends an entry of a circuit: its kind and its literals.
+fn push_entry(page: &mut Page, kind: &str, lits: &[u64]) {
+    page.push_str(", ");
+    page.push_str(kind);
     for lit in lits {
-        write!(line, ", {kind} {lit}")?;
+        page.push_str(" ");
+        page.push_number(*lit);
     }
-    Ok(())
 }
 
-fn push_latches(line: &mut String, latches: &[AigLatch]) -> Result<(), AllocError> {
-    for latch in latches {
-        write!(line, ", latch {} {} {}", latch.lit, latch.next, latch.reset)?;
+fn push_lits(page: &mut Page, kind: &str, lits: &[u64]) {
+    for lit in lits {
+        push_entry(page, kind, &[*lit]);
     }
-    Ok(())
 }
 
-fn push_ands(line: &mut String, ands: &[AigAnd]) -> Result<(), AllocError> {
-    for gate in ands {
-        write!(line, ", and {} {} {}", gate.lhs, gate.rhs0, gate.rhs1)?;
+// Appends the gates, and then the names.
+fn push_gates(page: &mut Page, aig: &Aig) {
+    for gate in aig.ands.as_slice() {
+        push_entry(page, "and", &[gate.lhs, gate.rhs0, gate.rhs1]);
     }
-    Ok(())
-}
-
-// Appends a character for each byte of a name.
-fn push_name(line: &mut String, name: &[u8]) -> Result<(), AllocError> {
-    line.push_str(", ")?;
-    for byte in name {
-        line.push(*byte as char)?;
-    }
-    Ok(())
-}
-
-fn push_circuit(line: &mut String, aig: &Aig) -> Result<(), AllocError> {
-    write!(line, "m {}", aig.m)?;
-    push_lits(line, "in", aig.inputs.as_slice())?;
-    push_latches(line, aig.latches.as_slice())?;
-    push_lits(line, "out", aig.outputs.as_slice())?;
-    push_ands(line, aig.ands.as_slice())?;
     for name in aig.names.as_slice() {
-        push_name(line, name.as_slice())?;
+        page.push_str(", ");
+        page.push_bytes(name.as_slice());
     }
-    Ok(())
 }
 
-/// Writes a circuit as one line: its greatest variable, its inputs, latches, outputs and gates, and
+/// Appends a circuit as one line: its greatest variable, its inputs, latches, outputs and gates, and
 /// then its names.
-pub fn circuit_shown(alloc: Global, aig: &Aig) -> Result<String, AllocError> {
-    let mut line = String::new(alloc);
-    push_circuit(&mut line, aig)?;
-    Ok(line)
+pub fn push_circuit(page: &mut Page, aig: &Aig) {
+    page.push_str("m ");
+    page.push_number(aig.m);
+    push_lits(page, "in", aig.inputs.as_slice());
+    for latch in aig.latches.as_slice() {
+        push_entry(page, "latch", &[latch.lit, latch.next, latch.reset]);
+    }
+    push_lits(page, "out", aig.outputs.as_slice());
+    push_gates(page, aig);
 }
 
-/// Writes a fault as the program prints it.
-pub fn fault_shown(alloc: Global, fault: AigFault) -> Result<String, AllocError> {
-    let kind = fault.kind;
-    format!(in alloc; "A{} {} line {}", kind.number(), kind.name(), fault.line)
+/// Appends a fault as the program prints it.
+pub fn push_fault(page: &mut Page, fault: &AigFault) {
+    page.push_str("A");
+    page.push_number(u64::from(fault.kind.number()));
+    page.push_str(" ");
+    page.push_str(fault.kind.name());
+    page.push_str(" line ");
+    page.push_number(fault.line);
 }

@@ -1,12 +1,12 @@
 // Which of several lists is chosen for its plan, and how large the plan is.
-ghost use Rattle.std.specs.Prelude.{All, IfOk, OnOk};
+ghost use Rattle.std.specs.Prelude.{All, IfSome};
 ghost use Rattle.cell_plans.specs.PlanOf.{IsPlannable};
 
-use crate::written::{Written, list_of, must};
+use crate::writing::Page;
+use crate::written::{Written, list_of};
 use cell_core::{Cell, CellList, Src};
-use cell_plans::{Chosen, PlanError, best_plan};
+use cell_plans::best_plan;
 use std::alloc::Global;
-use std::test::Fail;
 
 // An XOR of two inputs in one cell.
 const ONE_CELL: Written<'static> = Written {
@@ -62,8 +62,8 @@ const CHOICES: &[(&str, u8)] = &[
 ];
 
 // The list of one, three or four cells.
-fn list_by(alloc: Global, cells: u8) -> Result<CellList, Fail>
-    ensures { IfOk result IsPlannable }
+fn list_by(alloc: Global, cells: u8) -> Option<CellList>
+    ensures { IfSome result IsPlannable }
 {
     let written = match cells {
         b'1' => &ONE_CELL,
@@ -73,24 +73,26 @@ fn list_by(alloc: Global, cells: u8) -> Result<CellList, Fail>
     list_of(alloc, written)
 }
 
-// Appends a list.
-fn push_list(alloc: Global, lists: &mut Vec<CellList>, cells: u8) -> Result<(), Fail>
+// Appends a list, if memory is enough.
+fn push_list(alloc: Global, lists: &mut Vec<CellList>, cells: u8) -> bool
     requires { All IsPlannable lists.old.items }
-    ensures { OnOk result (All IsPlannable lists.new.items) }
+    ensures { All IsPlannable lists.new.items }
 {
-    let list = list_by(alloc, cells)?;
-    lists.push(list)?;
-    Ok(())
+    match list_by(alloc, cells) {
+        Some(list) => lists.push(list).is_ok(),
+        None => false,
+    }
 }
 
-fn push_lists(alloc: Global, lists: &mut Vec<CellList>, numbers: &[u8]) -> Result<(), Fail>
+fn push_lists(alloc: Global, lists: &mut Vec<CellList>, numbers: &[u8]) -> bool
     requires { All IsPlannable lists.old.items }
-    ensures { OnOk result (All IsPlannable lists.new.items) }
+    ensures { All IsPlannable lists.new.items }
 {
+    let mut are_there = true;
     for cells in numbers {
-        push_list(alloc, lists, *cells)?;
+        are_there &= push_list(alloc, lists, *cells);
     }
-    Ok(())
+    are_there
 }
 
 // The place of the chosen list, and how many lanes and columns its plan has.
@@ -101,53 +103,62 @@ struct Choice {
     columns: usize,
 }
 
-fn choice_in(chosen: &Chosen) -> Choice {
-    Choice {
-        list: chosen.list,
-        lanes: chosen.plan.lanes,
-        columns: chosen.plan.columns.len(),
-    }
-}
-
 // The choice that `best_plan` makes.
-fn choice_of(alloc: Global, lists: &[CellList]) -> Result<Choice, Fail>
+fn choice_of(alloc: Global, lists: &[CellList]) -> Option<Choice>
     requires { All IsPlannable lists.now }
 {
-    must(!lists.is_empty())?;
+    if lists.is_empty() {
+        return None;
+    }
     match best_plan(alloc, lists) {
-        Ok(chosen) => Ok(choice_in(&chosen)),
-        Err(PlanError::NoMemory) => Err(Fail::new("no plan")),
+        Ok(chosen) => {
+            let choice = Choice {
+                list: chosen.list,
+                lanes: chosen.plan.lanes,
+                columns: chosen.plan.columns.len(),
+            };
+            drop(chosen);
+            Some(choice)
+        }
+        Err(_) => None,
     }
 }
 
-fn choice_by(alloc: Global, numbers: &[u8]) -> Result<Choice, Fail> {
+fn choice_by(alloc: Global, numbers: &[u8]) -> Option<Choice> {
     let mut lists = Vec::new(alloc);
-    push_lists(alloc, &mut lists, numbers)?;
-    choice_of(alloc, &lists)
+    let are_there = push_lists(alloc, &mut lists, numbers);
+    let choice = choice_of(alloc, &lists);
+    drop(lists);
+    if are_there { choice } else { None }
 }
 
-// Fails unless the kept plan is that of the list with `kept` cells, and has its lanes and columns.
-fn expect_choice(alloc: Global, numbers: &str, kept: u8) -> Result<(), Fail> {
-    let made = choice_by(alloc, numbers.as_bytes())?;
+// Appends the choice, and returns whether it is that of the list with `kept` cells, with its lanes and columns.
+fn is_kept(page: &mut Page, choice: Choice, numbers: &[u8], kept: u8) -> bool {
+    page.push_str(": list ");
+    page.push_number(choice.list as u64);
+    page.push_str(", lanes ");
+    page.push_number(u64::from(choice.lanes));
+    page.push_str(", columns ");
+    page.push_number(choice.columns as u64);
     let (lanes, columns) = match kept {
         b'1' => (2, 1),
         b'3' => (4, 6),
         _ => (4, 7),
     };
-    let is_kept = made.list < numbers.len() && numbers.as_bytes()[made.list] == kept;
-    if is_kept && made.lanes == lanes && made.columns == columns {
-        return Ok(());
-    }
-    Err(Fail::new(format_args!(
-        "{numbers}: list {}, {} lanes, {} columns",
-        made.list, made.lanes, made.columns
-    )))
+    choice.list < numbers.len()
+        && numbers[choice.list] == kept
+        && choice.lanes == lanes
+        && choice.columns == columns
 }
 
-#[test]
-fn the_list_with_the_smallest_plan_is_kept(rt: HostRuntime) -> Result<(), Fail> {
+/// Notes it unless the list with the smallest plan is kept.
+pub fn expect_choices(page: &mut Page) {
     for (numbers, kept) in CHOICES {
-        expect_choice(rt.alloc(), numbers, *kept)?;
+        page.push_str(numbers);
+        let is_kept = match choice_by(page.alloc(), numbers.as_bytes()) {
+            Some(choice) => is_kept(page, choice, numbers.as_bytes(), *kept),
+            None => false,
+        };
+        page.expect_holds(is_kept);
     }
-    Ok(())
 }

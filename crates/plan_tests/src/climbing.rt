@@ -8,7 +8,6 @@ use cell_plans::climbed_plan;
 use order_climbing::{Climbed, Start, climb};
 use std::alloc::{AllocError, Global};
 use std::slice::from_ref;
-use std::test::Fail;
 
 fn push_cells(order: &mut Vec<u32>, cells: usize) -> Result<(), AllocError> {
     for cell in 0..cells {
@@ -18,31 +17,47 @@ fn push_cells(order: &mut Vec<u32>, cells: usize) -> Result<(), AllocError> {
 }
 
 // What climbing finds from the order in which the cells stand.
-fn climbed(alloc: Global, list: &CellList) -> Result<Option<Climbed>, Fail> {
+fn climbed(alloc: Global, list: &CellList) -> Option<Climbed> {
     let mut start = Start {
         list: 0,
         order: Vec::new(alloc),
     };
-    push_cells(&mut start.order, list.cells.len())?;
-    Ok(climb(alloc, from_ref(list), from_ref(&start))?)
+    if push_cells(&mut start.order, list.cells.len()).is_err() {
+        drop(start);
+        return None;
+    }
+    let found = climb(alloc, from_ref(list), from_ref(&start));
+    drop(start);
+    match found {
+        Ok(found) => found,
+        Err(_) => None,
+    }
 }
 
 // Whether the plan at the draft that climbing found has as many tiles as climbing counted.
-fn is_counted_at(alloc: Global, list: &CellList, found: &Climbed) -> Result<bool, Fail>
+fn is_counted_at(alloc: Global, list: &CellList, found: &Climbed) -> bool
     requires { IsPlannable list.now }
 {
-    match climbed_plan(alloc, list, found)? {
-        Some(plan) => Ok(tiles_of(&plan) == found.tiles),
-        None => Ok(false),
+    match climbed_plan(alloc, list, found) {
+        Ok(Some(plan)) => {
+            let is_counted = tiles_of(&plan) == found.tiles;
+            drop(plan);
+            is_counted
+        }
+        _ => false,
     }
 }
 
 /// Returns whether the plan at the draft that climbing finds has as many tiles as climbing counts.
-pub fn is_counted(alloc: Global, list: &CellList) -> Result<bool, Fail>
+pub fn is_counted(alloc: Global, list: &CellList) -> bool
     requires { IsPlannable list.now }
 {
-    match climbed(alloc, list)? {
-        Some(found) => is_counted_at(alloc, list, &found),
-        None => Ok(false),
+    match climbed(alloc, list) {
+        Some(found) => {
+            let is_counted = is_counted_at(alloc, list, &found);
+            drop(found);
+            is_counted
+        }
+        None => false,
     }
 }

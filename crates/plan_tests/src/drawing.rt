@@ -1,11 +1,10 @@
 // Random lists of cells.
-ghost use Rattle.std.specs.Prelude.{IfOk};
+ghost use Rattle.std.specs.Prelude.{IfSome};
 ghost use Rattle.cell_plans.specs.PlanOf.{IsPlannable};
 
 use crate::written::{Parts, list_in, no_parts};
 use cell_core::{Cell, CellList, Src};
 use std::alloc::{AllocError, Global};
-use std::test::Fail;
 
 /// A generator of random numbers.
 #[derive(Clone, Copy)]
@@ -101,10 +100,13 @@ fn draw_parts(draw: &mut Draw, parts: &mut Parts) -> Result<(), AllocError> {
 }
 
 /// Draws a list with at most 4 inputs, 3 latches, 13 cells, 5 outputs and 9 nets.
-pub fn draw_list(alloc: Global, draw: &mut Draw) -> Result<CellList, Fail>
-    ensures { IfOk result IsPlannable }
+pub fn draw_list(alloc: Global, draw: &mut Draw) -> Option<CellList>
+    ensures { IfSome result IsPlannable }
 {
     let mut parts = no_parts(alloc, draw.below(5));
-    draw_parts(draw, &mut parts)?;
+    if draw_parts(draw, &mut parts).is_err() {
+        drop(parts);
+        return None;
+    }
     list_in(parts)
 }

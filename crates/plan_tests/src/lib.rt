@@ -25,6 +25,8 @@ mod running;
 #[cfg(test)]
 mod stages;
 #[cfg(test)]
+mod told;
+#[cfg(test)]
 mod writing;
 #[cfg(test)]
 mod written;

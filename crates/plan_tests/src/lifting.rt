@@ -1,12 +1,13 @@
 // The list of cells and the bits that are lifted from a plan, and the starts of its loops.
+ghost use Rattle.cell_plans.specs.PlanOf.{IsPlannable};
 ghost use Rattle.lane_core.specs.Plans.{IsAdmissible};
 
-use crate::written::{Written, must, plan_of_written};
+use crate::writing::Page;
+use crate::written::{Written, list_of, plan_of_list};
 use cell_core::{Cell, CellList, Src};
 use circuit_plans::{cells_of, first_bits, starts_of_bits};
 use lane_core::Plan;
 use std::alloc::Global;
-use std::test::Fail;
 
 // A latch that starts with 1, and is 1 after a cycle if the input was 1 and the latch 0 in it.
 const PULSE: Written<'static> = Written {
@@ -27,39 +28,61 @@ fn is_pulse(list: &CellList) -> bool {
         && list.starts.as_slice() == PULSE.starts
 }
 
-fn makes_pulse(alloc: Global, plan: &Plan) -> Result<bool, Fail>
+// Whether the cells and the bits that are lifted from a plan are those of `PULSE`.
+fn makes_pulse(alloc: Global, plan: &Plan) -> bool
     requires { IsAdmissible plan.now }
 {
-    match cells_of(alloc, plan) {
-        Ok(list) => Ok(is_pulse(&list)),
-        Err(_) => Err(Fail::new("no cells")),
+    match (cells_of(alloc, plan), first_bits(alloc, plan)) {
+        (Ok(list), Ok(bits)) => {
+            let is_so = is_pulse(&list) && bits.as_slice() == [true].as_slice();
+            drop(list);
+            drop(bits);
+            is_so
+        }
+        _ => false,
     }
 }
 
-fn starts_with_one(alloc: Global, plan: &Plan) -> Result<bool, Fail>
-    requires { IsAdmissible plan.now }
+fn plan_makes_pulse(alloc: Global, list: &CellList) -> bool
+    requires { IsPlannable list.now }
 {
-    let bits = first_bits(alloc, plan)?;
-    Ok(bits.as_slice() == [true].as_slice())
+    match plan_of_list(alloc, list) {
+        Some(plan) => {
+            let is_so = makes_pulse(alloc, &plan);
+            drop(plan);
+            is_so
+        }
+        None => false,
+    }
 }
 
-fn expect_pulse(alloc: Global, plan: &Plan) -> Result<(), Fail>
-    requires { IsAdmissible plan.now }
-{
-    let cells = makes_pulse(alloc, plan)?;
-    let bits = starts_with_one(alloc, plan)?;
-    must(cells && bits)?;
-    Ok(())
+fn list_makes_pulse(alloc: Global) -> bool {
+    match list_of(alloc, &PULSE) {
+        Some(list) => {
+            let is_so = plan_makes_pulse(alloc, &list);
+            drop(list);
+            is_so
+        }
+        None => false,
+    }
 }
 
-// Of two loops on four lanes the second starts with 1.
-#[test]
-fn a_plan_makes_the_cells_and_starts_of_its_list(rt: HostRuntime) -> Result<(), Fail> {
-    let starts = starts_of_bits(rt.alloc(), 4, &[false, true])?;
-    must(starts.has(64, 56) && !starts.has(64, 40) && starts.list.len() == 1)?;
-    drop(starts);
-    let plan = plan_of_written(rt.alloc(), &PULSE)?;
-    let said = expect_pulse(rt.alloc(), &plan);
-    drop(plan);
-    said
+// Whether of two loops on four lanes the second starts with 1.
+fn second_starts(alloc: Global) -> bool {
+    match starts_of_bits(alloc, 4, &[false, true]) {
+        Ok(starts) => {
+            let is_so = starts.has(64, 56) && !starts.has(64, 40) && starts.list.len() == 1;
+            drop(starts);
+            is_so
+        }
+        Err(_) => false,
+    }
+}
+
+/// Notes it unless a plan makes the cells and starts of its list.
+pub fn expect_lifted(page: &mut Page) {
+    page.push_str("starts of bits");
+    page.expect_holds(second_starts(page.alloc()));
+    page.push_str("what is lifted");
+    page.expect_holds(list_makes_pulse(page.alloc()));
 }

@@ -4,10 +4,10 @@ ghost use Rattle.cell_plans.specs.PlanOf.{IsPlannable};
 use crate::climbing::is_counted;
 use crate::drawing::{Draw, draw_list};
 use crate::running::agrees;
+use crate::writing::Page;
 use crate::written::plan_of_list;
 use cell_core::CellList;
 use std::alloc::Global;
-use std::test::Fail;
 
 // How random lists are drawn: how many, from which state of the generator, and whether climbing is
 // tried on them, or whether their plans do what they do.
@@ -38,49 +38,52 @@ const RUNS: &[Run] = &[
 ];
 
 // Whether the plan of the list does what the list does.
-fn list_agrees(alloc: Global, list: &CellList) -> Result<bool, Fail>
+fn list_agrees(alloc: Global, list: &CellList) -> bool
     requires { IsPlannable list.now }
 {
-    let plan = plan_of_list(alloc, list)?;
-    let said = agrees(alloc, list, &plan);
-    drop(plan);
-    Ok(said?)
-}
-
-fn is_right(alloc: Global, climbs: bool, list: &CellList) -> Result<bool, Fail>
-    requires { IsPlannable list.now }
-{
-    if climbs {
-        is_counted(alloc, list)
-    } else {
-        list_agrees(alloc, list)
+    match plan_of_list(alloc, list) {
+        Some(plan) => {
+            let agrees = agrees(alloc, list, &plan);
+            drop(plan);
+            agrees
+        }
+        None => false,
     }
 }
 
-fn drawn_is_right(alloc: Global, climbs: bool, draw: &mut Draw) -> Result<bool, Fail> {
-    let list = draw_list(alloc, draw)?;
-    let said = is_right(alloc, climbs, &list);
-    drop(list);
-    said
+fn drawn_is_right(alloc: Global, climbs: bool, draw: &mut Draw) -> bool {
+    match draw_list(alloc, draw) {
+        Some(list) => {
+            let is_right = if climbs {
+                is_counted(alloc, &list)
+            } else {
+                list_agrees(alloc, &list)
+            };
+            drop(list);
+            is_right
+        }
+        None => false,
+    }
 }
 
-fn expect_run(alloc: Global, run: &Run) -> Result<(), Fail> {
+fn expect_run(page: &mut Page, run: &Run) {
     let mut draw = run.draw;
     for turn in 0..run.lists {
-        if !drawn_is_right(alloc, run.climbs, &mut draw)? {
-            return Err(Fail::new(format_args!("list {turn}, climbs {}", run.climbs)));
-        }
+        page.push_str(if run.climbs {
+            "climbing, list "
+        } else {
+            "list "
+        });
+        page.push_number(u64::from(turn));
+        page.expect_holds(drawn_is_right(page.alloc(), run.climbs, &mut draw));
     }
-    Ok(())
 }
 
-// Among the lists are some with constants as operands, doubled sources, cells that nothing reads,
-// unused latches and inputs, outputs of one source, and outputs that are inputs, and lists with
-// none of these.
-#[test]
-fn plans_do_what_random_lists_do(rt: HostRuntime) -> Result<(), Fail> {
+/// Notes it unless plans do what random lists do. Among the lists are some with constants as operands, doubled sources,
+/// cells that nothing reads, unused latches and inputs, outputs of one source, and outputs that are inputs, and lists
+/// with none of these.
+pub fn expect_runs(page: &mut Page) {
     for run in RUNS {
-        expect_run(rt.alloc(), run)?;
+        expect_run(page, run);
     }
-    Ok(())
 }

@@ -1,16 +1,17 @@
 // Texts of circuits, and texts with faults.
-use crate::aiger_texts::{circuit_shown, cut, fault_shown};
+use crate::aiger_texts::{cut, push_circuit, push_fault};
+use crate::writing::Page;
 use aiger_reader::{AigReadError, read};
-use std::alloc::{AllocError, Global};
-use std::test::Fail;
-use ww_base::expect;
 
-// The circuit of a text as one line, or the text's fault.
-fn said(alloc: Global, text: &[u8]) -> Result<String, AllocError> {
-    match read(alloc, text) {
-        Ok(aig) => circuit_shown(alloc, &aig),
-        Err(AigReadError::Fault(fault)) => fault_shown(alloc, fault),
-        Err(AigReadError::NoMemory) => Err(AllocError),
+// Appends the circuit of a text as one line, or the text's fault.
+fn push_read(page: &mut Page, text: &[u8]) {
+    match read(page.alloc(), text) {
+        Ok(aig) => {
+            push_circuit(page, &aig);
+            drop(aig);
+        }
+        Err(AigReadError::Fault(fault)) => push_fault(page, &fault),
+        Err(AigReadError::NoMemory) => page.cut(),
     }
 }
 
@@ -354,25 +355,16 @@ o0 o1
 
 == A6 Undefined line 3";
 
-fn expect_text(alloc: Global, text: &[u8], want: &[u8]) -> Result<(), Fail> {
-    let line = said(alloc, text)?;
-    expect(line.as_bytes(), want)
-}
-
-fn expect_texts(alloc: Global, cases: &str) -> Result<(), Fail> {
+fn expect_list(page: &mut Page, cases: &str) {
     for case in cases.split("\n>") {
         let (text, want) = cut(case);
-        expect_text(alloc, text.as_bytes(), want.as_bytes())?;
+        push_read(page, text.as_bytes());
+        page.expect(want);
     }
-    Ok(())
 }
 
-const LISTS: &[&str] = &[CIRCUITS, FAULTS];
-
-#[test]
-fn texts_are_read_as_circuits_or_have_a_first_fault(rt: HostRuntime) -> Result<(), Fail> {
-    for cases in LISTS {
-        expect_texts(rt.alloc(), cases)?;
-    }
-    Ok(())
+/// Notes it unless texts are read as circuits or have their first fault.
+pub fn expect_texts(page: &mut Page) {
+    expect_list(page, CIRCUITS);
+    expect_list(page, FAULTS);
 }

@@ -5,7 +5,7 @@ ghost use Rattle.lane_core.specs.Plans.{IsAdmissible};
 
 use cell_core::{Cell, CellList, Src};
 use lane_core::{Plan, run_columns};
-use std::alloc::{AllocError, Global};
+use std::alloc::Global;
 
 // The i-th bit of a word.
 fn bit_of(word: u64, i: u32) -> bool {
@@ -233,12 +233,18 @@ fn agrees_on(list: &CellList, plan: &Plan, bits: &mut [bool]) -> bool
 }
 
 /// Returns whether the plan starts with the list's bits, and does what the list does in a cycle
-/// with any bits of its inputs and loops, if these are at most sixteen in all.
-pub fn agrees(alloc: Global, list: &CellList, plan: &Plan) -> Result<bool, AllocError>
+/// with any bits of its inputs and loops, if these are at most sixteen in all. It does not if memory runs out.
+pub fn agrees(alloc: Global, list: &CellList, plan: &Plan) -> bool
     requires { IsAdmissible plan.now }
 {
-    let mut bits = vec![in alloc; false; plan.lanes as usize]?;
-    Ok(agrees_on(list, plan, &mut bits))
+    match vec![in alloc; false; plan.lanes as usize] {
+        Ok(mut bits) => {
+            let agrees = agrees_on(list, plan, &mut bits);
+            drop(bits);
+            agrees
+        }
+        Err(_) => false,
+    }
 }
 
 // The letters of the streams in a cycle, as bits.
@@ -269,15 +275,15 @@ fn plays_on(plan: &Plan, cycles: usize, ins: &[&[u8]], outs: &[&[u8]], bits: &mu
 }
 
 /// Returns whether the plan, from its starts on, makes the streams `outs` from the streams `ins`.
-pub fn plays(
-    alloc: Global,
-    plan: &Plan,
-    cycles: usize,
-    ins: &[&[u8]],
-    outs: &[&[u8]],
-) -> Result<bool, AllocError>
+pub fn plays(alloc: Global, plan: &Plan, cycles: usize, ins: &[&[u8]], outs: &[&[u8]]) -> bool
     requires { IsAdmissible plan.now }
 {
-    let mut bits = vec![in alloc; false; plan.lanes as usize]?;
-    Ok(plays_on(plan, cycles, ins, outs, &mut bits))
+    match vec![in alloc; false; plan.lanes as usize] {
+        Ok(mut bits) => {
+            let plays = plays_on(plan, cycles, ins, outs, &mut bits);
+            drop(bits);
+            plays
+        }
+        Err(_) => false,
+    }
 }

@@ -10,12 +10,10 @@ use lane_core::{Column, Instr, Plan};
 use netlist_core::{Flat, FlatLatch, FlatPort, Node};
 use netlist_plans::plan_netlist;
 use netlist_text::{Netlist, netlist_of};
-use std::alloc::Global;
 use std::fmt::Debug;
-use std::test::Fail;
 
-// The netlist of examples/toggle.blif.
-const TOGGLE: &[u8] =
+/// The netlist of examples/toggle.blif.
+pub const TOGGLE: &[u8] =
     b".model toggle\n.inputs en\n.outputs q\n.latch n q 0\n.names en q n\n10 1\n01 1\n.end\n";
 
 // Appends the name of the net with this number, or nothing if there is none.
@@ -185,68 +183,64 @@ fn push_plan(page: &mut Page, flat: &Flat, plan: &Plan, labels: &mut [Option<usi
     }
 }
 
-fn expect_flat(alloc: Global, flat: &Flat) -> Result<(), Fail> {
-    let mut page = Page::new(alloc);
-    push_flat(&mut page, flat);
-    page.expect(FLAT)
-}
-
-fn expect_list(alloc: Global, list: &CellList) -> Result<(), Fail> {
-    let mut page = Page::new(alloc);
-    push_list(&mut page, list);
-    page.expect(CELLS)
-}
-
-fn expect_lanes(
-    alloc: Global,
-    flat: &Flat,
-    plan: &Plan,
-    labels: &mut [Option<usize>],
-) -> Result<(), Fail> {
-    let mut page = Page::new(alloc);
-    push_plan(&mut page, flat, plan, labels);
-    page.expect(LANES)
-}
-
-fn expect_plan(alloc: Global, flat: &Flat, plan: &Plan) -> Result<(), Fail> {
-    let mut labels = vec![in alloc; None; plan.lanes as usize]?;
-    expect_lanes(alloc, flat, plan, &mut labels)
+// Compares the lanes and columns of a plan with the tour.
+fn expect_plan(page: &mut Page, flat: &Flat, plan: &Plan) {
+    match vec![in page.alloc(); None; plan.lanes as usize] {
+        Ok(mut labels) => {
+            push_plan(page, flat, plan, &mut labels);
+            drop(labels);
+        }
+        Err(_) => page.cut(),
+    }
+    page.expect(LANES);
 }
 
 // Compares the cells of a netlist with the tour.
-fn expect_cells(alloc: Global, netlist: &Netlist) -> Result<(), Fail>
+fn expect_cells(page: &mut Page, netlist: &Netlist)
     requires parts { AreParts netlist.now.design netlist.now.flat netlist.now.order.nodes }
 {
-    let mapped = cover_mapper::map(alloc, &netlist.flat, &netlist.order)?;
-    expect_list(alloc, &mapped.list)
+    match cover_mapper::map(page.alloc(), &netlist.flat, &netlist.order) {
+        Ok(mapped) => {
+            push_list(page, &mapped.list);
+            drop(mapped);
+        }
+        Err(_) => page.cut(),
+    }
+    page.expect(CELLS);
 }
 
 // Compares the lanes and columns of a netlist's plan with the tour.
-fn expect_planned(alloc: Global, netlist: &Netlist) -> Result<(), Fail>
+fn expect_planned(page: &mut Page, netlist: &Netlist)
     requires of_text { (text : List ℕ) × IsNetlist text netlist.now.design }
     requires parts { AreParts netlist.now.design netlist.now.flat netlist.now.order.nodes }
 {
-    let planned = plan_netlist(alloc, &netlist.flat, &netlist.order)?;
-    expect_plan(alloc, &netlist.flat, &planned.plan)
+    match plan_netlist(page.alloc(), &netlist.flat, &netlist.order) {
+        Ok(planned) => {
+            expect_plan(page, &netlist.flat, &planned.plan);
+            drop(planned);
+        }
+        Err(_) => page.cut(),
+    }
 }
 
 // Compares the stages of a netlist with the tour: flat, as cells, and as lanes and columns.
-fn expect_netlist(alloc: Global, netlist: &Netlist) -> Result<(), Fail>
+fn expect_netlist(page: &mut Page, netlist: &Netlist)
     requires of_text { (text : List ℕ) × IsNetlist text netlist.now.design }
     requires parts { AreParts netlist.now.design netlist.now.flat netlist.now.order.nodes }
 {
-    expect_flat(alloc, &netlist.flat)?;
-    expect_cells(alloc, netlist)?;
-    expect_planned(alloc, netlist)
+    push_flat(page, &netlist.flat);
+    page.expect(FLAT);
+    expect_cells(page, netlist);
+    expect_planned(page, netlist);
 }
 
-// Compares the stages of a text's netlist with the tour.
-fn expect_stages(alloc: Global, text: &[u8]) -> Result<(), Fail> {
-    let netlist = netlist_of(alloc, text)?;
-    expect_netlist(alloc, &netlist)
-}
-
-#[test]
-fn stages_of_the_toggle_are_those_of_the_tour(rt: HostRuntime) -> Result<(), Fail> {
-    expect_stages(rt.alloc(), TOGGLE)
+/// Notes it unless the stages of a text's netlist are those of the tour.
+pub fn expect_stages(page: &mut Page, text: &[u8]) {
+    match netlist_of(page.alloc(), text) {
+        Ok(netlist) => {
+            expect_netlist(page, &netlist);
+            drop(netlist);
+        }
+        Err(_) => page.cut(),
+    }
 }

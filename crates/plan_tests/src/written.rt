@@ -1,15 +1,14 @@
 // Lists of cells that a test writes down.
-ghost use Rattle.std.specs.Prelude.{◌≡◌, ◌<◌, ◌+◌, IsTrue, OnOk, IfOk, length};
+ghost use Rattle.std.specs.Prelude.{◌≡◌, ◌<◌, ◌+◌, IsTrue, IfSome, length};
 ghost use Rattle.cell_core.specs.Sources.{are_in_order, are_there};
 ghost use Rattle.cell_plans.specs.PlanOf.{IsPlannable};
 ghost use Rattle.lane_core.specs.Plans.{IsAdmissible};
 
 use cell_core::{Cell, CellList, Src};
-use cell_plans::{PlanError, plan_of};
+use cell_plans::plan_of;
 use lane_core::Plan;
 use lists::List;
 use std::alloc::{AllocError, Global};
-use std::test::Fail;
 
 /// A list of cells as a test writes it down. `latches` are the sources of the latches, and `starts`
 /// the bits with which the latches start, in the same order.
@@ -21,17 +20,6 @@ pub struct Written<'a> {
     pub latches: &'a [Src],
     pub starts: &'a [bool],
     pub nets: &'a [Src],
-}
-
-/// Returns an error unless it holds.
-pub fn must(holds: bool) -> Result<(), &'static str>
-    ensures { OnOk result (IsTrue holds) }
-{
-    if holds {
-        Ok(())
-    } else {
-        Err("it does not hold")
-    }
 }
 
 // Whether each of the cells reads only what is there before it.
@@ -81,20 +69,20 @@ pub fn no_parts(alloc: Global, inputs: u32) -> Parts {
     }
 }
 
-// Fails unless the sources are all there, and the list is a small one: fewer than 1,000 inputs,
+// Whether the sources are all there, and the list is a small one: fewer than 1,000 inputs,
 // latches, outputs and cells each.
-fn check(parts: &Parts) -> Result<(), &'static str>
-    ensures order { OnOk result (IsTrue (are_in_order parts.now.inputs
-        (length parts.now.starts.items) 0 parts.now.cells.items)) }
-    ensures outs { OnOk result (IsTrue (are_there parts.now.inputs (length parts.now.starts.items)
-        (length parts.now.cells.items) parts.now.outs.items)) }
-    ensures latches { OnOk result (IsTrue (are_there parts.now.inputs
-        (length parts.now.starts.items) (length parts.now.cells.items) parts.now.latches.items)) }
-    ensures nets { OnOk result (IsTrue (are_there parts.now.inputs (length parts.now.starts.items)
-        (length parts.now.cells.items) parts.now.nets.items)) }
-    ensures starts { OnOk result (length parts.now.starts.items ≡ length parts.now.latches.items) }
-    ensures small { OnOk result (parts.now.inputs + length parts.now.starts.items +
-        length parts.now.outs.items + length parts.now.cells.items < 4000) }
+fn make_a_list(parts: &Parts) -> bool
+    ensures order { IsTrue result → IsTrue (are_in_order parts.now.inputs
+        (length parts.now.starts.items) 0 parts.now.cells.items) }
+    ensures outs { IsTrue result → IsTrue (are_there parts.now.inputs (length parts.now.starts.items)
+        (length parts.now.cells.items) parts.now.outs.items) }
+    ensures latches { IsTrue result → IsTrue (are_there parts.now.inputs
+        (length parts.now.starts.items) (length parts.now.cells.items) parts.now.latches.items) }
+    ensures nets { IsTrue result → IsTrue (are_there parts.now.inputs (length parts.now.starts.items)
+        (length parts.now.cells.items) parts.now.nets.items) }
+    ensures starts { IsTrue result → length parts.now.starts.items ≡ length parts.now.latches.items }
+    ensures small { IsTrue result → parts.now.inputs + length parts.now.starts.items +
+        length parts.now.outs.items + length parts.now.cells.items < 4000 }
 {
     let inputs = parts.inputs as usize;
     let (latches, cells) = (parts.starts.len(), parts.cells.len());
@@ -104,19 +92,18 @@ fn check(parts: &Parts) -> Result<(), &'static str>
     let nets_there = are_there(&parts.nets, inputs, latches, cells);
     let fit = latches == parts.latches.len();
     let few = parts.inputs < 1000 && latches < 1000 && parts.outs.len() < 1000 && cells < 1000;
-    if order && outs_there && latches_there && nets_there && fit && few {
-        Ok(())
-    } else {
-        Err("it does not hold")
-    }
+    order && outs_there && latches_there && nets_there && fit && few
 }
 
-/// Makes the list of these parts, or fails if they make none or it is not small.
-pub fn list_in(parts: Parts) -> Result<CellList, Fail>
-    ensures { IfOk result IsPlannable }
+/// Makes the list of these parts, if they make one and it is small.
+pub fn list_in(parts: Parts) -> Option<CellList>
+    ensures { IfSome result IsPlannable }
 {
-    check(&parts)?;
-    Ok(CellList {
+    if !make_a_list(&parts) {
+        drop(parts);
+        return None;
+    }
+    Some(CellList {
         inputs: parts.inputs,
         cells: List::of(parts.cells),
         outs: List::of(parts.outs),
@@ -135,32 +122,25 @@ fn fill(parts: &mut Parts, written: &Written<'_>) -> Result<(), AllocError> {
     parts.nets.extend_from_slice(written.nets)
 }
 
-/// Makes the list that is written down, or fails if it is none or not small.
-pub fn list_of(alloc: Global, written: &Written<'_>) -> Result<CellList, Fail>
-    ensures { IfOk result IsPlannable }
+/// Makes the list that is written down, if it is one and small, and if memory is enough.
+pub fn list_of(alloc: Global, written: &Written<'_>) -> Option<CellList>
+    ensures { IfSome result IsPlannable }
 {
     let mut parts = no_parts(alloc, written.inputs);
-    fill(&mut parts, written)?;
+    if fill(&mut parts, written).is_err() {
+        drop(parts);
+        return None;
+    }
     list_in(parts)
 }
 
-/// Makes the plan of a list.
-pub fn plan_of_list(alloc: Global, list: &CellList) -> Result<Plan, Fail>
+/// Makes the plan of a list, if memory is enough.
+pub fn plan_of_list(alloc: Global, list: &CellList) -> Option<Plan>
     requires { IsPlannable list.now }
-    ensures { IfOk result IsAdmissible }
+    ensures { IfSome result IsAdmissible }
 {
     match plan_of(alloc, list) {
-        Ok(plan) => Ok(plan),
-        Err(PlanError::NoMemory) => Err(Fail::new("no plan")),
+        Ok(plan) => Some(plan),
+        Err(_) => None,
     }
-}
-
-/// Makes the plan of a list that is written down.
-pub fn plan_of_written(alloc: Global, written: &Written<'_>) -> Result<Plan, Fail>
-    ensures { IfOk result IsAdmissible }
-{
-    let list = list_of(alloc, written)?;
-    let plan = plan_of_list(alloc, &list);
-    drop(list);
-    plan
 }
