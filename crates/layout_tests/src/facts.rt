@@ -10,8 +10,8 @@ use lane_core::{NetPlace, Plan, Start, in_cell, latency, net_cell, out_cell, per
 use std::alloc::Global;
 use ww_rule::State;
 
-/// A fact about a plan, which does not hold if memory runs out while it is looked at. `Size` is the width and height of its
-/// drawing, and `Cells`, `Rows` and `Slots` are parts of the drawing: rows are lines of letters, from the top down.
+/// A fact about a plan, which does not hold if memory runs out while it is looked at. `Size` is the width and height of
+/// its drawing, and `Cells`, `Rows` and `Slots` are parts of the drawing: rows are lines of letters, from the top down.
 /// `Ports` gives x, y and the offset of each input, output or net. `Heads` are the heads after each 32 generations, and
 /// `Answers` is what the function of its name in `circuits` returns.
 pub enum Fact {

@@ -46,7 +46,8 @@ const ANSWERS: &[(Instr, (bool, bool), (bool, bool))] = &[
     (Instr::AndNot(1), (true, true), (false, false)),
 ];
 
-// Whether an instruction on the middle two of four lanes leaves these bits there, and the lanes beside them as they are.
+// Whether an instruction on the middle two of four lanes leaves these bits there, and the lanes beside them as they
+// are.
 fn is_answer(instr: Instr, found: (bool, bool), left: (bool, bool)) -> bool {
     if instr.lane() != 1 {
         return false;

@@ -64,8 +64,8 @@ fn lit(edges: &Edges, column: u64) -> [bool; 3] {
     ]
 }
 
-// Whether the edges after so many macro steps are as the signals do. With three columns, a loop has 2 * 3 + 4 * 3 tiles.
-// The return reverses the lanes: lane 0 leads to lane 2, and lane 2 to lane 0.
+// Whether the edges after so many macro steps are as the signals do. With three columns, a loop has 2 * 3 + 4 * 3
+// tiles. The return reverses the lanes: lane 0 leads to lane 2, and lane 2 to lane 0.
 fn is_kept(edges: &Edges, course: Course, steps: u64) -> bool {
     match course {
         Course::StaysDark => are_dark(edges),

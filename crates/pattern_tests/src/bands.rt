@@ -98,8 +98,8 @@ fn push_calls(page: &mut Page, bands: &mut Bands, calls: &str, height: u32, widt
     push_rows(page, bands, height, width, count);
 }
 
-/// Appends what calls on bands of a pattern answer, and the cells after them. A text has the height of the bands and the
-/// calls.
+/// Appends what calls on bands of a pattern answer, and the cells after them. A text has the height of the bands and
+/// the calls.
 pub fn push_moved(page: &mut Page, asked: &str, pattern: Pattern) {
     let (height, calls) = halves(asked, ", ", "");
     let height = height.parse::<u32>().unwrap_or(0);

@@ -194,7 +194,8 @@ fn push_name(page: &mut Page, kind: GateKind) {
     page.push_byte(letter_of(kind.turn));
 }
 
-// Notes a kind whose drawing is at fault, each part that is not on the page of all gates, and each name that is not read.
+// Notes a kind whose drawing is at fault, each part that is not on the page of all gates, and each name that is not
+// read.
 fn expect_library(page: &mut Page, library: &GateLibrary) {
     if let Some(kind) = first_fault(library) {
         push_name(page, kind);

@@ -3,8 +3,8 @@
 use crate::pages::Page;
 use ww_rule::{Pattern, Plane, RuleError, mirror_x, step_driven, step_plain};
 
-/// Patterns, and what is shown of each: its planes at generations 0 and 1, its plane at generation 1 with an injection at
-/// the first cell then, or the plane of its mirror image. A plane is shown by its rows, its width and its height.
+/// Patterns, and what is shown of each: its planes at generations 0 and 1, its plane at generation 1 with an injection
+/// at the first cell then, or the plane of its mirror image. A plane is shown by its rows, its width and its height.
 pub const VIEWS: &str = "\
 generations
 x = 3, y = 1, rule = WireWorld

@@ -11,8 +11,8 @@ use rle_read::read;
 use std::test::Fail;
 use ww_rule::Pattern;
 
-// What cases are about: the rows of patterns, the planes that follow them, bands that are moved, the gates and wires that
-// are found, and tables of ports.
+// What cases are about: the rows of patterns, the planes that follow them, bands that are moved, the gates and wires
+// that are found, and tables of ports.
 #[derive(Clone, Copy)]
 enum About {
     Rows,

@@ -3,8 +3,8 @@ use std::alloc::{AllocError, Global};
 use std::fmt::Debug;
 use std::test::Fail;
 
-/// What is said in a part, what was wrong in the parts before it, and whether memory ran out. No call on it but the last
-/// fails, since each `?` costs proof time.
+/// What is said in a part, what was wrong in the parts before it, and whether memory ran out. No call on it but the
+/// last fails, since each `?` costs proof time.
 #[derive(Drop)]
 pub struct Page {
     alloc: Global,

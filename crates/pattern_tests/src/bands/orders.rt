@@ -178,8 +178,8 @@ fn call_at_random(bands: &mut Bands, draw: &mut Draw)
     }
 }
 
-// Whether the bands show a row as the plane of its band's generation has it. The planes are letters, five rows each, with
-// `$` after each row.
+// Whether the bands show a row as the plane of its band's generation has it. The planes are letters, five rows each,
+// with `$` after each row.
 fn is_right(page: &mut Page, bands: &Bands, height: u32, width: u64, y: u64, planes: &[u8]) -> bool
     requires height { height ≡ bands.now.height }
     requires width { width ≡ bands.now.grid.width }
