@@ -32,8 +32,12 @@ mod twice;
 mod words;
 
 use blifww_tool::run;
+use failing::wrong_counts;
+use repeating::is_repeated;
 use std::alloc::{AllocError, Global};
+use std::mem;
 use std::test::Fail;
+use twice::wrong_line;
 use ww_base::{MemSink, MemSource};
 
 /// The netlist of an OR gate.
@@ -135,31 +139,41 @@ fn status_of(
 }
 
 /// Runs a command line over a source and sinks with these rooms. The calls of `out` and of `err`
-/// that fail are those in `fails`.
+/// that fail are those in `fails`. There is no outcome if memory runs out.
 pub fn run_on(
     alloc: Global,
     words: &[String],
     src: &mut MemSource,
     rooms: (usize, usize),
     fails: (&[u64], &[u64]),
-) -> Result<Outcome, Fail> {
-    let mut out = MemSink::new(alloc, rooms.0, 7, fails.0)?;
-    let mut err = MemSink::new(alloc, rooms.1, 7, fails.1)?;
-    let status = status_of(alloc, words, src, &mut out, &mut err);
-    ended(alloc, status, &out, &err)
+) -> Option<Outcome> {
+    match (
+        MemSink::new(alloc, rooms.0, 7, fails.0),
+        MemSink::new(alloc, rooms.1, 7, fails.1),
+    ) {
+        (Ok(mut out), Ok(mut err)) => {
+            let status = status_of(alloc, words, src, &mut out, &mut err);
+            let outcome = ended(alloc, status, &out, &err);
+            drop(out);
+            drop(err);
+            outcome
+        }
+        _ => None,
+    }
 }
 
 // The outcome of a run, with copies of what the sinks hold.
-fn ended(alloc: Global, status: u8, out: &MemSink, err: &MemSink) -> Result<Outcome, Fail> {
+fn ended(alloc: Global, status: u8, out: &MemSink, err: &MemSink) -> Option<Outcome> {
     let faults = (out.faults(), err.faults());
-    let out = out.held().to_vec(alloc)?;
-    let err = err.held().to_vec(alloc)?;
-    Ok(Outcome {
-        status,
-        out,
-        err,
-        faults,
-    })
+    match (out.held().to_vec(alloc), err.held().to_vec(alloc)) {
+        (Ok(out), Ok(err)) => Some(Outcome {
+            status,
+            out,
+            err,
+            faults,
+        }),
+        _ => None,
+    }
 }
 
 // The call of the source that fails, and the rooms of the output and of the errors.
@@ -172,10 +186,19 @@ const NONE: &[u64] = &[];
 const AMPLE: Limits = (u64::MAX, (1 << 20, 99));
 
 // Runs a command within limits. The source gives at most 16 bytes a call.
-fn run_within(alloc: Global, command: &str, text: &[u8], limits: Limits) -> Result<Outcome, Fail> {
-    let words = words_of(alloc, command)?;
-    let mut src = MemSource::new(alloc, text, 16, &[limits.0])?;
-    run_on(alloc, &words, &mut src, limits.1, (NONE, NONE))
+fn run_within(alloc: Global, command: &str, text: &[u8], limits: Limits) -> Option<Outcome> {
+    match (
+        words_of(alloc, command),
+        MemSource::new(alloc, text, 16, &[limits.0]),
+    ) {
+        (Ok(words), Ok(mut src)) => {
+            let outcome = run_on(alloc, &words, &mut src, limits.1, (NONE, NONE));
+            drop(words);
+            drop(src);
+            outcome
+        }
+        _ => None,
+    }
 }
 
 // Whether a run ended well, and wrote a pattern, a routed circuit, whose box it told, or a lifted
@@ -186,32 +209,46 @@ fn is_handed_on(got: &Outcome) -> bool {
         || got.is(0, ".model lifted\n...\n", "")
 }
 
-/// Returns the pattern or the lifted netlist that a command writes for a text, and fails if the run
+/// Returns the pattern or the lifted netlist that a command writes for a text. There is none if the run
 /// ends otherwise.
-pub fn written(alloc: Global, command: &str, text: &[u8]) -> Result<Vec<u8>, Fail> {
+pub fn written(alloc: Global, command: &str, text: &[u8]) -> Option<Vec<u8>> {
     let got = run_within(alloc, command, text, AMPLE)?;
     if is_handed_on(&got) {
-        Ok(got.out)
+        Some(got.out)
     } else {
-        Err(Fail::new(format_args!("{command}: {}", got.status)))
+        drop(got);
+        None
     }
 }
 
 // What the last of the commands writes, if each reads what the one before wrote.
-fn text_after(alloc: Global, commands: &str, text: &[u8]) -> Result<Vec<u8>, Fail> {
-    let mut read = text.to_vec(alloc)?;
+fn text_after(alloc: Global, commands: &str, text: &[u8]) -> Option<Vec<u8>> {
+    let (mut read, mut is_made) = match text.to_vec(alloc) {
+        Ok(copy) => (copy, true),
+        Err(_) => (Vec::new(alloc), false),
+    };
     for command in commands.split('|') {
-        read = written(alloc, command, &read)?;
+        match written(alloc, command, &read) {
+            Some(next) => drop(mem::replace(&mut read, next)),
+            None => is_made = false,
+        }
     }
-    Ok(read)
+    if is_made {
+        Some(read)
+    } else {
+        drop(read);
+        None
+    }
 }
 
 // A run of the last of the commands within limits, if each reads what the one before wrote.
-fn run_after(alloc: Global, commands: &str, text: &[u8], limits: Limits) -> Result<Outcome, Fail> {
+fn run_after(alloc: Global, commands: &str, text: &[u8], limits: Limits) -> Option<Outcome> {
     match commands.rsplit_once('|') {
         Some((before, last)) => {
             let read = text_after(alloc, before, text)?;
-            run_within(alloc, last, &read, limits)
+            let outcome = run_within(alloc, last, &read, limits);
+            drop(read);
+            outcome
         }
         None => run_within(alloc, commands, text, limits),
     }
@@ -291,12 +328,11 @@ pub fn case_of(case: &str) -> Option<Case<'_>> {
     }
 }
 
-/// Fails with `about` if `holds` is false.
-pub fn expect_holds(about: &str, holds: bool) -> Result<(), Fail> {
-    if holds {
-        Ok(())
-    } else {
-        Err(Fail::new(format_args!("this is not so: {about}")))
+/// Fails with a case if there is one that is not met.
+pub fn expect_none(wrong: Option<&str>) -> Result<(), Fail> {
+    match wrong {
+        None => Ok(()),
+        Some(case) => Err(Fail::new(format_args!("this is not so: {case}"))),
     }
 }
 
@@ -321,34 +357,35 @@ fn text_named(name: &str) -> Option<&'static str> {
     }
 }
 
-// Cases, the text that they read if they have none of their own, and, if they are changes, the
-// command that reads the changed text.
-#[derive(Clone, Copy)]
-struct Group<'a> {
-    text: &'static str,
-    command: &'a str,
-    cases: &'a str,
-}
-
 // Whether the commands end as a case wants when they read this text.
-fn is_end(alloc: Global, case: &Case, commands: &str, text: &[u8]) -> Result<bool, Fail> {
-    let got = run_after(alloc, commands, text, case.limits)?;
-    Ok(got.is(case.status, case.out, case.err))
+fn is_end(alloc: Global, case: &Case, commands: &str, text: &[u8]) -> bool {
+    match run_after(alloc, commands, text, case.limits) {
+        Some(got) => {
+            let is_so = got.is(case.status, case.out, case.err);
+            drop(got);
+            is_so
+        }
+        None => false,
+    }
 }
 
 /// Returns whether the commands, and those after ` & `, end as a case wants when they read this
 /// text.
-pub fn are_ends(alloc: Global, case: &Case, commands: &str, text: &[u8]) -> Result<bool, Fail> {
+pub fn are_ends(alloc: Global, case: &Case, commands: &str, text: &[u8]) -> bool {
     let mut is_so = true;
     for chain in commands.split('&') {
-        is_so = is_end(alloc, case, chain.trim(), text)? && is_so;
+        is_so &= is_end(alloc, case, chain.trim(), text);
     }
-    Ok(is_so)
+    is_so
 }
 
 // Whether a case ends as it wants, with its commands and with those after ` & `. A case without a
-// text reads `other`.
-fn is_met(alloc: Global, case: &Case, other: &str) -> Result<bool, Fail> {
+// text reads `other`; one that begins with a number repeats parts so often.
+fn is_met(alloc: Global, case: &Case, other: &str) -> bool {
+    let (number, commands) = halves(case.commands, " ");
+    if let Some(times) = number_of(number) {
+        return is_repeated(alloc, case, commands, times as usize);
+    }
     let text = if case.text.is_empty() {
         other
     } else {
@@ -368,53 +405,50 @@ fn push_changed(text: &mut String, lines: &str, old: &str, new: &str) -> Result<
 
 // Whether the command over the changed lines ends as the change wants, and the change changes
 // something.
-fn is_change_met(alloc: Global, change: &Case, group: &Group) -> Result<bool, Fail> {
+fn is_change_met(alloc: Global, change: &Case, command: &str, lines: &str) -> bool {
     let mut text = String::new(alloc);
-    push_changed(&mut text, group.text, change.commands, change.text)?;
-    let is_so = is_end(alloc, change, group.command, text.as_bytes())?;
-    Ok(is_so && text.as_str() != group.text)
+    let is_made = push_changed(&mut text, lines, change.commands, change.text).is_ok();
+    let is_so = is_made
+        && text.as_str() != lines
+        && is_end(alloc, change, command, text.as_bytes());
+    drop(text);
+    is_so
 }
 
-// Whether a case of a group ends as it wants.
-fn is_case_met(alloc: Global, said: &str, group: &Group) -> Result<bool, Fail> {
+// Whether a case of a group ends as it wants. The case reads a text if it has none of its own; if there is a command,
+// the case is a change, and the command reads the changed text.
+fn is_case_met(alloc: Global, said: &str, command: &str, text: &str) -> bool {
     match case_of(said) {
-        Some(case) if group.command.is_empty() => is_met(alloc, &case, group.text),
-        Some(change) => is_change_met(alloc, &change, group),
-        None => Ok(false),
+        Some(case) if command.is_empty() => is_met(alloc, &case, text),
+        Some(change) => is_change_met(alloc, &change, command, text),
+        None => false,
     }
 }
 
-// Fails if one of the cases of a group does not end as it wants.
-fn expect_cases(alloc: Global, group: &Group) -> Result<(), Fail> {
-    for case in group.cases.split('>').skip(1) {
-        expect_holds(case, is_case_met(alloc, case, group)?)?;
-    }
-    Ok(())
-}
-
-// Fails if a case of a group does not end as it wants.
-fn expect_group(alloc: Global, group: &str) -> Result<(), Fail> {
+// The first case of a group that does not end as it wants, or the group's first line if it names no text.
+fn wrong_case(alloc: Global, group: &str) -> Option<&str> {
     let (head, cases) = halves(group, "\n");
     let (name, command) = halves(head, ": ");
-    match text_named(name.trim()) {
-        Some(text) => expect_cases(
-            alloc,
-            &Group {
-                text,
-                command,
-                cases,
-            },
-        ),
-        None => expect_holds(head, false),
+    let Some(text) = text_named(name.trim()) else {
+        return Some(head);
+    };
+    for case in cases.split('>').skip(1) {
+        if !is_case_met(alloc, case, command, text) {
+            return Some(case);
+        }
     }
+    None
 }
 
-// Fails if a case of a list does not end as it wants.
-fn expect_list(alloc: Global, list: &str) -> Result<(), Fail> {
+// The first case of a list that does not end as it wants.
+fn wrong_in(alloc: Global, list: &str) -> Option<&str> {
     for group in list.split('@') {
-        expect_group(alloc, group)?;
+        let wrong = wrong_case(alloc, group);
+        if wrong.is_some() {
+            return wrong;
+        }
     }
-    Ok(())
+    None
 }
 
 const LISTS: &[&str] = &[
@@ -427,6 +461,7 @@ const LISTS: &[&str] = &[
     lifts::CASES,
     long::CASES,
     nets::CASES,
+    repeating::CASES,
     routing::CASES,
     simulating::CASES,
     tapes::CASES,
@@ -436,7 +471,15 @@ const LISTS: &[&str] = &[
 #[test]
 fn commands_write_or_tell_why_not(rt: HostRuntime) -> Result<(), Fail> {
     for list in LISTS {
-        expect_list(rt.alloc(), list)?;
+        expect_none(wrong_in(rt.alloc(), list))?;
     }
     Ok(())
+}
+
+#[test]
+fn two_commands_write_one_text_and_a_sink_that_failed_is_not_called_again(
+    rt: HostRuntime,
+) -> Result<(), Fail> {
+    expect_none(wrong_line(rt.alloc()))?;
+    expect_none(wrong_counts(rt.alloc()))
 }

@@ -16,37 +16,53 @@ fn is_read(got: &Result<Bytes, ReadAllError>, want: Option<ReadAllError>) -> boo
     }
 }
 
-// Fails if a read of the text, which takes at most `chunk` bytes a call and whose call `call` fails,
-// ends in another way.
-fn expect_read(
+// Whether a read of the text, which takes at most `chunk` bytes a call and whose call `call` fails, ends so.
+fn ends_so(
     alloc: Global,
     chunk: usize,
     call: u64,
     limit: usize,
     want: Option<ReadAllError>,
-) -> Result<(), Fail> {
-    let mut src = MemSource::new(alloc, TEXT, chunk.max(1), &[call])?;
-    if is_read(&read_all(alloc, &mut src, limit), want) {
-        Ok(())
-    } else {
-        Err(Fail::new(format_args!("call {call} in chunks of {chunk}, limit {limit}")))
+) -> bool {
+    match MemSource::new(alloc, TEXT, chunk.max(1), &[call]) {
+        Ok(mut src) => {
+            let got = read_all(alloc, &mut src, limit);
+            let is_so = is_read(&got, want);
+            drop(got);
+            drop(src);
+            is_so
+        }
+        Err(_) => false,
     }
 }
 
 const CHUNKS: &[usize] = &[1, 16, 61, 5000];
 
-#[test]
-fn all_is_read_within_the_limit_and_each_read_can_fail(rt: HostRuntime) -> Result<(), Fail> {
-    // Calls 0 to 60 each take a byte, and call 61 finds the end.
-    for call in 0..64 {
-        let want = (call < 62).then_some(ReadAllError::ReadFault);
-        expect_read(rt.alloc(), 1, call, 61, want)?;
+// The first failing call with which a read does not end as it should. Calls 0 to 60 each take a byte, and call 61 finds
+// the end.
+fn wrong_call(alloc: Global) -> Option<usize> {
+    for call in 0..64usize {
+        let want = if call < 62 {
+            Some(ReadAllError::ReadFault)
+        } else {
+            None
+        };
+        if !ends_so(alloc, 1, call as u64, 61, want) {
+            return Some(call);
+        }
     }
+    None
+}
+
+// The first size of chunks in which not all is read within the limit, or is read beyond it.
+fn wrong_chunk(alloc: Global) -> Option<usize> {
     for chunk in CHUNKS {
-        expect_read(rt.alloc(), *chunk, 99, 61, None)?;
-        expect_read(rt.alloc(), *chunk, 99, 60, Some(ReadAllError::TooLong))?;
+        let is_whole = ends_so(alloc, *chunk, 99, 61, None);
+        if !is_whole || !ends_so(alloc, *chunk, 99, 60, Some(ReadAllError::TooLong)) {
+            return Some(*chunk);
+        }
     }
-    Ok(())
+    None
 }
 
 // A sink: its room, the most bytes that a call takes, the call that fails, and how many bytes of
@@ -66,30 +82,28 @@ fn has_front(sink: &MemSink, held: usize) -> bool {
     sink.held().len() == held && TEXT.starts_with(sink.held())
 }
 
-// Fails if a sink ends with anything but the first `held` bytes of the text, or if `write_all`
-// succeeds without the sink holding the whole text, or fails though it does.
-fn expect_held(
-    alloc: Global,
-    (room, chunk, call, held): (usize, usize, u64, usize),
-) -> Result<(), Fail> {
-    if chunk == 0 {
-        return Err(Fail::new("a chunk of 0"));
-    }
-    let mut sink = MemSink::new(alloc, room, chunk, &[call])?;
-    let is_whole = write_all(&mut sink, TEXT).is_ok();
-    if is_whole == (held == 61) && has_front(&sink, held) {
-        Ok(())
-    } else {
-        Err(Fail::new(format_args!("room {room}, chunk {chunk}, call {call}")))
+// Whether a sink ends with the first `held` bytes of the text, and `write_all` succeeds exactly if these are the whole
+// text.
+fn keeps_front(alloc: Global, (room, chunk, call, held): (usize, usize, u64, usize)) -> bool {
+    match MemSink::new(alloc, room, chunk.max(1), &[call]) {
+        Ok(mut sink) => {
+            let is_whole = write_all(&mut sink, TEXT).is_ok();
+            let is_so = is_whole == (held == 61) && has_front(&sink, held);
+            drop(sink);
+            is_so
+        }
+        Err(_) => false,
     }
 }
 
-#[test]
-fn a_sink_keeps_a_front_where_it_fails(rt: HostRuntime) -> Result<(), Fail> {
-    for sink in SINKS {
-        expect_held(rt.alloc(), *sink)?;
+// The first sink that does not keep a front where it fails.
+fn wrong_sink(alloc: Global) -> Option<usize> {
+    for (turn, sink) in SINKS.iter().enumerate() {
+        if !keeps_front(alloc, *sink) {
+            return Some(turn);
+        }
     }
-    Ok(())
+    None
 }
 
 // Writes the text into a stream and ends the stream.
@@ -104,8 +118,20 @@ fn receives(alloc: Global, reader: PipeReader) -> bool {
     is_read(&read_all(alloc, &mut src, 61), None)
 }
 
+fn expect_none(about: &str, wrong: Option<usize>) -> Result<(), Fail> {
+    match wrong {
+        None => Ok(()),
+        Some(number) => Err(Fail::new(format_args!("{about} {number}"))),
+    }
+}
+
 #[test]
-fn the_adapters_pass_the_bytes_of_a_stream(rt: HostRuntime) -> Result<(), Fail> {
+fn all_is_read_within_the_limit_a_sink_keeps_a_front_and_the_adapters_pass_the_bytes_of_a_stream(
+    rt: HostRuntime,
+) -> Result<(), Fail> {
+    expect_none("a read, call", wrong_call(rt.alloc()))?;
+    expect_none("a read in chunks of", wrong_chunk(rt.alloc()))?;
+    expect_none("a sink", wrong_sink(rt.alloc()))?;
     let (reader, writer) = pipe(&rt)?;
     send(writer)?;
     if receives(rt.alloc(), reader) {

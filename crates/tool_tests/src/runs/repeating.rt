@@ -1,13 +1,12 @@
 // Texts that repeat a part: models inside models, weights near the limit and far beyond it, a long
 // loop, texts at the limit of length and beyond it, and the longest tape.
-use crate::runs::{Case, are_ends, case_of, expect_holds, halves, number_of};
+use crate::runs::{Case, are_ends, halves};
 use itoa::Buffer;
 use std::alloc::{AllocError, Global};
-use std::test::Fail;
 
-// Cases that each begin with a number of repetitions and a command. Their commands and texts repeat
-// what stands in braces, where `%` stands for the number of the repetition, counted from 0.
-const CASES: &str = "
+/// Cases that each begin with a number of repetitions and a command. Their commands and texts repeat
+/// what stands in braces, where `%` stands for the number of the repetition, counted from 0.
+pub const CASES: &str = "
 > 300 eval --cycles 3 a=011 -- models that each place the next; the last one inverts its input
 .model c{
 .inputs a
@@ -335,31 +334,18 @@ fn repeated(alloc: Global, of: &str, times: usize) -> Result<String, AllocError>
     Ok(text)
 }
 
-// Whether a case ends as it wants if its command and its text repeat so often what stands in braces.
-fn is_met(alloc: Global, case: &Case, command: &str, times: usize) -> Result<bool, Fail> {
-    let command = repeated(alloc, command, times)?;
-    let text = repeated(alloc, case.text, times)?;
-    are_ends(alloc, case, &command, text.as_bytes())
-}
-
-// Whether a case ends as it wants.
-fn is_case_met(alloc: Global, said: &str) -> Result<bool, Fail> {
-    match case_of(said) {
-        Some(case) => {
-            let (number, command) = halves(case.commands, " ");
-            match number_of(number) {
-                Some(times) => is_met(alloc, &case, command, times as usize),
-                None => Ok(false),
-            }
+/// Returns whether commands end as a case wants if they and its text repeat so often what stands in braces.
+pub fn is_repeated(alloc: Global, case: &Case, commands: &str, times: usize) -> bool {
+    match (
+        repeated(alloc, commands, times),
+        repeated(alloc, case.text, times),
+    ) {
+        (Ok(commands), Ok(text)) => {
+            let is_so = are_ends(alloc, case, &commands, text.as_bytes());
+            drop(commands);
+            drop(text);
+            is_so
         }
-        None => Ok(false),
+        _ => false,
     }
-}
-
-#[test]
-fn commands_and_texts_repeat_parts(rt: HostRuntime) -> Result<(), Fail> {
-    for said in CASES.split('>').skip(1) {
-        expect_holds(said, is_case_met(rt.alloc(), said)?)?;
-    }
-    Ok(())
 }
