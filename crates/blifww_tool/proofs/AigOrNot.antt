@@ -9,8 +9,8 @@ use Rattle.aiger_meaning.specs.Causes.{HasLowerCause}
 use Rattle.blifww_tool.specs.Commands.{AreLikeCauses}
 use Rattle.blifww_tool.specs.Aigs.{IsAig, HasNoAig}
 use Rattle.blifww_tool.proofs.EvaluationOrNot.{alike}
-use Rattle.refusals.specs.declared.causes.Cause.{Cause}
-use Rattle.refusals.specs.declared.causes.Cause.TheVariants.{NetlistFault, WeightTooLarge, Loop, AigAtFault, AigLoop, Pattern, GridTooLarge, PortTable, Streams, StartWord, NoSuchNet, TooFar, TooManyContexts, NotQuiet, NotCircuit}
+use Rattle.program_runs.specs.declared.causes.Cause.{Cause}
+use Rattle.program_runs.specs.declared.causes.Cause.TheVariants.{NetlistFault, WeightTooLarge, Loop, AigAtFault, AigLoop, Pattern, GridTooLarge, PortTable, Streams, StartWord, NoSuchNet, TooFar, TooManyContexts, NotQuiet, NotCircuit}
 
 -- the ways to be refused
 data Reason (text : List ℕ) (r : Cause) : Type 0 where

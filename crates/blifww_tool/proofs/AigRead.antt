@@ -9,7 +9,7 @@ use Rattle.aiger_meaning.specs.declared.error.LowerError.{LowerError}
 use Rattle.aiger_meaning.specs.declared.error.LowerError.TheVariants as planning
 use Rattle.aiger_meaning.specs.Causes.{HasLowerCause}
 use Rattle.command_words.specs.Shapes.{aiger}
-use Rattle.refusals.specs.Refusals.{aig_error, lower_error}
+use Rattle.program_runs.specs.Refusals.{aig_error, lower_error}
 use Rattle.blifww_tool.specs.Commands.{HasTextCause}
 
 -- one that is at fault,

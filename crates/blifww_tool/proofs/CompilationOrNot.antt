@@ -11,8 +11,8 @@ use Rattle.start_words.specs.Starts.{latches_of}
 use Rattle.command_words.specs.Shapes.{compile}
 use Rattle.blifww_tool.specs.Commands.{AreLikeCauses, MustRefuse}
 use Rattle.blifww_tool.specs.Compilation.{HasNoCompilation, HasNoNetlist, HasNoRoom, HasStartFault, HasStarts, least_room}
-use Rattle.refusals.specs.declared.causes.Cause.{Cause}
-use Rattle.refusals.specs.declared.causes.Cause.TheVariants.{NetlistFault, WeightTooLarge, Loop, AigAtFault, AigLoop, Pattern, GridTooLarge, PortTable, Streams, StartWord, NoSuchNet, TooFar, TooManyContexts, NotQuiet, NotCircuit}
+use Rattle.program_runs.specs.declared.causes.Cause.{Cause}
+use Rattle.program_runs.specs.declared.causes.Cause.TheVariants.{NetlistFault, WeightTooLarge, Loop, AigAtFault, AigLoop, Pattern, GridTooLarge, PortTable, Streams, StartWord, NoSuchNet, TooFar, TooManyContexts, NotQuiet, NotCircuit}
 use Rattle.blifww_tool.proofs.EvaluationOrNot.{alike, netlist_or_not, one_cause_of_netlist}
 
 -- the ways to be refused by the text and the words,

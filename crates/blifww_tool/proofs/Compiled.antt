@@ -60,7 +60,7 @@ use Rattle.start_words.specs.Laws.{LatchesAreFlat, NoWordsMeanStart, StartsAreFl
 use Rattle.command_words.specs.Shapes.{compile}
 use Rattle.blifww_tool.specs.Commands.{HasTextCause}
 use Rattle.blifww_tool.specs.Compilation.{Compiles, HasNoRoom, HasStarts, IsCarriedBy, latch_count, least_room, loop_starts}
-use Rattle.refusals.specs.Refusals.{netlist_error, starts_error}
+use Rattle.program_runs.specs.Refusals.{netlist_error, starts_error}
 
 -- the flat netlist of a netlist whose ports' names can stand in a table
 pub compilable : (design : Design) (flat : Flat) (order : List ℕ) → AreParts design flat order → HasPortNames flat → IsCompilable flat order

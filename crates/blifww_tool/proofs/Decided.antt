@@ -4,8 +4,8 @@ use Rattle.command_words.specs.Shapes.{CommandValues, compile, simulate, eval, p
 use Rattle.blifww_tool.specs.Commands.{Accepts, Prints, Refuses, MustRefuse, AreLikeCauses}
 use Rattle.blifww_tool.specs.Dumping.{last_dumped}
 use Rattle.blifww_tool.specs.Simulation.{last_shown}
-use Rattle.refusals.specs.declared.causes.Cause.{Cause}
-use Rattle.refusals.specs.declared.causes.Cause.TheVariants.{NetlistFault, WeightTooLarge, Loop, AigAtFault, AigLoop, Pattern, GridTooLarge, PortTable, Streams, StartWord, NoSuchNet, TooFar, TooManyContexts, NotQuiet, NotCircuit}
+use Rattle.program_runs.specs.declared.causes.Cause.{Cause}
+use Rattle.program_runs.specs.declared.causes.Cause.TheVariants.{NetlistFault, WeightTooLarge, Loop, AigAtFault, AigLoop, Pattern, GridTooLarge, PortTable, Streams, StartWord, NoSuchNet, TooFar, TooManyContexts, NotQuiet, NotCircuit}
 use Rattle.made_summary.proofs.InTime.{few_cycles_are_in_time}
 use Rattle.blifww_tool.proofs.SimulationOrNot.{runs_or_not, one_cause as one_cause_of_run}
 use Rattle.blifww_tool.proofs.ViewOrNot.{view_or_not, one_cause as one_cause_of_view}

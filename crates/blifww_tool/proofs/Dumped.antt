@@ -9,9 +9,9 @@ use Rattle.blifww_tool.specs.Commands.{HasTextCause}
 use Rattle.blifww_tool.specs.Dumping.{last_dumped}
 use Rattle.blifww_tool.specs.Simulation.{Simulation, IsSimulation, HasStreamsCause}
 use Rattle.blifww_tool.proofs.Simulated.{cause_of}
-use Rattle.refusals.specs.Refusals.{simulate_error}
-use Rattle.refusals.specs.declared.causes.TextError.{TextError}
-use Rattle.refusals.specs.declared.causes.TextError.TheVariants.{Refused, NoMemory}
+use Rattle.program_runs.specs.Refusals.{simulate_error}
+use Rattle.program_runs.specs.declared.causes.TextError.{TextError}
+use Rattle.program_runs.specs.declared.causes.TextError.TheVariants.{Refused, NoMemory}
 
 -- they are no simulation,
 pub dump_refused : (cycles : ℕ) (words : List (List ℕ)) (text : List ℕ) (e : TextError) → HasStreamsCause cycles words text e → HasTextCause (vcd cycles words) text e

@@ -2,17 +2,17 @@
 use Rattle.std.proofs.Common.{ℕ, Bool, true, false, ◌≡◌, ◌≢◌, ◌≤◌, ◌<◌, ◌⊎◌, refl, sym, ap, ◌∙◌, subst, List, length, take, arith, inl, inr}
 use Rattle.command_words.specs.Shapes.{CommandValues}
 use Rattle.blifww_tool.specs.Commands.{reads_text, Accepts, Prints, Refuses, MustRefuse}
-use Rattle.refusals.specs.Refusals.{status_of, refusal_line}
-use Rattle.refusals.proofs.Statuses.{cause_is, never_done}
+use Rattle.program_runs.specs.Refusals.{status_of, refusal_line}
+use Rattle.program_runs.proofs.Statuses.{cause_is, never_done}
 use Rattle.blifww_tool.specs.Answer.{HasStopped}
 use Rattle.blifww_tool.specs.Run.{Asks, AsksForText, AsksNothing, HasText, Does, RefusesText, HasReason, TellsRefusal, TellsCause, TellsLike, TellsOr7, IsDone, IsRefused, CutsLine, CutsOutput, IsCalm, Ends}
 use Rattle.program_runs.specs.Runs.{Reading, Writing, Call, Gave, GaveIfRead, GaveTooMuch, HoldsIfRead, Gained, GainedNothing, IsUnwritten, NoWriteFailed, WriteFailed, text_limit}
 use Rattle.program_runs.proofs.Given.{gave_whole, no_more}
 use Rattle.blifww_tool.proofs.Given.{one_command}
 use Rattle.blifww_tool.proofs.Decided.{printed_or_refused, accepted_or_refused, one_cause}
-use Rattle.refusals.specs.declared.causes.Cause.{Cause}
-use Rattle.refusals.specs.declared.refusal.Refusal.{Refusal}
-use Rattle.refusals.specs.declared.refusal.Refusal.TheVariants.{Usage, TooLong, ReadFault, WriteFault, NoMemory, Text}
+use Rattle.program_runs.specs.declared.causes.Cause.{Cause}
+use Rattle.program_runs.specs.declared.refusal.Refusal.{Refusal}
+use Rattle.program_runs.specs.declared.refusal.Refusal.TheVariants.{Usage, TooLong, ReadFault, WriteFault, NoMemory, Text}
 
 -- the three ends
 pub data Ending (c : Call) (status : ℕ) : Type 0 where

@@ -17,10 +17,10 @@ use Rattle.streams.specs.declared.streams.Streams.{Streams}
 use Rattle.streams.specs.Streams.{HasStreamCause}
 use Rattle.command_words.specs.Shapes.{eval}
 use Rattle.blifww_tool.specs.Commands.{HasTextCause}
-use Rattle.refusals.specs.declared.causes.TextError.{TextError}
-use Rattle.refusals.specs.declared.causes.TextError.TheVariants.{NoMemory}
+use Rattle.program_runs.specs.declared.causes.TextError.{TextError}
+use Rattle.program_runs.specs.declared.causes.TextError.TheVariants.{NoMemory}
 use Rattle.blifww_tool.specs.Evaluation.{FeedsInputs, HasInputsCause, PrintsRun, Evaluates}
-use Rattle.refusals.specs.Refusals.{netlist_error, streams_error}
+use Rattle.program_runs.specs.Refusals.{netlist_error, streams_error}
 
 -- a text that gives no netlist,
 pub eval_refused : (cycles : ℕ) (words : List (List ℕ)) (text : List ℕ) (e : NetlistError) → HasNetlistCause text e → HasTextCause (eval cycles words) text (netlist_error e)

@@ -14,8 +14,8 @@ use Rattle.streams.specs.Streams.{HasStreamFault}
 use Rattle.blifww_tool.specs.Commands.{AreLikeCauses}
 use Rattle.blifww_tool.specs.Compilation.{HasNoNetlist}
 use Rattle.blifww_tool.specs.Evaluation.{Evaluation, IsEvaluation, HasNoEvaluation}
-use Rattle.refusals.specs.declared.causes.Cause.{Cause}
-use Rattle.refusals.specs.declared.causes.Cause.TheVariants.{NetlistFault, WeightTooLarge, Loop, AigAtFault, AigLoop, Pattern, GridTooLarge, PortTable, Streams, StartWord, NoSuchNet, TooFar, TooManyContexts, NotQuiet, NotCircuit}
+use Rattle.program_runs.specs.declared.causes.Cause.{Cause}
+use Rattle.program_runs.specs.declared.causes.Cause.TheVariants.{NetlistFault, WeightTooLarge, Loop, AigAtFault, AigLoop, Pattern, GridTooLarge, PortTable, Streams, StartWord, NoSuchNet, TooFar, TooManyContexts, NotQuiet, NotCircuit}
 
 -- a netlist with its IN names, as a text has them
 pub record IsRead (text : List ℕ) (design : Design) (names : List Name) : Type 0 where

@@ -31,7 +31,7 @@ use Rattle.tile_match.specs.declared.error.CircuitFault.{CircuitFault}
 use Rattle.tile_match.specs.Circuit.{IsPlanDrawing}
 use Rattle.tile_match.specs.Faults.{HasCircuitFault}
 use Rattle.command_words.specs.Shapes.{lift}
-use Rattle.refusals.specs.Refusals.{audit_error, pattern_error, table_error}
+use Rattle.program_runs.specs.Refusals.{audit_error, pattern_error, table_error}
 use Rattle.blifww_tool.specs.Commands.{HasTextCause}
 use Rattle.blifww_tool.specs.Lifting.{IsCircuitText, Lifts}
 use Rattle.program_runs.specs.Netlists.{IsNetlistOf}

@@ -9,8 +9,8 @@ use Rattle.drive.specs.Driving.{first_miss}
 use Rattle.probe_view.specs.Probes.{net_named, last_probed, HasProbed, IsNotQuiet, IsTooFar}
 use Rattle.blifww_tool.specs.Simulation.{Simulation, IsSimulation, HasNoStreams}
 use Rattle.blifww_tool.specs.Probing.{Probes, HasNoProbe}
-use Rattle.refusals.specs.declared.causes.Cause.{Cause}
-use Rattle.refusals.specs.declared.causes.Cause.TheVariants.{NetlistFault, WeightTooLarge, Loop, AigAtFault, AigLoop, Pattern, GridTooLarge, PortTable, Streams, StartWord, NoSuchNet, TooFar, TooManyContexts, NotQuiet, NotCircuit}
+use Rattle.program_runs.specs.declared.causes.Cause.{Cause}
+use Rattle.program_runs.specs.declared.causes.Cause.TheVariants.{NetlistFault, WeightTooLarge, Loop, AigAtFault, AigLoop, Pattern, GridTooLarge, PortTable, Streams, StartWord, NoSuchNet, TooFar, TooManyContexts, NotQuiet, NotCircuit}
 use Rattle.blifww_tool.proofs.SimulationOrNot.{same_simulation, simulation_or_not, one_streams_cause}
 
 -- the ways to be refused for the net, in a simulation

@@ -7,12 +7,12 @@ use Rattle.probe_view.specs.declared.error.ProbeError.TheVariants as probing
 use Rattle.probe_view.specs.Probes.{HasProbeCause}
 use Rattle.blifww_tool.specs.Commands.{HasTextCause}
 use Rattle.blifww_tool.specs.Probing.{HasNoProbe}
-use Rattle.refusals.specs.Refusals.{probe_refusal}
+use Rattle.program_runs.specs.Refusals.{probe_refusal}
 use Rattle.blifww_tool.specs.Simulation.{Simulation, IsSimulation, HasNoStreams, HasStreamsCause}
-use Rattle.refusals.specs.declared.causes.Cause.{Cause}
-use Rattle.refusals.specs.declared.causes.Cause.TheVariants.{NetlistFault, WeightTooLarge, Loop, AigAtFault, AigLoop, Pattern, GridTooLarge, PortTable, Streams, StartWord, NoSuchNet, TooFar, TooManyContexts, NotQuiet, NotCircuit}
-use Rattle.refusals.specs.declared.causes.TextError.{TextError}
-use Rattle.refusals.specs.declared.causes.TextError.TheVariants.{Refused, NoMemory}
+use Rattle.program_runs.specs.declared.causes.Cause.{Cause}
+use Rattle.program_runs.specs.declared.causes.Cause.TheVariants.{NetlistFault, WeightTooLarge, Loop, AigAtFault, AigLoop, Pattern, GridTooLarge, PortTable, Streams, StartWord, NoSuchNet, TooFar, TooManyContexts, NotQuiet, NotCircuit}
+use Rattle.program_runs.specs.declared.causes.TextError.{TextError}
+use Rattle.program_runs.specs.declared.causes.TextError.TheVariants.{Refused, NoMemory}
 
 cause_of : (cycles : ℕ) (name path : List ℕ) (words : List (List ℕ)) (text : List ℕ) (cause : Cause) → HasNoStreams cycles words text cause → HasNoProbe cycles name path words text cause
 cause_of cycles name path words text (NetlistFault f) h = h

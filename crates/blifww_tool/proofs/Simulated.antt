@@ -11,12 +11,12 @@ use Rattle.drive.specs.Driving.{HasSimulateCause, greatest_generation}
 use Rattle.made_summary.proofs.Read.{lines_in_box}
 use Rattle.command_words.specs.Shapes.{simulate}
 use Rattle.blifww_tool.specs.Commands.{HasTextCause}
-use Rattle.refusals.specs.Refusals.{simulate_error}
+use Rattle.program_runs.specs.Refusals.{simulate_error}
 use Rattle.blifww_tool.specs.Simulation.{Simulation, IsSimulation, last_shown, HasNoStreams, HasNoRun, HasStreamsCause}
-use Rattle.refusals.specs.declared.causes.Cause.{Cause}
-use Rattle.refusals.specs.declared.causes.Cause.TheVariants.{NetlistFault, WeightTooLarge, Loop, AigAtFault, AigLoop, Pattern, GridTooLarge, PortTable, Streams, StartWord, NoSuchNet, TooFar, TooManyContexts, NotQuiet, NotCircuit}
-use Rattle.refusals.specs.declared.causes.TextError.{TextError}
-use Rattle.refusals.specs.declared.causes.TextError.TheVariants.{Refused, NoMemory}
+use Rattle.program_runs.specs.declared.causes.Cause.{Cause}
+use Rattle.program_runs.specs.declared.causes.Cause.TheVariants.{NetlistFault, WeightTooLarge, Loop, AigAtFault, AigLoop, Pattern, GridTooLarge, PortTable, Streams, StartWord, NoSuchNet, TooFar, TooManyContexts, NotQuiet, NotCircuit}
+use Rattle.program_runs.specs.declared.causes.TextError.{TextError}
+use Rattle.program_runs.specs.declared.causes.TextError.TheVariants.{Refused, NoMemory}
 
 -- the inputs of a table lie in its box
 pub ins_in_box : (text : List ℕ) (width height : ℕ) (ports : Ports) → ReadsAsPorts text width height ports → AreInBox width height (cells_of ports.ins)

@@ -19,8 +19,8 @@ use Rattle.streams.specs.Streams.{HasStreamFault, inputs_of_contexts, streams_of
 use Rattle.drive.specs.Driving.{greatest_generation}
 use Rattle.pattern_reading.specs.Ports.{names_of}
 use Rattle.blifww_tool.specs.Simulation.{Simulation, IsSimulation, RunsInTime, HasNoStreams, HasNoRun, MissesAt, miss_up_to}
-use Rattle.refusals.specs.declared.causes.Cause.{Cause}
-use Rattle.refusals.specs.declared.causes.Cause.TheVariants.{NetlistFault, WeightTooLarge, Loop, AigAtFault, AigLoop, Pattern, GridTooLarge, PortTable, Streams, StartWord, NoSuchNet, TooFar, TooManyContexts, NotQuiet, NotCircuit}
+use Rattle.program_runs.specs.declared.causes.Cause.{Cause}
+use Rattle.program_runs.specs.declared.causes.Cause.TheVariants.{NetlistFault, WeightTooLarge, Loop, AigAtFault, AigLoop, Pattern, GridTooLarge, PortTable, Streams, StartWord, NoSuchNet, TooFar, TooManyContexts, NotQuiet, NotCircuit}
 
 -- a pattern with ports, as a text has them
 pub record IsRead (text : List ℕ) (grid : Grid) (ports : Ports) : Type 0 where

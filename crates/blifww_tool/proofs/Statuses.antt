@@ -11,15 +11,15 @@ use Rattle.aiger_text.specs.AigText.{HasAigFault}
 use Rattle.blifww_tool.specs.Aigs.{HasNoAig}
 use Rattle.blifww_tool.specs.Commands.{Refuses}
 use Rattle.blifww_tool.specs.Compilation.{HasNoRoom, latch_count, least_room}
-use Rattle.refusals.specs.Refusals.{status_of, status_of_cause}
+use Rattle.program_runs.specs.Refusals.{status_of, status_of_cause}
 use Rattle.blifww_tool.specs.Run.{Asks, AsksForText, AsksNothing, IsAsked, HasText, HasReason, RefusesText, IsRefused, CutsLine, CutsOutput, Ends}
 use Rattle.program_runs.specs.Runs.{Call, Reading, GaveAll, GaveTooMuch, ReadFailed, WriteFailed}
 use Rattle.blifww_tool.specs.Statuses.{StatusesHaveCauses, IsOverALimit, IsTooLarge, HasNoPattern, WordsDoNotFit, IsFirstMiss, IsNotCircuit}
 use Rattle.blifww_tool.proofs.Given.{one_command}
-use Rattle.refusals.specs.declared.causes.Cause.{Cause}
-use Rattle.refusals.specs.declared.causes.Cause.TheVariants.{NetlistFault, WeightTooLarge, Loop, AigAtFault, AigLoop, Pattern, GridTooLarge, PortTable, Streams, StartWord, NoSuchNet, TooFar, TooManyContexts, NotQuiet, NotCircuit}
-use Rattle.refusals.specs.declared.refusal.Refusal.{Refusal}
-use Rattle.refusals.specs.declared.refusal.Refusal.TheVariants.{Usage, TooLong, ReadFault, WriteFault, NoMemory, Text}
+use Rattle.program_runs.specs.declared.causes.Cause.{Cause}
+use Rattle.program_runs.specs.declared.causes.Cause.TheVariants.{NetlistFault, WeightTooLarge, Loop, AigAtFault, AigLoop, Pattern, GridTooLarge, PortTable, Streams, StartWord, NoSuchNet, TooFar, TooManyContexts, NotQuiet, NotCircuit}
+use Rattle.program_runs.specs.declared.refusal.Refusal.{Refusal}
+use Rattle.program_runs.specs.declared.refusal.Refusal.TheVariants.{Usage, TooLong, ReadFault, WriteFault, NoMemory, Text}
 
 not_cause : (cause : Cause) → (status_of_cause cause ≢ 2) × (status_of_cause cause ≢ 5)
 not_cause (NetlistFault f) = (λ e. cc, λ e. cc)

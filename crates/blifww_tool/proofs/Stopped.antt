@@ -7,15 +7,15 @@ use Rattle.command_words.specs.declared.error.WordsError.{WordsError}
 use Rattle.command_words.specs.declared.error.WordsError.TheVariants as words_error
 use Rattle.ww_base.specs.declared.whole.ReadAllError.{ReadAllError}
 use Rattle.ww_base.specs.declared.whole.ReadAllError.TheVariants as read_error
-use Rattle.refusals.specs.declared.causes.TextError.{TextError}
-use Rattle.refusals.specs.declared.causes.TextError.TheVariants as text_error
+use Rattle.program_runs.specs.declared.causes.TextError.{TextError}
+use Rattle.program_runs.specs.declared.causes.TextError.TheVariants as text_error
 use Rattle.blifww_tool.specs.Answer.{HasStopped, HasStoppedOn, PrintsPart}
 use Rattle.blifww_tool.specs.Commands.{reads_text, HasTextCause}
-use Rattle.refusals.specs.Refusals.{words_refusal, read_refusal, text_refusal}
+use Rattle.program_runs.specs.Refusals.{words_refusal, read_refusal, text_refusal}
 use Rattle.blifww_tool.specs.Run.{AsksNothing, IsAsked, HasText, Does}
 use Rattle.program_runs.specs.Runs.{Reading, Writing, Gave, GaveIfRead, IsUntouched, IsUnwritten, NoReadFailed, ReadFailed, text_limit}
-use Rattle.refusals.specs.declared.refusal.Refusal.{Refusal}
-use Rattle.refusals.specs.declared.refusal.Refusal.TheVariants.{Usage, TooLong, ReadFault, WriteFault, NoMemory, Text}
+use Rattle.program_runs.specs.declared.refusal.Refusal.{Refusal}
+use Rattle.program_runs.specs.declared.refusal.Refusal.TheVariants.{Usage, TooLong, ReadFault, WriteFault, NoMemory, Text}
 
 -- what is printed of the text that words have is what they do
 pub does : (words : List (List ℕ)) (src : Reading) (out : Writing) (command : CommandValues) (text t : List ℕ) (part : List ℕ → List ℕ) → IsAsked words command → HasText command src text → t ≡ text → PrintsPart command t out part

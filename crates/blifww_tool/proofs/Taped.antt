@@ -7,9 +7,9 @@ use Rattle.netlist_text.specs.declared.error.NetlistError.{NetlistError}
 use Rattle.streams.specs.declared.error.StreamError.{StreamError}
 use Rattle.streams.specs.declared.streams.Streams.{Streams}
 use Rattle.command_words.specs.Shapes.{eval, tape}
-use Rattle.refusals.specs.Refusals.{netlist_error, streams_error}
-use Rattle.refusals.specs.declared.causes.TextError.{TextError}
-use Rattle.refusals.specs.declared.causes.TextError.TheVariants.{Refused, NoMemory}
+use Rattle.program_runs.specs.Refusals.{netlist_error, streams_error}
+use Rattle.program_runs.specs.declared.causes.TextError.{TextError}
+use Rattle.program_runs.specs.declared.causes.TextError.TheVariants.{Refused, NoMemory}
 use Rattle.blifww_tool.specs.Commands.{HasTextCause}
 use Rattle.blifww_tool.specs.Evaluation.{FeedsInputs, HasInputsCause}
 use Rattle.blifww_tool.specs.Taping.{IsTapeOf, Tapes}

@@ -3,8 +3,8 @@ use Rattle.std.proofs.Common.{ℕ, ◌≡◌, refl, sym, ◌∙◌, subst, List}
 use Rattle.command_words.specs.declared.command.View.{View}
 use Rattle.blifww_tool.specs.Simulation.{Simulation, IsSimulation, HasNoStreams, MissesAt}
 use Rattle.blifww_tool.specs.Viewing.{cycles_in, HasView, HasNoView}
-use Rattle.refusals.specs.declared.causes.Cause.{Cause}
-use Rattle.refusals.specs.declared.causes.Cause.TheVariants.{NetlistFault, WeightTooLarge, Loop, AigAtFault, AigLoop, Pattern, GridTooLarge, PortTable, Streams, StartWord, NoSuchNet, TooFar, TooManyContexts, NotQuiet, NotCircuit}
+use Rattle.program_runs.specs.declared.causes.Cause.{Cause}
+use Rattle.program_runs.specs.declared.causes.Cause.TheVariants.{NetlistFault, WeightTooLarge, Loop, AigAtFault, AigLoop, Pattern, GridTooLarge, PortTable, Streams, StartWord, NoSuchNet, TooFar, TooManyContexts, NotQuiet, NotCircuit}
 use Rattle.blifww_tool.proofs.SimulationOrNot.{miss_or_not, one_miss, one_streams_cause, same_simulation, simulation_or_not}
 
 -- the ways to be refused

@@ -7,13 +7,13 @@ use Rattle.probe_view.specs.Windows.{HasWindowCause}
 use Rattle.command_words.specs.declared.command.View.{View}
 use Rattle.command_words.specs.Shapes.{window}
 use Rattle.blifww_tool.specs.Commands.{HasTextCause}
-use Rattle.refusals.specs.Refusals.{window_error}
+use Rattle.program_runs.specs.Refusals.{window_error}
 use Rattle.blifww_tool.specs.Simulation.{Simulation, IsSimulation, HasNoStreams, HasStreamsCause}
 use Rattle.blifww_tool.specs.Viewing.{cycles_in, HasNoView}
-use Rattle.refusals.specs.declared.causes.Cause.{Cause}
-use Rattle.refusals.specs.declared.causes.Cause.TheVariants.{NetlistFault, WeightTooLarge, Loop, AigAtFault, AigLoop, Pattern, GridTooLarge, PortTable, Streams, StartWord, NoSuchNet, TooFar, TooManyContexts, NotQuiet, NotCircuit}
-use Rattle.refusals.specs.declared.causes.TextError.{TextError}
-use Rattle.refusals.specs.declared.causes.TextError.TheVariants.{Refused, NoMemory}
+use Rattle.program_runs.specs.declared.causes.Cause.{Cause}
+use Rattle.program_runs.specs.declared.causes.Cause.TheVariants.{NetlistFault, WeightTooLarge, Loop, AigAtFault, AigLoop, Pattern, GridTooLarge, PortTable, Streams, StartWord, NoSuchNet, TooFar, TooManyContexts, NotQuiet, NotCircuit}
+use Rattle.program_runs.specs.declared.causes.TextError.{TextError}
+use Rattle.program_runs.specs.declared.causes.TextError.TheVariants.{Refused, NoMemory}
 
 cause_of : (view : View) (words : List (List ℕ)) (text : List ℕ) (cause : Cause) → HasNoStreams (cycles_in words) words text cause → HasNoView view words text cause
 cause_of view words text (NetlistFault f) h = h

@@ -11,8 +11,8 @@ use Rattle.aiger_meaning.specs.Circuit.{aig_weight}
 use Rattle.aiger_meaning.specs.Loop.{IsAigLoop}
 use Rattle.aiger_meaning.specs.Causes.{HasLowerCause}
 use Rattle.aiger_plans.specs.Planned.{IsPlanOfAig}
-use Rattle.refusals.specs.declared.causes.Cause.{Cause}
-use Rattle.refusals.specs.declared.causes.Cause.TheVariants.{WeightTooLarge, AigAtFault, AigLoop}
+use Rattle.program_runs.specs.declared.causes.Cause.{Cause}
+use Rattle.program_runs.specs.declared.causes.Cause.TheVariants.{WeightTooLarge, AigAtFault, AigLoop}
 
 -- The text reads as this circuit, whose weight is within the limit and whose gates do not read each
 -- other in a circle.

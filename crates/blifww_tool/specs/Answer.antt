@@ -11,8 +11,8 @@ use Rattle.blifww_tool.specs.Run.{Does, HasReason}
 use Rattle.program_runs.specs.Runs.{Reading, Writing, Gained, IsUnwritten, WriteFailed}
 use Rattle.blifww_tool.specs.declared.output.Output.{Output}
 use Rattle.blifww_tool.specs.declared.output.Output.TheVariants.{Lines, Drawing, Waves, Lifted}
-use Rattle.refusals.specs.declared.refusal.Refusal.{Refusal}
-use Rattle.refusals.specs.declared.refusal.Refusal.TheVariants.{WriteFault, NoMemory, Text}
+use Rattle.program_runs.specs.declared.refusal.Refusal.{Refusal}
+use Rattle.program_runs.specs.declared.refusal.Refusal.TheVariants.{WriteFault, NoMemory, Text}
 
 -- the bytes of an output
 abbrev pub output_text : Output → List ℕ

@@ -24,11 +24,11 @@ use Rattle.blifww_tool.specs.Taping.{Tapes}
 use Rattle.blifww_tool.specs.Aigs.{IsAig, CompilesAig, HasNoAig}
 use Rattle.blifww_tool.specs.Lifting.{IsCircuitText, Lifts, HasNoCircuit}
 use Rattle.blifww_tool.specs.Summary.{TellsSummary}
-use Rattle.refusals.specs.declared.causes.Cause.{Cause}
-use Rattle.refusals.specs.declared.causes.Cause.TheVariants.{NetlistFault, Loop, AigLoop, TooFar, TooManyContexts}
+use Rattle.program_runs.specs.declared.causes.Cause.{Cause}
+use Rattle.program_runs.specs.declared.causes.Cause.TheVariants.{NetlistFault, Loop, AigLoop, TooFar, TooManyContexts}
 use Rattle.netlist_text.specs.Laws.{AreAlikeFaults}
-use Rattle.refusals.specs.declared.causes.TextError.{TextError}
-use Rattle.refusals.specs.declared.causes.TextError.TheVariants.{Refused, NoMemory}
+use Rattle.program_runs.specs.declared.causes.TextError.{TextError}
+use Rattle.program_runs.specs.declared.causes.TextError.TheVariants.{Refused, NoMemory}
 
 -- the command reads a text; a command that reads none has the empty text
 abbrev pub reads_text : CommandValues → Bool

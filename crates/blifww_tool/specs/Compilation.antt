@@ -23,8 +23,8 @@ use Rattle.netlist_text.specs.NetlistText.{IsNetlist, IsAtFault, IsTooHeavy, Has
 use Rattle.start_words.specs.declared.error.StartFault.{StartFault}
 use Rattle.start_words.specs.Words.{first_fault}
 use Rattle.start_words.specs.Starts.{latches_of, starts_of_words}
-use Rattle.refusals.specs.declared.causes.Cause.{Cause}
-use Rattle.refusals.specs.declared.causes.Cause.TheVariants.{NetlistFault, WeightTooLarge, Loop, StartWord, TooManyContexts}
+use Rattle.program_runs.specs.declared.causes.Cause.{Cause}
+use Rattle.program_runs.specs.declared.causes.Cause.TheVariants.{NetlistFault, WeightTooLarge, Loop, StartWord, TooManyContexts}
 
 -- The text that is written of the plan and its table carries the design and its nets. The plan can
 -- be drawn, with its starts. It computes the cells of the design's flat netlist: so it has a loop

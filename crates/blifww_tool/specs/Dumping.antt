@@ -5,7 +5,7 @@ use Rattle.vcd_write.specs.Laws.{SaysWaves}
 use Rattle.vcd_write.specs.Writing.{Waves, vcd_text}
 use Rattle.vcd_write.specs.NetWaves.{last_of_all_nets, net_waves}
 use Rattle.blifww_tool.specs.Simulation.{Simulation, RunsInTime, HasNoRun}
-use Rattle.refusals.specs.declared.causes.Cause.{Cause}
+use Rattle.program_runs.specs.declared.causes.Cause.{Cause}
 
 -- the generation of the last bit that a net shows, or 0 if the table has no nets
 abbrev pub last_dumped : Simulation → ℕ

@@ -14,8 +14,8 @@ use Rattle.streams.specs.Rows.{rows_of}
 use Rattle.netlist_run.specs.Runs.{bits_in_run}
 use Rattle.blifww_tool.specs.Compilation.{HasNoNetlist}
 use Rattle.blifww_tool.specs.Lines.{bits_line}
-use Rattle.refusals.specs.declared.causes.Cause.{Cause}
-use Rattle.refusals.specs.declared.causes.Cause.TheVariants.{Streams as OfStreams}
+use Rattle.program_runs.specs.declared.causes.Cause.{Cause}
+use Rattle.program_runs.specs.declared.causes.Cause.TheVariants.{Streams as OfStreams}
 
 -- a netlist, its IN names, and streams for them
 pub record Evaluation : Type 0 where

@@ -17,8 +17,8 @@ use Rattle.carries.specs.Carries.{Carries}
 use Rattle.lifted_designs.specs.Lifted.{lifted_design}
 use Rattle.blif_write.specs.declared.lift.Lift.{Lift}
 use Rattle.blif_write.specs.Lift.{IsLiftOf, text_of_lift}
-use Rattle.refusals.specs.declared.causes.Cause.{Cause}
-use Rattle.refusals.specs.declared.causes.Cause.TheVariants.{Pattern, GridTooLarge, PortTable, NotCircuit}
+use Rattle.program_runs.specs.declared.causes.Cause.{Cause}
+use Rattle.program_runs.specs.declared.causes.Cause.TheVariants.{Pattern, GridTooLarge, PortTable, NotCircuit}
 use Rattle.program_runs.specs.Netlists.{IsNetlistOf}
 
 -- The text reads as this pattern with these ports, which are the drawing of this plan, and no

@@ -6,8 +6,8 @@ use Rattle.word_cuts.specs.Cuts.{with_context}
 use Rattle.probe_view.specs.Probes.{net_named, HasProbed, IsTooFar, IsNotQuiet}
 use Rattle.blifww_tool.specs.Lines.{bits_line}
 use Rattle.blifww_tool.specs.Simulation.{Simulation, IsSimulation, HasNoStreams}
-use Rattle.refusals.specs.declared.causes.Cause.{Cause}
-use Rattle.refusals.specs.declared.causes.Cause.TheVariants.{NoSuchNet, TooFar, NotQuiet}
+use Rattle.program_runs.specs.declared.causes.Cause.{Cause}
+use Rattle.program_runs.specs.declared.causes.Cause.TheVariants.{NoSuchNet, TooFar, NotQuiet}
 
 -- The text and the words are a simulation, whose table has the net of this name and path. These are
 -- the net's bits in each context; the last of them is shown in time, and each injection up to it

@@ -7,10 +7,10 @@ use Rattle.std.specs.Io.KnownBytes.{Consumes, Appends, Keeps, IsAtEnd}
 use Rattle.ww_base.specs.Faults.{RoseByOne}
 use Rattle.command_words.specs.Shapes.{CommandValues, command_values, IsTaken}
 use Rattle.blifww_tool.specs.Commands.{reads_text, Accepts, Prints, Refuses, MustRefuse, AreLikeCauses}
-use Rattle.refusals.specs.Refusals.{status_of, refusal_line}
-use Rattle.refusals.specs.declared.causes.Cause.{Cause}
-use Rattle.refusals.specs.declared.refusal.Refusal.{Refusal}
-use Rattle.refusals.specs.declared.refusal.Refusal.TheVariants.{Usage, TooLong, ReadFault, WriteFault, NoMemory, Text}
+use Rattle.program_runs.specs.Refusals.{status_of, refusal_line}
+use Rattle.program_runs.specs.declared.causes.Cause.{Cause}
+use Rattle.program_runs.specs.declared.refusal.Refusal.{Refusal}
+use Rattle.program_runs.specs.declared.refusal.Refusal.TheVariants.{Usage, TooLong, ReadFault, WriteFault, NoMemory, Text}
 use Rattle.program_runs.specs.Runs.{text_limit, Reading, reading, Writing, writing, Call, call, Gave, ReadFailed, NoReadFailed, GaveAll, GaveTooMuch, IsUntouched, GaveIfRead, Gained, GainedNothing, WriteFailed, NoWriteFailed, HoldsIfRead}
 
 -- the words ask for this command, with these values

@@ -13,10 +13,10 @@ use Rattle.streams.specs.declared.streams.Streams.{Streams}
 use Rattle.streams.specs.Streams.{HasStreams, HasStreamFault}
 use Rattle.drive.specs.Driving.{first_miss, shown_at, last_generation, greatest_generation}
 use Rattle.blifww_tool.specs.Lines.{context_line}
-use Rattle.refusals.specs.declared.causes.Cause.{Cause}
-use Rattle.refusals.specs.declared.causes.Cause.TheVariants.{Pattern, GridTooLarge, PortTable, Streams as OfStreams, TooFar, NotQuiet}
-use Rattle.refusals.specs.declared.causes.TextError.{TextError}
-use Rattle.refusals.specs.declared.causes.TextError.TheVariants.{Refused, NoMemory}
+use Rattle.program_runs.specs.declared.causes.Cause.{Cause}
+use Rattle.program_runs.specs.declared.causes.Cause.TheVariants.{Pattern, GridTooLarge, PortTable, Streams as OfStreams, TooFar, NotQuiet}
+use Rattle.program_runs.specs.declared.causes.TextError.{TextError}
+use Rattle.program_runs.specs.declared.causes.TextError.TheVariants.{Refused, NoMemory}
 
 -- a pattern, its ports, and streams for its inputs in each context
 pub record Simulation : Type 0 where

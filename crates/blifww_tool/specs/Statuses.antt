@@ -15,7 +15,7 @@ use Rattle.tile_match.specs.declared.error.CircuitFault.{CircuitFault}
 use Rattle.blifww_tool.specs.Aigs.{HasNoAig}
 use Rattle.blifww_tool.specs.Run.{Asks, AsksForText, AsksNothing, IsAsked, RefusesText, Ends}
 use Rattle.program_runs.specs.Runs.{Call, GaveAll, GaveTooMuch, ReadFailed, WriteFailed}
-use Rattle.refusals.specs.declared.causes.Cause.TheVariants.{WeightTooLarge, AigLoop, Pattern, GridTooLarge, PortTable, Streams, StartWord, NoSuchNet, TooFar, TooManyContexts, NotQuiet, NotCircuit}
+use Rattle.program_runs.specs.declared.causes.Cause.TheVariants.{WeightTooLarge, AigLoop, Pattern, GridTooLarge, PortTable, Streams, StartWord, NoSuchNet, TooFar, TooManyContexts, NotQuiet, NotCircuit}
 
 -- the source gave too many bytes, or the command refuses the text that it has: for the netlist's
 -- weight, the size of the pattern's box, the number of generations, or the number of contexts

@@ -5,9 +5,9 @@ use Rattle.made_summary.specs.declared.error.SummaryError.{SummaryError}
 use Rattle.made_summary.specs.declared.error.SummaryError.TheVariants as summarizing
 use Rattle.made_summary.specs.declared.summarizing.OutputBits.{OutputBits}
 use Rattle.made_summary.specs.declared.summarizing.Summary.{Summary}
-use Rattle.refusals.specs.declared.causes.Cause.TheVariants.{TooFar}
-use Rattle.refusals.specs.declared.causes.TextError.{TextError}
-use Rattle.refusals.specs.declared.causes.TextError.TheVariants.{Refused, NoMemory}
+use Rattle.program_runs.specs.declared.causes.Cause.TheVariants.{TooFar}
+use Rattle.program_runs.specs.declared.causes.TextError.{TextError}
+use Rattle.program_runs.specs.declared.causes.TextError.TheVariants.{Refused, NoMemory}
 use Rattle.blifww_tool.specs.Lines.{bits_line}
 
 -- a number with its name, as `lanes 9`

@@ -6,8 +6,8 @@ use Rattle.word_cuts.specs.Cuts.{bits_in}
 use Rattle.drive.specs.Driving.{driven_by}
 use Rattle.probe_view.specs.Windows.{window_text}
 use Rattle.blifww_tool.specs.Simulation.{Simulation, IsSimulation, HasNoStreams, MissesAt, miss_up_to}
-use Rattle.refusals.specs.declared.causes.Cause.{Cause}
-use Rattle.refusals.specs.declared.causes.Cause.TheVariants.{NotQuiet}
+use Rattle.program_runs.specs.declared.causes.Cause.{Cause}
+use Rattle.program_runs.specs.declared.causes.Cause.TheVariants.{NotQuiet}
 
 -- the number of cycles that stream words give by themselves: the number of the first word's bits,
 -- or 0 without words

@@ -6,7 +6,7 @@ ghost use Rattle.blifww_tool.specs.Commands.{Prints, HasTextCause};
 
 use crate::output::Output;
 use aiger_plans::plan_circuit;
-use refusals::TextError;
+use program_runs::TextError;
 use std::alloc::Global;
 
 /// Makes the pattern of the circuit whose AIGER text this is, with the lines that say where its

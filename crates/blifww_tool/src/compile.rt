@@ -15,7 +15,7 @@ use lane_core::{Plan, period};
 use netlist_plans::{NetlistPlanError, Planned, plan_contexts, plan_flat};
 use netlist_text::{Netlist, netlist_of};
 use plan_ports::of_plan;
-use refusals::{Cause, TextError};
+use program_runs::{Cause, TextError};
 use start_words::Starts;
 use std::alloc::Global;
 

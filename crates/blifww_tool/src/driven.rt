@@ -10,7 +10,7 @@ ghost use Rattle.blifww_tool.specs.Driven.{names_in_context, simulation_of};
 use drive::Streams;
 use lists::Bytes;
 use pattern_reading::{PortLine, Ports};
-use refusals::TextError;
+use program_runs::TextError;
 use std::alloc::{AllocError, Global};
 use word_cuts::with_context;
 use ww_rule::Pattern;

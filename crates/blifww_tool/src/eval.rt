@@ -5,13 +5,13 @@ ghost use Rattle.netlist_text.specs.Parts.{AreParts};
 ghost use Rattle.blifww_tool.specs.Answer.{output_text, IsWritableOutput};
 ghost use Rattle.blifww_tool.specs.Commands.{Prints, HasTextCause};
 ghost use Rattle.blifww_tool.specs.Evaluation.{FeedsInputs, HasInputsCause, PrintsRun};
-ghost use Rattle.refusals.specs.declared.causes.TextError.TheVariants.{NoMemory};
+ghost use Rattle.program_runs.specs.declared.causes.TextError.TheVariants.{NoMemory};
 
 use crate::lines::output_lines;
 use crate::output::Output;
 use drive::{StreamError, Streams};
 use netlist_text::{Netlist, netlist_of};
-use refusals::TextError;
+use program_runs::TextError;
 use std::alloc::Global;
 
 /// Reads the streams that the words give to a netlist's inputs.

@@ -9,7 +9,7 @@ ghost use Rattle.blifww_tool.specs.Commands.{Prints, HasTextCause};
 
 use crate::output::Output;
 use pattern_reading::Ports;
-use refusals::TextError;
+use program_runs::TextError;
 use std::alloc::Global;
 use ww_rule::Pattern;
 

@@ -3,10 +3,10 @@ ghost use Rattle.std.specs.Prelude.{◌≡◌, IfOk, IfErr};
 ghost use Rattle.made_netlists.specs.Text.{made_text};
 ghost use Rattle.command_words.specs.Shapes.{make, HasNumbersInRange};
 ghost use Rattle.blifww_tool.specs.Answer.{output_text, IsWritableOutput};
-ghost use Rattle.refusals.specs.declared.causes.TextError.TheVariants.{NoMemory};
+ghost use Rattle.program_runs.specs.declared.causes.TextError.TheVariants.{NoMemory};
 
 use crate::output::Output;
-use refusals::TextError;
+use program_runs::TextError;
 use std::alloc::Global;
 
 /// Makes the text of the netlist of a seed and a number of gates. It reads nothing.

@@ -9,7 +9,7 @@ ghost use Rattle.blifww_tool.specs.Driven.{simulation_in};
 ghost use Rattle.blifww_tool.specs.Answer.{output_text, IsWritableOutput};
 ghost use Rattle.blifww_tool.specs.Commands.{Prints, HasTextCause};
 ghost use Rattle.blifww_tool.specs.Probing.{names_in_contexts, net_text};
-ghost use Rattle.refusals.specs.Refusals.{probe_refusal};
+ghost use Rattle.program_runs.specs.Refusals.{probe_refusal};
 
 use crate::driven::{Driven, driven_by};
 use crate::lines::output_lines;
@@ -18,7 +18,7 @@ use drive::Streams;
 use lists::{Bytes, List};
 use pattern_reading::Ports;
 use probe_view::ProbeError;
-use refusals::{Cause, TextError};
+use program_runs::{Cause, TextError};
 use std::alloc::{AllocError, Global};
 use word_cuts::with_context;
 use ww_rule::Pattern;

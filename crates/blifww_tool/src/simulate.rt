@@ -17,7 +17,7 @@ use crate::output::Output;
 use drive::Streams;
 use lists::{Bytes, List};
 use pattern_reading::Ports;
-use refusals::TextError;
+use program_runs::TextError;
 use std::alloc::{AllocError, Global};
 use ww_rule::Pattern;
 

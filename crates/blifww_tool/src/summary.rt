@@ -10,7 +10,7 @@ use crate::output::Output;
 use itoa::Buffer;
 use lists::Bytes;
 use made_summary::{OutputBits, Summary, SummaryError, summarize};
-use refusals::{Cause, TextError};
+use program_runs::{Cause, TextError};
 use std::alloc::{AllocError, Global};
 
 // Adds a number's line.

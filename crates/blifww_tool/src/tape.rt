@@ -7,7 +7,7 @@ ghost use Rattle.command_words.specs.Shapes.{tape};
 ghost use Rattle.blifww_tool.specs.Answer.{output_text, IsWritableOutput};
 ghost use Rattle.blifww_tool.specs.Commands.{Prints, HasTextCause};
 ghost use Rattle.blifww_tool.specs.Taping.{IsTapeOf};
-ghost use Rattle.refusals.specs.declared.causes.TextError.TheVariants.{NoMemory};
+ghost use Rattle.program_runs.specs.declared.causes.TextError.TheVariants.{NoMemory};
 
 use crate::compile::plan_of;
 use crate::eval::streams_for;
@@ -15,7 +15,7 @@ use crate::output::Output;
 use drive::Streams;
 use netlist_plans::load_netlist;
 use netlist_text::{Netlist, netlist_of};
-use refusals::TextError;
+use program_runs::TextError;
 use std::alloc::Global;
 
 // The pattern of a netlist with these streams on its tape.

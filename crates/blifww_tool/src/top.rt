@@ -24,7 +24,7 @@ use crate::tape::tape;
 use crate::vcd::vcd;
 use crate::window::window;
 use command_words::{Command, command_of};
-use refusals::{Refusal, TextError};
+use program_runs::{Refusal, TextError};
 use std::alloc::Global;
 use ww_base::{Failed, Sink, Source};
 

@@ -6,7 +6,7 @@ ghost use Rattle.blifww_tool.specs.Commands.{Prints, HasTextCause};
 
 use crate::driven::{Driven, driven_by};
 use crate::output::Output;
-use refusals::TextError;
+use program_runs::TextError;
 use std::alloc::Global;
 
 /// Makes the dump of the bits that the nets of the text's pattern show in each of its contexts. The

@@ -9,7 +9,7 @@ ghost use Rattle.blifww_tool.specs.Viewing.{cycles_in};
 use crate::driven::{Driven, driven_by};
 use crate::output::Output;
 use command_words::View;
-use refusals::TextError;
+use program_runs::TextError;
 use std::alloc::Global;
 
 // How many bytes stand after the last `=`.

@@ -15,7 +15,7 @@ use Rattle.command_words.specs.Shapes.{CommandValues, compile, simulate, eval, p
 use Rattle.blifww_tool.specs.Commands.{Refuses}
 use Rattle.blifww_tool.specs.Simulation.{Simulation, IsSimulation, MissesAt, miss_up_to}
 use Rattle.blifww_tool.proofs.SimulationOrNot.{miss_or_not}
-use Rattle.refusals.specs.declared.causes.Cause.TheVariants.{NotQuiet}
+use Rattle.program_runs.specs.declared.causes.Cause.TheVariants.{NotQuiet}
 use Rattle.program_laws.specs.AigPrints.{AigCarriersRunQuietly, AigsRunQuietly}
 use Rattle.program_laws.specs.PrintsAlike.{CarriersRunQuietly, CompiledRunQuietly}
 use Rattle.program_laws.proofs.AigQuiet.{quiet_aig}

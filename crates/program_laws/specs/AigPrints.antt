@@ -19,7 +19,7 @@ use Rattle.streams.specs.Rows.{rows_of}
 use Rattle.command_words.specs.Shapes.{CommandValues, simulate, aiger, lift}
 use Rattle.blifww_tool.specs.Lines.{bits_line}
 use Rattle.blifww_tool.specs.Commands.{Accepts, Prints, Refuses}
-use Rattle.refusals.specs.declared.causes.Cause.TheVariants.{NotQuiet}
+use Rattle.program_runs.specs.declared.causes.Cause.TheVariants.{NotQuiet}
 
 -- a line for each output of the circuit, in order, with its bits in a run
 abbrev pub aig_lines : Aig → (cycles : ℕ) → (ℕ → ℕ → Bool) → List ℕ

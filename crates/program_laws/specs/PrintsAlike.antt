@@ -21,7 +21,7 @@ use Rattle.command_words.specs.Shapes.{CommandValues, compile, simulate, eval, p
 use Rattle.blifww_tool.specs.Lines.{bits_line, context_line}
 use Rattle.blifww_tool.specs.Evaluation.{FeedsInputs}
 use Rattle.blifww_tool.specs.Commands.{Prints, Refuses}
-use Rattle.refusals.specs.declared.causes.Cause.TheVariants.{NotQuiet}
+use Rattle.program_runs.specs.declared.causes.Cause.TheVariants.{NotQuiet}
 
 -- `simulate` prints of a text that carries a netlist what `eval` prints of the netlist under the
 -- same words, whoever made the text

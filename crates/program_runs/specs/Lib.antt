@@ -1,2 +1,4 @@
 pub mod Runs
 pub mod Netlists
+pub mod Refusals
+pub mod Tells

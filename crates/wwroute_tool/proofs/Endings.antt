@@ -18,9 +18,9 @@ use Rattle.netlist_text.specs.declared.error.NetlistError.TheVariants as netlist
 use Rattle.ww_rule.specs.Grid.{Grid}
 use Rattle.pattern_reading.specs.Pattern.{ReadsWithinLimit}
 use Rattle.pattern_reading.specs.PortTable.{HasPortFault}
-use Rattle.refusals.specs.Refusals.{netlist_error, pattern_error, read_refusal, refusal_line, table_error, text_refusal}
-use Rattle.refusals.proofs.Statuses.{cause_is, never_done as common_is}
-use Rattle.refusals.specs.declared.refusal.Refusal.TheVariants as refusal
+use Rattle.program_runs.specs.Refusals.{netlist_error, pattern_error, read_refusal, refusal_line, table_error, text_refusal}
+use Rattle.program_runs.proofs.Statuses.{cause_is, never_done as common_is}
+use Rattle.program_runs.specs.declared.refusal.Refusal.TheVariants as refusal
 use Rattle.program_runs.specs.Runs.{Call, call, Reading, Writing, Gave, GaveAll, Gained, NoReadFailed, ReadFailed, NoWriteFailed, WriteFailed, text_limit}
 use Rattle.wwroute_tool.specs.declared.words.Command.{Command}
 use Rattle.wwroute_tool.specs.declared.words.Command.TheVariants.{Extract, Route}

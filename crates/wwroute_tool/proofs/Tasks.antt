@@ -3,7 +3,7 @@ use Rattle.std.proofs.Common.{ℕ, ◌≡◌, ◌⊎◌, inl, inr, refl, ap, sub
 use Rattle.netlist_text.specs.declared.netlist.Netlist.{Netlist}
 use Rattle.netlist_text.specs.NetlistText.{IsNetlist}
 use Rattle.program_runs.specs.Runs.{Reading, Writing, Gained}
-use Rattle.refusals.specs.declared.refusal.Refusal.TheVariants as refusal
+use Rattle.program_runs.specs.declared.refusal.Refusal.TheVariants as refusal
 use Rattle.routed_plans.specs.declared.nets.ShownNets.{ShownNets}
 use Rattle.wwroute_tool.specs.declared.words.Command.{Command}
 use Rattle.wwroute_tool.specs.declared.words.Command.TheVariants.{Extract, Route}

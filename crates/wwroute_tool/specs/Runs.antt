@@ -8,8 +8,8 @@ use Rattle.carries.specs.Carries.{Carries}
 use Rattle.routed_plans.specs.declared.nets.ShownNets.{ShownNets}
 use Rattle.routed_plans.specs.Nets.{ShowsNetsBy}
 use Rattle.program_runs.specs.Runs.{Call, call, Reading, Writing, Gave, GaveAll, GaveTooMuch, Gained, IsUntouched, IsUnwritten, NoReadFailed, ReadFailed, NoWriteFailed, WriteFailed, text_limit}
-use Rattle.refusals.specs.Refusals.{refusal_line}
-use Rattle.refusals.specs.declared.refusal.Refusal.TheVariants as refusal
+use Rattle.program_runs.specs.Refusals.{refusal_line}
+use Rattle.program_runs.specs.declared.refusal.Refusal.TheVariants as refusal
 use Rattle.wwroute_tool.specs.declared.words.Command.{Command}
 use Rattle.wwroute_tool.specs.declared.words.Command.TheVariants.{Route}
 use Rattle.wwroute_tool.specs.declared.refusal.RouteRefusal.{RouteRefusal}

@@ -4,7 +4,7 @@ use Rattle.netlist_text.specs.NetlistText.{IsNetlist}
 use Rattle.netlist_text.specs.Parts.{AreParts}
 use Rattle.plan_ports.specs.Tables.{HasPortNames}
 use Rattle.program_runs.specs.Runs.{Reading, Writing, GaveAll, Gained, IsUnwritten, WriteFailed}
-use Rattle.refusals.specs.declared.refusal.Refusal.TheVariants as refusal
+use Rattle.program_runs.specs.declared.refusal.Refusal.TheVariants as refusal
 use Rattle.wwroute_tool.specs.declared.words.Command.{Command}
 use Rattle.wwroute_tool.specs.declared.words.Command.TheVariants.{Extract, Route}
 use Rattle.wwroute_tool.specs.declared.refusal.RouteRefusal.{RouteRefusal}

@@ -13,7 +13,7 @@ use crate::RouteRefusal;
 use blif_write::Lift;
 use cell_core::CellList;
 use pattern_reading::Ports;
-use refusals::{Cause, Refusal};
+use program_runs::{Cause, Refusal};
 use route_cells::{RouteError, cells_of};
 use route_finder::{DrawingFault, FindError};
 use route_tables::{BOX_LIMIT, CellFault, FaultWord};

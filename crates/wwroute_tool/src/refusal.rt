@@ -2,14 +2,14 @@
 ghost use Rattle.std.specs.Prelude.{◌≡◌, ℕ, take, OnOk, OnErr};
 ghost use Rattle.std.specs.Io.KnownBytes.{Appends};
 ghost use Rattle.ww_base.specs.Faults.{HasCause};
-ghost use Rattle.refusals.specs.Tells.{Tells};
+ghost use Rattle.program_runs.specs.Tells.{Tells};
 ghost use Rattle.wwroute_tool.specs.Refusing.{cell_fault_line, fault_word};
 
 use itoa::Buffer;
 use lists::OutOfMemory;
 use netlist_text::NetlistError;
 use port_table::PortReadError;
-use refusals::{Cause, Refusal, TextError};
+use program_runs::{Cause, Refusal, TextError};
 use rle_read::RleReadError;
 use route_tables::{CellFault, FaultWord};
 use ww_base::{Failed, ReadAllError, Sink, write_all, write_pieces};
@@ -24,7 +24,7 @@ pub enum RouteRefusal {
 }
 
 impl From<NetlistError> for RouteRefusal {
-    ghost use Rattle.refusals.specs.Refusals.{netlist_error, text_refusal};
+    ghost use Rattle.program_runs.specs.Refusals.{netlist_error, text_refusal};
     ghost use Rattle.wwroute_tool.specs.declared.refusal.RouteRefusal.TheVariants.{Common};
 
     ghost from_gives = { λ e r. r ≡ Common (text_refusal (netlist_error e)) };
@@ -35,7 +35,7 @@ impl From<NetlistError> for RouteRefusal {
 }
 
 impl From<RleReadError> for RouteRefusal {
-    ghost use Rattle.refusals.specs.Refusals.{pattern_error, text_refusal};
+    ghost use Rattle.program_runs.specs.Refusals.{pattern_error, text_refusal};
     ghost use Rattle.wwroute_tool.specs.declared.refusal.RouteRefusal.TheVariants.{Common};
 
     ghost from_gives = { λ e r. r ≡ Common (text_refusal (pattern_error e)) };
@@ -46,7 +46,7 @@ impl From<RleReadError> for RouteRefusal {
 }
 
 impl From<PortReadError> for RouteRefusal {
-    ghost use Rattle.refusals.specs.Refusals.{table_error, text_refusal};
+    ghost use Rattle.program_runs.specs.Refusals.{table_error, text_refusal};
     ghost use Rattle.wwroute_tool.specs.declared.refusal.RouteRefusal.TheVariants.{Common};
 
     ghost from_gives = { λ e r. r ≡ Common (text_refusal (table_error e)) };
@@ -57,7 +57,7 @@ impl From<PortReadError> for RouteRefusal {
 }
 
 impl From<OutOfMemory> for RouteRefusal {
-    ghost use Rattle.refusals.specs.declared.refusal.Refusal.TheVariants.{NoMemory};
+    ghost use Rattle.program_runs.specs.declared.refusal.Refusal.TheVariants.{NoMemory};
     ghost use Rattle.wwroute_tool.specs.declared.refusal.RouteRefusal.TheVariants.{Common};
 
     ghost from_gives = { λ _ r. r ≡ Common NoMemory };
@@ -68,7 +68,7 @@ impl From<OutOfMemory> for RouteRefusal {
 }
 
 impl From<ReadAllError> for RouteRefusal {
-    ghost use Rattle.refusals.specs.Refusals.{read_refusal};
+    ghost use Rattle.program_runs.specs.Refusals.{read_refusal};
     ghost use Rattle.wwroute_tool.specs.declared.refusal.RouteRefusal.TheVariants.{Common};
 
     ghost from_gives = { λ e r. r ≡ Common (read_refusal e) };
@@ -79,7 +79,7 @@ impl From<ReadAllError> for RouteRefusal {
 }
 
 impl From<Failed> for RouteRefusal {
-    ghost use Rattle.refusals.specs.declared.refusal.Refusal.TheVariants.{WriteFault};
+    ghost use Rattle.program_runs.specs.declared.refusal.Refusal.TheVariants.{WriteFault};
     ghost use Rattle.wwroute_tool.specs.declared.refusal.RouteRefusal.TheVariants.{Common};
 
     ghost from_gives = { λ _ r. r ≡ Common WriteFault };

@@ -2,7 +2,7 @@
 ghost use Rattle.std.specs.Prelude.{ℕ, ◌++◌, ◌≢◌, [], take, OnOk, OnErr};
 ghost use Rattle.std.specs.Io.KnownBytes.{Appends};
 ghost use Rattle.ww_base.specs.Faults.{HasCause};
-ghost use Rattle.refusals.specs.Tells.{Tells};
+ghost use Rattle.program_runs.specs.Tells.{Tells};
 ghost use Rattle.wwroute_tool.specs.Answers.{notice_line, size_text};
 
 use itoa::Buffer;

@@ -1,5 +1,5 @@
 use Rattle.std.proofs.Common.{◌≡◌, ℕ, List, ◌++◌, ap, ap₂, ◌∙◌, codes}
-use Rattle.refusals.proofs.SameTexts.{told}
+use Rattle.program_runs.proofs.SameTexts.{told}
 use Rattle.wwroute_tool.proofs.refusal.tell_fault.Goals as goal
 
 abbrev written_line : (word x y : List ℕ) → List ℕ

@@ -1,5 +1,5 @@
 use Rattle.std.proofs.Common.{sym, ap}
-use Rattle.refusals.proofs.SameTexts.{told_front, told_ok}
+use Rattle.program_runs.proofs.SameTexts.{told_front, told_ok}
 use Rattle.wwroute_tool.specs.Refusing.{route_line}
 use Rattle.wwroute_tool.proofs.refusal.RouteRefusal.tell.Goals as goal
 

@@ -1,2 +1,0 @@
-pub mod SameTexts
-pub mod Statuses

@@ -1,8 +1,0 @@
-use Rattle.std.proofs.Common.{refl}
-use Rattle.refusals.proofs.SameTexts.{told}
-use Rattle.refusals.proofs.told.write_fault.Goals as goal
-
-pub returns : goal.returns
-returns g c =
-    let e = c.write_pieces.ensures in
-    told _ _ _ _ _ refl e.ok e.front e.cause
