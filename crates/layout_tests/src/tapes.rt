@@ -7,7 +7,7 @@ ghost use Rattle.plan_layout.specs.Starts.{HasStartEdges};
 use crate::plans::{Written, checked, lists_of, plan_of};
 use lane_core::Plan;
 use lists::List;
-use plan_tapes::load;
+use plan_waves::load;
 use std::alloc::Global;
 
 // Whether all lists have the same length, from 1 to 4,096.

@@ -5,7 +5,7 @@ use Rattle.std.specs.List.{range_with_len}
 use Rattle.std.proofs.lemmas.List.Elements.{All-map}
 use Rattle.lane_core.specs.declared.plan.Plan.{Plan}
 use Rattle.lane_core.specs.Tape.{AreTapeLists, cycles_of, tape_rows}
-use Rattle.plan_tapes.specs.Loaded.{with_tape}
+use Rattle.plan_waves.specs.Loaded.{with_tape}
 use Rattle.netlist_core.specs.declared.flat.Flat.{Flat}
 use Rattle.netlist_meaning.specs.FlatValuation.{AreFlatRows}
 use Rattle.carries.specs.ByItself.{RunsByItselfFlat}

@@ -41,7 +41,7 @@ pub fn load_netlist(
     ensures runs { IfOk result (λ p. RunsByItselfFlat
         (pattern_text (start_grid p.plan) p.ports) flat.now (rows_of streams.now)) }
 {
-    let plan = plan_tapes::load(alloc, plan, streams.bits.as_slice())?;
+    let plan = plan_waves::load(alloc, plan, streams.bits.as_slice())?;
     let ports = plan_ports::of_plan(alloc, flat, &plan, 1)?;
     Ok(Planned { plan, ports })
 }

@@ -16,7 +16,7 @@ use Rattle.lane_core.specs.declared.plan.NetPlace.{NetPlace}
 use Rattle.lane_core.specs.declared.plan.Plan.{Plan}
 use Rattle.lane_core.specs.Plans.{IsAdmissible, left_of, row_of, cell_after, net_cell_of}
 use Rattle.lane_core.specs.Tape.{AreTapeLists, tape_cycles, tape_row, tape_rows, tape_shift, moved_east}
-use Rattle.plan_tapes.specs.Loaded.{with_tape}
+use Rattle.plan_waves.specs.Loaded.{with_tape}
 use Rattle.plan_layout.specs.Starts.{HasStartEdges}
 use Rattle.plan_layout.specs.Planes.{start_plane}
 use Rattle.plan_layout.specs.Tape.{drawn_plane}
@@ -37,9 +37,9 @@ use Rattle.carries.specs.FlatNets.{ShowsFlatRuns}
 use Rattle.plan_ports.specs.Tables.{IsTableOf}
 use Rattle.plan_ports.proofs.GatheredNets.{place_of_line}
 use Rattle.plan_ports.proofs.Readable.{one_has_room, small_size, tables_are_readable}
-use Rattle.plan_tapes.specs.Tape.{drive_of_rows}
-use Rattle.plan_tapes.specs.Laws.{ShowsByItself}
-use Rattle.plan_tapes.proofs.Shown.{shows_by_itself}
+use Rattle.plan_waves.specs.Tape.{drive_of_rows}
+use Rattle.plan_waves.specs.TapeLaws.{ShowsByItself}
+use Rattle.plan_waves.proofs.Shown.{shows_by_itself}
 use Rattle.plan_carries.specs.Compiled.{IsCompiled}
 use Rattle.plan_carries.specs.Laws.{StartsAsFlat}
 use Rattle.plan_carries.specs.TapeLaws.{TapesRunByThemselves}

@@ -2,7 +2,7 @@
 use Rattle.std.specs.Prelude.{ℕ, ◌≡◌, Bool, List, length}
 use Rattle.lane_core.specs.declared.plan.Plan.{Plan}
 use Rattle.lane_core.specs.Tape.{AreTapeLists, tape_rows}
-use Rattle.plan_tapes.specs.Loaded.{with_tape}
+use Rattle.plan_waves.specs.Loaded.{with_tape}
 use Rattle.plan_layout.specs.Starts.{HasStartEdges}
 use Rattle.grid_assembly.specs.PlanDrawing.{start_grid}
 use Rattle.cell_core.specs.declared.list.CellList.{CellList}

@@ -16,3 +16,8 @@ pub mod RunningContexts
 pub mod ShownContexts
 pub mod IsolatedContexts
 pub mod ContextRows
+pub mod Blocks
+pub mod RunIn
+pub mod Rows
+pub mod Begin
+pub mod Shown

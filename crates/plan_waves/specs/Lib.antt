@@ -7,3 +7,6 @@ pub mod Beside
 pub mod Contexts
 pub mod ShownContexts
 pub mod ContextRows
+pub mod Loaded
+pub mod Tape
+pub mod TapeLaws

@@ -8,7 +8,7 @@ use Rattle.carries.proofs.ByItself.{zeros_change_nothing}
 use Rattle.plan_layout.specs.Starts.{HasStartEdges}
 use Rattle.streams.specs.Rows.{rows_of}
 use Rattle.plan_ports.specs.Tables.{HasPortsOf, IsTableOf}
-use Rattle.plan_tapes.specs.Loaded.{with_tape}
+use Rattle.plan_waves.specs.Loaded.{with_tape}
 use Rattle.plan_carries.proofs.Carried.{starts_as_flat}
 use Rattle.plan_carries.proofs.Tapes.{tapes_run_by_themselves}
 use Rattle.netlist_plans.specs.Planned.{IsSmall}

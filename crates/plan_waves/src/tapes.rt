@@ -1,5 +1,5 @@
 // How the bits of a tape run into a plan. The functions do nothing: their clauses are the laws.
-ghost use Rattle.plan_tapes.specs.Laws.{TapesBegin, TapesRunIn, TapesShowRows};
+ghost use Rattle.plan_waves.specs.TapeLaws.{TapesBegin, TapesRunIn, TapesShowRows};
 
 /// A macro step of an admissible plan with a tape does what a macro step of the driven plan without
 /// one does, and brings the tape one tile further east.

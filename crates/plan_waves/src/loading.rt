@@ -2,8 +2,8 @@
 ghost use Rattle.std.specs.Prelude.{◌≡◌, length, IfOk, IfErr};
 ghost use Rattle.lane_core.specs.Plans.{IsAdmissible};
 ghost use Rattle.lane_core.specs.Tape.{AreTapeLists};
-ghost use Rattle.plan_tapes.specs.Loaded.{with_tape};
-ghost use Rattle.plan_tapes.specs.declared.loading.LoadError.TheVariants.{NoMemory};
+ghost use Rattle.plan_waves.specs.Loaded.{with_tape};
+ghost use Rattle.plan_waves.specs.declared.loading.LoadError.TheVariants.{NoMemory};
 
 use lane_core::Plan;
 use lists::{List, OutOfMemory};

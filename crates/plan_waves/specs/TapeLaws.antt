@@ -16,7 +16,7 @@ use Rattle.plan_layout.specs.Starts.{HasStartEdges, start_edges}
 use Rattle.lane_core.specs.Tape.{tape_rows, tape_shift, moved_east}
 use Rattle.plan_layout.specs.Tape.{taped_tiling, drawn_edges, drawn_plane}
 use Rattle.plan_waves.specs.Waves.{DrivesInputs}
-use Rattle.plan_tapes.specs.Tape.{drive_of_rows, is_due_on, taped_edges}
+use Rattle.plan_waves.specs.Tape.{drive_of_rows, is_due_on, taped_edges}
 
 -- The tape has room, and no head is due on a lane without an input, nor after the end of the tape.
 pub record FitsTape (plan : Plan) (shift tiles : ℕ) (due : Due) : Type 0 where

@@ -23,7 +23,7 @@ use Rattle.plan_layout.proofs.Sides.{either}
 use Rattle.plan_waves.proofs.Passing.{chosen_first}
 use Rattle.plan_layout.specs.Tape.{taped_tiling}
 use Rattle.plan_layout.proofs.Taped.{IsOfPlan, tape_slot, plan_block, left_whole}
-use Rattle.plan_tapes.specs.Tape.{is_before_body, is_due_on, taped_edges}
+use Rattle.plan_waves.specs.Tape.{is_before_body, is_due_on, taped_edges}
 
 pub of_plan : (plan : Plan) (shift q l : ℕ) → IsOfPlan plan q l → is_before_body plan shift (shift + q) l ≡ false
 of_plan plan shift q l far = ⊎_elim (λ right. grind (arith, nat_tests)) (λ low. grind (arith, nat_tests)) far

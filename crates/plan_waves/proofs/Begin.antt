@@ -19,10 +19,10 @@ use Rattle.plan_waves.proofs.InputCells.{input_of_lane}
 use Rattle.plan_layout.proofs.Parts.{nothing_left}
 use Rattle.lane_core.specs.Tape.{HasFittingTape, cycle_tiles, tape_row, tape_rows, tape_shift, tape_bit}
 use Rattle.plan_layout.specs.Tape.{is_taped, drawn_edges}
-use Rattle.plan_tapes.specs.Tape.{drive_of_rows, is_due_on, is_before_body, taped_edges}
+use Rattle.plan_waves.specs.Tape.{drive_of_rows, is_due_on, is_before_body, taped_edges}
 use Rattle.plan_layout.proofs.Taped.{IsOfPlan}
-use Rattle.plan_tapes.proofs.Blocks.{on_tape, off_tape, beside_kept}
-use Rattle.plan_tapes.proofs.Rows.{rows_drive, tape_is_due}
+use Rattle.plan_waves.proofs.Blocks.{on_tape, off_tape, beside_kept}
+use Rattle.plan_waves.proofs.Rows.{rows_drive, tape_is_due}
 
 -- before the body no start is lit on a lane that no loop enters
 dark_before : (plan : Plan) → IsAdmissible plan → HasStartEdges plan → (q l : ℕ) → q < plan.latches → l < first_loop_lane plan.lanes plan.latches → start_edges plan (Beside q l) ≡ false

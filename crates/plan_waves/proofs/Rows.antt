@@ -20,8 +20,8 @@ use Rattle.plan_waves.proofs.ContextRows.{cells_long}
 use Rattle.plan_waves.proofs.CycleTiles.{tiles_with_loops, tiles_without, cycle_time}
 use Rattle.plan_waves.proofs.InputCells.{lane_of_input, input_of_lane, input_cell}
 use Rattle.lane_core.specs.Tape.{HasFittingTape, tape_cycles, tape_row, tape_rows, cycle_tiles, tape_tiles, tape_shift, tape_bit}
-use Rattle.plan_tapes.specs.Tape.{drive_of_rows, is_due_on}
-use Rattle.plan_tapes.specs.Laws.{FitsTape}
+use Rattle.plan_waves.specs.Tape.{drive_of_rows, is_due_on}
+use Rattle.plan_waves.specs.TapeLaws.{FitsTape}
 
 -- the bit of a head that is due
 record DueBit (plan : Plan) (rows : List (List Bool)) (g : ℕ) (x y : ℤ) : Type 0 where

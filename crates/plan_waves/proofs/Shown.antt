@@ -26,14 +26,14 @@ use Rattle.plan_layout.proofs.Parts.{some_columns}
 use Rattle.plan_waves.proofs.Passing.{step_east}
 use Rattle.lane_core.specs.Tape.{HasFittingTape, tape_rows, tape_tiles, tape_shift}
 use Rattle.plan_layout.specs.Tape.{taped_tiling, drawn_edges, drawn_plane}
-use Rattle.plan_tapes.specs.Tape.{drive_of_rows, taped_edges}
-use Rattle.plan_tapes.specs.Laws.{ShowsWithoutDrive, ShowsByItself}
+use Rattle.plan_waves.specs.Tape.{drive_of_rows, taped_edges}
+use Rattle.plan_waves.specs.TapeLaws.{ShowsWithoutDrive, ShowsByItself}
 use Rattle.plan_layout.proofs.Taped.{plan_block}
 use Rattle.plan_layout.proofs.TapesFit.{fits_together}
-use Rattle.plan_tapes.proofs.Blocks.{beside_kept}
-use Rattle.plan_tapes.proofs.Begin.{begins}
-use Rattle.plan_tapes.proofs.Rows.{rows_drive, tapes_fit}
-use Rattle.plan_tapes.proofs.RunIn.{runs_in}
+use Rattle.plan_waves.proofs.Blocks.{beside_kept}
+use Rattle.plan_waves.proofs.Begin.{begins}
+use Rattle.plan_waves.proofs.Rows.{rows_drive, tapes_fit}
+use Rattle.plan_waves.proofs.RunIn.{runs_in}
 
 module _ (library : Kind → Drawing) (law : KeepsLaw library) (plan : Plan) (h : IsAdmissible plan) (fits : HasFittingTape plan) (starts : HasStartEdges plan) where
   abbrev shift : ℕ

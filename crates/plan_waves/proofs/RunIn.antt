@@ -21,10 +21,10 @@ use Rattle.plan_waves.proofs.Inputs.{driven_edges_go_on, inputs_enter}
 use Rattle.plan_layout.proofs.Parts.{some_columns, body_at, nothing_left}
 use Rattle.plan_waves.proofs.Passing.{answers_none}
 use Rattle.plan_layout.specs.Tape.{taped_tiling}
-use Rattle.plan_tapes.specs.Tape.{is_before_body, is_due_on, taped_edges}
-use Rattle.plan_tapes.specs.Laws.{FitsTape}
+use Rattle.plan_waves.specs.Tape.{is_before_body, is_due_on, taped_edges}
+use Rattle.plan_waves.specs.TapeLaws.{FitsTape}
 use Rattle.plan_layout.proofs.Taped.{IsOfPlan, tape_block, plan_block, room_block}
-use Rattle.plan_tapes.proofs.Blocks.{on_tape, off_tape, tape_not_left, tape_goes, beside_kept, above_kept, answers_kept}
+use Rattle.plan_waves.proofs.Blocks.{on_tape, off_tape, tape_not_left, tape_goes, beside_kept, above_kept, answers_kept}
 
 -- tests that a bit implies change nothing in it
 guarded : (a b d : Bool) → (a ≡ false → d ≡ false) → (b ≡ false → d ≡ false) → ((a && b) && d) ≡ d

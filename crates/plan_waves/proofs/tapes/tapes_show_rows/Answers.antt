@@ -1,5 +1,5 @@
-use Rattle.plan_tapes.proofs.Shown.{shows_by_itself}
-use Rattle.plan_tapes.proofs.laws.tapes_show_rows.Goals as goal
+use Rattle.plan_waves.proofs.Shown.{shows_by_itself}
+use Rattle.plan_waves.proofs.tapes.tapes_show_rows.Goals as goal
 
 pub returns : goal.returns
 returns c = λ library law plan h starts. shows_by_itself library law plan h h.tape starts

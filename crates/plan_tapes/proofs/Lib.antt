@@ -1,5 +1,0 @@
-pub mod Blocks
-pub mod RunIn
-pub mod Rows
-pub mod Begin
-pub mod Shown
