@@ -5,7 +5,7 @@ use Rattle.std.specs.List.{position, position_or_len}
 use Rattle.std.proofs.lemmas.Bool.{ltb-false}
 use Rattle.std.proofs.lemmas.List.{length-drop, length-reverse}
 use Rattle.std.proofs.lemmas.List.Sums.{suffix_len-le-length}
-use Rattle.word_cuts.specs.Cuts.{bits_in, is_equals_sign}
+use Rattle.streams.specs.Cuts.{bits_in, is_equals_sign}
 
 -- what is taken of a place where it is within the list, and else of the length
 taken : (m n : ℕ) (b : Bool) → nat_lt m n ≡ b → m ≤ n → unwrap_or (cond b (Some m) None) n ≡ m

@@ -1,7 +1,7 @@
 -- The lines of outputs, and of nets.
 use Rattle.std.specs.Prelude.{ℕ, Bool, if◌then◌else◌, List, ◌++◌, map, codes}
 use Rattle.std.specs.Str.{byte}
-use Rattle.word_cuts.specs.Cuts.{with_context}
+use Rattle.streams.specs.Cuts.{with_context}
 
 -- a bit as a digit
 abbrev pub bit_digit : Bool → ℕ

@@ -2,7 +2,7 @@
 use Rattle.std.specs.Prelude.{◌≡◌, ℕ, List, Bool, None, map, flat_map, zip}
 use Rattle.std.specs.List.{range_with_len}
 use Rattle.ww_rule.specs.Grid.{plane_of}
-use Rattle.word_cuts.specs.Cuts.{with_context}
+use Rattle.streams.specs.Cuts.{with_context}
 use Rattle.probe_view.specs.Probes.{net_named, HasProbed, IsTooFar, IsNotQuiet}
 use Rattle.blifww_tool.specs.Lines.{bits_line}
 use Rattle.blifww_tool.specs.Simulation.{Simulation, IsSimulation, HasNoStreams}

@@ -2,7 +2,7 @@
 use Rattle.std.specs.Prelude.{◌≡◌, ℕ, List, [], ◌∷◌, length, None}
 use Rattle.ww_rule.specs.Grid.{plane_of}
 use Rattle.command_words.specs.declared.command.View.{View}
-use Rattle.word_cuts.specs.Cuts.{bits_in}
+use Rattle.streams.specs.Cuts.{bits_in}
 use Rattle.drive.specs.Driving.{driven_by}
 use Rattle.probe_view.specs.Windows.{window_text}
 use Rattle.blifww_tool.specs.Simulation.{Simulation, IsSimulation, HasNoStreams, MissesAt, miss_up_to}

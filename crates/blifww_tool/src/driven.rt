@@ -12,7 +12,7 @@ use lists::Bytes;
 use pattern_reading::{PortLine, Ports};
 use program_runs::TextError;
 use std::alloc::{AllocError, Global};
-use word_cuts::with_context;
+use streams::with_context;
 use ww_rule::Pattern;
 
 /// A pattern, its ports, and streams for its inputs.

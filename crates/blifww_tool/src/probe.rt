@@ -20,7 +20,7 @@ use pattern_reading::Ports;
 use probe_view::ProbeError;
 use program_runs::{Cause, TextError};
 use std::alloc::{AllocError, Global};
-use word_cuts::with_context;
+use streams::with_context;
 use ww_rule::Pattern;
 
 // The error if the net is not shown. If there is no such net, it has a copy of the net's name.

@@ -1,6 +1,6 @@
 // `window`: a part of the plane that a pattern has come to, as lines.
 ghost use Rattle.std.specs.Prelude.{◌≡◌, map, string_bytes, length, position, reverse, IfOk, IfErr};
-ghost use Rattle.word_cuts.specs.Cuts.{bits_in, is_equals_sign};
+ghost use Rattle.streams.specs.Cuts.{bits_in, is_equals_sign};
 ghost use Rattle.command_words.specs.Shapes.{window};
 ghost use Rattle.blifww_tool.specs.Answer.{output_text, IsWritableOutput};
 ghost use Rattle.blifww_tool.specs.Commands.{Prints, HasTextCause};

@@ -15,7 +15,7 @@ use Rattle.netlist_core.specs.Names.{Name}
 use Rattle.netlist_meaning.specs.Nets.{Net, net_at}
 use Rattle.netlist_meaning.specs.Valuation.{LatchState, Valuation}
 use Rattle.place_paths.specs.Paths.{name_and_path, names_and_paths}
-use Rattle.word_cuts.specs.Cuts.{with_context}
+use Rattle.streams.specs.Cuts.{with_context}
 use Rattle.carries.specs.DesignContexts.{CarriesContexts, CarriesNetsInContexts}
 use Rattle.streams.proofs.Ranges.{flat_map_same}
 use Rattle.drive.specs.Driving.{AreFor}

@@ -15,7 +15,7 @@ use Rattle.lists.proofs.Members.{got_from}
 use Rattle.streams.proofs.Ranges.{flat_map_same}
 use Rattle.drive.specs.Driving.{AreFor}
 use Rattle.probe_view.specs.Probes.{has_name_and_path, net_named, probed_at, probed_bits}
-use Rattle.word_cuts.specs.Cuts.{with_context}
+use Rattle.streams.specs.Cuts.{with_context}
 use Rattle.start_words.specs.Starts.{starts_of_words}
 use Rattle.shown_runs.specs.ShownRuns.{CarriersShowContexts, CarriersShowNetsInContexts, StreamsAreFor, net_bits_in_run}
 use Rattle.blifww_tool.specs.Lines.{bits_line, context_line}

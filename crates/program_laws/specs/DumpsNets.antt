@@ -7,7 +7,7 @@ use Rattle.netlist_meaning.specs.Valuation.{Valuation, LatchState}
 use Rattle.carries.specs.DesignContexts.{CarriesNetsInContexts}
 use Rattle.carries.specs.Nets.{AreSeenNets}
 use Rattle.place_paths.specs.Paths.{path_of}
-use Rattle.word_cuts.specs.Cuts.{with_context}
+use Rattle.streams.specs.Cuts.{with_context}
 use Rattle.streams.specs.declared.streams.Streams.{Streams}
 use Rattle.vcd_write.specs.NetWaves.{path_before}
 use Rattle.vcd_write.specs.Reading.{VcdForm, ReadsAsVcd, last_time, value_at}

@@ -14,7 +14,7 @@ use Rattle.start_words.specs.declared.error.StartFaultKind.{StartFaultKind}
 use Rattle.start_words.specs.declared.words.LatchStart.{LatchStart}
 use Rattle.start_words.specs.Flats.{AreBitsSet, pair_cmp}
 use Rattle.start_words.specs.Words.{Latches, bit_set, context_in, start_word_fault, first_fault_after, is_char_one, net_of_word, sets, start_fault}
-use Rattle.word_cuts.specs.Cuts.{bits_in}
+use Rattle.streams.specs.Cuts.{bits_in}
 
 -- a bit is set where a word sets it
 pub any_sets : (latches : Latches) (context class : ℕ) (words : List (List ℕ)) → is_some (bit_set latches context class words) ≡ list_any (sets latches context class) words

@@ -21,7 +21,7 @@ use Rattle.flat_designs.specs.Laws.{state_in_order}
 use Rattle.flat_designs.proofs.Classes.{class_is}
 use Rattle.flat_designs.proofs.Valuations.{latch_bits}
 use Rattle.start_words.specs.Words.{Latches, bit_set, context_in, net_of_word, sets, is_char_one}
-use Rattle.word_cuts.specs.Cuts.{bits_in}
+use Rattle.streams.specs.Cuts.{bits_in}
 use Rattle.start_words.specs.Flats.{flat_latches, flat_start_bit, flat_start_bits}
 use Rattle.start_words.specs.Starts.{latches_of, output_class, start_by_words, start_of_words}
 use Rattle.start_words.specs.Laws.{NoWordsMeanStart, StartsAreFlat}

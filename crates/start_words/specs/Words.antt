@@ -8,7 +8,7 @@ use Rattle.std.specs.List.{list_any, find}
 use Rattle.std.specs.Option.{is_some, option_map, option_map_or, option_or}
 use Rattle.std.specs.Str.{bytes_eq}
 use Rattle.netlist_core.specs.Names.{Name}
-use Rattle.word_cuts.specs.Cuts.{is_equals_sign, name_in, bits_in, has_context, context_of, name_after}
+use Rattle.streams.specs.Cuts.{is_equals_sign, name_in, bits_in, has_context, context_of, name_after}
 use Rattle.start_words.specs.declared.error.StartFault.{StartFault}
 use Rattle.start_words.specs.declared.error.StartFaultKind.{StartFaultKind}
 use Rattle.start_words.specs.declared.error.StartFaultKind.TheVariants.{NoEquals, BadContext, NoSuchLatch, TwiceLatch, BadBit}

@@ -2,7 +2,7 @@
 ghost use Rattle.std.specs.Prelude.{◌≡◌, ◌<◌, ◌^◌, ℕ, List, length, false, Some, None, IfOk, IfErr};
 ghost use Rattle.std.specs.Bool.{then_some};
 ghost use Rattle.std.specs.List.{list_any};
-ghost use Rattle.word_cuts.specs.Cuts.{bits_in};
+ghost use Rattle.streams.specs.Cuts.{bits_in};
 ghost use Rattle.netlist_meaning.specs.Flat.{class_of};
 ghost use Rattle.start_words.specs.Flats.{AreBitsSet, flat_latches};
 ghost use Rattle.start_words.specs.Words.{Latches, context_in, start_word_fault, is_char_one, is_one_bit, net_of_word, sets};
@@ -10,7 +10,7 @@ ghost use Rattle.start_words.specs.Words.{Latches, context_in, start_word_fault,
 use crate::error::StartFaultKind;
 use netlist_core::{Flat, FlatLatch, latch_named};
 use std::collections::BTreeMap;
-use word_cuts::{cut, cut_at_context};
+use streams::{cut, cut_at_context};
 
 /// What a word without a fault sets: in this context the latch whose output is of this class starts
 /// with this bit.

@@ -7,7 +7,7 @@ use Rattle.std.specs.Str.{bytes_eq}
 use Rattle.std.proofs.lemmas.Bool.{eqb-true}
 use Rattle.std.proofs.lemmas.List.{append_assoc, length-map, drop_more, map_more}
 use Rattle.std.proofs.lemmas.Simd.{map-map}
-use Rattle.word_cuts.specs.Cuts.{is_equals_sign, name_in, bits_in, names_context}
+use Rattle.streams.specs.Cuts.{is_equals_sign, name_in, bits_in, names_context}
 use Rattle.streams.specs.declared.error.StreamFaultKind.TheVariants.{NoEquals, BadContext, UnknownInput, TwiceInput, BadBit, BadLength}
 use Rattle.streams.specs.Words.{context_of_word, input_of_word, is_word_for, is_bit, fault_of_word}
 use Rattle.streams.specs.Streams.{Input, stream_fault, stream_faults_after, bits_for, stream_in, streams_of, missing_fault, missing_inputs, inputs_of_context}

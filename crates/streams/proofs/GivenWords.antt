@@ -19,7 +19,7 @@ use denote.Ref.{Bor}
 use Rattle.lists.specs.Names.{is_among}
 use Rattle.lists.proofs.Names.{bytes_eq-turned}
 use Rattle.lists.proofs.NameSets.{name_added}
-use Rattle.word_cuts.specs.Cuts.{is_equals_sign, name_in, bits_in, names_context}
+use Rattle.streams.specs.Cuts.{is_equals_sign, name_in, bits_in, names_context}
 use Rattle.streams.specs.declared.error.StreamFaultKind.{StreamFaultKind}
 use Rattle.streams.specs.declared.words.StreamWord.{StreamWord}
 use Rattle.streams.specs.Words.{context_of_word, input_of_word, is_word_for, fault_of_word}

@@ -3,3 +3,4 @@ pub mod Streams
 pub mod GivenBits
 pub mod Rows
 pub mod Examples
+pub mod Cuts

@@ -5,7 +5,7 @@ use Rattle.std.specs.List.{list_any, cons_option, find, range_with_len}
 use Rattle.std.specs.Option.{option_map}
 use Rattle.std.specs.declared.option.Option.{Option}
 use Rattle.std.specs.Str.{byte}
-use Rattle.word_cuts.specs.Cuts.{bits_in, with_context}
+use Rattle.streams.specs.Cuts.{bits_in, with_context}
 use Rattle.streams.specs.declared.error.StreamFault.{StreamFault}
 use Rattle.streams.specs.declared.error.StreamFaultKind.{StreamFaultKind}
 use Rattle.streams.specs.declared.error.StreamFaultKind.TheVariants.{MissingInput}

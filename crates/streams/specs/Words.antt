@@ -4,7 +4,7 @@ use Rattle.std.specs.Prelude.{ℕ, ◌==◌, ◌&&◌, ◌||◌, not, if◌then�
 use Rattle.std.specs.declared.option.Option.{Option}
 use Rattle.std.specs.List.{list_any, list_all}
 use Rattle.std.specs.Str.{byte, bytes_eq}
-use Rattle.word_cuts.specs.Cuts.{is_equals_sign, name_in, bits_in, names_context, context_named, without_context}
+use Rattle.streams.specs.Cuts.{is_equals_sign, name_in, bits_in, names_context, context_named, without_context}
 use Rattle.streams.specs.declared.error.StreamFaultKind.{StreamFaultKind}
 use Rattle.streams.specs.declared.error.StreamFaultKind.TheVariants.{NoEquals, BadContext, UnknownInput, TwiceInput, BadBit, BadLength}
 

@@ -10,7 +10,7 @@ use crate::stream_words::{bits_by_input, refusal};
 use lists::{Bytes, List};
 use std::alloc::{AllocError, Global};
 use std::collections::BTreeMap;
-use word_cuts::with_context;
+use crate::contexts::with_context;
 
 /// Streams of bits for the inputs in each of `c` contexts, all for `cycles` cycles. With n inputs,
 /// list `k n + i` is the stream of input i in context k, and bit t of the list is the input's bit

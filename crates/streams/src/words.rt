@@ -1,14 +1,15 @@
 // One stream word: the name of an input and its bits, or the word's fault.
 ghost use Rattle.std.specs.Prelude.{◌≡◌, ◌&&◌, ℕ, List, true, false, Some, None, IfOk, IfErr};
 ghost use Rattle.std.specs.List.{list_any, list_all};
-ghost use Rattle.word_cuts.specs.Cuts.{is_equals_sign, name_in, bits_in, names_context};
+ghost use Rattle.streams.specs.Cuts.{is_equals_sign, name_in, bits_in, names_context};
 ghost use Rattle.streams.specs.Words.{context_of_word, input_of_word, is_word_for, is_bit, fault_of_word};
 ghost use Rattle.streams.specs.GivenBits.{AreNamesOf, AreBitsOf};
 ghost use Rattle.lists.specs.Names.{is_among};
 
 use crate::error::StreamFaultKind;
 use std::collections::{BTreeMap, BTreeSet};
-use word_cuts::{cut, cut_if_several};
+use crate::contexts::cut_if_several;
+use crate::cuts::cut;
 
 /// A word without a fault: the input that it is for, and its bits.
 #[derive(Clone, Copy)]

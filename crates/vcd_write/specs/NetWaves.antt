@@ -6,7 +6,7 @@ use Rattle.std.specs.Str.{bytes_eq}
 use Rattle.ww_rule.specs.Wireworld.{Plane}
 use Rattle.pattern_reading.specs.declared.ports.NetLine.{NetLine}
 use Rattle.pattern_reading.specs.declared.ports.Ports.{Ports}
-use Rattle.word_cuts.specs.Cuts.{with_context}
+use Rattle.streams.specs.Cuts.{with_context}
 use Rattle.streams.specs.declared.streams.Streams.{Streams}
 use Rattle.drive.specs.Driving.{last_from}
 use Rattle.probe_view.specs.Probes.{probed_at}

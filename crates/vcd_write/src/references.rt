@@ -8,7 +8,7 @@ ghost use Rattle.vcd_write.specs.NetWaves.{IsByteName, nets_in, nets_in_contexts
 use lists::{Bytes, List};
 use pattern_reading::{NetLine, Ports};
 use std::alloc::{AllocError, Global};
-use word_cuts::with_context;
+use streams::with_context;
 
 // Whether a byte stands for itself in a reference.
 fn is_plain_in_reference(byte: u8) -> bool

@@ -1,6 +1,6 @@
 use Rattle.std.proofs.Common.{◌≡◌, ◌+◌, ◌∷◌, [], ◌++◌, ◌∙◌, ℕ, List, ap₂, arith, sym}
 use Rattle.std.proofs.lemmas.List.FromFn.{map-range_with_len_more}
-use Rattle.word_cuts.specs.Cuts.{with_context}
+use Rattle.streams.specs.Cuts.{with_context}
 use Rattle.blifww_tool.proofs.probe.names_in_contexts.Goals as goal
 
 pub loop-context-preserved : goal.loop-context-preserved

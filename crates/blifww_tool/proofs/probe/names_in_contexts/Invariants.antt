@@ -1,6 +1,6 @@
 use Rattle.std.proofs.Common.{◌≡◌, map}
 use Rattle.std.specs.List.{range_with_len}
-use Rattle.word_cuts.specs.Cuts.{with_context}
+use Rattle.streams.specs.Cuts.{with_context}
 use Rattle.blifww_tool.proofs.probe.names_in_contexts.Given as goal
 
 abbrev pub invariant-loop-context : goal.invariant-loop-context

@@ -2,7 +2,7 @@ use Rattle.std.proofs.Common.{ap, ◌∙◌, List, Bool, flat_map, zip}
 use Rattle.std.specs.List.{range_with_len}
 use Rattle.std.proofs.lemmas.Result.{err_from_is_err_and}
 use Rattle.ww_rule.specs.Grid.{plane_of}
-use Rattle.word_cuts.specs.Cuts.{with_context}
+use Rattle.streams.specs.Cuts.{with_context}
 use Rattle.pattern_reading.specs.declared.ports.PortLine.{PortLine}
 use Rattle.drive.specs.Driving.{shown_at}
 use Rattle.blifww_tool.specs.Simulation.{Simulation}

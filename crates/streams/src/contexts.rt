@@ -6,7 +6,7 @@ ghost use Rattle.std.specs.List.{list_all};
 ghost use Rattle.std.specs.Option.{MatchOption};
 ghost use Rattle.std.specs.Str.{byte};
 ghost use Rattle.std.specs.Str.Parse.{digits_value};
-ghost use Rattle.word_cuts.specs.Cuts.{context_named, context_of, has_context, is_unpadded_number, is_unpadded, name_after, names_context, with_context, without_context};
+ghost use Rattle.streams.specs.Cuts.{context_named, context_of, has_context, is_unpadded_number, is_unpadded, name_after, names_context, with_context, without_context};
 
 use crate::cuts::cut_at_colon;
 use itoa::Buffer;

@@ -1,8 +1,8 @@
 use Rattle.std.proofs.Common.{◌+◌, ap, ◌∙◌, sym, take, drop}
 use Rattle.std.proofs.lemmas.List.{take_rest}
-use Rattle.word_cuts.specs.Cuts.{is_colon}
-use Rattle.word_cuts.proofs.Places.{none_passes, first_is}
-use Rattle.word_cuts.proofs.cuts.cut_at_colon.Goals as goal
+use Rattle.streams.specs.Cuts.{is_colon}
+use Rattle.streams.proofs.Places.{none_passes, first_is}
+use Rattle.streams.proofs.cuts.cut_at_colon.Goals as goal
 
 pub returns-in_err-place : goal.returns-in_err-place
 returns-in_err-place c = rw c.from_residual.ensures (none_passes is_colon c.args.name.now (sym c.colon_in.ensures ∙ c.in_err-place.was))

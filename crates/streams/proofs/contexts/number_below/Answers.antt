@@ -1,8 +1,8 @@
 use Rattle.std.proofs.Common.{◌≡◌, ◌+◌, ◌*◌, ◌-◌, ◌<◌, ◌≤◌, sym, ap, take, arith, ℕ, Bool, get_or}
 use Rattle.std.specs.Bool.{then_some}
 use Rattle.std.specs.Str.Parse.{digits_value}
-use Rattle.word_cuts.proofs.Numbers.{one_more, not_below}
-use Rattle.word_cuts.proofs.contexts.number_below.Goals as goal
+use Rattle.streams.proofs.Numbers.{one_more, not_below}
+use Rattle.streams.proofs.contexts.number_below.Goals as goal
 
 pub returns-then-number-limit : goal.returns-then-number-limit
 returns-then-number-limit c =

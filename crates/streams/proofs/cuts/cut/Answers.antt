@@ -1,7 +1,7 @@
 use Rattle.std.proofs.Common.{◌-◌, ap, ◌∙◌, sym, take, drop, length}
 use Rattle.std.proofs.lemmas.List.{take_rest}
-use Rattle.word_cuts.proofs.Places.{not_cut, is_cut}
-use Rattle.word_cuts.proofs.cuts.cut.Goals as goal
+use Rattle.streams.proofs.Places.{not_cut, is_cut}
+use Rattle.streams.proofs.cuts.cut.Goals as goal
 
 pub returns-in_err-count : goal.returns-in_err-count
 returns-in_err-count c = rw c.from_residual.ensures (not_cut c.args.word.now (sym c.bits_after.ensures ∙ c.in_err-count.was))

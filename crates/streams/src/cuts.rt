@@ -2,7 +2,7 @@
 ghost use Rattle.std.specs.Prelude.{◌≡◌, true, false, position, reverse};
 ghost use Rattle.std.specs.List.{before_first, list_any};
 ghost use Rattle.std.specs.Option.{MatchOption};
-ghost use Rattle.word_cuts.specs.Cuts.{bits_in, is_colon, is_equals_sign, name_after, name_in};
+ghost use Rattle.streams.specs.Cuts.{bits_in, is_colon, is_equals_sign, name_after, name_in};
 
 // How many bytes stand after the last `=`.
 fn bits_after(word: &[u8]) -> Option<usize>
