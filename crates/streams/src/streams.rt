@@ -5,12 +5,12 @@ ghost use Rattle.streams.specs.declared.error.StreamError.TheVariants.{NoMemory,
 ghost use Rattle.streams.specs.Streams.{HasStreams, HasStreamCause, IsMissing, bits_for, inputs_of_context, inputs_of_contexts, missing_fault, missing_inputs, stream_in, streams_of};
 ghost use Rattle.streams.specs.GivenBits.{AreBitsOf};
 
+use crate::contexts::with_context;
 use crate::error::{StreamError, StreamFault, StreamFaultKind};
 use crate::stream_words::{bits_by_input, refusal};
 use lists::{Bytes, List};
 use std::alloc::{AllocError, Global};
 use std::collections::BTreeMap;
-use crate::contexts::with_context;
 
 /// Streams of bits for the inputs in each of `c` contexts, all for `cycles` cycles. With n inputs,
 /// list `k n + i` is the stream of input i in context k, and bit t of the list is the input's bit

@@ -6,10 +6,10 @@ ghost use Rattle.streams.specs.Words.{context_of_word, input_of_word, is_word_fo
 ghost use Rattle.streams.specs.GivenBits.{AreNamesOf, AreBitsOf};
 ghost use Rattle.lists.specs.Names.{is_among};
 
-use crate::error::StreamFaultKind;
-use std::collections::{BTreeMap, BTreeSet};
 use crate::contexts::cut_if_several;
 use crate::cuts::cut;
+use crate::error::StreamFaultKind;
+use std::collections::{BTreeMap, BTreeSet};
 
 /// A word without a fault: the input that it is for, and its bits.
 #[derive(Clone, Copy)]
