@@ -1,1 +1,4 @@
 pub mod Singles
+pub mod Moves
+mod Driven
+pub mod Mapping

@@ -4,3 +4,6 @@ pub mod Listed
 pub mod Needs
 pub mod Singles
 pub mod Mapped
+pub mod Same
+pub mod Moved
+pub mod Mapping

@@ -1,6 +1,9 @@
-//! What it means that a list of cells computes a flat netlist, and that a program, or a plan, computes a list of cells.
+//! What it means that a list of cells computes a flat netlist, that a program, or a plan, computes a list of cells, and
+//! that sources of a list move to another list, which computes the same.
 //!
-//! There is no code here: `specs/` has the definitions.
+//! The functions here do nothing: their clauses are the laws.
 //!
-//! Definition: `IsMapped`, `ComputesByProgram`, `ComputesByPlan`.
+//! Theorem: `mapped_stays`, `bits_stay`; definition `IsMapped`, `ComputesByProgram`, `ComputesByPlan`, `MovesBy`, `Keeps`.
 #![tactic(auto)]
+
+pub mod moves;

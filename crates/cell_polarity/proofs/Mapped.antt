@@ -12,7 +12,7 @@ use Rattle.cell_polarity.specs.Laws.{ComplementsAreMapped, ComplementsHaveBits, 
 use Rattle.cell_polarity.specs.Zero.{zero_bit, cells_for}
 use Rattle.cell_polarity.specs.Needed.{needed}
 use Rattle.cell_polarity.proofs.Zeros.{needs_one}
-use Rattle.cell_moves.proofs.Mapping.{mapped_keeps}
+use Rattle.cell_meaning.proofs.Mapping.{mapped_keeps}
 
 pub complements_are_mapped : ComplementsAreMapped
 complements_are_mapped flat old new kept still sound with complements few =

@@ -13,8 +13,8 @@ use Rattle.cell_core.specs.Sources.{is_there, are_there, reads_there}
 use Rattle.cell_core.specs.Meaning.{bit_in, bit_of}
 use Rattle.cell_core.proofs.Order.{there_more}
 use Rattle.cell_core.proofs.OwnBits.{cell_in_order}
-use Rattle.cell_moves.specs.Same.{is_cell}
-use Rattle.cell_moves.specs.Moved.{NewSources, new_source, goes_to}
+use Rattle.cell_meaning.specs.Same.{is_cell}
+use Rattle.cell_meaning.specs.Moved.{NewSources, new_source, goes_to}
 use Rattle.cell_polarity.specs.Needed.{cell_operands, with_operands, ports_and_nets, needed}
 use Rattle.cell_polarity.specs.Low.{AreLow}
 use Rattle.cell_polarity.specs.Marks.{AreMarked}

@@ -18,9 +18,9 @@ use Rattle.cell_core.specs.Sources.{is_there, reads_there, is_one, reads_one, ar
 use Rattle.cell_core.specs.Meaning.{source_bit, cell_bit, cell_bits, bit_in, bit_of}
 use Rattle.cell_core.proofs.OwnBits.{cell_in_order, bit_of_cell}
 use Rattle.cell_meaning.specs.Mapped.{IsCell}
-use Rattle.cell_moves.specs.Same.{cell_over}
-use Rattle.cell_moves.specs.Moved.{NewSources, new_source, goes_to, AreMoved}
-use Rattle.cell_moves.proofs.Moves.{follows, put_moved, all_the_same}
+use Rattle.cell_meaning.specs.Same.{cell_over}
+use Rattle.cell_meaning.specs.Moved.{NewSources, new_source, goes_to, AreMoved}
+use Rattle.cell_meaning.proofs.Moves.{follows, put_moved, all_the_same}
 use Rattle.cell_sharing.specs.Grown.{HasSource, Grows, Answers}
 use Rattle.cell_sharing.proofs.Growing.{grows, grows_refl, there_after, bit_after}
 use Rattle.cell_polarity.specs.Zero.{zero_bit, complement_if}

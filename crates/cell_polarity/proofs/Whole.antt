@@ -17,8 +17,8 @@ use Rattle.cell_core.specs.Sources.{is_one, reads_one, read_one}
 use Rattle.cell_core.specs.Loops.{names_one}
 use Rattle.cell_core.specs.Meaning.{bit_in}
 use Rattle.cell_meaning.specs.Mapped.{IsCell}
-use Rattle.cell_moves.specs.Same.{cell_over, StaysCell, StaysBit}
-use Rattle.cell_moves.specs.Moved.{NewSources, goes_to}
+use Rattle.cell_meaning.specs.Same.{cell_over, StaysCell, StaysBit}
+use Rattle.cell_meaning.specs.Moved.{NewSources, goes_to}
 use Rattle.cell_polarity.specs.Zero.{zero_bit, cells_for}
 use Rattle.cell_polarity.specs.Needed.{cell_operands, with_operands, ports_and_nets, needed}
 use Rattle.cell_polarity.specs.Complements.{Complements}

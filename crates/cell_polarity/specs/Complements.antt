@@ -7,7 +7,7 @@ use Rattle.cell_core.specs.declared.list.CellList.{CellList}
 use Rattle.cell_core.specs.Sources.{is_there, read_one}
 use Rattle.cell_core.specs.Loops.{names_one}
 use Rattle.cell_core.specs.Meaning.{bit_in, bit_of}
-use Rattle.cell_moves.specs.Same.{Keeps}
+use Rattle.cell_meaning.specs.Same.{Keeps}
 use Rattle.cell_polarity.specs.Zero.{zero_bit, complement_if, cells_for}
 use Rattle.cell_polarity.specs.Needed.{needed}
 

@@ -9,8 +9,8 @@ use Rattle.cell_core.specs.declared.list.CellList.{CellList}
 use Rattle.cell_core.specs.Sources.{reads_one}
 use Rattle.cell_core.specs.Meaning.{bit_in, cell_bit, cell_bits}
 use Rattle.cell_meaning.specs.Mapped.{IsCell}
-use Rattle.cell_moves.specs.Same.{cell_over, MovesBy}
-use Rattle.cell_moves.specs.Moved.{NewSources, new_source, goes_to, AreMoved}
+use Rattle.cell_meaning.specs.Same.{cell_over, MovesBy}
+use Rattle.cell_meaning.specs.Moved.{NewSources, new_source, goes_to, AreMoved}
 use Rattle.cell_sharing.specs.Grown.{HasSource, Grows}
 use Rattle.cell_polarity.specs.Zero.{zero_bit, complement_if}
 use Rattle.cell_polarity.specs.Low.{AreLow}

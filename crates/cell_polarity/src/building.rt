@@ -1,6 +1,6 @@
 // A list in which what is 1 at zero is kept as its complement.
 ghost use Rattle.std.specs.Prelude.{◌≡◌, map, IfOk};
-ghost use Rattle.cell_moves.specs.Moved.{goes_to};
+ghost use Rattle.cell_meaning.specs.Moved.{goes_to};
 ghost use Rattle.cell_polarity.specs.Complements.{Complements};
 ghost use Rattle.cell_polarity.specs.Raised.{HaveOwn, IsPorted};
 

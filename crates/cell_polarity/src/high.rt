@@ -2,8 +2,8 @@
 // needed.
 ghost use Rattle.std.specs.Prelude.{◌≡◌, true, length, map, IfOk, IsTrue};
 ghost use Rattle.cell_core.specs.Sources.{reads_there};
-ghost use Rattle.cell_moves.specs.Moved.{goes_to};
-ghost use Rattle.cell_moves.specs.Same.{cell_over};
+ghost use Rattle.cell_meaning.specs.Moved.{goes_to};
+ghost use Rattle.cell_meaning.specs.Same.{cell_over};
 ghost use Rattle.cell_sharing.specs.Grown.{HasSource};
 ghost use Rattle.cell_polarity.specs.Low.{AreLow};
 ghost use Rattle.cell_polarity.specs.Marks.{AreMarked};

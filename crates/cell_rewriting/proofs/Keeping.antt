@@ -14,8 +14,8 @@ use Rattle.cell_core.specs.Meaning.{bit_in}
 use Rattle.cell_core.specs.Adding.{Adds}
 use Rattle.cell_core.proofs.Bits.{appending_keeps_bits}
 use Rattle.cell_meaning.specs.Mapped.{IsCell}
-use Rattle.cell_moves.specs.Same.{cell_over, StaysCell, StaysBit, Keeps, IsNoLarger, IsRewritten, AreAlike, Rewrites}
-use Rattle.cell_moves.proofs.Mapping.{contains_mapped}
+use Rattle.cell_meaning.specs.Same.{cell_over, StaysCell, StaysBit, Keeps, IsNoLarger, IsRewritten, AreAlike, Rewrites}
+use Rattle.cell_meaning.proofs.Mapping.{contains_mapped}
 use Rattle.cell_rewriting.specs.Substitution.{Extends}
 
 all_stay : (sources : List Src) → sources ≡ map (λ s. s) sources

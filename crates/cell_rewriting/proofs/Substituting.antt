@@ -10,10 +10,10 @@ use Rattle.cell_core.specs.declared.list.CellList.{CellList}
 use Rattle.cell_core.specs.Meaning.{bit_in}
 use Rattle.cell_core.specs.Sources.{is_there}
 use Rattle.cell_core.proofs.Bits.{appending_keeps_bits}
-use Rattle.cell_moves.specs.Moved.{NewSources, new_source, AreMoved}
+use Rattle.cell_meaning.specs.Moved.{NewSources, new_source, AreMoved}
 use Rattle.cell_core.proofs.Following.{Follows}
 use Rattle.cell_core.proofs.Order.{there_more}
-use Rattle.cell_moves.proofs.Moves.{follows, put_moved, all_the_same}
+use Rattle.cell_meaning.proofs.Moves.{follows, put_moved, all_the_same}
 use Rattle.cell_rewriting.specs.Substitution.{AreEqual, AreEquivalent, Extends}
 
 -- ---- cells are added

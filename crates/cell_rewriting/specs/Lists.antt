@@ -3,7 +3,7 @@ use Rattle.std.specs.Prelude.{List}
 use Rattle.cell_core.specs.declared.cells.Src.{Src}
 use Rattle.cell_core.specs.declared.list.CellList.{CellList}
 use Rattle.cell_rewriting.specs.declared.rebuilding.KeptList.{KeptList}
-use Rattle.cell_moves.specs.Same.{IsRewritten}
+use Rattle.cell_meaning.specs.Same.{IsRewritten}
 
 -- the list is one to which the old one, with its kept sources, is rewritten
 abbrev pub IsRewrittenFrom : KeptList → CellList → Type 0

@@ -1,9 +1,9 @@
 // Cells that move to other places, one after another.
 ghost use Rattle.std.specs.Prelude.{◌≡◌, map, slice_get, get_or, None, IfOk, IfSome, OnOk, Some, true, Contains};
 ghost use Rattle.cell_core.specs.declared.cells.Src.TheVariants.{Cell as Made};
-ghost use Rattle.cell_moves.specs.Moved.{new_source, new_cell, goes_to, AreMoved};
+ghost use Rattle.cell_meaning.specs.Moved.{new_source, new_cell, goes_to, AreMoved};
 ghost use Rattle.cell_rewriting.specs.Substitution.{AreEqual};
-ghost use Rattle.cell_moves.specs.Same.{StaysCell};
+ghost use Rattle.cell_meaning.specs.Same.{StaysCell};
 
 use crate::RewriteError;
 use crate::substitution::Substitution;

@@ -1,7 +1,7 @@
 // The list in which sources are read in place of cells, without the cells that nothing reads then.
 ghost use Rattle.std.specs.Prelude.{IfOk, IfSome};
-ghost use Rattle.cell_moves.specs.Same.{Keeps};
-ghost use Rattle.cell_moves.specs.Moved.{AreMoved, IsRebuilt};
+ghost use Rattle.cell_meaning.specs.Same.{Keeps};
+ghost use Rattle.cell_meaning.specs.Moved.{AreMoved, IsRebuilt};
 ghost use Rattle.cell_rewriting.specs.Substitution.{AreEqual};
 
 use crate::RewriteError;

@@ -1,7 +1,7 @@
 // Rewrites a list into lists with fewer cells.
 ghost use Rattle.std.specs.Prelude.{◌≡◌, ◌≤◌, true, length, All, IfOk, IfSome, OnOk};
 ghost use Rattle.cell_rewriting.specs.Lists.{IsRewrittenFrom};
-ghost use Rattle.cell_moves.specs.Same.{Keeps, Rewrites, IsNoLarger, IsRewritten};
+ghost use Rattle.cell_meaning.specs.Same.{Keeps, Rewrites, IsNoLarger, IsRewritten};
 ghost use Rattle.cell_rewriting.specs.Substitution.{AreEqual, Extends};
 
 use crate::RewriteError;

@@ -1,6 +1,6 @@
 use Rattle.std.proofs.Common.{sym, subst}
 use Rattle.std.proofs.lemmas.Result.{IfOk-weaker}
-use Rattle.cell_moves.specs.Moved.{NewSources}
+use Rattle.cell_meaning.specs.Moved.{NewSources}
 use Rattle.cell_polarity.specs.Raised.{HaveOwn, IsPorted}
 use Rattle.cell_polarity.proofs.Ports.{have_own}
 use Rattle.cell_polarity.proofs.Whole.{whole}

@@ -1,5 +1,5 @@
 use Rattle.std.proofs.Common.{rules, ◌≡◌, refl, map}
-use Rattle.cell_moves.specs.Moved.{goes_to}
+use Rattle.cell_meaning.specs.Moved.{goes_to}
 use Rattle.cell_polarity.proofs.Ports.{outs_there, latches_there, nets_there, starts_fit, is_ported}
 use Rattle.cell_polarity.proofs.building.ported.Goals as goal
 

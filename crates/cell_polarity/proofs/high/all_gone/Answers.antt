@@ -1,7 +1,7 @@
 use Rattle.std.proofs.Common.{sym, ◌∙◌, ap₂, List, [], ◌∷◌, ◌++◌}
 use Rattle.std.proofs.lemmas.List.{map_more}
 use Rattle.cell_core.specs.declared.cells.Src.{Src}
-use Rattle.cell_moves.specs.Moved.{goes_to}
+use Rattle.cell_meaning.specs.Moved.{goes_to}
 use Rattle.cell_polarity.proofs.high.all_gone.Goals as goal
 
 pub loop-src-preserved : goal.loop-src-preserved

@@ -5,8 +5,8 @@ use Rattle.cell_core.specs.declared.cells.Src.TheVariants.{Input, Zero}
 use Rattle.cell_core.specs.declared.cells.Cell.{Cell}
 use Rattle.cell_core.specs.declared.cells.Cell.TheVariants.{Or}
 use Rattle.cell_core.specs.Sources.{reads_there}
-use Rattle.cell_moves.specs.Moved.{NewSources, goes_to}
-use Rattle.cell_moves.specs.Same.{cell_over}
+use Rattle.cell_meaning.specs.Moved.{NewSources, goes_to}
+use Rattle.cell_meaning.specs.Same.{cell_over}
 use Rattle.cell_sharing.specs.Grown.{HasSource}
 use Rattle.cell_polarity.specs.Raised.{IsRaised}
 use Rattle.cell_polarity.proofs.Raising.{own_there, low_there, raised_more, none_raised}

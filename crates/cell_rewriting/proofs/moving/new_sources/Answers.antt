@@ -2,7 +2,7 @@ use Rattle.std.proofs.Common.{sym, ◌∙◌, ap, ap₂, map, List, Option, Some
 use Rattle.std.proofs.lemmas.List.{map_more, map_push}
 use Rattle.cell_core.specs.declared.cells.Src.{Src}
 use Rattle.cell_core.specs.declared.cells.Src.TheVariants.{Input}
-use Rattle.cell_moves.specs.Moved.{new_source}
+use Rattle.cell_meaning.specs.Moved.{new_source}
 use Rattle.cell_rewriting.proofs.moving.new_sources.Goals as goal
 
 pub loop-src-preserved : goal.loop-src-preserved

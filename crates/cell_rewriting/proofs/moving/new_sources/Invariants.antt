@@ -1,5 +1,5 @@
 use Rattle.std.proofs.Common.{◌≡◌, map, take, Some}
-use Rattle.cell_moves.specs.Moved.{new_source}
+use Rattle.cell_meaning.specs.Moved.{new_source}
 use Rattle.cell_rewriting.proofs.moving.new_sources.Given as goal
 
 abbrev pub invariant-loop-src : goal.invariant-loop-src

@@ -1,9 +1,9 @@
 use Rattle.std.proofs.Common.{rules, ◌≡◌, ◌<◌, ◌≤◌, true, length, get_or}
 use Rattle.cell_core.specs.declared.cells.Src.{Src}
 use Rattle.cell_core.specs.declared.cells.Src.TheVariants.{Input}
-use Rattle.cell_moves.specs.Moved.{goes_to}
-use Rattle.cell_moves.specs.Same.{StaysCell}
-use Rattle.cell_moves.proofs.Moves.{none_stays, one_stays_more, all_stay}
+use Rattle.cell_meaning.specs.Moved.{goes_to}
+use Rattle.cell_meaning.specs.Same.{StaysCell}
+use Rattle.cell_meaning.proofs.Moves.{none_stays, one_stays_more, all_stay}
 use Rattle.cell_rewriting.proofs.moving.stay_cells.Goals as goal
 
 -- what a read of the slice names where there is nothing

@@ -1,6 +1,6 @@
 use Rattle.std.proofs.Common.{sym, subst}
-use Rattle.cell_moves.specs.Moved.{goes_to}
-use Rattle.cell_moves.specs.Same.{StaysCell}
+use Rattle.cell_meaning.specs.Moved.{goes_to}
+use Rattle.cell_meaning.specs.Same.{StaysCell}
 use Rattle.cell_rewriting.proofs.moving.stays.Goals as goal
 
 pub returns-in-Cell : goal.returns-in-Cell

@@ -1,7 +1,7 @@
 use Rattle.std.proofs.Common.{rules, ◌≡◌, refl, Some, slice_get}
 use Rattle.cell_core.specs.declared.cells.Src.TheVariants.{Cell as Made}
-use Rattle.cell_moves.specs.Moved.{new_source, new_cell}
-use Rattle.cell_moves.proofs.Moves.{stays_cell}
+use Rattle.cell_meaning.specs.Moved.{new_source, new_cell}
+use Rattle.cell_meaning.proofs.Moves.{stays_cell}
 use Rattle.cell_rewriting.proofs.moving.stays_cell.Goals as goal
 
 pub returns : goal.returns

@@ -1,7 +1,7 @@
 use Rattle.std.proofs.Common.{rules, ◌≡◌, refl, sym, ◌∙◌, ap, map, Some, length}
-use Rattle.cell_moves.specs.Moved.{new_source}
+use Rattle.cell_meaning.specs.Moved.{new_source}
 use Rattle.cell_core.proofs.Following.{as_many, in_order_again, there_again}
-use Rattle.cell_moves.proofs.Moves.{follows, is_rebuilt}
+use Rattle.cell_meaning.proofs.Moves.{follows, is_rebuilt}
 use Rattle.cell_rewriting.proofs.rebuilding.list_of.Goals as goal
 
 pub invariant_of-result-clause-in_order : goal.invariant_of-result-clause-in_order

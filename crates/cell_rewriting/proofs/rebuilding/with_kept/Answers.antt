@@ -1,6 +1,6 @@
 use Rattle.std.proofs.Common.{rules, ◌≡◌, map, Some, true}
-use Rattle.cell_moves.specs.Moved.{new_source}
-use Rattle.cell_moves.proofs.Moves.{keeps_moved}
+use Rattle.cell_meaning.specs.Moved.{new_source}
+use Rattle.cell_meaning.proofs.Moves.{keeps_moved}
 use Rattle.cell_rewriting.proofs.rebuilding.with_kept.Goals as goal
 
 pub returns : goal.returns

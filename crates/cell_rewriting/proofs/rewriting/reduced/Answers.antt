@@ -1,6 +1,6 @@
 use Rattle.std.proofs.Common.{sym, subst}
 use Rattle.cell_rewriting.specs.declared.rebuilding.KeptList.{KeptList}
-use Rattle.cell_moves.specs.Same.{IsRewritten}
+use Rattle.cell_meaning.specs.Same.{IsRewritten}
 use Rattle.cell_rewriting.proofs.Keeping.{then_rewritten}
 use Rattle.cell_rewriting.proofs.rewriting.reduced.Goals as goal
 use Rattle.cell_rewriting.proofs.rewriting.reduced.Goals.{else-loop-test, then-loop-test+in_ok-next+then-is_last}

@@ -2,7 +2,7 @@ use Rattle.std.proofs.Common.{List, subst}
 use Rattle.std.specs.Prelude.{IfOk, IfSome}
 use Rattle.std.proofs.lemmas.Result.{IfOk-weaker}
 use Rattle.cell_core.specs.declared.cells.Src.{Src}
-use Rattle.cell_moves.specs.Same.{Keeps}
+use Rattle.cell_meaning.specs.Same.{Keeps}
 use Rattle.cell_rewriting.proofs.Keeping.{added_keeps, then_keeps, some_weaker}
 use Rattle.cell_rewriting.proofs.rewriting.replaced.Goals as goal
 

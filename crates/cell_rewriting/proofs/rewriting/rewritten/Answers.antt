@@ -2,7 +2,7 @@ use Rattle.std.proofs.Common.{rules, ◌≡◌, sym, subst, List, ◌++◌, [], 
 use Rattle.std.specs.Prelude.{All}
 use Rattle.std.proofs.lemmas.List.Elements.{All-push}
 use Rattle.cell_core.specs.declared.list.CellList.{CellList}
-use Rattle.cell_moves.specs.Same.{Rewrites}
+use Rattle.cell_meaning.specs.Same.{Rewrites}
 use Rattle.cell_rewriting.proofs.Keeping.{then_rewritten, rewrites}
 use Rattle.cell_rewriting.proofs.rewriting.rewritten.Goals as goal
 

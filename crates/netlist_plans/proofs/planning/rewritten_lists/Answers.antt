@@ -1,7 +1,7 @@
 use Rattle.std.proofs.Common.{get_or, sym, ◌∙◌, true≢false}
 use Rattle.std.proofs.lemmas.Bool.{false_from_ne_true}
 use Rattle.std.proofs.lemmas.Result.{IfOk-weaker}
-use Rattle.cell_moves.proofs.Mapping.{mapped_stays, bits_stay}
+use Rattle.cell_meaning.proofs.Mapping.{mapped_stays, bits_stay}
 use Rattle.netlist_plans.proofs.planning.rewritten_lists.Goals as goal
 
 pub returns-clause-computes : goal.returns-clause-computes

@@ -1,7 +1,7 @@
 use Rattle.std.proofs.Common.{rules, ◌≡◌, sym, subst, ◌<◌, length, Some, ◌++◌, [], ◌∷◌, slice_set, slice_get}
 use Rattle.cell_core.specs.declared.cells.Src.TheVariants.{Cell as Made}
-use Rattle.cell_moves.specs.Moved.{new_cell, AreMoved}
-use Rattle.cell_moves.proofs.Moves.{moved_more, come_moved}
+use Rattle.cell_meaning.specs.Moved.{new_cell, AreMoved}
+use Rattle.cell_meaning.proofs.Moves.{moved_more, come_moved}
 use Rattle.cell_rewriting.proofs.moving.Moved.come.Goals as goal
 
 pub returns-in-Some-get_mut : goal.returns-in-Some-get_mut

@@ -1,5 +1,5 @@
 use Rattle.std.proofs.Common.{rules, ◌≡◌, ◌<◌, Some, length}
-use Rattle.cell_moves.specs.Moved.{new_source}
+use Rattle.cell_meaning.specs.Moved.{new_source}
 use Rattle.cell_rewriting.proofs.Substituting.{replaced_moved}
 use Rattle.cell_rewriting.proofs.moving.Moved.follow.Goals as goal
 

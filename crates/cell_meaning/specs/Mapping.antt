@@ -7,7 +7,7 @@ use Rattle.cell_core.specs.declared.cells.Src.{Src}
 use Rattle.cell_core.specs.declared.list.CellList.{CellList}
 use Rattle.cell_meaning.specs.Listed.{listed_classes}
 use Rattle.cell_meaning.specs.Mapped.{IsMapped, IsMappedWith, HasBits}
-use Rattle.cell_moves.specs.Same.{Rewrites}
+use Rattle.cell_meaning.specs.Same.{Rewrites}
 
 -- if the netlist's nets are listed, each class that is driven is that of a listed net
 abbrev pub AreDrivenListed : Flat → Type 0

@@ -13,7 +13,7 @@ use Rattle.netlist_core.specs.declared.flat.Flat.{Flat}
 use Rattle.netlist_meaning.specs.Flat.{no_net, no_node, IsNetId, class_of, node_at, FlatDriver, FlatDrives, IsClockClass, is_clock_class, nets_but_clocks, listed_nets, IsSound}
 use Rattle.netlist_meaning.proofs.ClockTest.{is_clock_class-Decides}
 use Rattle.cell_meaning.specs.Listed.{listed_classes}
-use Rattle.cell_moves.specs.Mapping.{AreDrivenListed}
+use Rattle.cell_meaning.specs.Mapping.{AreDrivenListed}
 
 stays_in : {X : Type 0} (p : X → Bool) (xs : List X) (x : X) → In x xs → p x ≡ true → In x (filter p xs)
 stays_in p [] x at passes = absurd at

@@ -16,10 +16,10 @@ use Rattle.cell_meaning.specs.Mapped.{IsCell, IsOwn, IsMappedWith}
 use Rattle.cell_meaning.specs.Needs.{any_needs_one, covers_weight}
 use Rattle.cell_meaning.specs.Singles.{single_cell, constant_source, are_pair, is_only}
 use Rattle.cell_meaning.specs.Listed.{listed_classes}
-use Rattle.cell_moves.specs.Same.{is_cell, cell_over, Keeps}
-use Rattle.cell_moves.specs.Mapping.{MappedStays, BitsStay}
+use Rattle.cell_meaning.specs.Same.{is_cell, cell_over, Keeps}
+use Rattle.cell_meaning.specs.Mapping.{MappedStays, BitsStay}
 use Rattle.cell_core.proofs.Following.{∷-parts}
-use Rattle.cell_moves.proofs.Driven.{driven_are_listed}
+use Rattle.cell_meaning.proofs.Driven.{driven_are_listed}
 
 mapped_twice : {X : Type 0} (f : X → Src) (g : Src → Src) (xs : List X) → map g (map f xs) ≡ map (λ x. g (f x)) xs
 mapped_twice f g [] = refl

@@ -1,5 +1,5 @@
 //! Laws of lists that are rewritten: a function does nothing, and its contract is the law.
-ghost use Rattle.cell_moves.specs.Mapping.{BitsStay, MappedStays};
+ghost use Rattle.cell_meaning.specs.Mapping.{BitsStay, MappedStays};
 
 /// A list that rewrites one that is mapped from a sound flat netlist is mapped from that netlist
 /// too.

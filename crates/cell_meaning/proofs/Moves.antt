@@ -17,8 +17,8 @@ use Rattle.cell_core.proofs.Bits.{appending_keeps_bits, pushed_bit}
 use Rattle.cell_core.proofs.Following.{∷-parts, and_not_follows, both, none_is_some, or_follows, ports_alike, xor_follows, ArePorts, CellFollows, Follows}
 use Rattle.cell_core.proofs.Order.{in_order_push, there_more}
 use Rattle.cell_core.proofs.OwnBits.{cell_in_order, bit_of_cell}
-use Rattle.cell_moves.specs.Same.{is_cell, cell_over, StaysCell, Keeps}
-use Rattle.cell_moves.specs.Moved.{NewSources, new_source, new_cell, goes_to, AreMoved, IsRebuilt}
+use Rattle.cell_meaning.specs.Same.{is_cell, cell_over, StaysCell, Keeps}
+use Rattle.cell_meaning.specs.Moved.{NewSources, new_source, new_cell, goes_to, AreMoved, IsRebuilt}
 
 -- ---- a source that has moved is there, and has its bit
 pub follows : (list : CellList) (cells : List Cell) (news : NewSources) → AreMoved list cells news → (src new : Src) → new_source news src ≡ Some new → Follows list cells src new

@@ -8,7 +8,7 @@ use Rattle.cell_core.specs.declared.cells.Cell.TheVariants.{Or, Xor, AndNot}
 use Rattle.cell_core.specs.declared.list.CellList.{CellList}
 use Rattle.cell_core.specs.Sources.{is_there, are_in_order}
 use Rattle.cell_core.specs.Meaning.{bit_in, bit_of}
-use Rattle.cell_moves.specs.Same.{MovesBy}
+use Rattle.cell_meaning.specs.Same.{MovesBy}
 
 -- for each cell of a list that has moved, its new source
 abbrev pub NewSources : Type 0

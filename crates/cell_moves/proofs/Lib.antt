@@ -1,3 +1,0 @@
-pub mod Moves
-mod Driven
-pub mod Mapping

@@ -1,8 +1,0 @@
-//! What it means that sources of a list of cells move to another list, which computes the same.
-//!
-//! The functions here do nothing: their clauses are the laws.
-//!
-//! Theorem: `mapped_stays`, `bits_stay`; definition `MovesBy`, `Keeps`.
-#![tactic(auto)]
-
-pub mod laws;
