@@ -6,4 +6,4 @@
 //! Theorem: `mapped_stays`, `bits_stay`; definition `IsMapped`, `ComputesByProgram`, `ComputesByPlan`, `MovesBy`, `Keeps`.
 #![tactic(auto)]
 
-pub mod moves;
+pub mod laws;

@@ -39,7 +39,7 @@ use Rattle.plan_ports.proofs.GatheredNets.{place_of_line}
 use Rattle.plan_ports.proofs.Readable.{one_has_room, small_size, tables_are_readable}
 use Rattle.plan_waves.specs.Tape.{drive_of_rows}
 use Rattle.plan_waves.specs.TapeLaws.{ShowsByItself}
-use Rattle.plan_waves.proofs.Shown.{shows_by_itself}
+use Rattle.plan_waves.proofs.TapesShown.{shows_by_itself}
 use Rattle.plan_carries.specs.Compiled.{IsCompiled}
 use Rattle.plan_carries.specs.Laws.{StartsAsFlat}
 use Rattle.plan_carries.specs.TapeLaws.{TapesRunByThemselves}

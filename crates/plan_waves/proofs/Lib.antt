@@ -20,4 +20,4 @@ pub mod Blocks
 pub mod RunIn
 pub mod Rows
 pub mod Begin
-pub mod Shown
+pub mod TapesShown

@@ -5,7 +5,7 @@
 #![tactic(auto)]
 
 mod columns;
-mod contexts;
+mod context_cuts;
 mod cuts;
 mod error;
 mod examples;
@@ -14,7 +14,7 @@ mod streams;
 mod words;
 
 pub use columns::{bits_across, columns_of};
-pub use contexts::{cut_at_context, cut_if_several, with_context};
+pub use context_cuts::{cut_at_context, cut_if_several, with_context};
 pub use cuts::cut;
 pub use error::{StreamError, StreamFault, StreamFaultKind};
 pub use examples::stream_words_read;

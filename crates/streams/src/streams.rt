@@ -5,7 +5,7 @@ ghost use Rattle.streams.specs.declared.error.StreamError.TheVariants.{NoMemory,
 ghost use Rattle.streams.specs.Streams.{HasStreams, HasStreamCause, IsMissing, bits_for, inputs_of_context, inputs_of_contexts, missing_fault, missing_inputs, stream_in, streams_of};
 ghost use Rattle.streams.specs.GivenBits.{AreBitsOf};
 
-use crate::contexts::with_context;
+use crate::context_cuts::with_context;
 use crate::error::{StreamError, StreamFault, StreamFaultKind};
 use crate::stream_words::{bits_by_input, refusal};
 use lists::{Bytes, List};

@@ -6,7 +6,7 @@ ghost use Rattle.streams.specs.Words.{context_of_word, input_of_word, is_word_fo
 ghost use Rattle.streams.specs.GivenBits.{AreNamesOf, AreBitsOf};
 ghost use Rattle.lists.specs.Names.{is_among};
 
-use crate::contexts::cut_if_several;
+use crate::context_cuts::cut_if_several;
 use crate::cuts::cut;
 use crate::error::StreamFaultKind;
 use std::collections::{BTreeMap, BTreeSet};

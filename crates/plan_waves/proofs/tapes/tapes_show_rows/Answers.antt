@@ -1,4 +1,4 @@
-use Rattle.plan_waves.proofs.Shown.{shows_by_itself}
+use Rattle.plan_waves.proofs.TapesShown.{shows_by_itself}
 use Rattle.plan_waves.proofs.tapes.tapes_show_rows.Goals as goal
 
 pub returns : goal.returns

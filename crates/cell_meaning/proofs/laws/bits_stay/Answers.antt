@@ -1,5 +1,5 @@
 use Rattle.cell_meaning.proofs.Mapping.{bits_stay}
-use Rattle.cell_meaning.proofs.moves.bits_stay.Goals as goal
+use Rattle.cell_meaning.proofs.laws.bits_stay.Goals as goal
 
 pub returns : goal.returns
 returns c = bits_stay

@@ -2,7 +2,7 @@ use Rattle.std.proofs.Common.{◌≡◌, ◌+◌, ◌*◌, ◌-◌, ◌<◌, ◌
 use Rattle.std.specs.Bool.{then_some}
 use Rattle.std.specs.Str.Parse.{digits_value}
 use Rattle.streams.proofs.Numbers.{one_more, not_below}
-use Rattle.streams.proofs.contexts.number_below.Goals as goal
+use Rattle.streams.proofs.context_cuts.number_below.Goals as goal
 
 pub returns-then-number-limit : goal.returns-then-number-limit
 returns-then-number-limit c =
