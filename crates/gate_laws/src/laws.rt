@@ -1,5 +1,6 @@
-//! Laws of gates: each function does nothing, and its contract is the law.
+//! Laws of gates and of crossings: each function does nothing, and its contract is the law.
 ghost use Rattle.gate_laws.specs.Gates.{GatesAnswerEachRow, LawfulAreGates};
+ghost use Rattle.gate_laws.specs.Crossings.{SpreadCrossingsAreLawful, CrossingsAnswerEachRow, CrossingsAreGates, CrossingsCopy};
 
 /// A gate that keeps its law is a part at every period from its time on, and answers each row of
 /// bits on its own.
@@ -10,4 +11,26 @@ pub fn gates_answer_each_row()
 /// So it is a gate for each of these periods.
 pub fn lawful_are_gates()
     ensures { LawfulAreGates }
+{}
+
+/// A crossing that keeps its law is a gate that keeps the law of gates for each difference of its
+/// inputs' generations that is not below its time.
+pub fn spread_crossings_are_lawful()
+    ensures { SpreadCrossingsAreLawful }
+{}
+
+/// At each period a crossing answers each row of bits, for each difference of its inputs'
+/// generations, if these are far enough apart within each period.
+pub fn crossings_answer_each_row()
+    ensures { CrossingsAnswerEachRow }
+{}
+
+/// So it is a gate for this period.
+pub fn crossings_are_gates()
+    ensures { CrossingsAreGates }
+{}
+
+/// Each output that an input lights has the bit of this input.
+pub fn crossings_copy()
+    ensures { CrossingsCopy }
 {}

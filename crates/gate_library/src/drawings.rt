@@ -2,12 +2,12 @@
 ghost use Rattle.std.specs.Prelude.{◌≡◌, length, IfOk};
 
 use crate::gate::{Answer, GateDrawing};
+use crate::kind::{GateKind, Turn};
 use crate::sketch::{Sketch, sketch_of};
 use crate::tables::table_of;
 use crate::turning::{find, letter_at, size_of, width_of};
 use gate_laws::{InCell, OutCell};
 use lists::{List, OutOfMemory};
-use routed_core::{GateKind, Turn};
 use std::alloc::{AllocError, Global};
 use ww_rule::State;
 

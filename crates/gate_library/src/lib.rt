@@ -1,15 +1,20 @@
-//! The library of small gates: their drawings as data, in eight turns, and their names.
+//! The library of small gates, their drawings as data, in eight turns, with their names; and routed circuits as data:
+//! gates that stand apart, and wires between their ports.
 #![tactic(auto)]
 
+mod circuit;
 mod drawings;
 mod gate;
+mod kind;
 mod library;
 mod names;
 mod sketch;
 mod tables;
 mod turning;
 
+pub use circuit::{Drawing, DrawnGate, DrawnPort, DrawnWire, GatePort};
 pub use drawings::drawing_of;
 pub use gate::{Answer, GateDrawing, Timing};
+pub use kind::{GateKind, Shape, Turn};
 pub use library::GateLibrary;
 pub use names::{SHAPES, TURNS, kind_named, letter_of, word_of};

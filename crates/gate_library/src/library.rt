@@ -3,9 +3,9 @@ ghost use Rattle.std.specs.Prelude.{◌<◌, ◌≡◌, vec_len};
 
 use crate::drawings::drawing_of;
 use crate::gate::GateDrawing;
+use crate::kind::GateKind;
 use crate::names::{SHAPES, TURNS};
 use lists::OutOfMemory;
-use routed_core::GateKind;
 use std::alloc::Global;
 
 /// The drawings of all kinds of gates.

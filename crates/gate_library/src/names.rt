@@ -1,6 +1,6 @@
 // The names of kinds: the word of a shape, a hyphen, and the letter of a turn.
 
-use routed_core::{GateKind, Shape, Turn};
+use crate::kind::{GateKind, Shape, Turn};
 
 /// All shapes, in order.
 pub const SHAPES: &[Shape] = &[

@@ -2,7 +2,7 @@
 // are the first and the second input, the letters from `t` on are outputs, and `C` is any other
 // conductor. A lone cell is its input and its output.
 use crate::gate::{Answer, Timing};
-use routed_core::Shape;
+use crate::kind::Shape;
 
 /// A shape as a text, whose rows from north to south have a space between them; the generation at
 /// which each input is lit; the delay of all outputs, and each one's letter and answer; and the

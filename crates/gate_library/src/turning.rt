@@ -1,7 +1,7 @@
 // Sketches in eight turns.
 
+use crate::kind::Turn;
 use crate::sketch::Sketch;
-use routed_core::Turn;
 
 fn is_upright(turn: Turn) -> bool {
     match turn {

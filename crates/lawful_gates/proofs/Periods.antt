@@ -2,7 +2,7 @@
 use Rattle.std.proofs.Common.{ℕ}
 use Rattle.gate_laws.specs.Gates.{IsGateForPeriod}
 use Rattle.gate_laws.proofs.Gates.{lawful_are_gates}
-use Rattle.crossing_laws.proofs.Crossings.{crossings_are_gates}
+use Rattle.gate_laws.proofs.Crossings.{crossings_are_gates}
 use Rattle.gate_library.specs.declared.gate.Timing.{Timing}
 use Rattle.gate_library.specs.declared.gate.Timing.TheVariants.{Together, Apart}
 use Rattle.gate_library.specs.declared.gate.GateDrawing.{GateDrawing}

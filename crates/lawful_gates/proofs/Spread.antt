@@ -5,7 +5,7 @@ use Rattle.wire_laws.specs.Rows.{Port}
 use Rattle.lists.specs.Items.{flag_at, list_at}
 use Rattle.gate_laws.specs.declared.window.OutCell.{OutCell}
 use Rattle.gate_laws.specs.Drawings.{out_port_of, out_table}
-use Rattle.crossing_laws.specs.Crossings.{spread_outs}
+use Rattle.gate_laws.specs.Crossings.{spread_outs}
 
 -- where an output stands, and its delay
 abbrev pub spread_port : (d : ℕ) → OutCell → Port

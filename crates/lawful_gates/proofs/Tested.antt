@@ -9,11 +9,11 @@ use Rattle.gate_laws.specs.declared.window.InCell.{InCell}
 use Rattle.gate_laws.specs.declared.window.OutCell.{OutCell}
 use Rattle.gate_laws.specs.Gates.{KeepsGateLaw}
 use Rattle.gate_laws.specs.Drawings.{in_at, out_port_of, out_table, number_of_bits, window_gate}
-use Rattle.crossing_laws.specs.Crossings.{KeepsCrossingLaw}
-use Rattle.crossing_laws.specs.Drawn.{window_crossing}
+use Rattle.gate_laws.specs.Crossings.{KeepsCrossingLaw}
+use Rattle.gate_laws.specs.Drawn.{window_crossing}
 use Rattle.gate_library.specs.declared.gate.Answer.{Answer}
 use Rattle.gate_library.specs.declared.gate.Answer.TheVariants.{Copy}
-use Rattle.crossing_laws.proofs.Crossings.{crossings_copy}
+use Rattle.gate_laws.proofs.Crossings.{crossings_copy}
 use Rattle.gate_library.specs.declared.gate.Timing.{Timing}
 use Rattle.gate_library.specs.declared.gate.Timing.TheVariants.{Together, Apart}
 use Rattle.gate_library.specs.declared.gate.GateDrawing.{GateDrawing}

@@ -6,8 +6,8 @@ use Rattle.gate_laws.specs.Gates.{Gate, KeepsGateLaw, IsGateForPeriod}
 use Rattle.gate_laws.specs.Drawings.{window_gate, in_at, number_of_bits}
 use Rattle.gate_laws.specs.declared.window.InCell.{InCell}
 use Rattle.gate_laws.specs.declared.window.OutCell.{OutCell}
-use Rattle.crossing_laws.specs.Crossings.{Crossing, KeepsCrossingLaw, spread}
-use Rattle.crossing_laws.specs.Drawn.{window_crossing}
+use Rattle.gate_laws.specs.Crossings.{Crossing, KeepsCrossingLaw, spread}
+use Rattle.gate_laws.specs.Drawn.{window_crossing}
 use Rattle.gate_library.specs.declared.gate.Answer.{Answer}
 use Rattle.gate_library.specs.declared.gate.Answer.TheVariants.{Copy, Or, Xor, AndNot}
 use Rattle.gate_library.specs.declared.gate.Timing.{Timing}

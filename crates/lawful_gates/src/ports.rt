@@ -3,7 +3,7 @@ ghost use Rattle.std.specs.Prelude.{◌≡◌, ◌+◌, ◌∷◌, [], cond, len
 ghost use Rattle.std.specs.Option.{option_map};
 ghost use Rattle.lists.specs.Items.{flag_at, list_at};
 ghost use Rattle.gate_laws.specs.Drawings.{in_port_of, out_port_of, out_table, in_at};
-ghost use Rattle.crossing_laws.specs.Crossings.{spread_outs};
+ghost use Rattle.gate_laws.specs.Crossings.{spread_outs};
 ghost use Rattle.lawful_gates.specs.Lawful.{gate_at, port_in_cell};
 
 use crate::LawfulGate;

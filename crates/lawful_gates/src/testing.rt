@@ -3,12 +3,11 @@ ghost use Rattle.std.specs.Prelude.{◌≡◌, ◌≢◌, ◌⊎◌, ◌<◌, �
 ghost use Rattle.lists.specs.Items.{flag_at};
 ghost use Rattle.gate_laws.specs.Gates.{KeepsGateLaw};
 ghost use Rattle.gate_laws.specs.Drawings.{number_of_bits, in_at};
-ghost use Rattle.crossing_laws.specs.Crossings.{KeepsCrossingLaw};
+ghost use Rattle.gate_laws.specs.Crossings.{KeepsCrossingLaw};
 ghost use Rattle.lawful_gates.specs.Lawful.{own_cell, gate_together, crossing_apart, answer_bit, no_out, KeepsLawOf, SaysAnswer, IsLawful};
 
 use crate::ports::in_at;
-use crossing_laws::keeps_crossing_law;
-use gate_laws::{CHOICES, InCell, OutCell, keeps_law, number_of_bits};
+use gate_laws::{CHOICES, InCell, OutCell, keeps_crossing_law, keeps_law, number_of_bits};
 use gate_library::{Answer, GateDrawing, Timing};
 
 fn bit_at(bits: &[bool], i: u32) -> bool

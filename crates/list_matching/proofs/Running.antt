@@ -16,7 +16,7 @@ use Rattle.cell_core.specs.Meaning.{source_bit, cell_bit, cell_bits, bit_of}
 use Rattle.cell_core.proofs.Bits.{length-cell_bits}
 use Rattle.cell_core.proofs.OwnBits.{cell_in_order, bit_of_cell}
 use Rattle.cell_meaning.specs.Same.{cell_over}
-use Rattle.routed_lists.specs.Runs.{src_at, list_state, list_bit}
+use Rattle.routed_circuits.specs.Runs.{src_at, list_state, list_bit}
 use Rattle.list_matching.specs.Alike.{RunAlike}
 use Rattle.list_matching.specs.Matched.{AreStandIns, StandsForCell, StandsForLatch, made_at, stand_in, turned_cell}
 

@@ -1,7 +1,7 @@
 -- Lists of cells that run alike.
 use Rattle.std.specs.Prelude.{ℕ, ◌≡◌, Bool, List, length}
 use Rattle.cell_core.specs.declared.list.CellList.{CellList}
-use Rattle.routed_lists.specs.Runs.{src_at, list_bit}
+use Rattle.routed_circuits.specs.Runs.{src_at, list_bit}
 
 -- The lists have as many inputs, outputs and nets. On all rows of input bits, in each cycle, their
 -- outputs have the same bits, and so have their nets.

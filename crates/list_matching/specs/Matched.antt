@@ -7,7 +7,7 @@ use Rattle.cell_core.specs.declared.cells.Cell.{Cell}
 use Rattle.cell_core.specs.declared.cells.Cell.TheVariants.{Or, Xor, AndNot}
 use Rattle.cell_core.specs.declared.list.CellList.{CellList}
 use Rattle.cell_meaning.specs.Same.{cell_over}
-use Rattle.routed_lists.specs.Runs.{src_at}
+use Rattle.routed_circuits.specs.Runs.{src_at}
 
 -- the cell with a number; past the end it is one that makes 0
 abbrev pub made_at : List Cell → ℕ → Cell

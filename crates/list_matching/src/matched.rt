@@ -1,7 +1,7 @@
 // Read-only tests of what stands for the sources of a list.
 ghost use Rattle.std.specs.Prelude.{◌≡◌, ◌<◌, ℕ, length, map, IsTrue};
 ghost use Rattle.cell_meaning.specs.Same.{cell_over};
-ghost use Rattle.routed_lists.specs.Runs.{src_at};
+ghost use Rattle.routed_circuits.specs.Runs.{src_at};
 ghost use Rattle.list_matching.specs.Matched.{AreStandIns, StandsForCell, StandsForLatch, made_at, stand_in, turned_cell};
 
 use cell_core::{Cell, CellList, Src, is_same_cell, is_same_src};

@@ -1,9 +1,9 @@
 // Tests of the search that finds gates and wires, and of the lines that name them.
 use crate::pages::Page;
+use gate_library::Drawing;
 use pattern_reading::Ports;
 use route_finder::{FindError, find};
 use route_lines::{gate_lines, read};
-use routed_core::Drawing;
 use ww_rule::Pattern;
 
 // Appends the lines of a drawing.

@@ -1,12 +1,11 @@
 // Tests that each drawing in each turn keeps its law, and of the page of all gates.
 use crate::pages::Page;
-use crossing_laws::keeps_crossing_law;
-use gate_laws::keeps_law;
+use gate_laws::{keeps_crossing_law, keeps_law};
 use gate_library::{
-    Answer, GateDrawing, GateLibrary, SHAPES, TURNS, Timing, kind_named, letter_of, word_of,
+    Answer, GateDrawing, GateKind, GateLibrary, SHAPES, Shape, TURNS, Timing, Turn, kind_named,
+    letter_of, word_of,
 };
 use page::PAGE;
-use routed_core::{GateKind, Shape, Turn};
 use std::str::from_utf8;
 use std::test::Fail;
 use ww_rule::State;

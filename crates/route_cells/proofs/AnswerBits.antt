@@ -11,8 +11,8 @@ use Rattle.cell_core.specs.declared.list.CellList.{CellList}
 use Rattle.cell_core.specs.Meaning.{bit_of, cell_bit, cell_bits}
 use Rattle.cell_core.proofs.OwnBits.{bit_of_cell}
 use Rattle.gate_laws.specs.Drawings.{out_port_of}
-use Rattle.crossing_laws.specs.Crossings.{is_of_second}
-use Rattle.routed_lists.specs.Runs.{src_at}
+use Rattle.gate_laws.specs.Crossings.{is_of_second}
+use Rattle.routed_circuits.specs.Runs.{src_at}
 use Rattle.gate_library.specs.declared.gate.Answer.{Answer}
 use Rattle.gate_library.specs.declared.gate.Answer.TheVariants.{Copy, Or, Xor, AndNot}
 use Rattle.gate_library.specs.declared.gate.Timing.{Timing}

@@ -5,8 +5,8 @@ use Rattle.lists.proofs.Members.{In, in_from, contains_from, in_map, in_mapped, 
 use Rattle.ww_rule.specs.declared.pattern.State.{State}
 use Rattle.wire_laws.specs.Wires.{AreWiresDrawn}
 use Rattle.pattern_reading.specs.declared.ports.Ports.{Ports}
-use Rattle.routed_planes.specs.Routed.{gates_plane, StandAllApart}
-use Rattle.routed_lists.specs.Lists.{Point, SourcedWire, in_points, all_points, placed_of, point_signal, wire_in_run, ComputesSources, DelaysSource, ComputesList}
+use Rattle.routed_circuits.specs.Routed.{gates_plane, StandAllApart}
+use Rattle.routed_circuits.specs.Lists.{Point, SourcedWire, in_points, all_points, placed_of, point_signal, wire_in_run, ComputesSources, DelaysSource, ComputesList}
 use Rattle.lawful_gates.proofs.Periods.{lawful_are_gates_at_period}
 use Rattle.route_tables.specs.declared.tables.Feed.{Feed}
 use Rattle.route_tables.specs.declared.tables.Feed.TheVariants.{Wire as ByWire, Driven}

@@ -8,8 +8,8 @@ use Rattle.ww_rule.specs.declared.pattern.State.{State}
 use Rattle.ww_rule.specs.declared.pattern.State.TheVariants.{Head, Tail, Conductor}
 use Rattle.wire_laws.specs.Signals.{cell_state, is_lit}
 use Rattle.wire_laws.specs.Rows.{Port}
-use Rattle.routed_lists.specs.Runs.{list_bit, IsDelayed}
-use Rattle.routed_lists.specs.Lists.{Point, point_signal}
+use Rattle.routed_circuits.specs.Runs.{list_bit, IsDelayed}
+use Rattle.routed_circuits.specs.Lists.{Point, point_signal}
 use Rattle.lawful_gates.specs.declared.ports.PortCell.{PortCell}
 use Rattle.route_tables.specs.declared.tables.TableWire.{TableWire}
 use Rattle.route_tables.specs.declared.tables.Tables.{Tables}

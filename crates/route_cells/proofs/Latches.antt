@@ -4,8 +4,8 @@ use Rattle.std.proofs.lemmas.Bool.{cases_lt}
 use Rattle.std.proofs.lemmas.List.{length_push, get_or_append_left, get_or_push}
 use Rattle.cell_core.specs.declared.cells.Src.{Src}
 use Rattle.cell_core.specs.declared.list.CellList.{CellList}
-use Rattle.routed_lists.specs.Runs.{list_bit, IsDelayed}
-use Rattle.routed_lists.proofs.Delayed.{latch_later}
+use Rattle.routed_circuits.specs.Runs.{list_bit, IsDelayed}
+use Rattle.routed_circuits.proofs.Delayed.{latch_later}
 use Rattle.route_cells.specs.Chains.{IsLatch, LatchesLeadBack}
 
 pub no_latch : (list : CellList) (to : Src) → LatchesLeadBack list to [] to

@@ -5,12 +5,12 @@ use Rattle.std.proofs.lemmas.Option.{slice_get-get_or, get_or_from_slice_get, sl
 use Rattle.lists.proofs.Members.{In, in_map, in_mapped, in_flat, in_flattened, in_left, in_right, in_got, got_from}
 use Rattle.wire_laws.specs.Rows.{Port}
 use Rattle.cell_core.specs.declared.cells.Src.{Src}
-use Rattle.routed_planes.specs.Routed.{PlacedGate, placed_port, placed_ins, placed_outs}
-use Rattle.routed_lists.specs.Runs.{src_at}
-use Rattle.routed_lists.specs.Lists.{Point, SourcedGate, points_of, in_points, out_points, all_points}
-use Rattle.routed_core.specs.declared.drawing.DrawnPort.{DrawnPort}
-use Rattle.routed_core.specs.declared.drawing.GatePort.{GatePort}
-use Rattle.routed_core.specs.declared.drawing.GatePort.TheVariants.{In as InPort, Out as OutPort}
+use Rattle.routed_circuits.specs.Routed.{PlacedGate, placed_port, placed_ins, placed_outs}
+use Rattle.routed_circuits.specs.Runs.{src_at}
+use Rattle.routed_circuits.specs.Lists.{Point, SourcedGate, points_of, in_points, out_points, all_points}
+use Rattle.gate_library.specs.declared.circuit.DrawnPort.{DrawnPort}
+use Rattle.gate_library.specs.declared.circuit.GatePort.{GatePort}
+use Rattle.gate_library.specs.declared.circuit.GatePort.TheVariants.{In as InPort, Out as OutPort}
 use Rattle.route_tables.specs.declared.tables.GateInput.{GateInput}
 use Rattle.route_tables.specs.declared.tables.Tables.{Tables}
 use Rattle.route_tables.specs.Tables.{no_gate, no_port, table_gate, sourced_gate, sourced_gates, HasPort, IsPort, gate_point, point_at, input_port, input_point}

@@ -8,9 +8,9 @@ use Rattle.pattern_reading.specs.declared.ports.Ports.{Ports}
 use Rattle.pattern_reading.specs.declared.ports.PortLine.{PortLine}
 use Rattle.cell_core.specs.declared.cells.Src.{Src}
 use Rattle.cell_core.specs.declared.cells.Src.TheVariants.{Zero}
-use Rattle.routed_lists.specs.Lists.{Point, all_points}
-use Rattle.routed_texts.specs.Tables.{in_point, IsTableOfPoints}
-use Rattle.routed_core.specs.declared.drawing.DrawnPort.{DrawnPort}
+use Rattle.routed_circuits.specs.Lists.{Point, all_points}
+use Rattle.routed_circuits.specs.Tables.{in_point, IsTableOfPoints}
+use Rattle.gate_library.specs.declared.circuit.DrawnPort.{DrawnPort}
 use Rattle.route_tables.specs.declared.tables.GateInput.{GateInput}
 use Rattle.route_tables.specs.declared.tables.Tables.{Tables}
 use Rattle.route_tables.specs.Tables.{sourced_gates, input_point, driven_points, box_plane}

@@ -2,10 +2,10 @@
 use Rattle.std.proofs.Common.{List, [], map}
 use Rattle.ww_rule.specs.declared.pattern.State.{State}
 use Rattle.pattern_reading.specs.declared.ports.Ports.{Ports}
-use Rattle.routed_planes.proofs.Labels.{labelled_are_drawn}
-use Rattle.routed_lists.specs.Lists.{point_signal}
-use Rattle.routed_texts.specs.Tables.{ShowsListRuns}
-use Rattle.routed_texts.proofs.Shown.{routed_show_runs}
+use Rattle.routed_circuits.proofs.Labels.{labelled_are_drawn}
+use Rattle.routed_circuits.specs.Lists.{point_signal}
+use Rattle.routed_circuits.specs.Tables.{ShowsListRuns}
+use Rattle.routed_circuits.proofs.Shown.{routed_show_runs}
 use Rattle.route_tables.specs.declared.tables.Tables.{Tables}
 use Rattle.route_tables.specs.Owners.{owner_at}
 use Rattle.route_tables.specs.Tables.{sourced_gates, sourced_wires, placed_gates, dark_wire, driven_points, box_plane, own}

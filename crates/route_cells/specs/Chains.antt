@@ -4,7 +4,7 @@ use Rattle.lists.specs.Items.{flag_at}
 use Rattle.cell_core.specs.declared.cells.Src.{Src}
 use Rattle.cell_core.specs.declared.cells.Src.TheVariants.{Latch}
 use Rattle.cell_core.specs.declared.list.CellList.{CellList}
-use Rattle.routed_lists.specs.Runs.{src_at, list_bit, IsDelayed}
+use Rattle.routed_circuits.specs.Runs.{src_at, list_bit, IsDelayed}
 
 -- the source is a latch with this start bit, which reads another source
 abbrev pub IsLatch : CellList → (at reads : Src) → (start : Bool) → Type 0

@@ -1,7 +1,7 @@
 -- Gates that are in time, by their drawings.
 use Rattle.std.specs.Prelude.{ℕ, ◌<◌, ◌≡◌, length}
 use Rattle.cell_core.specs.declared.list.CellList.{CellList}
-use Rattle.routed_lists.specs.Runs.{src_at}
+use Rattle.routed_circuits.specs.Runs.{src_at}
 use Rattle.gate_library.specs.declared.gate.GateDrawing.{GateDrawing}
 use Rattle.lawful_gates.specs.Lawful.{answer_at, FitsPeriod}
 use Rattle.route_tables.specs.declared.tables.TableGate.{TableGate}

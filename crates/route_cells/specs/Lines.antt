@@ -5,7 +5,7 @@ use Rattle.ww_rule.specs.declared.pattern.State.TheVariants.{Conductor}
 use Rattle.wire_laws.specs.Signals.{cell_state}
 use Rattle.pattern_reading.specs.declared.ports.PortLine.{PortLine}
 use Rattle.cell_core.specs.declared.cells.Src.{Src}
-use Rattle.routed_core.specs.declared.drawing.DrawnPort.{DrawnPort}
+use Rattle.gate_library.specs.declared.circuit.DrawnPort.{DrawnPort}
 use Rattle.route_tables.specs.declared.tables.Tables.{Tables}
 use Rattle.route_tables.specs.Tables.{IsPort, point_at, box_plane}
 

@@ -1,7 +1,7 @@
 // The list of cells of a routed circuit.
 ghost use Rattle.std.specs.Prelude.{◌≡◌, ◌≤◌, IfOk, IsTrue};
 ghost use Rattle.ww_rule.specs.Grid.{plane_of};
-ghost use Rattle.routed_texts.specs.Tables.{ShowsListRuns};
+ghost use Rattle.routed_circuits.specs.Tables.{ShowsListRuns};
 ghost use Rattle.route_tables.specs.Checked.{IsChecked};
 ghost use Rattle.route_cells.specs.Fits.{FitsPorts};
 
@@ -10,11 +10,11 @@ use crate::flat::flat_cells;
 use crate::lines::test_lines;
 use crate::runs::{test_gates, test_wires};
 use cell_core::CellList;
+use gate_library::Drawing;
 use pattern_reading::Ports;
 use route_check::test_cells;
 use route_filling::tables_of;
 use route_tables::{BOX_LIMIT, CellFault, FaultWord, Tables};
-use routed_core::Drawing;
 use std::alloc::Global;
 use ww_rule::{Pattern, State};
 

@@ -2,7 +2,7 @@
 ghost use Rattle.std.specs.Prelude.{◌≡◌, ◌≤◌, ℕ, Some, length, slice_get, IfOk, IsTrue};
 ghost use Rattle.pattern_reading.specs.declared.ports.PortLine.{PortLine};
 ghost use Rattle.pattern_reading.specs.declared.ports.NetLine.{NetLine};
-ghost use Rattle.routed_lists.specs.Runs.{src_at};
+ghost use Rattle.routed_circuits.specs.Runs.{src_at};
 ghost use Rattle.route_tables.specs.declared.tables.GateInput.{GateInput};
 ghost use Rattle.route_tables.specs.Checked.{HasItsPorts};
 ghost use Rattle.route_tables.specs.Runs.{IsInput, IsDark, ShowsAt};
@@ -11,9 +11,9 @@ ghost use Rattle.route_cells.specs.Lines.{IsConductorAt, IsPointAt};
 use crate::answers::src_at;
 use crate::electrons::is_same;
 use cell_core::{Src, is_same_src};
+use gate_library::DrawnPort;
 use pattern_reading::{NetLine, PortLine, Ports};
 use route_tables::{CellFault, FaultWord, Tables, input_port, state_at};
-use routed_core::DrawnPort;
 use ww_rule::State;
 
 // A fault at the cell of a line.

@@ -9,12 +9,12 @@ use Rattle.ww_rule.specs.declared.pattern.State.TheVariants.{Empty, Head, Conduc
 use Rattle.wire_laws.specs.Signals.{Signal, cell_state, is_lit}
 use Rattle.wire_laws.specs.Wires.{Wire, IsNear, wire_state}
 use Rattle.gate_laws.specs.Gates.{IsGateForPeriod}
-use Rattle.routed_planes.specs.Routed.{PlacedGate, gate_plane}
-use Rattle.routed_planes.specs.Labels.{Owner, Nobody, OfGate, AreLabels, OwnersStandApart, IsPathOf, HaveOwnEnds, HasStates}
-use Rattle.routed_lists.specs.Lists.{placed_of, point_signal}
-use Rattle.routed_core.specs.declared.drawing.DrawnPort.{DrawnPort}
-use Rattle.routed_core.specs.declared.drawing.GatePort.{GatePort}
-use Rattle.routed_core.specs.declared.drawing.GatePort.TheVariants.{In, Out}
+use Rattle.routed_circuits.specs.Routed.{PlacedGate, gate_plane}
+use Rattle.routed_circuits.specs.Labels.{Owner, Nobody, OfGate, AreLabels, OwnersStandApart, IsPathOf, HaveOwnEnds, HasStates}
+use Rattle.routed_circuits.specs.Lists.{placed_of, point_signal}
+use Rattle.gate_library.specs.declared.circuit.DrawnPort.{DrawnPort}
+use Rattle.gate_library.specs.declared.circuit.GatePort.{GatePort}
+use Rattle.gate_library.specs.declared.circuit.GatePort.TheVariants.{In, Out}
 use Rattle.gate_library.specs.declared.gate.GateDrawing.{GateDrawing}
 use Rattle.lawful_gates.specs.Lawful.{input_cell}
 use Rattle.lawful_gates.proofs.Periods.{lawful_are_gates_at_period}

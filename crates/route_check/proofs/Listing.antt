@@ -12,9 +12,9 @@ use Rattle.tile_timing.proofs.Windows.{beside, at_place}
 use Rattle.wire_laws.specs.Signals.{cell_state}
 use Rattle.wire_laws.specs.Wires.{Wire}
 use Rattle.gate_library.specs.declared.gate.GateDrawing.{GateDrawing}
-use Rattle.routed_planes.specs.Routed.{PlacedGate, gate_plane}
-use Rattle.routed_planes.specs.Labels.{Owner, Nobody, OfGate, OfWire, IsGateCell, IsWireCell}
-use Rattle.routed_lists.specs.Lists.{placed_of}
+use Rattle.routed_circuits.specs.Routed.{PlacedGate, gate_plane}
+use Rattle.routed_circuits.specs.Labels.{Owner, Nobody, OfGate, OfWire, IsGateCell, IsWireCell}
+use Rattle.routed_circuits.specs.Lists.{placed_of}
 use Rattle.route_tables.specs.declared.tables.Tables.{Tables}
 use Rattle.route_tables.specs.Serials.{listed_cell}
 use Rattle.route_tables.specs.Owners.{IsListing}

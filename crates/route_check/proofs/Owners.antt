@@ -5,8 +5,8 @@ use Rattle.ww_rule.specs.declared.pattern.State.TheVariants.{Empty}
 use Rattle.tile_timing.specs.Window.{shown}
 use Rattle.wire_laws.specs.Signals.{cell_state}
 use Rattle.wire_laws.specs.Wires.{Wire, IsNear}
-use Rattle.routed_planes.specs.Routed.{PlacedGate}
-use Rattle.routed_planes.specs.Labels.{Owner, Nobody, OfGate, OfWire, IsGateCell, IsWireCell, AreLabels}
+use Rattle.routed_circuits.specs.Routed.{PlacedGate}
+use Rattle.routed_circuits.specs.Labels.{Owner, Nobody, OfGate, OfWire, IsGateCell, IsWireCell, AreLabels}
 use Rattle.route_tables.specs.Serials.{serial_at, listed_cell, AreSerials}
 use Rattle.route_tables.specs.Owners.{IsListing, owner_by, owner_at, TablesAreLabels}
 

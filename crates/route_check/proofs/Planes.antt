@@ -9,7 +9,7 @@ use Rattle.gate_library.specs.declared.gate.Timing.{Timing}
 use Rattle.gate_library.specs.declared.gate.Timing.TheVariants.{Together, Apart}
 use Rattle.gate_library.specs.declared.gate.GateDrawing.{GateDrawing}
 use Rattle.lawful_gates.specs.Lawful.{gate_by, gate_at}
-use Rattle.routed_planes.specs.Routed.{gate_plane}
+use Rattle.routed_circuits.specs.Routed.{gate_plane}
 use Rattle.route_tables.specs.declared.tables.TableGate.{TableGate}
 use Rattle.route_tables.specs.Tables.{sourced_by}
 

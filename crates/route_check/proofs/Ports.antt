@@ -8,7 +8,7 @@ use Rattle.ww_rule.specs.declared.pattern.State.TheVariants.{Conductor}
 use Rattle.wire_laws.specs.Signals.{cell_state}
 use Rattle.wire_laws.specs.Rows.{Port}
 use Rattle.gate_laws.specs.Drawings.{in_port_of}
-use Rattle.crossing_laws.specs.Crossings.{alone, is_of_second, spread_outs}
+use Rattle.gate_laws.specs.Crossings.{alone, is_of_second, spread_outs}
 use Rattle.gate_library.specs.declared.gate.Timing.{Timing}
 use Rattle.gate_library.specs.declared.gate.Timing.TheVariants.{Together, Apart}
 use Rattle.gate_library.specs.declared.gate.GateDrawing.{GateDrawing}

@@ -1,8 +1,8 @@
 -- What the checks of tables show of the plane.
 use Rattle.std.specs.Prelude.{ℕ, List, [], map}
 use Rattle.ww_rule.specs.declared.pattern.State.{State}
-use Rattle.routed_planes.specs.Labels.{IsLabelled}
-use Rattle.routed_lists.specs.Lists.{point_signal}
+use Rattle.routed_circuits.specs.Labels.{IsLabelled}
+use Rattle.routed_circuits.specs.Lists.{point_signal}
 use Rattle.route_tables.specs.declared.tables.Tables.{Tables}
 use Rattle.route_tables.specs.Owners.{owner_at}
 use Rattle.route_tables.specs.Tables.{sourced_wires, placed_gates, dark_wire, driven_points, box_plane, own}

@@ -3,7 +3,7 @@ ghost use Rattle.std.specs.Prelude.{◌≡◌, ◌≢◌, ◌<◌, ◌≤◌, �
 ghost use Rattle.ww_rule.specs.declared.pattern.State.TheVariants.{Empty, Conductor};
 ghost use Rattle.tile_timing.specs.Window.{shown};
 ghost use Rattle.wire_laws.specs.Signals.{cell_state};
-ghost use Rattle.routed_planes.specs.Routed.{gate_plane};
+ghost use Rattle.routed_circuits.specs.Routed.{gate_plane};
 ghost use Rattle.route_tables.specs.Serials.{listed_cell};
 ghost use Rattle.route_tables.specs.Tables.{sourced_by, table_gate, gate_drawing, IsPort, input_port, input_point, box_plane, serial, group};
 ghost use Rattle.route_tables.specs.Cells.{place_cell, IsFed, IsWireEnd, IsCellOfGate, HasCellsOfGate, IsGateThere, IsDrawnInGate};

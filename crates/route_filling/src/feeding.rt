@@ -2,8 +2,8 @@
 
 use crate::gates::{GateRow, at_gate, port_number, small};
 use cell_core::Src;
+use gate_library::{Drawing, DrawnPort, DrawnWire, GatePort};
 use route_tables::{CellFault, FaultWord, Feed, GateInput};
-use routed_core::{Drawing, DrawnPort, DrawnWire, GatePort};
 use std::alloc::Global;
 
 /// A port with what feeds it, if it is an input, the source of its bits, and the first wire that begins there, as far

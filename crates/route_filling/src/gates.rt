@@ -1,9 +1,8 @@
 // The gates of a drawing, their kinds, and the numbers of their ports.
 
-use gate_library::{GateDrawing, drawing_of};
+use gate_library::{Drawing, DrawnPort, GateDrawing, GateKind, GatePort, drawing_of};
 use lawful_gates::LawfulGate;
 use route_tables::{CellFault, FaultWord};
-use routed_core::{Drawing, DrawnPort, GateKind, GatePort};
 use std::alloc::Global;
 
 /// The number of a gate's kind, and those of its ports among the ports of all gates: its inputs are those from `ins`

@@ -3,10 +3,9 @@
 use crate::feeding::PortRow;
 use crate::gates::{GateRow, GateRows, small};
 use cell_core::Src;
-use gate_library::GateDrawing;
+use gate_library::{Drawing, DrawnGate, DrawnPort, DrawnWire, GateDrawing};
 use lists::List;
 use route_tables::{Feed, GateInput, TableGate, TableWire};
-use routed_core::{Drawing, DrawnGate, DrawnPort, DrawnWire};
 use std::alloc::Global;
 use ww_rule::State;
 

@@ -7,8 +7,8 @@ use crate::feeding::PortRow;
 use crate::gates::GateRow;
 use crate::solving::source_of;
 use cell_core::{Cell, CellList, Src};
+use gate_library::{Drawing, DrawnPort, DrawnWire};
 use lists::List;
-use routed_core::{Drawing, DrawnPort, DrawnWire};
 use std::alloc::Global;
 
 /// The sources of a list's outputs and nets, and of its latches' data, and the latches' start bits.

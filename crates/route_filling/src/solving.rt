@@ -4,9 +4,8 @@ use crate::feeding::{PortRow, WireRow};
 use crate::gates::{GateRow, GateRows, port_number, small};
 use crate::listing::part;
 use cell_core::{Cell, Src};
-use gate_library::Answer;
+use gate_library::{Answer, DrawnPort, GatePort};
 use route_tables::Feed;
-use routed_core::{DrawnPort, GatePort};
 use std::alloc::Global;
 
 /// A port, by its number, whose source is known.

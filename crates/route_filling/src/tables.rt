@@ -5,9 +5,9 @@ use crate::gates::{GateRows, at_gate, small};
 use crate::listing::{Listing, add_gates, add_nets, put_serials};
 use crate::lists_of::{Ends, fit, list_of};
 use crate::solving::{Search, unsolved};
+use gate_library::{Drawing, DrawnPort};
 use lists::{List, OutOfMemory};
 use route_tables::{CellFault, FaultWord, TableGate, Tables};
-use routed_core::{Drawing, DrawnPort};
 use std::alloc::Global;
 
 /// What is found of a drawing.

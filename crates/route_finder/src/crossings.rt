@@ -1,7 +1,7 @@
 // Crossings whose second input is lit before the first are mirrored, where that is their own drawing.
 
 use crate::times::Times;
-use routed_core::{DrawnGate, DrawnPort, GatePort, Shape, Turn};
+use gate_library::{DrawnGate, DrawnPort, GatePort, Shape, Turn};
 
 /// Returns whether a gate is such a crossing.
 pub fn is_mirrored(times: &Times, gates: &[DrawnGate], gate: u32) -> bool {

@@ -11,9 +11,9 @@ use crate::times::find_times;
 use crate::uses::{chain_links, fault_of_ends, note_table};
 use crate::ways::direct_wires;
 use crate::wires::{Links, Use};
+use gate_library::Drawing;
 use pattern_reading::Ports;
 use route_lines::{Board, Owners, TableCell, TableCells};
-use routed_core::Drawing;
 use std::alloc::Global;
 use ww_rule::Pattern;
 

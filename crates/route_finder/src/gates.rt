@@ -2,8 +2,8 @@
 
 use crate::error::{DrawingFault, FindError};
 use crate::templates::{Template, Templates};
+use gate_library::DrawnGate;
 use route_lines::{Board, Owner, Owners};
-use routed_core::DrawnGate;
 
 // How many cells in and around a template, whose corner is at a cell, are not as drawn, and the last of these; no more
 // are counted after two. A cell of another gate, unless that is a lone cell, counts for two.

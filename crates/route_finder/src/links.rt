@@ -4,8 +4,8 @@
 use crate::error::{DrawingFault, FindError};
 use crate::lone::add_lone;
 use crate::wires::{Link, Links, Way, state_at};
+use gate_library::{DrawnPort, GatePort};
 use route_lines::{Board, Owner, STEPS, port_cell};
-use routed_core::{DrawnPort, GatePort};
 use ww_rule::{Pattern, State};
 
 fn small(number: usize) -> u32 {

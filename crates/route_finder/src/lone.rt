@@ -3,8 +3,8 @@
 use crate::error::{DrawingFault, FindError};
 use crate::gates::fault_near;
 use crate::templates::Templates;
+use gate_library::{DrawnGate, GateKind, Shape, Turn};
 use route_lines::{Board, LineKind, Owner, TableCell};
-use routed_core::{DrawnGate, GateKind, Shape, Turn};
 
 /// Makes a cell a lone cell.
 pub fn add_lone(board: &mut Board, cell: (u32, u32)) {

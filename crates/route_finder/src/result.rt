@@ -4,9 +4,8 @@ use crate::crossings::{is_mirrored, mirrored, port_after};
 use crate::error::{DrawingFault, FindError};
 use crate::times::{Span, Times};
 use crate::wires::{Link, Links, cells_of, state_at};
-use gate_library::Timing;
+use gate_library::{DrawnGate, DrawnWire, GatePort, Timing};
 use route_lines::{Board, Wiring};
-use routed_core::{DrawnGate, DrawnWire, GatePort};
 use ww_rule::{Pattern, State};
 
 fn generation(number: i64) -> u32 {

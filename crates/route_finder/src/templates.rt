@@ -1,8 +1,7 @@
 // The drawings of gates, as they are near one of their cells.
 
-use gate_library::{GateLibrary, SHAPES, TURNS};
+use gate_library::{DrawnGate, GateKind, GateLibrary, SHAPES, Shape, TURNS};
 use route_lines::{Owner, Owners};
-use routed_core::{DrawnGate, GateKind, Shape};
 
 /// The columns and the rows of a sheet: those of the largest drawing, and one more on each side.
 pub const SIDE: u32 = 9;

@@ -1,9 +1,8 @@
 // When each gate is lit, modulo the period.
 
 use crate::wires::{Links, cells_of, state_at};
-use gate_library::{Answer, GateDrawing, Timing};
+use gate_library::{Answer, DrawnPort, GateDrawing, GatePort, Timing};
 use route_lines::{Board, LineKind, TableCell};
-use routed_core::{DrawnPort, GatePort};
 use std::alloc::Global;
 use ww_rule::{Pattern, State};
 

@@ -4,8 +4,8 @@ use crate::error::{DrawingFault, FindError};
 use crate::times::nearest_head;
 use crate::ways::feed;
 use crate::wires::{Link, Links, Use, cells_of};
+use gate_library::{DrawnPort, Shape};
 use route_lines::{Board, LineKind, TableCell};
-use routed_core::{DrawnPort, Shape};
 use ww_rule::Pattern;
 
 // Puts a wire before the others at a gate, and returns the number of the first of them.

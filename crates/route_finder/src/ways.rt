@@ -1,8 +1,8 @@
 // In which direction each wire runs.
 
 use crate::wires::{Link, Links, Way, cells_of, state_at};
+use gate_library::{DrawnPort, GatePort};
 use route_lines::Board;
-use routed_core::{DrawnPort, GatePort};
 use ww_rule::{Pattern, State};
 
 // The number of an input among those of all gates.

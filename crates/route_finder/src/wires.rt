@@ -1,7 +1,7 @@
 // The wires between gates.
 
 use crate::error::FindError;
-use routed_core::DrawnPort;
+use gate_library::DrawnPort;
 use ww_rule::{Pattern, State};
 
 /// Which way a wire runs.

@@ -2,10 +2,9 @@
 
 use crate::owners::{Owner, Owners};
 use crate::table::{LineKind, TableCell};
-use gate_library::GateLibrary;
+use gate_library::{Drawing, DrawnGate, DrawnPort, DrawnWire, GateLibrary, GatePort, Shape};
 use lists::{List, OutOfMemory};
 use pattern_reading::Ports;
-use routed_core::{Drawing, DrawnGate, DrawnPort, DrawnWire, GatePort, Shape};
 use std::alloc::Global;
 use ww_rule::{Pattern, State};
 

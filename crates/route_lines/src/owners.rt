@@ -1,8 +1,7 @@
 // What each cell of a box belongs to.
 
 use crate::steps::STEPS;
-use gate_library::GateDrawing;
-use routed_core::DrawnGate;
+use gate_library::{DrawnGate, GateDrawing};
 use std::alloc::Global;
 use ww_rule::State;
 

@@ -1,7 +1,6 @@
 // The cells of gates' ports.
 
-use gate_library::GateLibrary;
-use routed_core::{DrawnGate, DrawnPort, GatePort};
+use gate_library::{DrawnGate, DrawnPort, GateLibrary, GatePort};
 
 /// Returns the cell of a port of one of these gates, by its column and its row in the box.
 pub fn port_cell(

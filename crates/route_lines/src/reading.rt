@@ -5,11 +5,10 @@ use crate::comments::first_line;
 use crate::owners::Owner;
 use crate::table::TableCells;
 use crate::words::{step_named, word};
-use gate_library::kind_named;
+use gate_library::{Drawing, DrawnGate, DrawnWire, GatePort, kind_named};
 use lists::OutOfMemory;
 use pattern_lines::number_in;
 use pattern_reading::Ports;
-use routed_core::{Drawing, DrawnGate, DrawnWire, GatePort};
 use std::alloc::Global;
 use ww_rule::Pattern;
 

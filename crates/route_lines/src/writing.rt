@@ -2,10 +2,11 @@
 
 use crate::ports::port_cell;
 use crate::words::step_word;
-use gate_library::{GateLibrary, letter_of, word_of};
+use gate_library::{
+    Drawing, DrawnGate, DrawnPort, DrawnWire, GateLibrary, GatePort, letter_of, word_of,
+};
 use itoa::Buffer;
 use lists::{Bytes, List, OutOfMemory};
-use routed_core::{Drawing, DrawnGate, DrawnPort, DrawnWire, GatePort};
 use std::alloc::Global;
 
 // Lines that are written. It is noted whether memory ran out.

@@ -4,7 +4,7 @@ use Rattle.ww_rule.specs.declared.pattern.State.{State}
 use Rattle.ww_rule.specs.declared.pattern.State.TheVariants.{Empty, Conductor}
 use Rattle.wire_laws.specs.Signals.{cell_state}
 use Rattle.wire_laws.specs.Wires.{IsNear}
-use Rattle.routed_planes.specs.Routed.{gate_plane}
+use Rattle.routed_circuits.specs.Routed.{gate_plane}
 use Rattle.lawful_gates.specs.Lawful.{IsLawful}
 use Rattle.route_tables.specs.declared.tables.Feed.{Feed}
 use Rattle.route_tables.specs.declared.tables.Feed.TheVariants.{Wire, Driven}

@@ -4,7 +4,7 @@ use Rattle.ww_rule.specs.declared.pattern.State.{State}
 use Rattle.pattern_reading.specs.declared.ports.Ports.{Ports}
 use Rattle.pattern_reading.specs.declared.ports.PortLine.{PortLine}
 use Rattle.pattern_reading.specs.declared.ports.NetLine.{NetLine}
-use Rattle.routed_lists.specs.Runs.{src_at}
+use Rattle.routed_circuits.specs.Runs.{src_at}
 use Rattle.route_tables.specs.declared.tables.GateInput.{GateInput}
 use Rattle.route_tables.specs.declared.tables.Tables.{Tables}
 use Rattle.route_tables.specs.Serials.{AreSerials}

@@ -3,8 +3,8 @@ use Rattle.std.specs.Prelude.{ℤ, ℕ, zero, suc, ◌<◌, ◌≤◌, ◌≡◌
 use Rattle.ww_rule.specs.declared.pattern.State.{State}
 use Rattle.tile_timing.specs.Window.{shown}
 use Rattle.wire_laws.specs.Wires.{Wire, IsNear}
-use Rattle.routed_planes.specs.Routed.{PlacedGate}
-use Rattle.routed_planes.specs.Labels.{Owner, Nobody, OfGate, OfWire, IsGateCell, IsWireCell, AreLabels}
+use Rattle.routed_circuits.specs.Routed.{PlacedGate}
+use Rattle.routed_circuits.specs.Labels.{Owner, Nobody, OfGate, OfWire, IsGateCell, IsWireCell, AreLabels}
 use Rattle.route_tables.specs.Serials.{serial_at, listed_cell, AreSerials}
 
 -- The listed cells are those of the gates and of the wires, and no others: `own` says whose each is.

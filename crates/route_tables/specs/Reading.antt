@@ -1,9 +1,9 @@
 -- What is read in tables.
 use Rattle.std.specs.Prelude.{pos, ◌+ℤ◌, ◌+◌, ◌≡◌}
 use Rattle.wire_laws.specs.Rows.{Port}
-use Rattle.routed_lists.specs.Lists.{SourcedGate}
-use Rattle.routed_core.specs.declared.drawing.DrawnPort.{DrawnPort}
-use Rattle.routed_core.specs.declared.drawing.GatePort.{GatePort}
+use Rattle.routed_circuits.specs.Lists.{SourcedGate}
+use Rattle.gate_library.specs.declared.circuit.DrawnPort.{DrawnPort}
+use Rattle.gate_library.specs.declared.circuit.GatePort.{GatePort}
 use Rattle.lawful_gates.specs.declared.ports.PortCell.{PortCell}
 use Rattle.lawful_gates.specs.Lawful.{port_in_cell}
 use Rattle.route_tables.specs.declared.tables.TableGate.{TableGate}

@@ -9,9 +9,9 @@ use Rattle.cell_core.specs.declared.cells.Src.{Src}
 use Rattle.cell_core.specs.declared.cells.Src.TheVariants.{Input, Zero, Cell as Made}
 use Rattle.cell_core.specs.declared.cells.Cell.TheVariants.{Or as OrOf, Xor as XorOf, AndNot as AndNotOf}
 use Rattle.cell_core.specs.declared.list.CellList.{CellList}
-use Rattle.routed_lists.specs.Runs.{src_at}
-use Rattle.routed_lists.specs.Lists.{DelaysSource}
-use Rattle.routed_core.specs.declared.drawing.DrawnPort.{DrawnPort}
+use Rattle.routed_circuits.specs.Runs.{src_at}
+use Rattle.routed_circuits.specs.Lists.{DelaysSource}
+use Rattle.gate_library.specs.declared.circuit.DrawnPort.{DrawnPort}
 use Rattle.gate_library.specs.declared.gate.Answer.{Answer}
 use Rattle.gate_library.specs.declared.gate.Answer.TheVariants.{Copy, Or, Xor, AndNot}
 use Rattle.lawful_gates.specs.Lawful.{answer_at, FitsPeriod}

@@ -5,13 +5,13 @@ use Rattle.ww_rule.specs.Wireworld.{Plane}
 use Rattle.tile_timing.specs.Window.{shown}
 use Rattle.wire_laws.specs.Rows.{Port}
 use Rattle.wire_laws.specs.Wires.{Wire}
-use Rattle.routed_planes.specs.Routed.{PlacedGate, placed_port}
-use Rattle.routed_planes.specs.Labels.{Owner, OfGate, OfWire}
-use Rattle.routed_lists.specs.Runs.{src_at}
-use Rattle.routed_lists.specs.Lists.{Point, SourcedGate, SourcedWire, placed_of, wire_in_run}
-use Rattle.routed_core.specs.declared.drawing.DrawnPort.{DrawnPort}
-use Rattle.routed_core.specs.declared.drawing.GatePort.{GatePort}
-use Rattle.routed_core.specs.declared.drawing.GatePort.TheVariants.{In, Out}
+use Rattle.routed_circuits.specs.Routed.{PlacedGate, placed_port}
+use Rattle.routed_circuits.specs.Labels.{Owner, OfGate, OfWire}
+use Rattle.routed_circuits.specs.Runs.{src_at}
+use Rattle.routed_circuits.specs.Lists.{Point, SourcedGate, SourcedWire, placed_of, wire_in_run}
+use Rattle.gate_library.specs.declared.circuit.DrawnPort.{DrawnPort}
+use Rattle.gate_library.specs.declared.circuit.GatePort.{GatePort}
+use Rattle.gate_library.specs.declared.circuit.GatePort.TheVariants.{In, Out}
 use Rattle.gate_library.specs.declared.gate.Timing.TheVariants.{Together}
 use Rattle.gate_library.specs.declared.gate.GateDrawing.{GateDrawing}
 use Rattle.lawful_gates.specs.Lawful.{gate_at}

@@ -1,9 +1,9 @@
 // Tables of a routed circuit.
 
 use cell_core::{CellList, Src};
+use gate_library::DrawnPort;
 use lawful_gates::LawfulGate;
 use lists::List;
-use routed_core::DrawnPort;
 
 /// The input of this number of the gate of this number.
 #[derive(Clone, Copy)]

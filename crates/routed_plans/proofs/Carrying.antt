@@ -41,10 +41,10 @@ use Rattle.plan_carries.specs.Compiled.{ComputesFlat}
 use Rattle.plan_carries.proofs.Designs.{shows_contexts}
 use Rattle.plan_carries.proofs.Runs.{has_run}
 use Rattle.plan_carries.proofs.SeenNets.{seen_nets, are_seen, seen_are_flat}
-use Rattle.routed_lists.specs.Runs.{src_at, list_state, list_bit}
-use Rattle.routed_texts.specs.Tables.{ShowsListRuns}
-use Rattle.routed_texts.specs.Flats.{HasFlatRuns}
-use Rattle.routed_texts.proofs.Flats.{first_shown, mapped_at}
+use Rattle.routed_circuits.specs.Runs.{src_at, list_state, list_bit}
+use Rattle.routed_circuits.specs.Tables.{ShowsListRuns}
+use Rattle.routed_circuits.specs.Flats.{HasFlatRuns}
+use Rattle.routed_circuits.proofs.Flats.{first_shown, mapped_at}
 use Rattle.routed_plans.specs.declared.nets.SeenPort.{SeenPort}
 use Rattle.routed_plans.specs.declared.nets.ShownNets.{ShownNets}
 use Rattle.routed_plans.specs.declared.nets.ShownNets.TheVariants as which

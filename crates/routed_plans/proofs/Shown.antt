@@ -5,8 +5,8 @@ use Rattle.ww_rule.specs.Wireworld.{Plane, driven}
 use Rattle.pattern_reading.specs.declared.ports.Ports.{Ports}
 use Rattle.carries.specs.Cells.{drive}
 use Rattle.cell_core.specs.declared.list.CellList.{CellList}
-use Rattle.routed_lists.specs.Runs.{src_at, list_bit}
-use Rattle.routed_texts.specs.Tables.{ShowsBits, ShowsListRuns}
+use Rattle.routed_circuits.specs.Runs.{src_at, list_bit}
+use Rattle.routed_circuits.specs.Tables.{ShowsBits, ShowsListRuns}
 use Rattle.list_matching.specs.Alike.{RunAlike}
 
 pub alike_shown : (plane : Plane) (ports : Ports) (found wanted : CellList) → RunAlike found wanted → ShowsListRuns plane ports found → ShowsListRuns plane ports wanted

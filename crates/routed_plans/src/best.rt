@@ -2,8 +2,8 @@
 
 use crate::search::draw_list;
 use cell_core::CellList;
+use gate_library::Drawing;
 use lists::OutOfMemory;
-use routed_core::Drawing;
 use std::alloc::Global;
 use std::mem;
 use strand_core::Effort;

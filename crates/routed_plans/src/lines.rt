@@ -2,9 +2,9 @@
 ghost use Rattle.std.specs.Prelude.{IfOk};
 ghost use Rattle.route_lines.specs.GateLines.{AreGateLines};
 
+use gate_library::Drawing;
 use lists::{Bytes, List, OutOfMemory};
 use route_lines::{are_gate_lines, gate_lines};
-use routed_core::Drawing;
 use std::alloc::Global;
 
 // More bytes of lines are left out, so that the text of a very large circuit is not too long to be read.

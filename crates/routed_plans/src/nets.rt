@@ -1,6 +1,6 @@
 // The nets that a table shows, and the ports at which they are seen.
 
-use routed_core::DrawnPort;
+use gate_library::DrawnPort;
 
 /// The nets for which a table has lines.
 #[derive(Clone, Copy)]

@@ -2,11 +2,11 @@
 
 use crate::nets::SeenPort;
 use cell_core::{CellList, Src};
+use gate_library::{Drawing, DrawnPort, GatePort};
 use list_matching::{stand_in, stand_ins};
 use lists::{List, OutOfMemory};
 use route_filling::tables_of;
 use route_tables::{BOX_LIMIT, Tables};
-use routed_core::{Drawing, DrawnPort, GatePort};
 use std::alloc::Global;
 use std::collections::BTreeMap;
 use strand_drawings::Drawn;

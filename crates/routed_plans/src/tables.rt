@@ -7,12 +7,11 @@ ghost use Rattle.routed_plans.specs.Tables.{FitsPattern, NamesRouted};
 
 use crate::net_lines::lines_of_nets;
 use crate::nets::SeenPort;
-use gate_library::GateLibrary;
+use gate_library::{Drawing, DrawnPort, GateLibrary};
 use lists::{Bytes, List, OutOfMemory};
 use netlist_core::{Flat, FlatPort};
 use pattern_reading::{NetLine, PortLine, Ports};
 use route_lines::port_cell;
-use routed_core::{Drawing, DrawnPort};
 use std::alloc::Global;
 use ww_rule::Pattern;
 

@@ -1,8 +1,7 @@
 // Boxes of cells.
 
-use gate_library::{GateDrawing, GateLibrary};
+use gate_library::{DrawnGate, GateDrawing, GateLibrary};
 use lists::OutOfMemory;
-use routed_core::DrawnGate;
 use std::alloc::Global;
 use ww_rule::{CellRows, State};
 

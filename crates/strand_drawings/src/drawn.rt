@@ -6,9 +6,9 @@ use crate::periods::{accepted_period, accepts, least_period, round_period};
 use crate::rings::{Ring, ring_of};
 use crate::wires::{Scene, Wires};
 use cell_core::Src;
+use gate_library::{Drawing, DrawnPort};
 use lists::{List, OutOfMemory};
 use register_ways::{Circuit, Loop, Ways, ways_around};
-use routed_core::{Drawing, DrawnPort};
 use std::alloc::{AllocError, Global};
 use strand_core::{East, Layout, StrandCircuit, West};
 

@@ -1,7 +1,7 @@
 // The gates of a circuit's tiles, and the lone cells of its inputs and outputs.
 
 use crate::loops::{cells_of, late_of};
-use routed_core::{DrawnGate, DrawnPort, GateKind, GatePort, Shape, Turn};
+use gate_library::{DrawnGate, DrawnPort, GateKind, GatePort, Shape, Turn};
 use std::alloc::AllocError;
 use strand_core::{East, Layout, StrandCircuit, Tile, TileKind, West};
 

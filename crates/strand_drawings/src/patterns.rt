@@ -3,9 +3,8 @@ ghost use Rattle.std.specs.Prelude.{◌≡◌, ◌<◌, ℕ, length, IsTrue};
 ghost use Rattle.lists.specs.Items.{list_at};
 
 use crate::boards::Board;
-use gate_library::{GateLibrary, Timing};
+use gate_library::{Drawing, DrawnGate, DrawnWire, GateLibrary, Timing};
 use lists::OutOfMemory;
-use routed_core::{Drawing, DrawnGate, DrawnWire};
 use std::alloc::Global;
 use ww_rule::{CellRows, Pattern, State};
 

@@ -4,7 +4,7 @@
 
 use crate::gates::Gates;
 use crate::loops::{cells_of, late_of};
-use routed_core::{DrawnGate, DrawnPort, GateKind, GatePort, Shape, Turn};
+use gate_library::{DrawnGate, DrawnPort, GateKind, GatePort, Shape, Turn};
 use std::alloc::AllocError;
 use strand_core::{Layout, StrandCircuit, West};
 

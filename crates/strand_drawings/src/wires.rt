@@ -4,8 +4,8 @@ use crate::gates::{Corner, Gates, Goal};
 use crate::loops::{Loops, cells_of, number_at};
 use crate::rings::Ring;
 use cell_core::Src;
+use gate_library::{DrawnPort, DrawnWire};
 use register_ways::Ways;
-use routed_core::{DrawnPort, DrawnWire};
 use std::alloc::AllocError;
 use strand_core::{Layout, StrandCircuit, TileKind};
 

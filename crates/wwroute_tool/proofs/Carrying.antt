@@ -18,7 +18,7 @@ use Rattle.blif_write.specs.Lift.{text_of_lift}
 use Rattle.blif_write.specs.Text.{lifted_text}
 use Rattle.blif_write.proofs.TextsRead.{lifted_texts_read}
 use Rattle.lift_carries.proofs.PortNames.{are_port_names, ins_are_words, outs_are_words}
-use Rattle.routed_texts.proofs.Lifted.{routed_are_lifted}
+use Rattle.routed_circuits.proofs.Lifted.{routed_are_lifted}
 use Rattle.program_runs.specs.Netlists.{IsNetlistOf}
 use Rattle.wwroute_tool.specs.Carried.{GivesNetlist, IsLiftOfPattern}
 

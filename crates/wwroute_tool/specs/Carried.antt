@@ -5,7 +5,7 @@ use Rattle.ww_rule.specs.Grid.{plane_of}
 use Rattle.pattern_reading.specs.declared.ports.Ports.{Ports}
 use Rattle.netlist_core.specs.declared.model.Design.{Design}
 use Rattle.cell_core.specs.declared.list.CellList.{CellList}
-use Rattle.routed_texts.specs.Tables.{ShowsListRuns}
+use Rattle.routed_circuits.specs.Tables.{ShowsListRuns}
 use Rattle.route_cells.specs.Fits.{FitsPorts}
 use Rattle.tile_match.specs.Names.{has_bad_name}
 use Rattle.blif_write.specs.declared.lift.Lift.{Lift}

@@ -3,7 +3,7 @@ ghost use Rattle.std.specs.Prelude.{◌≡◌, ◌<◌, ◌≤◌, ◌*◌, fals
 ghost use Rattle.ww_rule.specs.Grid.{plane_of};
 ghost use Rattle.tile_match.specs.Names.{has_bad_name};
 ghost use Rattle.blif_write.specs.Lift.{IsLiftOfCells, text_of_lift};
-ghost use Rattle.routed_texts.specs.Tables.{ShowsListRuns};
+ghost use Rattle.routed_circuits.specs.Tables.{ShowsListRuns};
 ghost use Rattle.route_tables.specs.Limit.{box_limit};
 ghost use Rattle.route_cells.specs.Fits.{FitsPorts};
 ghost use Rattle.wwroute_tool.specs.Carried.{GivesNetlist, IsLiftOfPattern};
@@ -12,12 +12,12 @@ ghost use Rattle.wwroute_tool.specs.Refusing.{HasNoRoutedCircuit, NeedsNoReason}
 use crate::RouteRefusal;
 use blif_write::Lift;
 use cell_core::CellList;
+use gate_library::Drawing;
 use pattern_reading::Ports;
 use program_runs::{Cause, Refusal};
 use route_cells::{RouteError, cells_of};
 use route_finder::{DrawingFault, FindError};
 use route_tables::{BOX_LIMIT, CellFault, FaultWord};
-use routed_core::Drawing;
 use std::alloc::Global;
 use tile_match::has_bad_name;
 use ww_rule::Pattern;

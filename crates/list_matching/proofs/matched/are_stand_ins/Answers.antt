@@ -1,6 +1,6 @@
 use Rattle.std.proofs.Common.{◌≡◌, ◌∙◌, subst₂, ℕ, ◌<◌, length, map}
 use Rattle.cell_meaning.specs.Same.{cell_over}
-use Rattle.routed_lists.specs.Runs.{src_at}
+use Rattle.routed_circuits.specs.Runs.{src_at}
 use Rattle.list_matching.specs.Matched.{StandsForCell, made_at, stand_in}
 use Rattle.list_matching.proofs.matched.are_stand_ins.Goals as goal
 

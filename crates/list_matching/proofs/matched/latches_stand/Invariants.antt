@@ -1,5 +1,5 @@
 use Rattle.std.proofs.Common.{◌<◌, ℕ}
-use Rattle.routed_lists.specs.Runs.{src_at}
+use Rattle.routed_circuits.specs.Runs.{src_at}
 use Rattle.list_matching.specs.Matched.{StandsForLatch, stand_in}
 use Rattle.list_matching.proofs.matched.latches_stand.Given as goal
 

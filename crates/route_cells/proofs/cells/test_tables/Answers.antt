@@ -1,6 +1,6 @@
 use Rattle.std.proofs.Common.{◌≡◌, ◌∙◌, ap, subst, arith}
 use Rattle.tile_timing.specs.Window.{shown}
-use Rattle.routed_texts.specs.Tables.{ShowsListRuns}
+use Rattle.routed_circuits.specs.Tables.{ShowsListRuns}
 use Rattle.route_cells.proofs.Shown.{checked_show_runs}
 use Rattle.route_cells.proofs.cells.test_tables.Goals as goal
 

@@ -1,7 +1,7 @@
 use Rattle.std.proofs.Common.{◌∙◌, ap, subst, subst₂, below_more, arith}
 use Rattle.std.proofs.lemmas.Option.{get_or_from_slice_get, slice_get_within}
 use Rattle.pattern_reading.specs.declared.ports.NetLine.{NetLine}
-use Rattle.routed_lists.specs.Runs.{src_at}
+use Rattle.routed_circuits.specs.Runs.{src_at}
 use Rattle.route_tables.specs.Runs.{ShowsAt}
 use Rattle.route_cells.proofs.lines.test_nets.Goals as goal
 

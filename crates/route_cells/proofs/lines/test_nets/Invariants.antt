@@ -1,6 +1,6 @@
 use Rattle.std.proofs.Common.{◌≡◌, ◌<◌, ℕ, slice_get, Some}
 use Rattle.pattern_reading.specs.declared.ports.NetLine.{NetLine}
-use Rattle.routed_lists.specs.Runs.{src_at}
+use Rattle.routed_circuits.specs.Runs.{src_at}
 use Rattle.route_tables.specs.Runs.{ShowsAt}
 use Rattle.route_cells.proofs.lines.test_nets.Given as goal
 

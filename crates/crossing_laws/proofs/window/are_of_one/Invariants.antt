@@ -1,7 +1,0 @@
-use Rattle.std.proofs.Common.{ℕ, ◌<◌, get_or}
-use Rattle.gate_laws.proofs.Rows.{no_out}
-use Rattle.crossing_laws.specs.Drawn.{IsOfOne}
-use Rattle.crossing_laws.proofs.window.are_of_one.Given as goal
-
-abbrev pub invariant-loop-out : goal.invariant-loop-out
-invariant-loop-out l = (k : ℕ) → k < l.out-index → IsOfOne (get_or l.outs k no_out)

@@ -1,5 +1,0 @@
-use Rattle.routed_lists.proofs.Carried.{lists_are_carried}
-use Rattle.routed_lists.proofs.laws.lists_are_carried.Goals as goal
-
-pub returns : goal.returns
-returns c = lists_are_carried

@@ -1,5 +1,0 @@
-use Rattle.routed_planes.proofs.Routed.{routed_carry}
-use Rattle.routed_planes.proofs.laws.routed_carry.Goals as goal
-
-pub returns : goal.returns
-returns c = routed_carry

@@ -1,2 +1,0 @@
-pub mod Routed
-pub mod Labels

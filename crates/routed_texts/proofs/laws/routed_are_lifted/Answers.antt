@@ -1,5 +1,0 @@
-use Rattle.routed_texts.proofs.Lifted.{routed_are_lifted}
-use Rattle.routed_texts.proofs.laws.routed_are_lifted.Goals as goal
-
-pub returns : goal.returns
-returns c = routed_are_lifted

@@ -1,5 +1,0 @@
-use Rattle.routed_texts.proofs.Flats.{routed_designs_are_carried}
-use Rattle.routed_texts.proofs.laws.routed_designs_are_carried.Goals as goal
-
-pub returns : goal.returns
-returns c = routed_designs_are_carried
