@@ -72,7 +72,8 @@ fn follow(
     cell: (u32, u32),
     first: (u32, u32),
 ) {
-    let trace = board.trace(cell, first);
+    let trace = board.owners.trace(&mut board.path, cell, first);
+    board.is_short |= trace.is_short;
     let (start, size, end) = (trace.start, trace.size, trace.end);
     match (board.port_at(end), board.owners.of(end)) {
         (Some(to), _) if to == from => add_ring(links, board, pattern, from, start, size),

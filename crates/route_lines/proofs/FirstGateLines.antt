@@ -1,12 +1,20 @@
 -- The first of the lines of gates and wires.
-use Rattle.std.proofs.Common.{ℕ, ◌≡◌, ◌≢◌, ◌==◌, true≢false, false, refl, sym, ap, ap₂, ◌∙◌, List, [], ◌∷◌, ◌++◌, flat_map, length, append_assoc}
+use Rattle.std.proofs.Common.{ℕ, ◌≡◌, ◌≢◌, ◌==◌, true≢false, false, refl, sym, ap, ap₂, ◌∙◌, List, [], ◌∷◌, ◌++◌, flat_map, length, get_or, take, drop, append_assoc, ◌+◌, ◌-◌, ◌<◌, ◌≤◌, arith}
 use Rattle.std.specs.List.{All, AllByRecursion}
-use Rattle.std.proofs.lemmas.List.Elements.{All-head, All-tail}
+use Rattle.std.proofs.lemmas.List.{take-append-drop, drop_more, take_rest, length-take-le, get_or-take}
+use Rattle.std.proofs.lemmas.List.Elements.{All-head, All-tail, All-from_get_or}
 use Rattle.pattern_reading.specs.Laws.{IsLineText}
 use Rattle.route_lines.specs.GateLines.{AreGateLines, IsGateLine}
 
 abbrev pub HasNoFeed : List ℕ → Type 0
 HasNoFeed bytes = All (λ b. b ≢ 10) bytes
+
+-- a line feed cuts bytes, and those before the first one have none
+pub feed_cuts : (bytes : List ℕ) (i : ℕ) → i < length bytes → get_or bytes i 0 ≡ 10 → bytes ≡ take i bytes ++ (10 ∷ take (length bytes - (i + 1)) (drop (i + 1) bytes))
+feed_cuts bytes i low is = sym (take-append-drop i bytes) ∙ ap (λ l. take i bytes ++ l) (drop_more bytes i 0 low ∙ ap₂ (λ b l. b ∷ l) is (sym (take_rest bytes (i + 1))))
+
+pub feedless_before : (bytes : List ℕ) (i : ℕ) → i ≤ length bytes → ((k : ℕ) → k < i → get_or bytes k 0 ≢ 10) → HasNoFeed (take i bytes)
+feedless_before bytes i low none = All-from_get_or (λ b. b ≢ 10) (take i bytes) 0 (λ k lt. (let size = length-take-le i bytes low in let before : k < i = omega (arith, lt, size) in λ e. none k before (sym (get_or-take i bytes k 0 before) ∙ e)))
 
 line_feedless : (line : List ℕ) → IsLineText line → HasNoFeed line
 line_feedless line h k d lt = (h k d lt).0

@@ -6,7 +6,7 @@ use gate_library::{Drawing, DrawnGate, DrawnPort, DrawnWire, GateLibrary, GatePo
 use lists::{List, OutOfMemory};
 use pattern_reading::Ports;
 use std::alloc::Global;
-use ww_rule::{Pattern, State};
+use ww_rule::Pattern;
 
 /// The wires of a drawing with their start bits, and the ports of its inputs, outputs and nets. It is noted whether
 /// memory ran out.
@@ -33,15 +33,6 @@ pub struct Board {
     pub path: Vec<(u32, u32)>,
     pub wiring: Wiring,
     pub is_short: bool,
-}
-
-/// A wire that was followed: its own cells are `size` cells of the path from place `start` on. It leads to the cell
-/// `end` of a gate, or `end` is its last cell.
-#[derive(Clone, Copy)]
-pub struct Trace {
-    pub start: u32,
-    pub size: u32,
-    pub end: (u32, u32),
 }
 
 impl Wiring {
@@ -74,8 +65,10 @@ impl Board {
             return Ok(None);
         };
         let library = GateLibrary::new(alloc)?;
-        let mut board = Board {
-            owners: Owners::new(alloc, width),
+        let mut owners = Owners::new(alloc, width);
+        let is_short = owners.add_cells(pattern);
+        Ok(Some(Board {
+            owners,
             height,
             period,
             latency,
@@ -90,25 +83,8 @@ impl Board {
                 nets: Vec::new(alloc),
                 is_short: false,
             },
-            is_short: false,
-        };
-        board.add_cells(pattern);
-        Ok(Some(board))
-    }
-
-    // Adds the cells of a pattern, row by row.
-    fn add_cells(&mut self, pattern: &Pattern) {
-        let count = (self.owners.width as usize).saturating_mul(self.height as usize);
-        self.is_short |= self.owners.cells.reserve(count).is_err();
-        for y in 0..pattern.rows.len() {
-            for state in pattern.rows.row(y) {
-                let owner = match state {
-                    State::Empty => Owner::Nobody,
-                    _ => Owner::Open,
-                };
-                self.is_short |= self.owners.cells.push(owner).is_err();
-            }
-        }
+            is_short,
+        }))
     }
 
     // Gives the cells of a gate's drawing to the gate, which has this number.
@@ -146,28 +122,6 @@ impl Board {
             _ => return None,
         };
         Some(DrawnPort { gate, port })
-    }
-
-    /// Follows a wire from its first cell, which is open and beside the cell `before`. Its cells are given to it and are
-    /// added to the path.
-    pub fn trace(&mut self, before: (u32, u32), first: (u32, u32)) -> Trace {
-        let start = u32::try_from(self.path.len()).unwrap_or(u32::MAX);
-        let (mut last, mut end, mut size) = (before, first, 0u32);
-        for _ in 0..self.owners.cells.len() {
-            self.owners.give(end, Owner::Wire);
-            self.is_short |= self.path.push(end).is_err();
-            size = size.saturating_add(1);
-            let next = self.owners.next_cell(end, last);
-            match self.owners.of(next) {
-                Owner::Open => (last, end) = (end, next),
-                Owner::Nobody | Owner::Wire => break,
-                _ => {
-                    end = next;
-                    break;
-                }
-            }
-        }
-        Trace { start, size, end }
     }
 
     /// Adds the ports at the cells of the port table, and answers whether each input and each output is at one.

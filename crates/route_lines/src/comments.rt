@@ -37,8 +37,12 @@ pub fn first_line(bytes: &[u8]) -> Option<(&[u8], &[u8])>
     ensures feedless { IfSome result (λ parts. All (λ b. b ≢ 10) parts.0.now) }
     ensures none { result ≡ None → All (λ b. b ≢ 10) bytes.now }
 {
-    let end = bytes.iter().position(|byte| *byte == b'\n')?;
-    Some((&bytes[..end], &bytes[end + 1..]))
+    for end in 0..bytes.len() {
+        if bytes[end] == b'\n' {
+            return Some((&bytes[..end], &bytes[end + 1..]));
+        }
+    }
+    None
 }
 
 /// Returns whether bytes are lines that begin with `#C gate ` or `#C wire `, each with a line feed

@@ -16,9 +16,9 @@ mod table;
 mod words;
 mod writing;
 
-pub use board::{Board, Trace, Wiring};
+pub use board::{Board, Wiring};
 pub use comments::{are_gate_lines, gate_lines_are_skipped};
-pub use owners::{Beside, Owner, Owners};
+pub use owners::{Beside, Owner, Owners, Trace};
 pub use ports::port_cell;
 pub use reading::read;
 pub use steps::{STEPS, Step};

@@ -3,7 +3,7 @@
 use crate::steps::STEPS;
 use gate_library::{DrawnGate, GateDrawing};
 use std::alloc::Global;
-use ww_rule::State;
+use ww_rule::{Pattern, State};
 
 /// What a cell belongs to.
 #[derive(Clone, Copy)]
@@ -33,11 +33,21 @@ pub struct Beside {
     pub inner: u32,
 }
 
+/// A wire that was followed: its own cells are `size` cells of the path from place `start` on. It leads to the cell
+/// `end` of a gate, or `end` is its last cell. It is noted whether memory ran out.
+#[derive(Clone, Copy)]
+pub struct Trace {
+    pub start: u32,
+    pub size: u32,
+    pub end: (u32, u32),
+    pub is_short: bool,
+}
+
 /// What each cell of a box belongs to, row by row.
 #[derive(Drop)]
 pub struct Owners {
     pub width: u32,
-    pub(crate) cells: Vec<Owner>,
+    cells: Vec<Owner>,
 }
 
 impl Owners {
@@ -53,6 +63,22 @@ impl Owners {
     pub fn clear(&mut self, count: usize) -> bool {
         self.cells.clear();
         self.cells.resize(count, Owner::Nobody).is_err()
+    }
+
+    /// Adds the cells of a pattern, row by row, of which those that are drawn are open; answers whether memory runs out.
+    pub(crate) fn add_cells(&mut self, pattern: &Pattern) -> bool {
+        let count = (self.width as usize).saturating_mul(pattern.rows.len());
+        let mut is_short = self.cells.reserve(count).is_err();
+        for y in 0..pattern.rows.len() {
+            for state in pattern.rows.row(y) {
+                let owner = match state {
+                    State::Empty => Owner::Nobody,
+                    _ => Owner::Open,
+                };
+                is_short |= self.cells.push(owner).is_err();
+            }
+        }
+        is_short
     }
 
     /// Returns how many cells there are.
@@ -149,7 +175,7 @@ impl Owners {
     }
 
     // The one drawn cell beside a cell but the one before, or the cell itself if there is none, or more than one.
-    pub(crate) fn next_cell(&self, cell: (u32, u32), before: (u32, u32)) -> (u32, u32) {
+    fn next_cell(&self, cell: (u32, u32), before: (u32, u32)) -> (u32, u32) {
         let mut next = cell;
         for step in STEPS {
             let beside = step.from(cell);
@@ -161,5 +187,38 @@ impl Owners {
             }
         }
         next
+    }
+
+    /// Follows a wire from its first cell, which is open and beside the cell `before`. Its cells are given to it and are
+    /// added to a path.
+    pub fn trace(
+        &mut self,
+        path: &mut Vec<(u32, u32)>,
+        before: (u32, u32),
+        first: (u32, u32),
+    ) -> Trace {
+        let start = u32::try_from(path.len()).unwrap_or(u32::MAX);
+        let (mut last, mut end, mut size) = (before, first, 0u32);
+        let mut is_short = false;
+        for _ in 0..self.cells.len() {
+            self.give(end, Owner::Wire);
+            is_short |= path.push(end).is_err();
+            size = size.saturating_add(1);
+            let next = self.next_cell(end, last);
+            match self.of(next) {
+                Owner::Open => (last, end) = (end, next),
+                Owner::Nobody | Owner::Wire => break,
+                _ => {
+                    end = next;
+                    break;
+                }
+            }
+        }
+        Trace {
+            start,
+            size,
+            end,
+            is_short,
+        }
     }
 }

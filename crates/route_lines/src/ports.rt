@@ -14,15 +14,21 @@ pub fn port_cell(
     }
     let gate = gates[number];
     let drawing = library.drawing(gate.kind);
-    let (ins, outs) = (drawing.ins.as_slice(), drawing.outs.as_slice());
     let (x, y) = match port.port {
-        GatePort::In(input) if (input as usize) < ins.len() => {
-            (ins[input as usize].x, ins[input as usize].y)
+        GatePort::In(input) => {
+            let (ins, input) = (drawing.ins.as_slice(), input as usize);
+            if input >= ins.len() {
+                return None;
+            }
+            (ins[input].x, ins[input].y)
         }
-        GatePort::Out(output) if (output as usize) < outs.len() => {
-            (outs[output as usize].x, outs[output as usize].y)
+        GatePort::Out(output) => {
+            let (outs, output) = (drawing.outs.as_slice(), output as usize);
+            if output >= outs.len() {
+                return None;
+            }
+            (outs[output].x, outs[output].y)
         }
-        _ => return None,
     };
     Some((gate.x.saturating_add(x), gate.y.saturating_add(y)))
 }

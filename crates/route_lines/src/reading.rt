@@ -93,7 +93,8 @@ fn follow(board: &mut Board, begin: (u32, u32), first: (u32, u32), end: (u32, u3
     let (Some(from), Owner::Open) = (board.port_at(begin), board.owners.of(first)) else {
         return;
     };
-    let trace = board.trace(begin, first);
+    let trace = board.owners.trace(&mut board.path, begin, first);
+    board.is_short |= trace.is_short;
     let Some(to) = board.port_at(trace.end) else {
         return;
     };

@@ -43,4 +43,18 @@ impl Step {
             Step::NorthWest => (west, north),
         }
     }
+
+    /// Returns the step's word.
+    pub(crate) fn word(self) -> &'static [u8] {
+        match self {
+            Step::North => b"N",
+            Step::NorthEast => b"NE",
+            Step::East => b"E",
+            Step::SouthEast => b"SE",
+            Step::South => b"S",
+            Step::SouthWest => b"SW",
+            Step::West => b"W",
+            Step::NorthWest => b"NW",
+        }
+    }
 }

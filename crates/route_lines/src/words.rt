@@ -2,24 +2,21 @@
 
 use crate::steps::{STEPS, Step};
 
-// The words of all steps, in the order of `STEPS`.
-const STEP_WORDS: &[&[u8]] = &[b"N", b"NE", b"E", b"SE", b"S", b"SW", b"W", b"NW"];
-
 /// Returns the step with a word.
 pub fn step_named(word: &[u8]) -> Option<Step> {
-    for i in 0..STEP_WORDS.len() {
-        if STEP_WORDS[i] == word {
-            return STEPS.get(i).copied();
+    for step in STEPS {
+        if step.word() == word {
+            return Some(*step);
         }
     }
     None
 }
 
-/// Returns the word of the step from one cell to another beside it.
-pub fn step_word(from: (u32, u32), to: (u32, u32)) -> Option<&'static [u8]> {
-    for i in 0..STEPS.len() {
-        if STEPS[i].from(from) == to {
-            return STEP_WORDS.get(i).copied();
+/// Returns the step from one cell to another beside it.
+pub fn step_between(from: (u32, u32), to: (u32, u32)) -> Option<Step> {
+    for step in STEPS {
+        if step.from(from) == to {
+            return Some(*step);
         }
     }
     None

@@ -1,7 +1,7 @@
 // Writing the lines of gates and wires.
 
 use crate::ports::port_cell;
-use crate::words::step_word;
+use crate::words::step_between;
 use gate_library::{
     Drawing, DrawnGate, DrawnPort, DrawnWire, GateLibrary, GatePort, letter_of, word_of,
 };
@@ -32,17 +32,19 @@ impl Lines {
         self.add_number(cell.1);
     }
 
-    fn add_gate(&mut self, gate: &DrawnGate) {
-        self.add(b"#C gate ");
-        self.add(word_of(gate.kind.shape));
-        self.add(b"-");
-        self.add(&[letter_of(gate.kind.turn)]);
-        self.add_cell((gate.x, gate.y));
-        self.add_number(gate.first);
-        if gate.later > 0 {
-            self.add_number(gate.later);
+    fn add_gates(&mut self, gates: &[DrawnGate]) {
+        for gate in gates {
+            self.add(b"#C gate ");
+            self.add(word_of(gate.kind.shape));
+            self.add(b"-");
+            self.add(&[letter_of(gate.kind.turn)]);
+            self.add_cell((gate.x, gate.y));
+            self.add_number(gate.first);
+            if gate.later > 0 {
+                self.add_number(gate.later);
+            }
+            self.add(b"\n");
         }
-        self.add(b"\n");
     }
 
     // Adds the start bits of a wire, that which arrives first at its end before the others.
@@ -65,14 +67,15 @@ impl Lines {
         begin: (u32, u32),
         end: (u32, u32),
     ) {
-        let Some(first) = drawing.path.as_slice().get(wire.start as usize) else {
+        let (path, start) = (drawing.path.as_slice(), wire.start as usize);
+        if start >= path.len() {
             return;
-        };
-        if let Some(step) = step_word(begin, *first) {
+        }
+        if let Some(step) = step_between(begin, path[start]) {
             self.add(b"#C wire");
             self.add_cell(begin);
             self.add(b" ");
-            self.add(step);
+            self.add(step.word());
             self.add_cell(end);
             self.add_starts(starts_of(drawing, wire));
         }
@@ -80,9 +83,14 @@ impl Lines {
 }
 
 fn starts_of<'a>(drawing: &'a Drawing, wire: &DrawnWire) -> &'a [bool] {
+    let starts = drawing.starts.as_slice();
     let begin = wire.latch as usize;
     let end = begin.saturating_add(wire.cycles as usize);
-    drawing.starts.as_slice().get(begin..end).unwrap_or(&[])
+    if begin <= end && end <= starts.len() {
+        &starts[begin..end]
+    } else {
+        &[]
+    }
 }
 
 // Adds all wires. One that begins or ends at no port is not written.
@@ -117,9 +125,7 @@ pub fn gate_lines(alloc: Global, drawing: &Drawing) -> Result<Bytes, OutOfMemory
         text: Vec::new(alloc),
         is_short: false,
     };
-    for gate in drawing.gates.as_slice() {
-        lines.add_gate(gate);
-    }
+    lines.add_gates(drawing.gates.as_slice());
     add_wires(&mut lines, &library, drawing);
     if lines.is_short {
         return Err(OutOfMemory::NoMemory);
