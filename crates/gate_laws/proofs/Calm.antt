@@ -9,11 +9,11 @@ use Rattle.ww_rule.specs.declared.pattern.State.{State}
 use Rattle.ww_rule.specs.declared.pattern.State.TheVariants.{Empty, Head, Tail, Conductor}
 use Rattle.ww_rule.specs.Wireworld.{Plane, next_plane, next_state, heads_around, count_head, injected}
 use Rattle.ww_rule.proofs.Cells.{not_counted}
-use Rattle.wire_laws.specs.Signals.{cell_state, IsReady}
-use Rattle.wire_laws.specs.Wires.{IsNear}
-use Rattle.wire_laws.specs.Rows.{Port}
-use Rattle.wire_laws.proofs.Around.{near_itself, as_many}
-use Rattle.wire_laws.proofs.Dues.{same_cell}
+use Rattle.gate_laws.specs.Signals.{cell_state, IsReady}
+use Rattle.gate_laws.specs.Wires.{IsNear}
+use Rattle.gate_laws.specs.Rows.{Port}
+use Rattle.gate_laws.proofs.Around.{near_itself, as_many}
+use Rattle.gate_laws.proofs.Dues.{same_cell}
 use Rattle.gate_laws.specs.Gates.{Gate, is_lit_input, used, IsBesideInput, IsCalmCell, IsGateDrawn}
 
 -- a lit cell is an input's, at its generation

@@ -10,13 +10,13 @@ use Rattle.lists.specs.Items.{flag_at}
 use Rattle.lists.proofs.Members.{In, in_from, contains_from, in_got, got_from}
 use Rattle.ww_rule.specs.declared.pattern.State.TheVariants.{Head, Conductor}
 use Rattle.ww_rule.specs.Wireworld.{Plane, next_plane, injected}
-use Rattle.wire_laws.specs.Signals.{cell_state, IsReady, CarriesSignals}
-use Rattle.wire_laws.specs.Wires.{IsNear}
-use Rattle.wire_laws.specs.Rows.{Port, signals_at, PartMeaning, IsPart}
-use Rattle.wire_laws.specs.PartTimes.{cycles_later, held_back, meaning_later}
-use Rattle.wire_laws.proofs.Early.{both_first, both_rest}
-use Rattle.wire_laws.proofs.Rows.{same_signals}
-use Rattle.wire_laws.proofs.PartTimes.{parts_begin_later}
+use Rattle.gate_laws.specs.Signals.{cell_state, IsReady, CarriesSignals}
+use Rattle.gate_laws.specs.Wires.{IsNear}
+use Rattle.gate_laws.specs.Rows.{Port, signals_at, PartMeaning, IsPart}
+use Rattle.gate_laws.specs.PartTimes.{cycles_later, held_back, meaning_later}
+use Rattle.gate_laws.proofs.Early.{both_first, both_rest}
+use Rattle.gate_laws.proofs.Rows.{same_signals}
+use Rattle.gate_laws.proofs.PartTimes.{parts_begin_later}
 use Rattle.gate_laws.specs.Gates.{is_lit_input, used, ShowsOnce, IsBesideInput, IsCalmCell, AnswersInTime, IsGateDrawn, gate_answer}
 use Rattle.gate_laws.proofs.Calm.{calm_dark, same_head, head_same, calm_next, unlit_late, calm_after, ready_calm}
 use Rattle.gate_laws.proofs.Gates.{gates_answer_each_row}

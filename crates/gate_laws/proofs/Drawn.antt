@@ -9,7 +9,7 @@ use Rattle.ww_rule.specs.declared.pattern.State.{State}
 use Rattle.gate_laws.specs.declared.window.OutCell.{OutCell}
 use Rattle.gate_laws.specs.Gates.{AnswersInTime}
 use Rattle.gate_laws.specs.Drawings.{out_table, out_port_of, window_gate, HasCells, IsSized}
-use Rattle.gate_laws.proofs.Rows.{no_out}
+use Rattle.gate_laws.proofs.BitNumbers.{no_out}
 use Rattle.gate_laws.proofs.Windows.{drawn_from}
 use Rattle.gate_laws.specs.Crossings.{KeepsCrossingLaw}
 use Rattle.gate_laws.specs.Drawn.{window_crossing, two_inputs, IsOfOne}

@@ -10,10 +10,10 @@ use Rattle.std.proofs.Math.Path.{fun_ext}
 use Rattle.lists.proofs.Members.{In, in_from, contains_from, in_parts, in_got}
 use Rattle.ww_rule.specs.declared.pattern.State.TheVariants.{Empty, Head, Conductor}
 use Rattle.ww_rule.specs.Wireworld.{Plane, next_plane, injected, driven}
-use Rattle.wire_laws.specs.Signals.{Signal, cell_state, is_lit, due_of_signals, IsReady, CarriesSignals}
-use Rattle.wire_laws.specs.Rows.{Port, signal_of, signals_at}
-use Rattle.wire_laws.proofs.Lit.{lit_in, in_lit}
-use Rattle.wire_laws.proofs.Rows.{no_port, port_of_signal}
+use Rattle.gate_laws.specs.Signals.{Signal, cell_state, is_lit, due_of_signals, IsReady, CarriesSignals}
+use Rattle.gate_laws.specs.Rows.{Port, signal_of, signals_at}
+use Rattle.gate_laws.proofs.WireLit.{lit_in, in_lit}
+use Rattle.gate_laws.proofs.Rows.{no_port, port_of_signal}
 use Rattle.gate_laws.specs.Gates.{Gate, is_lit_input, used, ShowsOnce, IsCalmCell, AnswersInTime, KeepsGateLaw, front_bits, gate_answer, GatesAnswerEachRow, LawfulAreGates}
 use Rattle.gate_laws.proofs.Calm.{calm_dark, same_head, head_same, calm_next, unlit_late, calm_after, ready_calm, ready_same}
 

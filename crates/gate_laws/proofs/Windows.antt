@@ -15,10 +15,10 @@ use Rattle.ww_rule.specs.declared.pattern.State.{State}
 use Rattle.ww_rule.specs.declared.pattern.State.TheVariants.{Empty, Head, Conductor}
 use Rattle.ww_rule.specs.Wireworld.{Plane, next_plane, injected}
 use Rattle.ww_rule.proofs.Cells.{not_counted}
-use Rattle.wire_laws.specs.Signals.{cell_state, IsReady}
-use Rattle.wire_laws.specs.Wires.{IsNear}
-use Rattle.wire_laws.specs.Rows.{Port}
-use Rattle.wire_laws.proofs.Around.{as_many}
+use Rattle.gate_laws.specs.Signals.{cell_state, IsReady}
+use Rattle.gate_laws.specs.Wires.{IsNear}
+use Rattle.gate_laws.specs.Rows.{Port}
+use Rattle.gate_laws.proofs.Around.{as_many}
 use Rattle.tile_timing.specs.Window.{shown}
 use Rattle.tile_timing.proofs.Windows.{beside, at_place}
 use Rattle.gate_laws.specs.declared.window.InCell.{InCell}
@@ -27,7 +27,7 @@ use Rattle.gate_laws.specs.declared.window.TheConstants.{CHOICES}
 use Rattle.gate_laws.specs.Gates.{Gate, is_lit_input, used, IsCalmCell, AnswersInTime, IsGateDrawn, KeepsGateLaw}
 use Rattle.gate_laws.specs.Drawings.{in_port_of, no_in, in_at, out_port_of, out_table, number_of_bits, window_gate, is_beside, IsCalmAt, IsDarkBeside, IsReadyInput, AreInputsReady, next_time, ArePortsInTime, IsInside, HasCells, IsSized}
 use Rattle.gate_laws.proofs.Calm.{lit_in}
-use Rattle.gate_laws.proofs.Rows.{no_out}
+use Rattle.gate_laws.proofs.BitNumbers.{no_out}
 
 -- a cell of the window: its column and its row
 pub record InWindow (cells : List State) (width : ℕ) (c : ℤ × ℤ) : Type 0 where

@@ -3,7 +3,7 @@
 use Rattle.std.specs.Prelude.{ℤ, ℕ, suc, ◌+◌, ◌<◌, ◌≤◌, ◌≡◌, ◌%◌, Bool, true, false, cond, List, [], ◌∷◌, length}
 use Rattle.lists.specs.Items.{flag_at}
 use Rattle.ww_rule.specs.Wireworld.{Plane}
-use Rattle.wire_laws.specs.Rows.{Port, AnswersEachRow}
+use Rattle.gate_laws.specs.Rows.{Port, AnswersEachRow}
 use Rattle.gate_laws.specs.Gates.{Gate, IsGateDrawn, AnswersInTime, KeepsGateLaw, gate_answer, IsGateForPeriod}
 
 -- A crossing: its cells; the cells of its two inputs; its outputs, each with its delay after the

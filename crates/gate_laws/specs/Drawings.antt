@@ -5,7 +5,7 @@ use Rattle.lists.specs.Items.{flag_at, list_at}
 use Rattle.ww_rule.specs.declared.pattern.State.{State}
 use Rattle.ww_rule.specs.declared.pattern.State.TheVariants.{Empty, Head, Tail, Conductor}
 use Rattle.ww_rule.specs.Wireworld.{Plane}
-use Rattle.wire_laws.specs.Rows.{Port}
+use Rattle.gate_laws.specs.Rows.{Port}
 use Rattle.tile_timing.specs.Window.{shown}
 use Rattle.gate_laws.specs.declared.window.InCell.{InCell}
 use Rattle.gate_laws.specs.declared.window.OutCell.{OutCell}

@@ -3,9 +3,9 @@ use Rattle.std.specs.Prelude.{ℤ, ℕ, zero, suc, ◌-◌, ◌<◌, ◌≤◌, 
 use Rattle.std.specs.Ordering.{int_eq}
 use Rattle.ww_rule.specs.declared.pattern.State.TheVariants.{Empty, Head, Tail, Conductor}
 use Rattle.ww_rule.specs.Wireworld.{Plane, driven}
-use Rattle.wire_laws.specs.Signals.{cell_state, IsReady}
-use Rattle.wire_laws.specs.Wires.{IsNear}
-use Rattle.wire_laws.specs.Rows.{Port, AnswersEachRow}
+use Rattle.gate_laws.specs.Signals.{cell_state, IsReady}
+use Rattle.gate_laws.specs.Wires.{IsNear}
+use Rattle.gate_laws.specs.Rows.{Port, AnswersEachRow}
 
 -- A gate: a drawing with ports, which is used again and again. A port is a cell, and a generation of
 -- a use: an input is lit then if its bit is 1, an output if its bit of the answer is. So an output's

@@ -1,0 +1,3 @@
+pub mod Periods
+pub mod Spread
+pub mod Tested

@@ -2,7 +2,7 @@
 use crate::pages::Page;
 use gate_library::Drawing;
 use pattern_reading::Ports;
-use route_finder::{FindError, find};
+use route_finder::{DrawingFault, FindError, find};
 use route_lines::{gate_lines, read};
 use ww_rule::Pattern;
 
@@ -14,6 +14,14 @@ fn push_lines(page: &mut Page, drawing: &Drawing) {
     }
 }
 
+fn fault_word(fault: DrawingFault) -> &'static [u8] {
+    match fault {
+        DrawingFault::Gate => b"Gate",
+        DrawingFault::Wire => b"Wire",
+        DrawingFault::Port => b"Port",
+    }
+}
+
 // Appends what a search tells of a pattern: the lines of what it finds, or the fault and its cell.
 fn push_found(page: &mut Page, pattern: &Pattern, ports: &Ports) {
     match find(page.alloc(), pattern, ports) {
@@ -22,7 +30,8 @@ fn push_found(page: &mut Page, pattern: &Pattern, ports: &Ports) {
             drop(drawing);
         }
         Err(FindError::Fault { kind, x, y }) => {
-            page.push_item(&kind);
+            page.push(fault_word(kind));
+            page.push(b" ");
             page.push_number(u64::from(x));
             page.push(b" ");
             page.push_number(u64::from(y));

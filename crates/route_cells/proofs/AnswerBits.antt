@@ -18,9 +18,9 @@ use Rattle.gate_library.specs.declared.gate.Answer.TheVariants.{Copy, Or, Xor, A
 use Rattle.gate_library.specs.declared.gate.Timing.{Timing}
 use Rattle.gate_library.specs.declared.gate.Timing.TheVariants.{Together, Apart}
 use Rattle.gate_library.specs.declared.gate.GateDrawing.{GateDrawing}
-use Rattle.lawful_gates.specs.Lawful.{gate_by, gate_at, crossing_apart, IsLawful, answer_at, answer_bit}
+use Rattle.gate_library.specs.Lawful.{gate_by, gate_at, crossing_apart, IsLawful, answer_at, answer_bit}
 use Rattle.route_tables.specs.Runs.{IsAnsweredBy}
-use Rattle.route_check.proofs.Ports.{length_spread}
+use Rattle.route_tables.proofs.Ports.{length_spread}
 
 -- ---- lengths
 outs_by : (timing : Timing) (d : GateDrawing) (later : ℕ) → length (gate_by timing d later).outs ≡ length d.outs

@@ -3,11 +3,11 @@ use Rattle.std.proofs.Common.{◌≡◌, sym, ◌∙◌, ap, subst, ℕ, ◌<◌
 use Rattle.std.specs.Prelude.{Contains}
 use Rattle.lists.proofs.Members.{In, in_from, contains_from, in_map, in_mapped, in_left, in_right, in_parts, in_got, got_from}
 use Rattle.ww_rule.specs.declared.pattern.State.{State}
-use Rattle.wire_laws.specs.Wires.{AreWiresDrawn}
+use Rattle.gate_laws.specs.Wires.{AreWiresDrawn}
 use Rattle.pattern_reading.specs.declared.ports.Ports.{Ports}
 use Rattle.routed_circuits.specs.Routed.{gates_plane, StandAllApart}
 use Rattle.routed_circuits.specs.Lists.{Point, SourcedWire, in_points, all_points, placed_of, point_signal, wire_in_run, ComputesSources, DelaysSource, ComputesList}
-use Rattle.lawful_gates.proofs.Periods.{lawful_are_gates_at_period}
+use Rattle.gate_library.proofs.Periods.{lawful_are_gates_at_period}
 use Rattle.route_tables.specs.declared.tables.Feed.{Feed}
 use Rattle.route_tables.specs.declared.tables.Feed.TheVariants.{Wire as ByWire, Driven}
 use Rattle.route_tables.specs.declared.tables.GateInput.{GateInput}
@@ -16,7 +16,7 @@ use Rattle.route_tables.specs.Tables.{no_wire, table_gate, table_wire, gate_draw
 use Rattle.route_tables.specs.Cells.{FeedsInput}
 use Rattle.route_tables.specs.Checked.{IsChecked}
 use Rattle.route_cells.proofs.PortPoints.{in_at, at_of, gate_of, port_in, input_in, input_of}
-use Rattle.route_check.proofs.Ports.{length_ins}
+use Rattle.route_tables.proofs.Ports.{length_ins}
 use Rattle.route_cells.proofs.AnswerBits.{answers_hold, length-gate_outs}
 
 -- ---- gates

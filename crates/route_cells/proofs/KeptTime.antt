@@ -6,11 +6,11 @@ use Rattle.std.proofs.Math.Nat.{div-lt_iff_lt-mul}
 use Rattle.lists.specs.Items.{flag_at}
 use Rattle.ww_rule.specs.declared.pattern.State.{State}
 use Rattle.ww_rule.specs.declared.pattern.State.TheVariants.{Head, Tail, Conductor}
-use Rattle.wire_laws.specs.Signals.{cell_state, is_lit}
-use Rattle.wire_laws.specs.Rows.{Port}
+use Rattle.gate_laws.specs.Signals.{cell_state, is_lit}
+use Rattle.gate_laws.specs.Rows.{Port}
 use Rattle.routed_circuits.specs.Runs.{list_bit, IsDelayed}
 use Rattle.routed_circuits.specs.Lists.{Point, point_signal}
-use Rattle.lawful_gates.specs.declared.ports.PortCell.{PortCell}
+use Rattle.gate_library.specs.declared.ports.PortCell.{PortCell}
 use Rattle.route_tables.specs.declared.tables.TableWire.{TableWire}
 use Rattle.route_tables.specs.declared.tables.Tables.{Tables}
 use Rattle.route_tables.specs.Serials.{listed_cell}

@@ -3,7 +3,7 @@ use Rattle.std.proofs.Common.{◌≡◌, refl, sym, ◌∙◌, ap, subst, ℕ, z
 use Rattle.std.proofs.lemmas.List.{length-map, get_or-map}
 use Rattle.std.proofs.lemmas.Option.{slice_get-get_or, get_or_from_slice_get, slice_get_within}
 use Rattle.lists.proofs.Members.{In, in_map, in_mapped, in_flat, in_flattened, in_left, in_right, in_got, got_from}
-use Rattle.wire_laws.specs.Rows.{Port}
+use Rattle.gate_laws.specs.Rows.{Port}
 use Rattle.cell_core.specs.declared.cells.Src.{Src}
 use Rattle.routed_circuits.specs.Routed.{PlacedGate, placed_port, placed_ins, placed_outs}
 use Rattle.routed_circuits.specs.Runs.{src_at}

@@ -10,7 +10,7 @@ use Rattle.route_tables.specs.declared.tables.Tables.{Tables}
 use Rattle.route_tables.specs.Owners.{owner_at}
 use Rattle.route_tables.specs.Tables.{sourced_gates, sourced_wires, placed_gates, dark_wire, driven_points, box_plane, own}
 use Rattle.route_tables.specs.Checked.{IsChecked}
-use Rattle.route_check.proofs.Drawn.{checked_are_labelled}
+use Rattle.route_tables.proofs.Drawn.{checked_are_labelled}
 use Rattle.route_cells.proofs.Computing.{computes_list}
 use Rattle.route_cells.proofs.PortTable.{table_of_points}
 

@@ -1,12 +1,12 @@
 -- A gate whose drawing is answered has sources at its ports.
 use Rattle.std.proofs.Common.{◌≡◌, sym, ◌∙◌, subst, subst₂, ℕ}
 use Rattle.gate_library.specs.declared.gate.GateDrawing.{GateDrawing}
-use Rattle.lawful_gates.specs.Lawful.{IsLawful}
+use Rattle.gate_library.specs.Lawful.{IsLawful}
 use Rattle.route_tables.specs.declared.tables.TableGate.{TableGate}
 use Rattle.route_tables.specs.declared.tables.Tables.{Tables}
 use Rattle.route_tables.specs.Tables.{table_gate, gate_drawing}
 use Rattle.route_tables.specs.Runs.{HasPortSources}
-use Rattle.route_check.proofs.Ports.{length_ins}
+use Rattle.route_tables.proofs.Ports.{length_ins}
 use Rattle.route_cells.proofs.AnswerBits.{length-gate_outs}
 use Rattle.route_cells.specs.Gates.{IsInTimeAndAnswered}
 

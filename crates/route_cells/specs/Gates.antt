@@ -3,7 +3,7 @@ use Rattle.std.specs.Prelude.{ℕ, ◌<◌, ◌≡◌, length}
 use Rattle.cell_core.specs.declared.list.CellList.{CellList}
 use Rattle.routed_circuits.specs.Runs.{src_at}
 use Rattle.gate_library.specs.declared.gate.GateDrawing.{GateDrawing}
-use Rattle.lawful_gates.specs.Lawful.{answer_at, FitsPeriod}
+use Rattle.gate_library.specs.Lawful.{answer_at, FitsPeriod}
 use Rattle.route_tables.specs.declared.tables.TableGate.{TableGate}
 use Rattle.route_tables.specs.Runs.{IsAnsweredBy}
 

@@ -2,7 +2,7 @@
 use Rattle.std.specs.Prelude.{pos, ℕ, ◌≡◌, List}
 use Rattle.ww_rule.specs.declared.pattern.State.{State}
 use Rattle.ww_rule.specs.declared.pattern.State.TheVariants.{Conductor}
-use Rattle.wire_laws.specs.Signals.{cell_state}
+use Rattle.gate_laws.specs.Signals.{cell_state}
 use Rattle.pattern_reading.specs.declared.ports.PortLine.{PortLine}
 use Rattle.cell_core.specs.declared.cells.Src.{Src}
 use Rattle.gate_library.specs.declared.circuit.DrawnPort.{DrawnPort}

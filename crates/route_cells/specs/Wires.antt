@@ -3,8 +3,8 @@ use Rattle.std.specs.Prelude.{pos, ℕ, suc, ◌+◌, ◌*◌, ◌<◌, ◌≤�
 use Rattle.lists.specs.Items.{flag_at}
 use Rattle.ww_rule.specs.declared.pattern.State.{State}
 use Rattle.ww_rule.specs.declared.pattern.State.TheVariants.{Head, Conductor}
-use Rattle.wire_laws.specs.Signals.{cell_state}
-use Rattle.lawful_gates.specs.declared.ports.PortCell.{PortCell}
+use Rattle.gate_laws.specs.Signals.{cell_state}
+use Rattle.gate_library.specs.declared.ports.PortCell.{PortCell}
 use Rattle.route_tables.specs.declared.tables.TableWire.{TableWire}
 use Rattle.route_tables.specs.declared.tables.Tables.{Tables}
 use Rattle.route_tables.specs.Serials.{listed_cell}

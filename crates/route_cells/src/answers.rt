@@ -2,7 +2,7 @@
 ghost use Rattle.std.specs.Prelude.{◌≡◌, ◌<◌, ℕ, Some, length, slice_get, IsTrue};
 ghost use Rattle.cell_core.specs.declared.cells.Src.TheVariants.{Cell as Made};
 ghost use Rattle.routed_circuits.specs.Runs.{src_at};
-ghost use Rattle.lawful_gates.specs.Lawful.{answer_at};
+ghost use Rattle.gate_library.specs.Lawful.{answer_at};
 ghost use Rattle.route_tables.specs.Runs.{IsAnsweredBy};
 
 use cell_core::{Cell, CellList, Src, is_same_cell, is_same_src};

@@ -12,9 +12,8 @@ use crate::runs::{test_gates, test_wires};
 use cell_core::CellList;
 use gate_library::Drawing;
 use pattern_reading::Ports;
-use route_check::test_cells;
 use route_filling::tables_of;
-use route_tables::{BOX_LIMIT, CellFault, FaultWord, Tables};
+use route_tables::{BOX_LIMIT, CellFault, FaultWord, Tables, test_cells};
 use std::alloc::Global;
 use ww_rule::{Pattern, State};
 

@@ -1,7 +1,7 @@
 // Electrons on wires.
 ghost use Rattle.std.specs.Prelude.{◌≡◌, ◌<◌, ◌≤◌, ◌+◌, ◌*◌, ◌^◌, suc, pos, false, ℕ, length, if◌then◌else◌, IsTrue, IfNone};
 ghost use Rattle.lists.specs.Items.{flag_at};
-ghost use Rattle.wire_laws.specs.Signals.{cell_state};
+ghost use Rattle.gate_laws.specs.Signals.{cell_state};
 ghost use Rattle.route_tables.specs.Serials.{listed_cell};
 ghost use Rattle.route_tables.specs.Tables.{box_plane};
 ghost use Rattle.route_cells.specs.Electrons.{comes_at, state_before};

@@ -1,6 +1,6 @@
 // The period at which gates are used.
 ghost use Rattle.std.specs.Prelude.{◌<◌, IsTrue};
-ghost use Rattle.lawful_gates.specs.Lawful.{FitsPeriod};
+ghost use Rattle.gate_library.specs.Lawful.{FitsPeriod};
 
 use gate_library::{GateDrawing, Timing};
 

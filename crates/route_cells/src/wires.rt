@@ -8,7 +8,7 @@ ghost use Rattle.route_cells.specs.Wires.{CarriesBits, WireKeepsTime};
 use crate::RouteError;
 use crate::chains::start_bits;
 use crate::electrons::{are_clear, shows_end, wrong_cell};
-use lawful_gates::PortCell;
+use gate_library::PortCell;
 use lists::OutOfMemory;
 use route_tables::{CellFault, FaultWord, TableWire, Tables, input_port, state_at};
 use std::alloc::Global;

@@ -1,7 +1,6 @@
 // The gates of a drawing, their kinds, and the numbers of their ports.
 
-use gate_library::{Drawing, DrawnPort, GateDrawing, GateKind, GatePort, drawing_of};
-use lawful_gates::LawfulGate;
+use gate_library::{Drawing, DrawnPort, GateDrawing, GateKind, GatePort, LawfulGate, drawing_of};
 use route_tables::{CellFault, FaultWord};
 use std::alloc::Global;
 

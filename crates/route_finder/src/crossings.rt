@@ -5,14 +5,10 @@ use gate_library::{DrawnGate, DrawnPort, GatePort, Shape, Turn};
 
 /// Returns whether a gate is such a crossing.
 pub fn is_mirrored(times: &Times, gates: &[DrawnGate], gate: u32) -> bool {
-    let first = gate.saturating_mul(2);
-    match gates.get(gate as usize) {
-        Some(drawn) => {
-            matches!(drawn.kind.shape, Shape::Cross | Shape::TapTwice)
-                && times.generation(first.saturating_add(1)) < times.generation(first)
-        }
-        None => false,
-    }
+    let (place, first) = (gate as usize, gate.saturating_mul(2));
+    place < gates.len()
+        && matches!(gates[place].kind.shape, Shape::Cross | Shape::TapTwice)
+        && times.generation(first.saturating_add(1)) < times.generation(first)
 }
 
 /// Returns a turn, mirrored.

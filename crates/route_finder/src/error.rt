@@ -1,7 +1,7 @@
 // Why no gates and wires are found.
 
 /// What is at fault at a cell.
-#[derive(Clone, Copy, Debug)]
+#[derive(Clone, Copy)]
 pub enum DrawingFault {
     /// A gate's cell is missing, or a cell is beside a gate that does not belong there.
     Gate,

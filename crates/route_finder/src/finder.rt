@@ -6,14 +6,14 @@ use crate::links::{follow_rings, follow_wires};
 use crate::lone::{add_ends, add_table_cells, fault_of_lone_cells, fault_of_table};
 use crate::periods::find_periods;
 use crate::result::{add_wires, time_gates};
-use crate::templates::{SIDE, Templates};
+use crate::templates::Templates;
 use crate::times::find_times;
 use crate::uses::{chain_links, fault_of_ends, note_table};
 use crate::ways::direct_wires;
 use crate::wires::{Links, Use};
 use gate_library::Drawing;
 use pattern_reading::Ports;
-use route_lines::{Board, Owners, TableCell, TableCells};
+use route_lines::{Board, TableCell, TableCells};
 use std::alloc::Global;
 use ww_rule::Pattern;
 
@@ -22,14 +22,7 @@ const MOST_GENERATIONS: u64 = 2147483648;
 
 // Finds all gates, lone cells among them, and returns the first fault of these.
 fn find_all_gates(alloc: Global, board: &mut Board, table: &[TableCell]) -> Option<FindError> {
-    let mut sheet = Owners::new(alloc, SIDE);
-    let mut templates = Templates {
-        all: Vec::new(alloc),
-        nears: Vec::new(alloc),
-        is_short: false,
-    };
-    templates.add_all(&board.library, &mut sheet);
-    drop(sheet);
+    let templates = Templates::of(alloc, &board.library);
     board.is_short |= templates.is_short;
     find_gates(board, &templates);
     add_table_cells(board, table);

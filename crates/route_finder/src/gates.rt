@@ -15,9 +15,10 @@ fn misfits(
 ) -> (u32, (u32, u32)) {
     let (mut count, mut last) = (0u32, corner);
     for number in template.start..template.end {
-        let Some(near) = templates.nears.get(number) else {
+        if number >= templates.nears.len() {
             break;
-        };
+        }
+        let near = templates.nears[number];
         let cell = (corner.0.wrapping_add(near.x), corner.1.wrapping_add(near.y));
         let misfit = match owners.of(cell) {
             Owner::Nobody => u32::from(near.is_drawn),
@@ -71,9 +72,10 @@ pub fn find_gates(board: &mut Board, templates: &Templates) {
 /// as drawn, that one.
 pub fn fault_near(owners: &Owners, templates: &Templates, cell: (u32, u32)) -> FindError {
     for near in &templates.nears {
-        if let Some(template) = templates.all.get(near.template) {
+        if near.template < templates.all.len() {
+            let template = templates.all[near.template];
             let corner = (cell.0.wrapping_sub(near.x), cell.1.wrapping_sub(near.y));
-            let (count, wrong) = misfits(owners, templates, template, corner);
+            let (count, wrong) = misfits(owners, templates, &template, corner);
             if count == 1 {
                 return FindError::at(DrawingFault::Gate, wrong);
             }

@@ -26,11 +26,16 @@ fn add_link(links: &mut Links, from: DrawnPort, to: DrawnPort, start: u32, size:
     links.is_short |= links.all.push(link).is_err();
 }
 
-// The first conductor of a ring that has a cell before it and one after it, and how many cells are before it.
-fn splitting_cell(pattern: &Pattern, ring: &[(u32, u32)]) -> Option<(u32, (u32, u32))> {
-    for place in 1..ring.len().saturating_sub(1) {
-        if let State::Conductor = state_at(pattern, ring[place]) {
-            return Some((small(place), ring[place]));
+// The first conductor of a ring, which is a path from a place on, that has a cell before it and one after it; and how
+// many cells of the ring are before it.
+fn splitting_cell(
+    pattern: &Pattern,
+    path: &[(u32, u32)],
+    start: usize,
+) -> Option<(u32, (u32, u32))> {
+    for place in start.saturating_add(1)..path.len().saturating_sub(1) {
+        if let State::Conductor = state_at(pattern, path[place]) {
+            return Some((small(place.saturating_sub(start)), path[place]));
         }
     }
     None
@@ -46,8 +51,7 @@ fn add_ring(
     start: u32,
     size: u32,
 ) {
-    let ring = board.path.get(start as usize..).unwrap_or(&[]);
-    match splitting_cell(pattern, ring) {
+    match splitting_cell(pattern, &board.path, start as usize) {
         Some((before, cell)) => {
             let lone = DrawnPort {
                 gate: small(board.gates.len()),
@@ -75,11 +79,18 @@ fn follow(
     let trace = board.owners.trace(&mut board.path, cell, first);
     board.is_short |= trace.is_short;
     let (start, size, end) = (trace.start, trace.size, trace.end);
-    match (board.port_at(end), board.owners.of(end)) {
-        (Some(to), _) if to == from => add_ring(links, board, pattern, from, start, size),
-        (Some(to), _) => add_link(links, from, to, start, size),
-        (None, Owner::Inner) => links.note(Some(FindError::at(DrawingFault::Gate, end))),
-        _ => links.note(Some(FindError::at(DrawingFault::Wire, end))),
+    let Some(to) = board.port_at(end) else {
+        let fault = match board.owners.of(end) {
+            Owner::Inner => DrawingFault::Gate,
+            _ => DrawingFault::Wire,
+        };
+        links.note(Some(FindError::at(fault, end)));
+        return;
+    };
+    if to == from {
+        add_ring(links, board, pattern, from, start, size);
+    } else {
+        add_link(links, from, to, start, size);
     }
 }
 

@@ -25,10 +25,8 @@ fn periods_of(times: &Times, span: Span, link: &Link) -> u32 {
 
 // Whether a head is so many cells before the end of a wire of these cells.
 fn is_head_before(pattern: &Pattern, cells: &[(u32, u32)], distance: u32) -> bool {
-    match cells.get(cells.len().wrapping_sub(distance as usize)) {
-        Some(cell) => matches!(state_at(pattern, *cell), State::Head),
-        None => false,
-    }
+    let place = cells.len().wrapping_sub(distance as usize);
+    place < cells.len() && matches!(state_at(pattern, cells[place]), State::Head)
 }
 
 // Adds the start bits of a wire of so many periods, the last latch's last.
@@ -79,7 +77,7 @@ pub fn add_wires(
         let (link, span) = (links.all[number], times.spans[number]);
         let Some(wire) = wire_of(board, times, &link, span) else {
             let cells = cells_of(&board.path, &link);
-            let first = cells.first().copied().unwrap_or((0, 0));
+            let first = if cells.is_empty() { (0, 0) } else { cells[0] };
             return Some(FindError::at(DrawingFault::Wire, first));
         };
         board.wiring.is_short |= board.wiring.wires.push(wire).is_err();

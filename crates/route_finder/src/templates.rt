@@ -2,9 +2,10 @@
 
 use gate_library::{DrawnGate, GateKind, GateLibrary, SHAPES, Shape, TURNS};
 use route_lines::{Owner, Owners};
+use std::alloc::Global;
 
-/// The columns and the rows of a sheet: those of the largest drawing, and one more on each side.
-pub const SIDE: u32 = 9;
+// The columns and the rows of a sheet: those of the largest drawing, and one more on each side.
+const SIDE: u32 = 9;
 
 /// A cell in or around the drawing with this number, from whose north-west corner it is so many columns east and rows
 /// south, modulo 2^32; and whether it is drawn.
@@ -38,18 +39,27 @@ pub struct Templates {
 }
 
 impl Templates {
-    /// Adds those of a library, each of which is drawn on the sheet.
-    pub fn add_all(&mut self, library: &GateLibrary, sheet: &mut Owners) {
+    /// Returns those of a library.
+    pub fn of(alloc: Global, library: &GateLibrary) -> Templates {
+        let mut templates = Templates {
+            all: Vec::new(alloc),
+            nears: Vec::new(alloc),
+            is_short: false,
+        };
+        let mut sheet = Owners::new(alloc, SIDE);
         for shape in SHAPES {
             for turn in TURNS {
                 let (shape, turn) = (*shape, *turn);
                 if !matches!(shape, Shape::Lone | Shape::Fork) {
-                    self.add(library, sheet, GateKind { shape, turn });
+                    templates.add(library, &mut sheet, GateKind { shape, turn });
                 }
             }
         }
+        drop(sheet);
+        templates
     }
 
+    // Adds the drawing of a kind, which is drawn on the sheet.
     fn add(&mut self, library: &GateLibrary, sheet: &mut Owners, kind: GateKind) {
         self.is_short |= sheet.clear((SIDE * SIDE) as usize);
         let gate = DrawnGate {

@@ -58,9 +58,11 @@ fn input_and_delay(drawing: &GateDrawing, port: GatePort) -> (u32, u32) {
 /// Returns the time of a port.
 pub fn port_time(board: &Board, port: DrawnPort) -> PortTime {
     let number = port.gate.saturating_mul(2);
-    let Some(gate) = board.gates.get(port.gate as usize) else {
+    let place = port.gate as usize;
+    if place >= board.gates.len() {
         return PortTime { number, after: 0 };
-    };
+    }
+    let gate = board.gates[place];
     let drawing = board.library.drawing(gate.kind);
     let (input, after) = input_and_delay(drawing, port.port);
     let number = match drawing.timing {

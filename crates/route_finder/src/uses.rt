@@ -10,15 +10,16 @@ use ww_rule::Pattern;
 
 // Puts a wire before the others at a gate, and returns the number of the first of them.
 fn put_first(uses: &mut [Use], gate: u32, number: u32) -> u32 {
-    match uses.get_mut(gate as usize) {
-        Some(used) => {
-            let next = used.link;
-            used.link = number;
-            used.count = used.count.saturating_add(1);
-            next
-        }
-        None => u32::MAX,
+    let place = gate as usize;
+    if place >= uses.len() {
+        return u32::MAX;
     }
+    let Use { link, count } = uses[place];
+    uses[place] = Use {
+        link: number,
+        count: count.saturating_add(1),
+    };
+    link
 }
 
 /// Chains the wires at each gate, those that were found last first.
@@ -53,12 +54,15 @@ pub fn note_table(uses: &mut [Use], are_fed: &mut [bool], board: &Board, table: 
 // The cell of one end of a wire, if it is alone there and the port table does not name it.
 fn loose_end(links: &Links, board: &Board, link: &Link, end: DrawnPort) -> Option<(u32, u32)> {
     let number = end.gate as usize;
-    match (links.uses.get(number), board.gates.get(number)) {
-        (Some(used), Some(gate))
-            if used.count == 1
-                && link.from.gate != link.to.gate
-                && matches!(gate.kind.shape, Shape::Lone) => { Some((gate.x, gate.y)) }
-        _ => None,
+    if number >= links.uses.len() || number >= board.gates.len() {
+        return None;
+    }
+    let is_alone = links.uses[number].count == 1 && link.from.gate != link.to.gate;
+    let gate = board.gates[number];
+    if is_alone && matches!(gate.kind.shape, Shape::Lone) {
+        Some((gate.x, gate.y))
+    } else {
+        None
     }
 }
 

@@ -80,14 +80,20 @@ impl Links {
 pub fn cells_of<'a>(path: &'a [(u32, u32)], link: &Link) -> &'a [(u32, u32)] {
     let start = link.start as usize;
     let end = start.saturating_add(link.size as usize);
-    path.get(start..end).unwrap_or(&[])
+    if start <= end && end <= path.len() {
+        &path[start..end]
+    } else {
+        &[]
+    }
 }
 
 /// Returns the state of a cell.
 pub fn state_at(pattern: &Pattern, cell: (u32, u32)) -> State {
     let row = pattern.rows.row_or_none(cell.1 as usize);
-    match row.get(cell.0 as usize) {
-        Some(state) => *state,
-        None => State::Empty,
+    let column = cell.0 as usize;
+    if column < row.len() {
+        row[column]
+    } else {
+        State::Empty
     }
 }

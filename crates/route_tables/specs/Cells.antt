@@ -2,10 +2,10 @@
 use Rattle.std.specs.Prelude.{ℤ, pos, ℕ, suc, ◌+◌, ◌/◌, ◌%◌, ◌<◌, ◌≤◌, ◌≡◌, ◌≢◌, ◌⊎◌, List, length, get_or, Some, slice_get}
 use Rattle.ww_rule.specs.declared.pattern.State.{State}
 use Rattle.ww_rule.specs.declared.pattern.State.TheVariants.{Empty, Conductor}
-use Rattle.wire_laws.specs.Signals.{cell_state}
-use Rattle.wire_laws.specs.Wires.{IsNear}
+use Rattle.gate_laws.specs.Signals.{cell_state}
+use Rattle.gate_laws.specs.Wires.{IsNear}
 use Rattle.routed_circuits.specs.Routed.{gate_plane}
-use Rattle.lawful_gates.specs.Lawful.{IsLawful}
+use Rattle.gate_library.specs.Lawful.{IsLawful}
 use Rattle.route_tables.specs.declared.tables.Feed.{Feed}
 use Rattle.route_tables.specs.declared.tables.Feed.TheVariants.{Wire, Driven}
 use Rattle.gate_library.specs.declared.gate.GateDrawing.{GateDrawing}

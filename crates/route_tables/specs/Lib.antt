@@ -6,3 +6,5 @@ pub mod Reading
 pub mod Cells
 pub mod Runs
 pub mod Checked
+pub mod Around
+pub mod Labelled

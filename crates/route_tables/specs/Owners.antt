@@ -2,7 +2,7 @@
 use Rattle.std.specs.Prelude.{ℤ, ℕ, zero, suc, ◌<◌, ◌≤◌, ◌≡◌, ◌≢◌, List, length, get_or}
 use Rattle.ww_rule.specs.declared.pattern.State.{State}
 use Rattle.tile_timing.specs.Window.{shown}
-use Rattle.wire_laws.specs.Wires.{Wire, IsNear}
+use Rattle.gate_laws.specs.Wires.{Wire, IsNear}
 use Rattle.routed_circuits.specs.Routed.{PlacedGate}
 use Rattle.routed_circuits.specs.Labels.{Owner, Nobody, OfGate, OfWire, IsGateCell, IsWireCell, AreLabels}
 use Rattle.route_tables.specs.Serials.{serial_at, listed_cell, AreSerials}

@@ -1,11 +1,11 @@
 -- What is read in tables.
 use Rattle.std.specs.Prelude.{pos, ◌+ℤ◌, ◌+◌, ◌≡◌}
-use Rattle.wire_laws.specs.Rows.{Port}
+use Rattle.gate_laws.specs.Rows.{Port}
 use Rattle.routed_circuits.specs.Lists.{SourcedGate}
 use Rattle.gate_library.specs.declared.circuit.DrawnPort.{DrawnPort}
 use Rattle.gate_library.specs.declared.circuit.GatePort.{GatePort}
-use Rattle.lawful_gates.specs.declared.ports.PortCell.{PortCell}
-use Rattle.lawful_gates.specs.Lawful.{port_in_cell}
+use Rattle.gate_library.specs.declared.ports.PortCell.{PortCell}
+use Rattle.gate_library.specs.Lawful.{port_in_cell}
 use Rattle.route_tables.specs.declared.tables.TableGate.{TableGate}
 use Rattle.route_tables.specs.declared.tables.Tables.{Tables}
 use Rattle.route_tables.specs.Tables.{HasPort, IsPort, gate_point, point_at}

@@ -2,8 +2,8 @@
 use Rattle.std.specs.Prelude.{pos, ℕ, suc, ◌+◌, ◌<◌, ◌≡◌, if◌then◌else◌, List, length, Some, slice_get}
 use Rattle.ww_rule.specs.declared.pattern.State.{State}
 use Rattle.ww_rule.specs.declared.pattern.State.TheVariants.{Head, Conductor}
-use Rattle.wire_laws.specs.Signals.{cell_state, is_lit}
-use Rattle.wire_laws.specs.Wires.{wire_state}
+use Rattle.gate_laws.specs.Signals.{cell_state, is_lit}
+use Rattle.gate_laws.specs.Wires.{wire_state}
 use Rattle.pattern_reading.specs.declared.ports.PortLine.{PortLine}
 use Rattle.cell_core.specs.declared.cells.Src.{Src}
 use Rattle.cell_core.specs.declared.cells.Src.TheVariants.{Input, Zero, Cell as Made}
@@ -14,7 +14,7 @@ use Rattle.routed_circuits.specs.Lists.{DelaysSource}
 use Rattle.gate_library.specs.declared.circuit.DrawnPort.{DrawnPort}
 use Rattle.gate_library.specs.declared.gate.Answer.{Answer}
 use Rattle.gate_library.specs.declared.gate.Answer.TheVariants.{Copy, Or, Xor, AndNot}
-use Rattle.lawful_gates.specs.Lawful.{answer_at, FitsPeriod}
+use Rattle.gate_library.specs.Lawful.{answer_at, FitsPeriod}
 use Rattle.route_tables.specs.declared.tables.GateInput.{GateInput}
 use Rattle.route_tables.specs.declared.tables.Tables.{Tables}
 use Rattle.route_tables.specs.Tables.{table_gate, table_wire, gate_drawing, sourced_gate, sourced_wire, dark_wire, IsPort, point_at, input_point, box_plane}

@@ -3,7 +3,7 @@
 use Rattle.std.specs.Prelude.{ℤ, pos, negsuc, ◌-ℤ◌, ℕ, suc, ◌+◌, ◌-◌, ◌*◌, ◌/◌, ◌%◌, ◌<◌, ◌≤◌, ◌≡◌, ◌⊎◌, ltb, cond, List, length, get_or}
 use Rattle.ww_rule.specs.declared.pattern.State.{State}
 use Rattle.ww_rule.specs.declared.pattern.State.TheVariants.{Empty}
-use Rattle.wire_laws.specs.Wires.{IsNear}
+use Rattle.gate_laws.specs.Wires.{IsNear}
 use Rattle.tile_timing.specs.Window.{shown}
 
 -- the serial in the table at x, y; outside it is 0

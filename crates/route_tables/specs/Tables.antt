@@ -3,8 +3,8 @@ use Rattle.std.specs.Prelude.{ℤ, pos, ℕ, zero, suc, ◌+◌, ◌-◌, ◌<�
 use Rattle.ww_rule.specs.declared.pattern.State.{State}
 use Rattle.ww_rule.specs.Wireworld.{Plane}
 use Rattle.tile_timing.specs.Window.{shown}
-use Rattle.wire_laws.specs.Rows.{Port}
-use Rattle.wire_laws.specs.Wires.{Wire}
+use Rattle.gate_laws.specs.Rows.{Port}
+use Rattle.gate_laws.specs.Wires.{Wire}
 use Rattle.routed_circuits.specs.Routed.{PlacedGate, placed_port}
 use Rattle.routed_circuits.specs.Labels.{Owner, OfGate, OfWire}
 use Rattle.routed_circuits.specs.Runs.{src_at}
@@ -14,7 +14,7 @@ use Rattle.gate_library.specs.declared.circuit.GatePort.{GatePort}
 use Rattle.gate_library.specs.declared.circuit.GatePort.TheVariants.{In, Out}
 use Rattle.gate_library.specs.declared.gate.Timing.TheVariants.{Together}
 use Rattle.gate_library.specs.declared.gate.GateDrawing.{GateDrawing}
-use Rattle.lawful_gates.specs.Lawful.{gate_at}
+use Rattle.gate_library.specs.Lawful.{gate_at}
 use Rattle.route_tables.specs.declared.tables.GateInput.{GateInput}
 use Rattle.route_tables.specs.declared.tables.TableGate.{TableGate}
 use Rattle.route_tables.specs.declared.tables.TableWire.{TableWire}

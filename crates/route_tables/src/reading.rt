@@ -2,15 +2,14 @@
 ghost use Rattle.std.specs.Prelude.{◌≡◌, ◌+◌, ◌<◌, ◌≤◌, ◌^◌, pos, ◌-ℤ◌, get_or, length, slice_get, IfSome};
 ghost use Rattle.tile_timing.specs.Window.{shown};
 ghost use Rattle.routed_circuits.specs.Runs.{src_at};
-ghost use Rattle.lawful_gates.specs.Lawful.{port_in_cell};
+ghost use Rattle.gate_library.specs.Lawful.{port_in_cell};
 ghost use Rattle.route_tables.specs.Serials.{serial_at};
 ghost use Rattle.route_tables.specs.Tables.{sourced_by, gate_drawing, table_gate, table_wire, IsPort, input_port, point_at, wire_path, group, serial};
 ghost use Rattle.route_tables.specs.Reading.{placed_at, IsGatePortAt, IsPortAt};
 
 use crate::{Feed, GateInput, TableGate, TableWire, Tables};
 use cell_core::Src;
-use gate_library::{DrawnPort, GatePort};
-use lawful_gates::{LawfulGate, PortCell};
+use gate_library::{DrawnPort, GatePort, LawfulGate, PortCell};
 use ww_rule::State;
 
 /// Returns an input as a port.

@@ -1,8 +1,7 @@
 // Tables of a routed circuit.
 
 use cell_core::{CellList, Src};
-use gate_library::DrawnPort;
-use lawful_gates::LawfulGate;
+use gate_library::{DrawnPort, LawfulGate};
 use lists::List;
 
 /// The input of this number of the gate of this number.

@@ -8,9 +8,9 @@ use Rattle.std.proofs.Math.Nat.{mul-le-mul_right}
 use Rattle.lists.proofs.Members.{In, in_from, contains_from, in_map, in_mapped}
 use Rattle.ww_rule.specs.declared.pattern.State.TheVariants.{Head, Tail, Conductor}
 use Rattle.ww_rule.specs.Wireworld.{Plane}
-use Rattle.wire_laws.specs.Signals.{Signal, cell_state, is_lit, CarriesSignals}
-use Rattle.wire_laws.specs.Wires.{Wire, IsWireDrawn, IsLaid, ShareNoCell, AreDisjointWires, IsAwayFrom, AreWiresDrawn, ComesCyclesLater}
-use Rattle.wire_laws.proofs.Early.{lit_same}
+use Rattle.gate_laws.specs.Signals.{Signal, cell_state, is_lit, CarriesSignals}
+use Rattle.gate_laws.specs.Wires.{Wire, IsWireDrawn, IsLaid, ShareNoCell, AreDisjointWires, IsAwayFrom, AreWiresDrawn, ComesCyclesLater}
+use Rattle.gate_laws.proofs.Early.{lit_same}
 use Rattle.gate_laws.specs.Gates.{IsGateForPeriod}
 use Rattle.routed_circuits.specs.Routed.{PlacedGate, placed_ins, placed_outs, placed_port, gates_plane, signals_of, AreGates, IsRouted}
 use Rattle.routed_circuits.proofs.Routed.{routed_carry}

@@ -6,10 +6,10 @@ use Rattle.std.proofs.lemmas.Option.{same_Some}
 use Rattle.lists.proofs.Members.{in_from, contains_from, in_got, got_from}
 use Rattle.ww_rule.specs.declared.pattern.State.TheVariants.{Empty, Head, Conductor}
 use Rattle.ww_rule.specs.Wireworld.{Plane}
-use Rattle.wire_laws.specs.Signals.{Signal, cell_state, is_lit}
-use Rattle.wire_laws.specs.Wires.{Wire, IsNear, IsWireDrawn, IsLaid, ShareNoCell, AreDisjointWires, IsAwayFrom, AreWiresDrawn}
-use Rattle.wire_laws.specs.Laws.{StandApart, or_state}
-use Rattle.wire_laws.proofs.Dues.{cases_Empty}
+use Rattle.gate_laws.specs.Signals.{Signal, cell_state, is_lit}
+use Rattle.gate_laws.specs.Wires.{Wire, IsNear, IsWireDrawn, IsLaid, ShareNoCell, AreDisjointWires, IsAwayFrom, AreWiresDrawn}
+use Rattle.gate_laws.specs.Laws.{StandApart, or_state}
+use Rattle.gate_laws.proofs.Dues.{cases_Empty}
 use Rattle.routed_circuits.specs.Routed.{PlacedGate, gate_plane, gates_plane, StandAllApart}
 use Rattle.routed_circuits.specs.Labels.{Owner, Nobody, OfGate, OfWire, IsGateCell, IsPathOf, IsLabelled, LabelledAreDrawn}
 

@@ -4,7 +4,7 @@ use Rattle.std.specs.Prelude.{Contains, ◌↔◌, Some, slice_get}
 use Rattle.std.proofs.lemmas.List.{map-append}
 use Rattle.std.proofs.lemmas.Option.{none-some, same_Some}
 use Rattle.lists.proofs.Members.{In, in_from, contains_from, in_map, in_mapped}
-use Rattle.wire_laws.specs.Rows.{Port, signals_at, signal_of}
+use Rattle.gate_laws.specs.Rows.{Port, signals_at, signal_of}
 use Rattle.gate_laws.specs.Gates.{front_bits, gate_answer}
 use Rattle.routed_circuits.specs.Routed.{PlacedGate, signals_of}
 use Rattle.cell_core.specs.declared.cells.Src.{Src}

@@ -6,18 +6,18 @@ use Rattle.std.proofs.lemmas.List.{length-map}
 use Rattle.lists.proofs.Members.{in_from, contains_from, in_right}
 use Rattle.ww_rule.specs.declared.pattern.State.TheVariants.{Empty, Head, Tail, Conductor}
 use Rattle.ww_rule.specs.Wireworld.{Plane}
-use Rattle.wire_laws.specs.Signals.{cell_state, CarriesSignals}
-use Rattle.wire_laws.specs.Wires.{Wire}
-use Rattle.wire_laws.specs.Rows.{Port, signals_at, HasNoElectrons, IsPart}
-use Rattle.wire_laws.specs.PartLaws.{moved_port}
-use Rattle.wire_laws.specs.Laws.{StandApart, or_state}
-use Rattle.wire_laws.proofs.Unite.{planes_unite}
-use Rattle.wire_laws.proofs.Order.{order_is_free}
-use Rattle.wire_laws.proofs.Together.{wires_feed}
-use Rattle.wire_laws.proofs.Delay.{wires_delay}
-use Rattle.wire_laws.proofs.Rows.{same_signals}
-use Rattle.wire_laws.proofs.Later.{parts_start_later}
-use Rattle.wire_laws.proofs.Ordered.{parts_move}
+use Rattle.gate_laws.specs.Signals.{cell_state, CarriesSignals}
+use Rattle.gate_laws.specs.Wires.{Wire}
+use Rattle.gate_laws.specs.Rows.{Port, signals_at, HasNoElectrons, IsPart}
+use Rattle.gate_laws.specs.PartLaws.{moved_port}
+use Rattle.gate_laws.specs.Laws.{StandApart, or_state}
+use Rattle.gate_laws.proofs.Unite.{planes_unite}
+use Rattle.gate_laws.proofs.Order.{order_is_free}
+use Rattle.gate_laws.proofs.Together.{wires_feed}
+use Rattle.gate_laws.proofs.Delay.{wires_delay}
+use Rattle.gate_laws.proofs.Rows.{same_signals}
+use Rattle.gate_laws.proofs.Later.{parts_start_later}
+use Rattle.gate_laws.proofs.Ordered.{parts_move}
 use Rattle.gate_laws.specs.Gates.{Gate, gate_answer, IsGateForPeriod}
 use Rattle.routed_circuits.specs.Routed.{PlacedGate, gate_plane, placed_port, placed_ins, placed_outs, gates_plane, signals_of, GatesCarry, RoutedCarry}
 

@@ -11,11 +11,11 @@ use Rattle.ww_rule.specs.declared.pattern.State.{State}
 use Rattle.ww_rule.specs.declared.pattern.State.TheVariants.{Head, Conductor}
 use Rattle.ww_rule.specs.Wireworld.{Plane, Due, next_state, driven}
 use Rattle.ww_rule.specs.Injections.{MeetsConductors}
-use Rattle.wire_laws.specs.Signals.{Signal, is_lit, cell_state, due_of_signals, IsReady, CarriesSignals}
-use Rattle.wire_laws.specs.Rows.{Port, signals_of_rows}
-use Rattle.wire_laws.proofs.Lit.{lit_in, in_lit}
-use Rattle.wire_laws.proofs.Dues.{due_by_signal, signal_is_due}
-use Rattle.wire_laws.proofs.Rows.{port_signal, no_port, port_of_signal, signal_of_port, rows_are_signals}
+use Rattle.gate_laws.specs.Signals.{Signal, is_lit, cell_state, due_of_signals, IsReady, CarriesSignals}
+use Rattle.gate_laws.specs.Rows.{Port, signals_of_rows}
+use Rattle.gate_laws.proofs.WireLit.{lit_in, in_lit}
+use Rattle.gate_laws.proofs.Dues.{due_by_signal, signal_is_due}
+use Rattle.gate_laws.proofs.Rows.{port_signal, no_port, port_of_signal, signal_of_port, rows_are_signals}
 use Rattle.pattern_reading.specs.declared.ports.Ports.{Ports}
 use Rattle.pattern_reading.specs.declared.ports.PortLine.{PortLine}
 use Rattle.pattern_reading.specs.Ports.{cells_of}

@@ -2,8 +2,8 @@
 use Rattle.std.specs.Prelude.{ℤ, ℕ, suc, ◌+◌, ◌<◌, ◌≤◌, ◌≡◌, ◌≢◌, ◌⊎◌, if◌then◌else◌, List, Contains, Some, slice_get}
 use Rattle.ww_rule.specs.declared.pattern.State.TheVariants.{Empty, Head, Conductor}
 use Rattle.ww_rule.specs.Wireworld.{Plane}
-use Rattle.wire_laws.specs.Signals.{Signal, cell_state, is_lit}
-use Rattle.wire_laws.specs.Wires.{Wire, IsNear, wire_state, AreWiresDrawn}
+use Rattle.gate_laws.specs.Signals.{Signal, cell_state, is_lit}
+use Rattle.gate_laws.specs.Wires.{Wire, IsNear, wire_state, AreWiresDrawn}
 use Rattle.gate_laws.specs.Gates.{IsGateForPeriod}
 use Rattle.routed_circuits.specs.Routed.{PlacedGate, gate_plane, gates_plane, StandAllApart}
 

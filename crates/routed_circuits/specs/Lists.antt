@@ -1,9 +1,9 @@
 -- Routed planes that compute lists of cells.
 use Rattle.std.specs.Prelude.{ℤ, ℕ, ◌+◌, ◌*◌, suc, ◌<◌, ◌≤◌, ◌≡◌, ◌↔◌, Bool, false, List, [], ◌∷◌, ◌++◌, length, map, flat_map, Contains}
 use Rattle.ww_rule.specs.Wireworld.{Plane}
-use Rattle.wire_laws.specs.Signals.{Signal, CarriesSignals}
-use Rattle.wire_laws.specs.Wires.{Wire, AreWiresDrawn}
-use Rattle.wire_laws.specs.Rows.{Port, signal_of}
+use Rattle.gate_laws.specs.Signals.{Signal, CarriesSignals}
+use Rattle.gate_laws.specs.Wires.{Wire, AreWiresDrawn}
+use Rattle.gate_laws.specs.Rows.{Port, signal_of}
 use Rattle.gate_laws.specs.Gates.{IsGateForPeriod}
 use Rattle.routed_circuits.specs.Routed.{PlacedGate, placed_ins, placed_outs, gates_plane, StandAllApart}
 use Rattle.cell_core.specs.declared.cells.Src.{Src}

@@ -3,10 +3,10 @@ use Rattle.std.specs.Prelude.{ℤ, ◌+ℤ◌, ℕ, suc, ◌+◌, ◌<◌, ◌�
 use Rattle.ww_rule.specs.declared.pattern.State.TheVariants.{Empty}
 use Rattle.ww_rule.specs.Wireworld.{Plane}
 use Rattle.ww_rule.specs.Laws.{moved}
-use Rattle.wire_laws.specs.Signals.{Signal, CarriesSignals}
-use Rattle.wire_laws.specs.Wires.{Wire, AreWiresDrawn, ComesCyclesLater}
-use Rattle.wire_laws.specs.Rows.{Port, signals_at}
-use Rattle.wire_laws.specs.Laws.{StandApart, side_by_side}
+use Rattle.gate_laws.specs.Signals.{Signal, CarriesSignals}
+use Rattle.gate_laws.specs.Wires.{Wire, AreWiresDrawn, ComesCyclesLater}
+use Rattle.gate_laws.specs.Rows.{Port, signals_at}
+use Rattle.gate_laws.specs.Laws.{StandApart, side_by_side}
 use Rattle.gate_laws.specs.Gates.{Gate, gate_answer, IsGateForPeriod}
 
 -- a gate that stands so many columns east and rows south of its drawing, and the generation at which

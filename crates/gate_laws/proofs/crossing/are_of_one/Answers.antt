@@ -1,6 +1,6 @@
 use Rattle.std.proofs.Common.{arith, below_more}
 use Rattle.std.proofs.lemmas.List.Elements.{All-from_get_or}
-use Rattle.gate_laws.proofs.Rows.{no_out}
+use Rattle.gate_laws.proofs.BitNumbers.{no_out}
 use Rattle.gate_laws.specs.Drawn.{IsOfOne}
 use Rattle.gate_laws.proofs.crossing.are_of_one.Goals as goal
 

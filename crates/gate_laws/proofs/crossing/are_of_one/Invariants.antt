@@ -1,5 +1,5 @@
 use Rattle.std.proofs.Common.{ℕ, ◌<◌, get_or}
-use Rattle.gate_laws.proofs.Rows.{no_out}
+use Rattle.gate_laws.proofs.BitNumbers.{no_out}
 use Rattle.gate_laws.specs.Drawn.{IsOfOne}
 use Rattle.gate_laws.proofs.crossing.are_of_one.Given as goal
 

@@ -1,5 +1,5 @@
 use Rattle.std.proofs.Common.{◌≡◌, ◌∙◌, ap, sym, subst, length, arith, below_more}
-use Rattle.wire_laws.specs.Signals.{IsReady}
+use Rattle.gate_laws.specs.Signals.{IsReady}
 use Rattle.tile_timing.specs.Window.{shown}
 use Rattle.gate_laws.specs.Gates.{used, IsCalmCell}
 use Rattle.gate_laws.specs.Drawings.{window_gate, ArePortsInTime}

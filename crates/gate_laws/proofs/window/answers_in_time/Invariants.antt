@@ -1,7 +1,7 @@
 use Rattle.std.proofs.Common.{◌≡◌, ℕ, ◌<◌, map}
 use Rattle.std.specs.Prelude.{Contains}
-use Rattle.wire_laws.specs.Signals.{IsReady}
-use Rattle.wire_laws.specs.Rows.{Port}
+use Rattle.gate_laws.specs.Signals.{IsReady}
+use Rattle.gate_laws.specs.Rows.{Port}
 use Rattle.tile_timing.specs.Window.{shown}
 use Rattle.gate_laws.specs.Gates.{used}
 use Rattle.gate_laws.specs.Drawings.{in_port_of, window_gate, next_time, ArePortsInTime}

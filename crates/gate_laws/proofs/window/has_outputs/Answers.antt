@@ -3,7 +3,7 @@ use Rattle.std.proofs.lemmas.List.Elements.{All-from_get_or}
 use Rattle.ww_rule.specs.declared.pattern.State.TheVariants.{Conductor}
 use Rattle.tile_timing.specs.Window.{shown}
 use Rattle.gate_laws.specs.declared.window.OutCell.{OutCell}
-use Rattle.gate_laws.proofs.Rows.{no_out}
+use Rattle.gate_laws.proofs.BitNumbers.{no_out}
 use Rattle.gate_laws.proofs.window.has_outputs.Goals as goal
 
 pub returns : goal.returns

@@ -1,7 +1,7 @@
 use Rattle.std.proofs.Common.{ℕ, pos, ◌<◌, ◌≡◌, get_or}
 use Rattle.ww_rule.specs.declared.pattern.State.TheVariants.{Conductor}
 use Rattle.tile_timing.specs.Window.{shown}
-use Rattle.gate_laws.proofs.Rows.{no_out}
+use Rattle.gate_laws.proofs.BitNumbers.{no_out}
 use Rattle.gate_laws.proofs.window.has_outputs.Given as goal
 
 abbrev pub invariant-loop-out : goal.invariant-loop-out

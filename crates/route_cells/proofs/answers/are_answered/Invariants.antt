@@ -1,6 +1,6 @@
 use Rattle.std.proofs.Common.{◌<◌, ℕ}
 use Rattle.routed_circuits.specs.Runs.{src_at}
-use Rattle.lawful_gates.specs.Lawful.{answer_at}
+use Rattle.gate_library.specs.Lawful.{answer_at}
 use Rattle.route_tables.specs.Runs.{IsAnsweredBy}
 use Rattle.route_cells.proofs.answers.are_answered.Given as goal
 

@@ -1,5 +1,5 @@
 use Rattle.std.proofs.Common.{◌≡◌, ◌+◌, ◌<◌, ℕ, suc}
-use Rattle.wire_laws.specs.Signals.{cell_state}
+use Rattle.gate_laws.specs.Signals.{cell_state}
 use Rattle.route_tables.specs.Serials.{listed_cell}
 use Rattle.route_tables.specs.Tables.{box_plane}
 use Rattle.route_cells.specs.Electrons.{state_before}

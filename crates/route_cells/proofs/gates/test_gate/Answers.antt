@@ -1,5 +1,5 @@
 use Rattle.std.proofs.Common.{◌∙◌, sym, subst}
-use Rattle.lawful_gates.specs.Lawful.{IsLawful}
+use Rattle.gate_library.specs.Lawful.{IsLawful}
 use Rattle.route_cells.proofs.Sources.{has_port_sources}
 use Rattle.route_cells.proofs.gates.test_gate.Goals as goal
 

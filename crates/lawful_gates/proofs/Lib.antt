@@ -1,3 +1,0 @@
-pub mod Periods
-pub mod Spread
-pub mod Tested

@@ -1,5 +1,0 @@
-use Rattle.wire_laws.proofs.Together.{wires_feed}
-use Rattle.wire_laws.proofs.laws.wires_feed.Goals as goal
-
-pub returns : goal.returns
-returns c = wires_feed

@@ -1,5 +1,0 @@
-use Rattle.wire_laws.proofs.PartTimes.{parts_begin_later}
-use Rattle.wire_laws.proofs.parts.parts_begin_later.Goals as goal
-
-pub returns : goal.returns
-returns c = parts_begin_later

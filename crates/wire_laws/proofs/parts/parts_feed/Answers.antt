@@ -1,5 +1,0 @@
-use Rattle.wire_laws.proofs.PartWires.{parts_feed}
-use Rattle.wire_laws.proofs.parts.parts_feed.Goals as goal
-
-pub returns : goal.returns
-returns c = parts_feed

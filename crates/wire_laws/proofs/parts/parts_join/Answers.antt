@@ -1,5 +1,0 @@
-use Rattle.wire_laws.proofs.PartJoins.{parts_join}
-use Rattle.wire_laws.proofs.parts.parts_join.Goals as goal
-
-pub returns : goal.returns
-returns c = parts_join

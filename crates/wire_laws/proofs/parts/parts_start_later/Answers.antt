@@ -1,5 +1,0 @@
-use Rattle.wire_laws.proofs.Later.{parts_start_later}
-use Rattle.wire_laws.proofs.parts.parts_start_later.Goals as goal
-
-pub returns : goal.returns
-returns c = parts_start_later

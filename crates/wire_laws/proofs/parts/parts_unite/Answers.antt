@@ -1,5 +1,0 @@
-use Rattle.wire_laws.proofs.Beside.{parts_unite}
-use Rattle.wire_laws.proofs.parts.parts_unite.Goals as goal
-
-pub returns : goal.returns
-returns c = parts_unite

@@ -1,9 +1,0 @@
-pub mod Signals
-pub mod Wires
-pub mod Rows
-pub mod Laws
-pub mod Moved
-pub mod PortWires
-pub mod PartLaws
-pub mod PartTimes
-pub mod PartJoins
