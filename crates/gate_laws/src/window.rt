@@ -314,7 +314,7 @@ fn are_ready(now: &[State], width: usize, ins: &[InCell], generation: usize) -> 
 }
 
 /// Returns the number that up to three bits make, the first of them lowest.
-#[tactic(auto, using(crate::proofs::Rows::number_of_three))]
+#[tactic(auto, using(crate::proofs::BitNumbers::number_of_three))]
 pub fn number_of_bits(bits: &[bool]) -> usize
     requires few { length bits.now ≤ 3 }
     ensures is { result ≡ number_of_bits bits.now }
