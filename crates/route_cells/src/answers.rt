@@ -7,16 +7,7 @@ ghost use Rattle.route_tables.specs.Runs.{IsAnsweredBy};
 
 use cell_core::{Cell, CellList, Src, is_same_cell, is_same_src};
 use gate_library::{Answer, GateDrawing};
-
-/// Returns the source at a place; past the end it is constant 0.
-pub fn src_at(sources: &[Src], i: usize) -> Src
-    ensures { result ≡ src_at sources.now i }
-{
-    match sources.get(i) {
-        Some(src) => *src,
-        None => Src::Zero,
-    }
-}
+use route_tables::src_at;
 
 // Whether the source is this cell of the list.
 fn is_cell(list: &CellList, src: Src, cell: Cell) -> bool

@@ -8,12 +8,11 @@ ghost use Rattle.route_tables.specs.Checked.{HasItsPorts};
 ghost use Rattle.route_tables.specs.Runs.{IsInput, IsDark, ShowsAt};
 ghost use Rattle.route_cells.specs.Lines.{IsConductorAt, IsPointAt};
 
-use crate::answers::src_at;
 use crate::electrons::is_same;
 use cell_core::{Src, is_same_src};
 use gate_library::DrawnPort;
 use pattern_reading::{NetLine, PortLine, Ports};
-use route_tables::{CellFault, FaultWord, Tables, input_port, state_at};
+use route_tables::{CellFault, FaultWord, Tables, input_port, src_at, state_at};
 use ww_rule::State;
 
 // A fault at the cell of a line.

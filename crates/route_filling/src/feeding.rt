@@ -86,17 +86,6 @@ fn add_all_ports(ports: &mut Vec<PortRow>, rows: &[GateRow]) -> bool {
 }
 
 impl FedPorts {
-    /// Returns the ports of no gates.
-    pub fn new(alloc: Global) -> FedPorts {
-        FedPorts {
-            ports: Vec::new(alloc),
-            wires: Vec::new(alloc),
-            driven: Vec::new(alloc),
-            fault: None,
-            is_short: false,
-        }
-    }
-
     // Notes a fault at the gate with this number, unless one was found before.
     fn refuse(&mut self, drawing: &Drawing, gate: u32, word: FaultWord) {
         if self.fault.is_none() {
@@ -165,18 +154,13 @@ impl FedPorts {
         }
     }
 
-    // Drives the inputs that nothing feeds.
-    fn drive_rest(&mut self) {
-        for number in 0..self.ports.len() {
-            self.drive(number);
-        }
-    }
-
     /// Adds the ports of a drawing's gates, and feeds all inputs: by wires, and the others by drives.
     pub fn fill(&mut self, rows: &[GateRow], drawing: &Drawing) {
         self.is_short |= add_all_ports(&mut self.ports, rows);
         self.add_wires(rows, drawing);
         self.drive_inputs(rows, drawing);
-        self.drive_rest();
+        for number in 0..self.ports.len() {
+            self.drive(number);
+        }
     }
 }

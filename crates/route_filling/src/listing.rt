@@ -9,12 +9,15 @@ use route_tables::{Feed, GateInput, TableGate, TableWire};
 use std::alloc::Global;
 use ww_rule::State;
 
-/// All cells, gate by gate and then wire by wire, whose each is, and the wires.
+/// All cells, gate by gate and then wire by wire, whose each is, and the wires; the gates; and for each cell of a box
+/// the number of the listed cell that is there, counted from 1, or 0.
 #[derive(Drop)]
 pub struct Listing {
     pub cells: Vec<(u32, u32)>,
     pub groups: Vec<u32>,
     pub wires: Vec<TableWire>,
+    pub gates: Vec<TableGate>,
+    pub serials: Vec<u32>,
 }
 
 /// Returns the items of a row from a place to another one, or none if they are not all there.
@@ -62,15 +65,6 @@ fn list_gates(
 }
 
 impl Listing {
-    /// Returns the listing of no gates and no wires.
-    pub fn new(alloc: Global) -> Listing {
-        Listing {
-            cells: Vec::new(alloc),
-            groups: Vec::new(alloc),
-            wires: Vec::new(alloc),
-        }
-    }
-
     // Adds a wire, and lists its cells, whose group is this one; returns whether memory ran out.
     fn add_wire(&mut self, path: &[(u32, u32)], wire: &DrawnWire, group: u32) -> bool {
         let row = TableWire {
@@ -90,15 +84,39 @@ impl Listing {
         cells | groups | self.wires.push(row).is_err()
     }
 
-    /// Lists the cells of a drawing's gates and wires. The groups of wires come after those of the gates. Returns whether
-    /// memory ran out.
-    pub fn fill(&mut self, gates: &GateRows, drawing: &Drawing) -> bool {
+    /// Lists a drawing's gates, with the sources of their ports, and its wires, and the cells of both. The groups of
+    /// wires come after those of the gates. Returns whether memory ran out.
+    pub fn fill(
+        &mut self,
+        alloc: Global,
+        gates: &GateRows,
+        ports: &[PortRow],
+        drawing: &Drawing,
+    ) -> bool {
         let (drawn, path) = (drawing.gates.as_slice(), drawing.path.as_slice());
-        let mut is_short = list_gates(&mut self.cells, &mut self.groups, gates, drawn);
+        let mut is_short = add_gates(&mut self.gates, alloc, drawn, &gates.rows, ports);
+        is_short |= list_gates(&mut self.cells, &mut self.groups, gates, drawn);
         let mut group = small(drawn.len());
         for wire in drawing.wires.as_slice() {
             is_short |= self.add_wire(path, wire, group);
             group = group.saturating_add(1);
+        }
+        is_short
+    }
+
+    /// Numbers the listed cells in a box of so many columns and cells. Of two at one place the last one counts. Returns
+    /// whether memory ran out.
+    pub fn number(&mut self, width: u32, size: usize) -> bool {
+        let is_short = self.serials.resize(size, 0).is_err();
+        let mut serial = 0u32;
+        for cell in &self.cells {
+            serial = serial.saturating_add(1);
+            let at = (cell.1 as usize)
+                .saturating_mul(width as usize)
+                .saturating_add(cell.0 as usize);
+            if cell.0 < width && at < self.serials.len() {
+                self.serials[at] = serial;
+            }
         }
         is_short
     }
@@ -145,8 +163,8 @@ fn add_gate(
     is_short | table.push(gate).is_err()
 }
 
-/// Adds all gates; returns whether memory ran out.
-pub fn add_gates(
+// Adds all gates; returns whether memory ran out.
+fn add_gates(
     table: &mut Vec<TableGate>,
     alloc: Global,
     gates: &[DrawnGate],
@@ -172,18 +190,4 @@ pub fn add_nets(ports: &mut Vec<DrawnPort>, nets: &[Option<DrawnPort>]) -> bool 
         }
     }
     false
-}
-
-/// Numbers cells in a table of so many columns. Of two cells at one place the last one counts.
-pub fn put_serials(serials: &mut [u32], width: u32, cells: &[(u32, u32)]) {
-    let mut serial = 0u32;
-    for cell in cells {
-        serial = serial.saturating_add(1);
-        let at = (cell.1 as usize)
-            .saturating_mul(width as usize)
-            .saturating_add(cell.0 as usize);
-        if cell.0 < width && at < serials.len() {
-            serials[at] = serial;
-        }
-    }
 }

@@ -6,11 +6,10 @@ use crate::listing::part;
 use cell_core::{Cell, Src};
 use gate_library::{Answer, DrawnPort, GatePort};
 use route_tables::Feed;
-use std::alloc::Global;
 
 /// A port, by its number, whose source is known.
 #[derive(Clone, Copy)]
-struct Known {
+pub struct Known {
     port: usize,
     source: Src,
 }
@@ -20,7 +19,7 @@ struct Known {
 #[derive(Drop)]
 pub struct Search {
     pub cells: Vec<Cell>,
-    waiting: Vec<Known>,
+    pub waiting: Vec<Known>,
     pub is_short: bool,
 }
 
@@ -64,15 +63,6 @@ fn source_at(ports: &[PortRow], number: u32) -> Option<Src> {
 }
 
 impl Search {
-    /// Returns a search that has not begun.
-    pub fn new(alloc: Global) -> Search {
-        Search {
-            cells: Vec::new(alloc),
-            waiting: Vec::new(alloc),
-            is_short: false,
-        }
-    }
-
     // Begins at the inputs that are driven, and at those at the ends of wires with latches.
     fn begin(&mut self, ports: &[PortRow], wires: &[WireRow], inputs: u32) {
         for port in 0..ports.len() {

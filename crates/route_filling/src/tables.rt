@@ -2,15 +2,15 @@
 
 use crate::feeding::FedPorts;
 use crate::gates::{GateRows, at_gate, small};
-use crate::listing::{Listing, add_gates, add_nets, put_serials};
+use crate::listing::{Listing, add_nets};
 use crate::lists_of::{Ends, fit, list_of};
 use crate::solving::{Search, unsolved};
 use gate_library::{Drawing, DrawnPort};
 use lists::{List, OutOfMemory};
-use route_tables::{CellFault, FaultWord, TableGate, Tables};
+use route_tables::{CellFault, FaultWord, Tables};
 use std::alloc::Global;
 
-/// What is found of a drawing.
+// What is found of a drawing, with the first fault.
 #[derive(Drop)]
 struct Filling {
     gates: GateRows,
@@ -18,29 +18,54 @@ struct Filling {
     search: Search,
     listing: Listing,
     ends: Ends,
-    table: Vec<TableGate>,
     outs: Vec<DrawnPort>,
     nets: Vec<DrawnPort>,
-    serials: Vec<u32>,
+    fault: Option<CellFault>,
 }
 
 impl Filling {
+    // What is found before a drawing is looked at: nothing.
     fn new(alloc: Global) -> Filling {
         Filling {
-            gates: GateRows::new(alloc),
-            fed: FedPorts::new(alloc),
-            search: Search::new(alloc),
-            listing: Listing::new(alloc),
-            ends: Ends::new(alloc),
-            table: Vec::new(alloc),
+            gates: GateRows {
+                names: Vec::new(alloc),
+                kinds: Vec::new(alloc),
+                rows: Vec::new(alloc),
+                fault: None,
+            },
+            fed: FedPorts {
+                ports: Vec::new(alloc),
+                wires: Vec::new(alloc),
+                driven: Vec::new(alloc),
+                fault: None,
+                is_short: false,
+            },
+            search: Search {
+                cells: Vec::new(alloc),
+                waiting: Vec::new(alloc),
+                is_short: false,
+            },
+            listing: Listing {
+                cells: Vec::new(alloc),
+                groups: Vec::new(alloc),
+                wires: Vec::new(alloc),
+                gates: Vec::new(alloc),
+                serials: Vec::new(alloc),
+            },
+            ends: Ends {
+                outs: Vec::new(alloc),
+                nets: Vec::new(alloc),
+                latches: Vec::new(alloc),
+                starts: Vec::new(alloc),
+            },
             outs: Vec::new(alloc),
             nets: Vec::new(alloc),
-            serials: Vec::new(alloc),
+            fault: None,
         }
     }
 
-    // The first fault that was found.
-    fn fault(&self, drawing: &Drawing) -> Option<CellFault> {
+    // The first fault of gates whose sources were looked for.
+    fn first_fault(&self, drawing: &Drawing) -> Option<CellFault> {
         if self.gates.fault.is_some() {
             return self.gates.fault;
         }
@@ -63,46 +88,26 @@ impl Filling {
         gates | self.fed.is_short | self.search.is_short
     }
 
-    // Lists the gates, the wires and the named ports of a drawing that was solved, and makes the table of the serials of
-    // listed cells, of so many columns and cells; returns whether memory ran out.
+    // Lists what the tables of a drawing that was solved have, in a box of so many columns and cells; returns whether
+    // memory ran out.
     fn list(&mut self, alloc: Global, drawing: &Drawing, width: u32, size: usize) -> bool {
-        let listing = self.listing.fill(&self.gates, drawing);
-        let (rows, ports) = (&self.gates.rows, &self.fed.ports);
-        let table = add_gates(
-            &mut self.table,
-            alloc,
-            drawing.gates.as_slice(),
-            rows,
-            ports,
-        );
+        let ports = &self.fed.ports;
+        let listing = self.listing.fill(alloc, &self.gates, ports, drawing);
+        let serials = self.listing.number(width, size);
+        let outs = self.outs.extend_from_slice(drawing.outs.as_slice());
         let nets = add_nets(&mut self.nets, drawing.nets.as_slice());
-        let ends = self.ends.fill(rows, ports, drawing, &self.nets);
-        let outs = self
-            .outs
-            .extend_from_slice(drawing.outs.as_slice())
-            .is_err();
-        let serials = self.serials.resize(size, 0).is_err();
-        put_serials(&mut self.serials, width, &self.listing.cells);
-        listing | table | nets | ends | outs | serials
+        let ends = self.ends.fill(&self.gates.rows, ports, drawing, &self.nets);
+        listing | serials | outs.is_err() | nets | ends
     }
 
-    // Finds all that the tables of a box have; returns the first fault.
-    fn fill(
-        &mut self,
-        alloc: Global,
-        drawing: &Drawing,
-        width: u32,
-        size: usize,
-    ) -> Result<Option<CellFault>, OutOfMemory> {
-        let mut is_short = self.solve(alloc, drawing);
-        let fault = self.fault(drawing);
-        if fault.is_none() {
-            is_short |= self.list(alloc, drawing, width, size);
+    // Finds all that the tables of a box have, up to the first fault; returns whether memory ran out.
+    fn fill(&mut self, alloc: Global, drawing: &Drawing, width: u32, size: usize) -> bool {
+        let is_short = self.solve(alloc, drawing);
+        self.fault = self.first_fault(drawing);
+        if self.fault.is_some() {
+            return is_short;
         }
-        if is_short {
-            return Err(OutOfMemory::NoMemory);
-        }
-        Ok(fault)
+        is_short | self.list(alloc, drawing, width, size)
     }
 
     // Makes the tables of what was found, if the cells and the ends read what is there.
@@ -118,20 +123,19 @@ impl Filling {
             search,
             listing,
             ends,
-            table,
             outs,
             nets,
-            serials,
+            ..
         } = self;
         Ok(Tables {
             width,
             kinds: List::of(gates.kinds),
-            gates: List::of(table),
+            gates: List::of(listing.gates),
             wires: List::of(listing.wires),
             driven: List::of(fed.driven),
             cells: List::of(listing.cells),
             groups: List::of(listing.groups),
-            serials: List::of(serials),
+            serials: List::of(listing.serials),
             list: list_of(inputs, search.cells, ends),
             outs: List::of(outs),
             nets: List::of(nets),
@@ -148,15 +152,14 @@ pub fn tables_of(
     size: usize,
 ) -> Result<Result<Tables, CellFault>, OutOfMemory> {
     let mut filling = Filling::new(alloc);
-    match filling.fill(alloc, drawing, width, size) {
-        Ok(None) => Ok(filling.into_tables(drawing, width)),
-        Ok(Some(fault)) => {
-            drop(filling);
-            Ok(Err(fault))
-        }
-        Err(error) => {
-            drop(filling);
-            Err(error)
-        }
+    let is_short = filling.fill(alloc, drawing, width, size);
+    let fault = filling.fault;
+    if fault.is_none() && !is_short {
+        return Ok(filling.into_tables(drawing, width));
+    }
+    drop(filling);
+    match fault {
+        Some(fault) if !is_short => Ok(Err(fault)),
+        _ => Err(OutOfMemory::NoMemory),
     }
 }

@@ -17,5 +17,5 @@ pub use cells::test_cells;
 pub use fault::{CellFault, FaultWord};
 pub use laws::checked_are_labelled;
 pub use limit::BOX_LIMIT;
-pub use reading::{input_port, state_at};
+pub use reading::{input_port, src_at, state_at};
 pub use tables::{Feed, GateInput, TableGate, TableWire, Tables};

@@ -50,10 +50,11 @@ fn serial_before(serials: &[u32], width: u32, x: usize, y: usize) -> u32
     }
 }
 
-fn source_at(sources: &[Src], i: u32) -> Src
+/// Returns the source at a place; past the end it is constant 0.
+pub fn src_at(sources: &[Src], i: usize) -> Src
     ensures { result ≡ src_at sources.now i }
 {
-    match sources.get(i as usize) {
+    match sources.get(i) {
         Some(source) => *source,
         None => Src::Zero,
     }
@@ -136,8 +137,8 @@ impl Tables {
     {
         match self.gates.as_slice().get(at.gate as usize) {
             Some(gate) => match at.port {
-                GatePort::In(i) => source_at(gate.ins.as_slice(), i),
-                GatePort::Out(o) => source_at(gate.outs.as_slice(), o),
+                GatePort::In(i) => src_at(gate.ins.as_slice(), i as usize),
+                GatePort::Out(o) => src_at(gate.outs.as_slice(), o as usize),
             },
             None => Src::Zero,
         }
