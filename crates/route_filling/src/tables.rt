@@ -94,10 +94,11 @@ impl Filling {
         let ports = &self.fed.ports;
         let listing = self.listing.fill(alloc, &self.gates, ports, drawing);
         let serials = self.listing.number(width, size);
-        let outs = self.outs.extend_from_slice(drawing.outs.as_slice());
+        let drawn = drawing.outs.as_slice();
+        let outs = self.outs.extend_from_slice(drawn).is_err();
         let nets = add_nets(&mut self.nets, drawing.nets.as_slice());
         let ends = self.ends.fill(&self.gates.rows, ports, drawing, &self.nets);
-        listing | serials | outs.is_err() | nets | ends
+        listing | serials | outs | nets | ends
     }
 
     // Finds all that the tables of a box have, up to the first fault; returns whether memory ran out.

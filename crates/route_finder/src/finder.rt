@@ -44,11 +44,9 @@ fn find_wires(links: &mut Links, board: &mut Board, pattern: &Pattern, table: &[
         count: 0,
     };
     let gates = board.gates.len();
-    links.is_short |= links.uses.resize(gates, none).is_err();
-    links.is_short |= links
-        .are_fed
-        .resize(gates.saturating_mul(2), false)
-        .is_err();
+    let inputs = gates.saturating_mul(2);
+    links.is_short |= links.uses.resize(gates, none).is_err()
+        | links.are_fed.resize(inputs, false).is_err();
     chain_links(links.uses.as_mut_slice(), links.all.as_mut_slice());
     note_table(
         links.uses.as_mut_slice(),

@@ -29,20 +29,21 @@ fn is_head_before(pattern: &Pattern, cells: &[(u32, u32)], distance: u32) -> boo
     place < cells.len() && matches!(state_at(pattern, cells[place]), State::Head)
 }
 
-// Adds the start bits of a wire of so many periods, the last latch's last.
-fn add_starts(
+// Adds a wire of these cells with its start bits, the last latch's last.
+fn add_wire(
     wiring: &mut Wiring,
     times: &Times,
     pattern: &Pattern,
     cells: &[(u32, u32)],
     span: Span,
-    cycles: u32,
+    wire: DrawnWire,
 ) {
+    wiring.is_short |= wiring.wires.push(wire).is_err();
     let end = times
         .generation(span.to.number)
         .saturating_add(i64::from(span.to.after));
-    for latch in 1..=cycles {
-        let wait = cycles.saturating_sub(latch);
+    for latch in 1..=wire.cycles {
+        let wait = wire.cycles.saturating_sub(latch);
         let wait = wait.saturating_mul(times.period);
         let distance = generation(end).saturating_add(wait);
         let is_head = is_head_before(pattern, cells, distance);
@@ -80,9 +81,8 @@ pub fn add_wires(
             let first = if cells.is_empty() { (0, 0) } else { cells[0] };
             return Some(FindError::at(DrawingFault::Wire, first));
         };
-        board.wiring.is_short |= board.wiring.wires.push(wire).is_err();
         let cells = cells_of(&board.path, &link);
-        add_starts(&mut board.wiring, times, pattern, cells, span, wire.cycles);
+        add_wire(&mut board.wiring, times, pattern, cells, span, wire);
     }
     None
 }

@@ -38,19 +38,22 @@ pub struct Times {
 // The input of a port, which is that which an output copies, and how long after a time it is lit.
 fn input_and_delay(drawing: &GateDrawing, port: GatePort) -> (u32, u32) {
     match port {
-        GatePort::In(input) => match drawing.ins.as_slice().get(input as usize) {
-            Some(cell) => (input, cell.generation),
-            None => (input, 0),
-        },
+        GatePort::In(input) => {
+            let (ins, place) = (drawing.ins.as_slice(), input as usize);
+            let is_there = place < ins.len();
+            (input, if is_there { ins[place].generation } else { 0 })
+        }
         GatePort::Out(output) => {
-            let input = match drawing.answers.as_slice().get(output as usize) {
-                Some(Answer::Copy(input)) => *input,
+            let (answers, outs) = (drawing.answers.as_slice(), drawing.outs.as_slice());
+            let place = output as usize;
+            if place >= answers.len() || place >= outs.len() {
+                return (0, 0);
+            }
+            let input = match answers[place] {
+                Answer::Copy(input) => input,
                 _ => 0,
             };
-            match drawing.outs.as_slice().get(output as usize) {
-                Some(cell) => (input, cell.delay),
-                None => (input, 0),
-            }
+            (input, outs[place].delay)
         }
     }
 }
@@ -98,8 +101,10 @@ impl Times {
     fn add_spans(&mut self, links: &Links, board: &Board) {
         for link in &links.all {
             let (from, to) = (port_time(board, link.from), port_time(board, link.to));
-            let length = i64::from(link.size) + 1;
-            let shift = i64::from(from.after) + length - i64::from(to.after);
+            let length = i64::from(link.size).saturating_add(1);
+            let shift = i64::from(from.after)
+                .saturating_add(length)
+                .saturating_sub(i64::from(to.after));
             self.is_short |= self.spans.push(Span { from, to, shift }).is_err();
         }
     }

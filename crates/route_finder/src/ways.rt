@@ -97,8 +97,8 @@ fn direct(links: &mut Links, number: u32, way: Way) {
             let link = run(link, way);
             links.all[place] = link;
             feed(links.are_fed.as_mut_slice(), link.to);
-            links.is_short |= links.todo.push(link.from).is_err();
-            links.is_short |= links.todo.push(link.to).is_err();
+            links.is_short |= links.todo.push(link.from).is_err()
+                | links.todo.push(link.to).is_err();
         }
     }
 }
@@ -125,11 +125,13 @@ fn open_count(links: &Links, port: DrawnPort) -> u32 {
 // wire alone.
 fn settle(links: &mut Links, port: DrawnPort) {
     let is_source = is_source(links, port);
-    let is_settled = is_source || open_count(links, port) == 1;
+    if !is_source && open_count(links, port) != 1 {
+        return;
+    }
     let mut number = links.first_at(port.gate);
     for _ in 0..links.all.len() {
         let place = number as usize;
-        if !is_settled || place >= links.all.len() {
+        if place >= links.all.len() {
             break;
         }
         let link = links.all[place];
