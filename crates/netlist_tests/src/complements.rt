@@ -1,19 +1,29 @@
 // Lists of cells in which what is 1 at zero is kept as its complement.
 use crate::pages::Page;
-use crate::rewriting::{list_of, push_list};
-use cell_core::{Cell, Src};
+use crate::rewriting::{push_list, three_inputs};
+use crate::written::{Written, list_of};
+use cell_core::{Cell, CellList, Src};
 use cell_polarity::complemented;
 
-// The list that the list of these cells and nets becomes. The sources in `kept` are kept.
-fn push_complemented(page: &mut Page, cells: &[Cell], nets: &[Src], kept: &[Src]) {
-    let list = list_of(page, cells, nets);
-    let low = complemented(page.alloc(), &list, kept);
-    drop(list);
-    match &low {
-        Ok(low) => push_list(page, &low.list),
+// Appends what a list becomes. The sources in `kept` are kept.
+fn push_complemented(page: &mut Page, list: &CellList, kept: &[Src]) {
+    match complemented(page.alloc(), list, kept) {
+        Ok(low) => {
+            push_list(page, &low.list);
+            drop(low);
+        }
         Err(_) => page.cut(),
     }
-    drop(low);
+}
+
+fn push_written(page: &mut Page, written: &Written<'_>, kept: &[Src]) {
+    match list_of(page.alloc(), written) {
+        Some(list) => {
+            push_complemented(page, &list, kept);
+            drop(list);
+        }
+        None => page.cut(),
+    }
 }
 
 // A NAND of two inputs, and its AND with a third.
@@ -62,7 +72,7 @@ const LISTS: &[(&[Cell], &[Src], &[Src], &str)] = &[
 /// Notes it unless what is one at zero is kept as its complement.
 pub fn expect_complements(page: &mut Page) {
     for (cells, nets, kept, want) in LISTS {
-        push_complemented(page, cells, nets, kept);
+        push_written(page, &three_inputs(cells, nets), kept);
         page.expect(want.as_bytes());
     }
 }

@@ -1,43 +1,14 @@
 // How many cells covers are mapped to.
-ghost use Rattle.std.specs.Prelude.{◌≡◌, length};
-ghost use Rattle.cell_core.specs.Sources.{are_there};
-
 use crate::pages::Page;
-use crate::texts::copies_of;
-use cell_core::{CellError, CellList, Src};
+use crate::written::{Written, are_there, list_of};
+use cell_core::{CellList, Src};
 use cell_sharing::Places;
 use cover_cells::map_cover;
-use lists::{Bytes, List};
+use lists::Bytes;
 use std::alloc::Global;
 
-/// Returns a list with this many inputs and nothing else.
-pub fn empty(alloc: Global, inputs: u32) -> CellList {
-    CellList {
-        inputs,
-        cells: List::of(Vec::new(alloc)),
-        outs: List::of(Vec::new(alloc)),
-        latches: List::of(Vec::new(alloc)),
-        starts: List::of(Vec::new(alloc)),
-        nets: List::of(Vec::new(alloc)),
-    }
-}
-
-/// Returns whether all these sources are there in the list.
-pub fn are_there(list: &CellList, sources: &[Src]) -> bool
-    ensures { result
-        ≡ are_there list.now.inputs (length list.now.starts) (length list.now.cells) sources.now }
-{
-    let (inputs, latches, cells) = (list.inputs as usize, list.starts.len(), list.cells.len());
-    for (i, src) in sources.iter().enumerate() {
-        if !src.is_there(inputs, latches, cells) {
-            return false;
-        }
-    }
-    true
-}
-
 // A cover: its sources, its rows and whether they end in `1`, and how many cells it takes.
-struct Written {
+struct Case {
     about: &'static str,
     sources: &'static [Src],
     rows: &'static [&'static [u8]],
@@ -45,82 +16,92 @@ struct Written {
     cells: u64,
 }
 
+// A list with eight inputs and no cells.
+const EIGHT_INPUTS: Written<'static> = Written {
+    inputs: 8,
+    cells: &[],
+    outs: &[],
+    latches: &[],
+    starts: &[],
+    nets: &[],
+};
+
 const TWO: &[Src] = &[Src::Input(0), Src::Input(1)];
 
 const THREE: &[Src] = &[Src::Input(0), Src::Input(1), Src::Input(2)];
 
-const COVERS: &[Written] = &[
-    Written {
+const COVERS: &[Case] = &[
+    Case {
         about: "an OR",
         sources: TWO,
         rows: &[b"1-", b"-1"],
         on: true,
         cells: 1,
     },
-    Written {
+    Case {
         about: "an AND",
         sources: TWO,
         rows: &[b"11"],
         on: true,
         cells: 2,
     },
-    Written {
+    Case {
         about: "a NAND",
         sources: TWO,
         rows: &[b"11"],
         on: false,
         cells: 3,
     },
-    Written {
+    Case {
         about: "a NOT",
         sources: &[Src::Input(0)],
         rows: &[b"0"],
         on: true,
         cells: 1,
     },
-    Written {
+    Case {
         about: "constant 1",
         sources: &[],
         rows: &[b""],
         on: true,
         cells: 0,
     },
-    Written {
+    Case {
         about: "constant 0",
         sources: &[],
         rows: &[],
         on: true,
         cells: 0,
     },
-    Written {
+    Case {
         about: "a choice",
         sources: THREE,
         rows: &[b"11-", b"0-1"],
         on: true,
         cells: 3,
     },
-    Written {
+    Case {
         about: "a sum",
         sources: THREE,
         rows: &[b"100", b"010", b"001", b"111"],
         on: true,
         cells: 2,
     },
-    Written {
+    Case {
         about: "a carry",
         sources: THREE,
         rows: &[b"11-", b"1-1", b"-11"],
         on: true,
         cells: 4,
     },
-    Written {
+    Case {
         about: "an AND of four",
         sources: &[Src::Input(0), Src::Input(1), Src::Input(2), Src::Input(3)],
         rows: &[b"1111"],
         on: true,
         cells: 6,
     },
-    Written {
+    Case {
         about: "an AND of six",
         sources: &[
             Src::Input(0),
@@ -134,7 +115,7 @@ const COVERS: &[Written] = &[
         on: true,
         cells: 10,
     },
-    Written {
+    Case {
         about: "an AND of eight",
         sources: &[
             Src::Input(0),
@@ -151,21 +132,21 @@ const COVERS: &[Written] = &[
         cells: 14,
     },
     // covers that read one source twice, or constant 0
-    Written {
+    Case {
         about: "an AND of one net",
         sources: &[Src::Input(0), Src::Input(0)],
         rows: &[b"11"],
         on: true,
         cells: 0,
     },
-    Written {
+    Case {
         about: "a NAND of one net",
         sources: &[Src::Input(0), Src::Input(0)],
         rows: &[b"11"],
         on: false,
         cells: 1,
     },
-    Written {
+    Case {
         about: "an AND of constant 0",
         sources: &[Src::Input(0), Src::Zero],
         rows: &[b"11"],
@@ -174,38 +155,51 @@ const COVERS: &[Written] = &[
     },
 ];
 
-// How many cells the list has after the cover is mapped into it, or 99 if a source is not there.
-fn count_in(
-    list: &mut CellList,
-    alloc: Global,
-    sources: &[Src],
-    rows: &[Bytes],
-    on: bool,
-) -> Result<usize, CellError> {
-    if !are_there(list, sources) {
-        return Ok(99);
+// Copies of a cover's rows. The page notes if one is missing.
+fn rows_of(page: &mut Page, written: &[&[u8]]) -> Vec<Bytes> {
+    let mut rows = Vec::new(page.alloc());
+    for row in written {
+        let row = page.copy(row);
+        page.put(&mut rows, row);
     }
-    let mut places = Places::new(alloc);
-    let _ = map_cover(list, &mut places, alloc, sources, rows, on)?;
-    Ok(list.cells.len())
+    rows
 }
 
-// How many cells the cover takes in a list with eight inputs and no cells, and how many it is to
-// take.
-fn expect_count(page: &mut Page, written: &Written) {
-    let rows = copies_of(page, written.rows);
-    let mut list = empty(page.alloc(), 8);
-    let count = count_in(&mut list, page.alloc(), written.sources, &rows, written.on);
-    drop(list);
-    match count {
-        Ok(count) => page.expect_number(written.about, count as u64, written.cells),
-        Err(_) => page.cut(),
+// How many cells the list has after the case's cover with these rows is mapped into it.
+fn count_in(alloc: Global, list: &mut CellList, case: &Case, rows: &[Bytes]) -> Option<u64> {
+    if !are_there(
+        case.sources,
+        list.inputs as usize,
+        list.starts.len(),
+        list.cells.len(),
+    ) {
+        return None;
+    }
+    let mut places = Places::new(alloc);
+    match map_cover(list, &mut places, alloc, case.sources, rows, case.on) {
+        Ok(_) => Some(list.cells.len() as u64),
+        Err(_) => None,
+    }
+}
+
+// How many cells the case's cover takes.
+fn count_of(page: &mut Page, case: &Case) -> Option<u64> {
+    let rows = rows_of(page, case.rows);
+    match list_of(page.alloc(), &EIGHT_INPUTS) {
+        Some(mut list) => {
+            let count = count_in(page.alloc(), &mut list, case, &rows);
+            drop(list);
+            count
+        }
+        None => None,
     }
 }
 
 /// Notes it unless covers take few cells.
 pub fn expect_counts(page: &mut Page) {
-    for written in COVERS {
-        expect_count(page, written);
+    for case in COVERS {
+        let count = count_of(page, case);
+        page.push(case.about.as_bytes());
+        page.expect_holds(count == Some(case.cells));
     }
 }

@@ -1,25 +1,35 @@
-//! Tests of the public calls that read, map and make netlists.
+//! Tests of the public calls that cut texts of BLIF into lines, map covers to cells, rewrite lists of cells, make plans
+//! of them, and lift lists of cells from plans. Also compares the stages of docs/TOUR.md with what the crates make.
+//! `tool_tests` tries what a command shows of a call.
 #![tactic(auto)]
 
 #[cfg(test)]
-mod circles;
+mod choosing;
+#[cfg(test)]
+mod climbing;
 #[cfg(test)]
 mod complements;
 #[cfg(test)]
-mod cover_values;
-#[cfg(test)]
 mod covers;
+#[cfg(test)]
+mod drawing;
+#[cfg(test)]
+mod lifting;
 #[cfg(test)]
 mod logical_lines;
 #[cfg(test)]
-mod made;
-#[cfg(test)]
-mod models;
-#[cfg(test)]
 mod pages;
+#[cfg(test)]
+mod plans;
 #[cfg(test)]
 mod rewriting;
 #[cfg(test)]
-mod texts;
+mod sizes;
+#[cfg(test)]
+mod stages;
 #[cfg(test)]
 mod told;
+#[cfg(test)]
+mod tour;
+#[cfg(test)]
+mod written;

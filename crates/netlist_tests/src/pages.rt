@@ -1,12 +1,12 @@
 // A page on which tests write what is said, and which notes what is wrong.
-use blif_reader::Fault;
+use itoa::Buffer;
 use lists::{Bytes, List, copied};
 use std::alloc::{AllocError, Global};
 use std::fmt::Debug;
 use std::test::Fail;
 
-/// What is said in a case, what was wrong in the cases before it, and whether memory was refused
-/// for a part. No call on it fails, since each `?` costs proof time.
+/// What is said in a case, what was wrong in the cases before it, and whether memory was refused for a part. No call on
+/// it but the last fails, since each `?` costs proof time.
 #[derive(Drop)]
 pub struct Page {
     alloc: Global,
@@ -36,13 +36,8 @@ impl Page {
         self.is_cut = true;
     }
 
-    /// Notes that memory was refused, if it was.
-    pub fn note_refusal(&mut self, was_refused: bool) {
-        self.is_cut |= was_refused;
-    }
-
-    /// Puts an item after the others. The item's type is open here, so that what is dropped if
-    /// memory is refused costs no proof time.
+    /// Puts an item after the others. The item's type is open here, so that what is dropped if memory is refused costs
+    /// no proof time.
     pub fn put<T: Drop>(&mut self, items: &mut Vec<T>, item: T) {
         self.is_cut |= items.push(item).is_err();
     }
@@ -63,36 +58,26 @@ impl Page {
         self.is_cut |= self.said.extend_from_slice(part).is_err();
     }
 
-    /// Appends a blank and a word.
-    pub fn push_word(&mut self, word: &[u8]) {
-        self.push(b" ");
-        self.push(word);
-    }
-
     /// Appends a number in digits.
     pub fn push_number(&mut self, number: u64) {
-        match format!(in self.alloc; "{number}") {
-            Ok(digits) => self.push(digits.as_bytes()),
-            Err(_) => self.is_cut = true,
-        }
+        let mut digits = Buffer::new();
+        self.push(digits.format(number).as_bytes());
     }
 
-    /// Appends an item and a blank.
+    /// Appends an item.
     pub fn push_item<T: Debug>(&mut self, item: &T) {
-        match format!(in self.alloc; "{item:?} ") {
+        match format!(in self.alloc; "{item:?}") {
             Ok(shown) => self.push(shown.as_bytes()),
             Err(_) => self.is_cut = true,
         }
     }
 
-    /// Appends the rule, the line and the word of a fault.
-    pub fn push_fault(&mut self, fault: &Fault) {
-        self.push(b"B");
-        self.push_number(u64::from(fault.kind.number()));
-        self.push(b" line ");
-        self.push_number(fault.line);
+    /// Begins a line with the kind and the number of its item.
+    pub fn push_start(&mut self, what: &[u8], number: usize) {
+        self.push(what);
+        self.push(b" ");
+        self.push_number(number as u64);
         self.push(b": ");
-        self.push(fault.word.as_slice());
     }
 
     /// Returns whether `want` is said, and begins anew.
@@ -104,31 +89,21 @@ impl Page {
 
     /// Ends a case: notes what is said, unless it is `want`.
     pub fn expect(&mut self, want: &[u8]) {
-        if self.said.as_slice() != want {
+        let is_said = self.said.as_slice() == want;
+        if !is_said {
             self.push(b", and not ");
             self.push(want);
-            self.note();
         }
-        self.said.clear();
+        self.expect_holds(is_said);
     }
 
-    /// Notes what a number is about, and both numbers, unless it is `want`.
-    pub fn expect_number(&mut self, about: &str, said: u64, want: u64) {
-        if said != want {
-            self.push(about.as_bytes());
-            self.push(b": ");
-            self.push_number(said);
-            self.push(b", and not ");
-            self.push_number(want);
-            self.note();
+    /// Ends a case: notes what is said, unless it holds.
+    pub fn expect_holds(&mut self, holds: bool) {
+        if !holds {
+            self.push(b"; ");
+            self.is_cut |= self.wrong.extend_from_slice(self.said.as_slice()).is_err();
         }
         self.said.clear();
-    }
-
-    // Notes that what is said is wrong.
-    fn note(&mut self) {
-        self.push(b"; ");
-        self.is_cut |= self.wrong.extend_from_slice(self.said.as_slice()).is_err();
     }
 
     /// Fails if something was wrong.

@@ -1,44 +1,18 @@
 // Lists of cells that are rewritten to fewer cells.
-use crate::covers::{are_there, empty};
 use crate::pages::Page;
+use crate::written::{Written, list_of};
 use cell_core::{Cell, CellList, Src};
 use cell_rewriting::rewritten;
-use lists::List;
 
-// Adds these cells, and skips those that read a source that is not there.
-fn push_cells(page: &mut Page, list: &mut CellList, cells: &[Cell]) {
-    for cell in cells {
-        if cell.reads_there(list.inputs as usize, list.starts.len(), list.cells.len()) {
-            page.note_refusal(list.push(page.alloc(), *cell).is_err());
-        }
-    }
-}
-
-// The list with nets of these sources, or unchanged if one of these is not there.
-fn with_nets(list: CellList, nets: Vec<Src>) -> CellList {
-    if !are_there(&list, &nets) {
-        return list;
-    }
-    CellList {
-        inputs: list.inputs,
-        cells: list.cells,
-        outs: list.outs,
-        latches: list.latches,
-        starts: list.starts,
-        nets: List::of(nets),
-    }
-}
-
-// A list with three inputs and these cells and nets.
-pub fn list_of(page: &mut Page, cells: &[Cell], nets: &[Src]) -> CellList {
-    let mut list = empty(page.alloc(), 3);
-    push_cells(page, &mut list, cells);
-    match nets.to_vec(page.alloc()) {
-        Ok(nets) => with_nets(list, nets),
-        Err(_) => {
-            page.cut();
-            list
-        }
+/// How a list with three inputs, these cells and these nets is written down.
+pub fn three_inputs<'a>(cells: &'a [Cell], nets: &'a [Src]) -> Written<'a> {
+    Written {
+        inputs: 3,
+        cells,
+        outs: &[],
+        latches: &[],
+        starts: &[],
+        nets,
     }
 }
 
@@ -46,9 +20,11 @@ pub fn list_of(page: &mut Page, cells: &[Cell], nets: &[Src]) -> CellList {
 pub fn push_list(page: &mut Page, list: &CellList) {
     for cell in list.cells.as_slice() {
         page.push_item(cell);
+        page.push(b" ");
     }
     for src in list.nets.as_slice() {
         page.push_item(src);
+        page.push(b" ");
     }
 }
 
@@ -66,20 +42,30 @@ fn count_of(page: &mut Page, lists: &[CellList], want: &str) -> u64 {
     count
 }
 
-// Notes it unless exactly eight of the lists to which these cells and nets are rewritten have this
-// text, the first one among them. The sources in `kept` are kept.
-fn expect_lists(page: &mut Page, cells: &[Cell], nets: &[Src], kept: &[Src], want: &str) {
-    let list = list_of(page, cells, nets);
-    let lists = rewritten(page.alloc(), &list, kept);
-    drop(list);
-    match &lists {
+// How many of the lists to which this one is rewritten have this text, or 0 if the first one has another.
+fn count_in(page: &mut Page, list: &CellList, kept: &[Src], want: &str) -> u64 {
+    match rewritten(page.alloc(), list, kept) {
         Ok(lists) => {
-            let count = count_of(page, lists, want);
-            page.expect_number(want, count, 8);
+            let count = count_of(page, &lists, want);
+            drop(lists);
+            count
         }
-        Err(_) => page.cut(),
+        Err(_) => 0,
     }
-    drop(lists);
+}
+
+// Notes it unless exactly eight of the lists to which this one is rewritten have this text, the first one among them.
+// The sources in `kept` are kept.
+fn expect_lists(page: &mut Page, written: &Written<'_>, kept: &[Src], want: &str) {
+    match list_of(page.alloc(), written) {
+        Some(list) => {
+            let count = count_in(page, &list, kept, want);
+            drop(list);
+            page.push(want.as_bytes());
+            page.expect_holds(count == 8);
+        }
+        None => page.cut(),
+    }
 }
 
 // An XOR of two inputs as two AND-NOTs and an OR.
@@ -120,6 +106,6 @@ const LISTS: &[(&[Cell], &[Src], &[Src], &str)] = &[
 /// Notes it unless lists come to have fewer cells.
 pub fn expect_rewritten(page: &mut Page) {
     for (cells, nets, kept, want) in LISTS {
-        expect_lists(page, cells, nets, kept, want);
+        expect_lists(page, &three_inputs(cells, nets), kept, want);
     }
 }

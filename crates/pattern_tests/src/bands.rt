@@ -2,7 +2,6 @@
 ghost use Rattle.std.specs.Prelude.{◌≡◌, ◌<◌, length};
 ghost use Rattle.band_core.specs.Bands.{IsSamePattern};
 
-mod orders;
 mod shown;
 
 use crate::pages::Page;

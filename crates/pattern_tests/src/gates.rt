@@ -7,7 +7,6 @@ use gate_library::{
 };
 use page::PAGE;
 use std::str::from_utf8;
-use std::test::Fail;
 use ww_rule::State;
 
 mod page;
@@ -229,19 +228,15 @@ fn expect_names(page: &mut Page, shape: Shape) {
     }
 }
 
-#[test]
-fn each_drawing_keeps_its_law_with_its_time_and_is_on_the_page_and_names_are_read(
-    rt: HostRuntime,
-) -> Result<(), Fail> {
-    let mut page = Page::new(rt.alloc());
-    match GateLibrary::new(rt.alloc()) {
+/// Notes it unless each drawing keeps its law with its time and is on the page, and names are read.
+pub fn expect_gates(page: &mut Page) {
+    match GateLibrary::new(page.alloc()) {
         Ok(library) => {
-            expect_library(&mut page, &library);
+            expect_library(page, &library);
             drop(library);
         }
         Err(_) => page.cut(),
     }
-    expect_no_name(&mut page, b"CROSS-X");
-    expect_no_name(&mut page, b"CROSS");
-    page.end()
+    expect_no_name(page, b"CROSS-X");
+    expect_no_name(page, b"CROSS");
 }

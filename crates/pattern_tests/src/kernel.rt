@@ -1,8 +1,8 @@
 // Rows written by hand: the heads above, the row's heads, the heads below, the row's tails and
 // wires, and its new heads and wires. Bits that are packed into words.
-use crate::fails::expect_holds;
+use crate::pages::Page;
 use lane_kernel::step_rows;
-use std::test::Fail;
+use std::alloc::Global;
 use vcd_write::PackedBits;
 
 // Whether a head crosses the border of the words of a row.
@@ -39,15 +39,21 @@ fn are_packed(bits: &mut PackedBits) -> bool {
     !bits.get(0) && !bits.get(63) && bits.get(64) && !bits.get(65) && bits.get(129)
 }
 
-#[test]
-fn a_head_crosses_the_border_of_words_three_light_nothing_and_bits_are_packed(
-    rt: HostRuntime,
-) -> Result<(), Fail> {
+fn packs(alloc: Global) -> bool {
+    match PackedBits::zeros(alloc, 130) {
+        Ok(mut bits) => {
+            let is_so = are_packed(&mut bits);
+            drop(bits);
+            is_so
+        }
+        Err(_) => false,
+    }
+}
+
+/// Notes it unless a head crosses the border of words, three heads light nothing, and bits are packed.
+pub fn expect_rows(page: &mut Page) {
     step_rows(&[], &[], &[], &[], &[], &mut [], &mut []);
-    expect_holds("a row of two words", crosses_border())?;
-    expect_holds("a row of one word", lights_nothing())?;
-    let mut bits = PackedBits::zeros(rt.alloc(), 130)?;
-    let are_packed = are_packed(&mut bits);
-    drop(bits);
-    expect_holds("packed bits", are_packed)
+    page.expect_holds(b"a row of two words", crosses_border());
+    page.expect_holds(b"a row of one word", lights_nothing());
+    page.expect_holds(b"packed bits", packs(page.alloc()));
 }

@@ -1,8 +1,7 @@
 // The lines and numbers of small texts.
-use crate::fails::expect_holds;
+use crate::pages::Page;
 use crate::tables::reads_back_all_bytes;
 use pattern_lines::{number_in, split_line};
-use std::test::Fail;
 
 // Texts, the bytes of their first lines, whether these lines have an end, and what follows them.
 const LINES: &[(&[u8], &[u8], bool, &[u8])] = &[
@@ -54,9 +53,9 @@ fn numbers_are_read() -> bool {
     is_so
 }
 
-#[test]
-fn lines_numbers_and_names_by_their_texts(rt: HostRuntime) -> Result<(), Fail> {
-    expect_holds("the lines", lines_are_cut())?;
-    expect_holds("the numbers", numbers_are_read())?;
-    expect_holds("a name of all bytes", reads_back_all_bytes(rt.alloc()))
+/// Notes it unless lines are cut, numbers are read, and a name is read back.
+pub fn expect_lines(page: &mut Page) {
+    page.expect_holds(b"the lines", lines_are_cut());
+    page.expect_holds(b"the numbers", numbers_are_read());
+    page.expect_holds(b"a name of all bytes", reads_back_all_bytes(page.alloc()));
 }

@@ -1,4 +1,5 @@
 // A page on which tests write what is said, and which notes what is wrong.
+use itoa::Buffer;
 use pattern_writing::tag_of;
 use std::alloc::{AllocError, Global};
 use std::fmt::Debug;
@@ -48,15 +49,13 @@ impl Page {
 
     /// Appends a number in digits.
     pub fn push_number(&mut self, number: u64) {
-        match format!(in self.alloc; "{number}") {
-            Ok(digits) => self.push(digits.as_bytes()),
-            Err(_) => self.is_cut = true,
-        }
+        let mut digits = Buffer::new();
+        self.push(digits.format(number).as_bytes());
     }
 
-    /// Appends an item and a blank.
+    /// Appends an item.
     pub fn push_item<T: Debug>(&mut self, item: &T) {
-        match format!(in self.alloc; "{item:?} ") {
+        match format!(in self.alloc; "{item:?}") {
             Ok(shown) => self.push(shown.as_bytes()),
             Err(_) => self.is_cut = true,
         }
@@ -96,6 +95,24 @@ impl Page {
             self.is_cut |= self.wrong.extend_from_slice(self.said.as_slice()).is_err();
         }
         self.said.clear();
+    }
+
+    /// Notes what a case is about, unless it holds.
+    pub fn expect_holds(&mut self, about: &[u8], holds: bool) {
+        if !holds {
+            self.push(about);
+        }
+        self.expect(b"");
+    }
+
+    /// Notes what a turn is about and its number, unless it holds.
+    pub fn expect_turn(&mut self, about: &[u8], turn: usize, holds: bool) {
+        if !holds {
+            self.push(about);
+            self.push(b", turn ");
+            self.push_number(turn as u64);
+        }
+        self.expect(b"");
     }
 
     /// Fails if something was wrong.

@@ -7,6 +7,7 @@ pub fn push_error(page: &mut Page, error: RleReadError) {
     match error {
         RleReadError::Fault(fault) => {
             page.push_item(&fault.kind);
+            page.push(b" ");
             page.push_number(fault.line);
         }
         RleReadError::TooLarge { width, height } => {

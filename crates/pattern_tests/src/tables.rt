@@ -58,6 +58,7 @@ fn push_read(page: &mut Page, read: Result<Ports, PortReadError>) {
         }
         Err(PortReadError::Fault(fault)) => {
             page.push_item(&fault.kind);
+            page.push(b" ");
             page.push_number(fault.line);
         }
         Err(PortReadError::NoMemory) => page.cut(),

@@ -1,12 +1,21 @@
-// Cases that stand in texts. A line that begins with `>` parts two cases, and `== ` stands before what is wanted.
+// All tables of cases, of which one page notes what is wrong. Some stand in texts: there a line that begins with `>`
+// parts two cases, and `== ` stands before what is wanted.
 use crate::bands::{ORDERS, push_moved};
 use crate::cases::CASES;
 use crate::found::push_pattern;
+use crate::gates::expect_gates;
+use crate::kernel::expect_rows;
+use crate::lanes::expect_lanes;
+use crate::lines::expect_lines;
+use crate::packing::expect_packed;
 use crate::pages::Page;
 use crate::patterns::{TEXTS, push_error};
 use crate::rule::{VIEWS, push_view};
+use crate::rules::expect_rules;
 use crate::tables::{TABLES, push_text};
 use crate::texts::{Case, cut};
+use crate::tiles::expect_tiles;
+use crate::worked::expect_worked;
 use rle_read::read;
 use std::test::Fail;
 use ww_rule::Pattern;
@@ -65,13 +74,25 @@ fn expect_cases(page: &mut Page, about: About, cases: &str) {
     }
 }
 
+fn expect_lists(page: &mut Page) {
+    for (about, cases) in LISTS {
+        expect_cases(page, *about, cases);
+    }
+}
+
 #[test]
-fn texts_are_read_planes_follow_bands_move_and_gates_and_tables_are_found(
+fn texts_lanes_plans_tiles_gates_and_bands_are_as_they_are_told(
     rt: HostRuntime,
 ) -> Result<(), Fail> {
     let mut page = Page::new(rt.alloc());
-    for (about, cases) in LISTS {
-        expect_cases(&mut page, *about, cases);
-    }
+    expect_lists(&mut page);
+    expect_lines(&mut page);
+    expect_rows(&mut page);
+    expect_lanes(&mut page);
+    expect_rules(&mut page);
+    expect_packed(&mut page);
+    expect_worked(&mut page);
+    expect_tiles(&mut page);
+    expect_gates(&mut page);
     page.end()
 }

@@ -369,4 +369,293 @@ aag 7 3 0 1 4
 14 12 2
 == 3
 loop: 10 12 14 8
+> aiger -- an empty text, and headers of another form
+== 1
+A1 BadHeader line 1
+> aiger
+aag 1 0 0 1
+1
+== 1
+A1 BadHeader line 1
+> aiger
+aag 0 0 0 0 0\x20
+== 1
+A1 BadHeader line 1
+> aiger
+aag\t0 0 0 0 0
+== 1
+A1 BadHeader line 1
+> aiger
+aag 0 0 0 0 18446744073709551616
+== 1
+A1 BadHeader line 1
+> aiger
+aag 0 0 0 0 0 0 0
+== 1
+A2 Unsupported line 1
+> aiger -- lines of another form, and missing lines
+aag 1 1 0 0 0
+2\x20
+== 1
+A3 BadLine line 2
+> aiger
+aag 1 1 0 0 0
+2\r== 1
+A3 BadLine line 2
+> aiger
+aag 1 0 1 0 0
+2 0 0 0
+== 1
+A3 BadLine line 2
+> aiger
+aag 1 1 0 1 0
+2
+c
+== 1
+A3 BadLine line 3
+> aiger
+aag 1 1 0 1 0
+2
+== 1
+A3 BadLine line 3
+> aiger
+aag 1 1 0 18446744073709551615 18446744073709551615
+2
+== 1
+A3 BadLine line 3
+> aiger
+aag 1 1 0 0 0
+3
+== 1
+A4 BadLiteral line 2
+> aiger
+aag 1 1 0 0 0
+0
+== 1
+A4 BadLiteral line 2
+> aiger
+aag 2 0 0 0 1
+4 2 6
+== 1
+A4 BadLiteral line 2
+> aiger
+aag 1 1 1 0 0
+2
+2 4 5
+== 1
+A4 BadLiteral line 3
+> aiger
+aag 1 1 1 0 0
+2
+2 0 5
+== 1
+A5 DefinedTwice line 3
+> aiger
+aag 1 1 0 0 1
+2
+2 0 0
+== 1
+A5 DefinedTwice line 3
+> aiger -- an undefined literal comes after the faults A3, A4, A5, A7 and A8 of all lines
+aag 2 1 0 1 0
+2
+5
+== 1
+A6 Undefined line 3
+> aiger
+aag 2 0 1 0 1
+2 0
+4 6 2
+== 1
+A4 BadLiteral line 3
+> aiger
+aag 3 0 1 0 1
+2 6
+4 6 2
+== 1
+A6 Undefined line 2
+> aiger
+aag 1 0 1 0 0
+2 0 3
+== 1
+A7 BadReset line 2
+> aiger
+aag 1 0 1 0 0
+2 0 9
+== 1
+A7 BadReset line 2
+> aiger -- symbol lines of another form, without a name, for no input, and for what already has a name
+aag 1 1 0 0 0
+2
+
+== 1
+A8 BadSymbol line 3
+> aiger
+aag 1 1 0 0 0
+2
+i0\x20
+== 1
+A8 BadSymbol line 3
+> aiger
+aag 1 1 0 0 0
+2
+i1 a
+== 1
+A8 BadSymbol line 3
+> aiger
+aag 1 1 0 0 0
+2
+i0 a
+i00 b
+== 1
+A8 BadSymbol line 4
+> aiger
+aag 1 0 1 0 0
+2 0
+l0 a
+l0 b
+== 1
+A8 BadSymbol line 4
+> aiger -- one name twice: a plain name counts as a name, and inputs come before outputs
+aag 2 2 0 0 0
+2
+4
+i0 i1
+== 1
+A9 SameName line 3
+> aiger
+aag 2 2 0 0 0
+2
+4
+i1 i0
+== 1
+A9 SameName line 3
+> aiger
+aag 2 2 0 0 0
+2
+4
+i0 x00
+i1 x00
+== 1
+A9 SameName line 3
+> aiger
+aag 3 3 0 0 0
+2
+4
+6
+i0 a7
+i2 a7
+== 1
+A9 SameName line 4
+> aiger
+aag 2 1 1 2 0
+2
+4 0
+2
+3
+o0 y
+o1 y
+== 1
+A9 SameName line 5
+> aiger
+aag 2 2 0 2 0
+2
+4
+2
+3
+o0 y
+o1 y
+i0 a
+i1 a
+== 1
+A9 SameName line 3
+> aiger
+aag 2 1 0 2 0
+2
+4
+3
+o0 o1
+== 1
+A6 Undefined line 3
+> aiger | simulate --cycles 7 enable=1100110 reset=1110101 -- the flip-flop with enable and reset of the format's description
+aag 7 2 1 2 4
+2
+4
+6 8
+6
+7
+8 4 10
+10 13 15
+12 2 6
+14 3 7
+i0 enable
+i1 reset
+o0 Q
+o1 !Q
+c
+x== 0
+Q=0100010
+!Q=1011101
+> aiger | simulate --cycles 1 -- resets
+aag 4 0 4 0 0
+2 0 1
+4 0 4
+6 0 0
+8 0
+== 0
+> aiger | simulate --cycles 2 i0=01 -- the greatest literal, and the greatest M
+aag 1 1 0 1 0
+2
+3
+== 0
+o0=10
+> aiger | simulate --cycles 2
+aag 18446744073709551615 0 0 1 0
+1
+== 0
+o0=11
+> aiger | simulate --cycles 1 i0=1 -- a variable that no line defines or reads
+aag 9 1 0 0 0
+18
+== 0
+> aiger | simulate --cycles 2 a=01 -- line ends of two bytes, leading zeros, a last line without its end
+aag 1 1 0 1 0\r
+2\r
+3\r
+i0 a\r
+== 0
+o0=10
+> aiger | simulate --cycles 1 a=1
+aag 01 01 0 00 0
+002
+i00 a== 0
+> aiger -- names with spaces, names of latches, names in any order, and the line at which reading ends
+aag 1 1 0 0 0
+2
+i0  a b\x20
+cat
+x
+== 0
+#C BLIFWW 2 P 32 L 32 C 1
+#C BLIFWW IN 0 8 %20a%20b%20
+x = ...!
+> aiger | simulate --cycles 2 y=10
+aag 2 1 1 1 0
+2
+4 2
+4
+o0 y
+l0 y
+i0 y
+== 0
+y=01
+> aiger | simulate --cycles 1 a0=1 b0=0 i3=1 -- names that end in one number, and the plain name of an input that the circuit does not have
+aag 3 3 0 0 0
+2
+4
+6
+i0 a0
+i1 b0
+i2 i3
+== 0
 ";

@@ -245,6 +245,230 @@ B16 NoSuchPin line 2: p
 1 1
 == 0
 y=01
+> eval --cycles 1 & compile -- lines at fault: the earliest one, and there the lowest rule
+.end
+== 1
+B1 NoModelYet line 1: .end
+> eval --cycles 1 & compile
+11 1
+.foo
+== 1
+B1 NoModelYet line 1: 11
+> eval --cycles 1 & compile
+.model a
+.defaul x
+== 1
+B2 UnknownDirective line 2: .defaul
+> eval --cycles 1 & compile
+.model a
+. x
+== 1
+B2 UnknownDirective line 2: .
+> eval --cycles 1 & compile
+.model a
+.exdc
+.foo
+== 1
+B3 Unsupported line 2: .exdc
+> eval --cycles 1 & compile
+.model a
+.latch x y ah c 7
+== 1
+B3 Unsupported line 2: ah
+> eval --cycles 1 & compile
+.model a
+.latch x y ah
+== 1
+B8 BadLatch line 2: .latch
+> eval --cycles 1 & compile
+.model
+== 1
+B4 BadCount line 1: .model
+> eval --cycles 1 & compile
+.model a
+.model a b
+== 1
+B4 BadCount line 2: .model
+> eval --cycles 1 & compile
+.model a
+.end a
+== 1
+B4 BadCount line 2: .end
+> eval --cycles 1 & compile
+.model a
+.subckt
+== 1
+B4 BadCount line 2: .subckt
+> eval --cycles 1 & compile
+.model a
+.names y
+1
+.attr x
+1
+== 1
+B5 RowOutside line 5: 1
+> eval --cycles 1 & compile
+.model a
+.names x y
+.model b
+1 1
+== 1
+B5 RowOutside line 4: 1
+> eval --cycles 1 & compile
+.model a
+.names y
+1 1
+== 1
+B6 BadRow line 3: 1
+> eval --cycles 1 & compile
+.model a
+.names x y
+11 0
+== 1
+B6 BadRow line 3: 11
+> eval --cycles 1 & compile
+.model a
+.names x y
+1 1
+2 0
+== 1
+B6 BadRow line 4: 2
+> eval --cycles 1 & compile
+.model a
+.names x y
+1 1
+- 0
+== 1
+B7 MixedCover line 4: -
+> eval --cycles 1 & compile
+.model a
+.latch x
+== 1
+B8 BadLatch line 2: .latch
+> eval --cycles 1 & compile
+.model a
+.latch x y 00
+== 1
+B8 BadLatch line 2: .latch
+> eval --cycles 1 & compile
+.model a
+.subckt m a=b c= =d
+== 1
+B9 BadPin line 2: c=
+> eval --cycles 1 & compile
+.model a
+.end
+.foo
+== 1
+B10 AfterEnd line 3: .foo
+> eval --cycles 1 & compile
+.model a
+.end
+.end
+== 1
+B10 AfterEnd line 3: .end
+> eval --cycles 1 & compile
+.model a
+.end
+.model b
+.model a
+.foo
+== 1
+B11 DuplicateModel line 4: a
+> eval --cycles 1 & compile
+.model a
+.subckt m a==
+.latch x y re
+== 1
+B8 BadLatch line 3: .latch
+> eval --cycles 1 & compile -- lines of all kinds
+.model m
+.inputs a b
+.inputs
+.inputs c
+.outputs y
+.clock k
+.names a b y
+11 1
+-0 1
+.names z
+.names a x
+1 0
+.area 3
+.latch d q
+.latch d q re k 1
+.latch d q fe NIL
+.latch d q 2
+.subckt s f=x==y g=h
+.end
+.model s
+.default_input_arrival 1
+== 1
+B13 MultipleDrivers line 15: q
+> eval --cycles 4 a=0011 b=0101 c=1100 & compile | simulate --cycles 4 a=0011 b=0101 c=1100
+.model m
+.inputs a b
+.inputs
+.inputs c
+.outputs y z x q r s t x==y
+.clock k
+.names a b y
+11 1
+-0 1
+.names z
+.names a x
+1 0
+.area 3
+.latch c q
+.latch c r 1
+.latch c s fe NIL
+.latch c t 2
+.subckt s f=x==y g=a
+.end
+.model s
+.default_input_arrival 1
+.inputs g
+.outputs f
+.names g f
+1 1
+== 0
+y=1011
+z=0000
+x=1100
+q=0110
+r=1110
+s=0110
+t=0110
+x==y=0011
+> eval --cycles 1 & compile -- the earliest line on a circle: the model that is placed first is on another one
+.model m
+.subckt a
+.subckt c
+.end
+.model c
+.subckt d
+.end
+.model d
+.subckt c
+.end
+.model a
+.subckt b
+.end
+.model b
+.subckt a
+== 1
+B19 Recursive line 6: c d
+> eval --cycles 1 & compile
+.model m
+.subckt a
+.end
+.model a
+.subckt b
+.subckt a
+.end
+.model b
+== 1
+B19 Recursive line 6: a
 @ gate
 > eval --cycles 2 a=01 b=0 -- words that give a netlist no streams
 == 9
