@@ -44,8 +44,6 @@ mod samples;
 #[cfg(test)]
 mod slots;
 #[cfg(test)]
-mod tables;
-#[cfg(test)]
 mod tapes;
 #[cfg(test)]
 mod texts;

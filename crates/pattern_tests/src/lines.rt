@@ -1,6 +1,5 @@
 // The lines and numbers of small texts.
 use crate::pages::Page;
-use crate::tables::reads_back_all_bytes;
 use pattern_lines::{number_in, split_line};
 
 // Texts, the bytes of their first lines, whether these lines have an end, and what follows them.
@@ -53,9 +52,8 @@ fn numbers_are_read() -> bool {
     is_so
 }
 
-/// Notes it unless lines are cut, numbers are read, and a name is read back.
+/// Notes it unless lines are cut and numbers are read.
 pub fn expect_lines(page: &mut Page) {
     page.expect_holds(b"the lines", lines_are_cut());
     page.expect_holds(b"the numbers", numbers_are_read());
-    page.expect_holds(b"a name of all bytes", reads_back_all_bytes(page.alloc()));
 }

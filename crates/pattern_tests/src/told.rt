@@ -12,7 +12,6 @@ use crate::pages::Page;
 use crate::patterns::{TEXTS, push_error};
 use crate::rule::{VIEWS, push_view};
 use crate::rules::expect_rules;
-use crate::tables::{TABLES, push_text};
 use crate::texts::{Case, cut};
 use crate::tiles::expect_tiles;
 use crate::worked::expect_worked;
@@ -20,15 +19,14 @@ use rle_read::read;
 use std::test::Fail;
 use ww_rule::Pattern;
 
-// What cases are about: the rows of patterns, the planes that follow them, bands that are moved, the gates and wires
-// that are found, and tables of ports.
+// What cases are about: the rows of patterns, the planes that follow them, bands that are moved, and the gates and
+// wires that are found.
 #[derive(Clone, Copy)]
 enum About {
     Rows,
     Planes,
     Bands,
     Gates,
-    Tables,
 }
 
 const LISTS: &[(About, &str)] = &[
@@ -36,7 +34,6 @@ const LISTS: &[(About, &str)] = &[
     (About::Planes, VIEWS),
     (About::Bands, ORDERS),
     (About::Gates, CASES),
-    (About::Tables, TABLES),
 ];
 
 // Appends what is told of a case's pattern.
@@ -48,17 +45,13 @@ fn push_read(page: &mut Page, about: About, case: Case, pattern: Pattern) {
         }
         About::Planes => push_view(page, case.head, &pattern),
         About::Gates => push_pattern(page, case.text, case.want, &pattern),
-        About::Rows | About::Tables => page.push_rows(&pattern.rows),
+        About::Rows => page.push_rows(&pattern.rows),
     }
     drop(pattern);
 }
 
 // Appends what is told of a case.
 fn push_case(page: &mut Page, about: About, case: Case) {
-    if let About::Tables = about {
-        push_text(page, case.head, case.text);
-        return;
-    }
     match read(page.alloc(), case.text.as_bytes()) {
         Ok(pattern) => push_read(page, about, case, pattern),
         Err(error) => push_error(page, error),

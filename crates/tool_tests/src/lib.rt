@@ -1,7 +1,5 @@
-//! Tests of sources and sinks, of the words of the command line, and of whole runs.
+//! Tests of the words of the command line, and of whole runs over sources and sinks in memory.
 #![tactic(auto)]
 
 #[cfg(test)]
 mod runs;
-#[cfg(test)]
-mod sources;

@@ -27,6 +27,7 @@ mod nets;
 mod repeating;
 mod routing;
 mod simulating;
+mod tables;
 mod tapes;
 mod twice;
 mod words;
@@ -464,6 +465,7 @@ const LISTS: &[&str] = &[
     repeating::CASES,
     routing::CASES,
     simulating::CASES,
+    tables::CASES,
     tapes::CASES,
     words::CASES,
 ];

@@ -1,8 +1,8 @@
 // docs/TILES.md, byte for byte.
 pub const PAGE: &str = "# Tiles
 
-This page is generated: a test of `layout_tests` compares all that follows the introduction with what the drawings of
-`tile_library` print, and the gate compares the page with `crates/layout_tests/src/tiles/page.rt`, byte for byte.
+This page is generated: a test of `pattern_tests` compares all that follows the introduction with what the drawings of
+`tile_library` print, and the gate compares the page with `crates/pattern_tests/src/tiles/page.rt`, byte for byte.
 
 Every tile is 32 columns wide, and one or two lanes of 16 rows high. A signal is an electron: a head with its tail behind
 it. Where entries are heads at generation 0, the exits with a 1 in the table are heads at generation 31, and no others.
