@@ -6,7 +6,7 @@ ghost use Rattle.cell_core.specs.Sources.{is_one, reads_one, read_one};
 ghost use Rattle.cell_sharing.specs.Grown.{HasSources, bits_of, Answers};
 ghost use Rattle.cell_meaning.specs.Mapped.{IsCell};
 ghost use Rattle.cell_meaning.specs.Needs.{has_no_positive};
-ghost use Rattle.cover_cells.specs.Covers.{CoverNeedsOne, AnswersCover, most_cells_of_cover};
+ghost use Rattle.cover_cells.specs.Covers.{some_is_one, CoverNeedsOne, AnswersCover, most_cells_of_cover};
 ghost use Rattle.cover_cells.specs.Placed.{ReadsOne};
 ghost use Rattle.cell_meaning.specs.Singles.{constant_source, single_cell};
 ghost use Rattle.cell_core.specs.declared.cells.Cell.{Cell};
@@ -45,17 +45,26 @@ fn has_no_positive(count: usize, row: &[u8]) -> bool
     !has_positive(&row[..count.min(row.len())])
 }
 
+// Whether constant 1 is among the sources.
+fn some_is_one(sources: &[Src]) -> bool
+    ensures { result ≡ some_is_one sources.now }
+{
+    sources.iter().any(|src| src.is_one())
+}
+
+// Whether a row has no `1` under so many sources.
+fn some_lacks_positive(count: usize, rows: &[Bytes]) -> bool
+    ensures { result ≡ list_any (has_no_positive count) rows.now }
+{
+    rows.iter()
+        .any(|row| has_no_positive(count, row.as_slice()))
+}
+
 // Whether constant 1 may be used for the cover.
 fn needs_one(sources: &[Src], rows: &[Bytes], on: bool) -> bool
     ensures { IsTrue result → CoverNeedsOne sources.now rows.now on }
 {
-    if sources.iter().any(|src| src.is_one()) {
-        return true;
-    }
-    if rows
-        .iter()
-        .any(|row| has_no_positive(sources.len(), row.as_slice()))
-    {
+    if some_is_one(sources) || some_lacks_positive(sources.len(), rows) {
         return true;
     }
     if on {

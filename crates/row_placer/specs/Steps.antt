@@ -73,6 +73,12 @@ pub record MakesGate (old new : Lanes) (gate : NumberedCell) : Type 0 where
   pub exchanged : GateExchanged old.tags.items new.tags.items gate (next_value old)
   pub made : length new.made.items ≡ length old.made.items + 1
 
+-- the lanes are as the job begins: nothing is placed
+pub record IsBegun (lanes : Lanes) : Type 0 where
+  pub tags : lanes.tags.items ≡ lanes.job.start
+  pub instrs : length lanes.instrs.items ≡ 0
+  pub made : length lanes.made.items ≡ 0
+
 -- the lanes place all that a job asks for, by at most so many instructions: its gates, its ports,
 -- and the loops among these on the lowest lanes
 pub record PlacesJob (job : Job) (loops : ℕ) (lanes : Lanes) : Type 0 where

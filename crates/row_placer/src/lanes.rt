@@ -38,18 +38,22 @@ pub struct Lanes {
 }
 
 impl Lanes {
-    ghost use Rattle.row_placer.specs.Steps.{KeepsGates, DoesInstr, MeetsAt, AddsInstrs, AddsAtMost, MovesTags, CopiesTag, IsNextGate, EndsWithNextGate, MakesGate, PlacesJob, next_value};
+    ghost use Rattle.row_placer.specs.Steps.{IsBegun, KeepsGates, DoesInstr, MeetsAt, AddsInstrs, AddsAtMost, MovesTags, CopiesTag, IsNextGate, EndsWithNextGate, MakesGate, PlacesJob, next_value};
 
     /// Returns the lanes as they are at the start.
     pub fn new(alloc: Global, job: Job) -> Result<Lanes, PlaceError>
         requires few { length job.start < 2 ^ 32 }
-        ensures tags { IfOk result (λ r. r.tags.items ≡ job.start) }
-        ensures none { IfOk result (λ r. (length r.instrs.items ≡ 0) × (length r.made.items ≡ 0)) }
+        ensures begun { IfOk result IsBegun }
         ensures job { IfOk result (λ r. r.job ≡ job) }
     {
-        let mut tags = Vec::new(alloc);
-        tags.extend_from_slice(job.start.as_slice())?;
-        let clocks = vec![in alloc; 0; tags.len()]?;
+        let Ok(tags) = job.start.as_slice().to_vec(alloc) else {
+            drop(job);
+            return Err(PlaceError::NoMemory);
+        };
+        let Ok(clocks) = vec![in alloc; 0; tags.len()] else {
+            drop(job);
+            return Err(PlaceError::NoMemory);
+        };
         Ok(Lanes {
             job,
             tags,
@@ -65,10 +69,25 @@ impl Lanes {
         ensures { IfOk result (PlacesJob job loops) }
     {
         let mut lanes = Lanes::new(alloc, job)?;
-        lanes.place_gates(left)?;
-        lanes.place_ports(loops, left)?;
-        lanes.settle_loops(alloc, loops)?;
-        Ok(lanes)
+        match lanes.place_all(alloc, loops, left) {
+            Ok(()) => Ok(lanes),
+            Err(error) => {
+                drop(lanes);
+                Err(error)
+            }
+        }
+    }
+
+    // Places all that the job asks for on the lanes as they are at the start.
+    fn place_all(&mut self, alloc: Global, loops: u32, left: &mut [u32]) -> Result<(), PlaceError>
+        requires start { IsBegun self.old }
+        requires ready { IsRunnable self.old.job loops left.old }
+        ensures { OnOk result (PlacesJob self.old.job loops self.new) }
+    {
+        self.place_gates(left)?;
+        self.place_ports(loops, left)?;
+        self.settle_loops(alloc, loops)?;
+        Ok(())
     }
 
     /// Returns the instructions.

@@ -137,6 +137,12 @@ pub struct Placed {
 }
 
 impl Placed {
+    fn into_program(self) -> Program
+        ensures { result ≡ self.program }
+    {
+        self.program
+    }
+
     // The size of its drawing, in tiles.
     fn area(&self) -> u64 {
         let loops = self.program.latches.len() as u64;
@@ -211,11 +217,17 @@ fn place_job(
 {
     let lanes = Lanes::run(alloc, job, loops, left)?;
     let columns = latest(&lanes.clocks);
-    let Ends {
-        outs,
-        nets,
-        latches,
-    } = ends_of(alloc, list, loops, &homes, &lanes)?;
+    let Ok(
+        Ends {
+            outs,
+            nets,
+            latches,
+        },
+    ) = ends_of(alloc, list, loops, &homes, &lanes)
+    else {
+        drop(lanes);
+        return Err(PlaceError::NoMemory);
+    };
     let mut ins = homes;
     ins.truncate(list.inputs as usize);
     let count = lanes.tags.len() as u32;
@@ -347,6 +359,23 @@ fn try_spare(
     Ok(())
 }
 
+// Shortens the first program if it is too long, and tries more numbers of spare lanes.
+fn improve(alloc: Global, list: &CellList, loops: u32, best: &mut Placed) -> Result<(), PlaceError>
+    requires loops { loops ≡ loop_count list.now }
+    requires small { IsPlaceable list.now }
+    requires first { IsPlacedWithin list.now 0 best.old.program }
+    ensures { OnOk result (IsPlacedWithin
+        list.now (max list.now.inputs (length list.now.outs)) best.new.program
+        ) }
+{
+    let tries = more_tries(best);
+    shorten(alloc, list, loops, 0, best)?;
+    for spare in 0..most_spare(list).min(tries) {
+        try_spare(alloc, list, loops, spare + 1, best)?;
+    }
+    Ok(())
+}
+
 /// Places a list on lanes: returns a program that computes it. It tries 0 to 4 spare lanes, but no
 /// more than there are inputs or outputs, whichever are more, and 0 alone if that program is long.
 /// If it is too long, the list is placed once more, so that lanes share the way. The contract leaves
@@ -357,12 +386,13 @@ pub fn place(alloc: Global, list: &CellList) -> Result<Program, PlaceError>
 {
     let loops = count_loops(list);
     let mut best = place_with(alloc, list, loops, 0, &[], Travel::Soonest)?;
-    let tries = more_tries(&best);
-    shorten(alloc, list, loops, 0, &mut best)?;
-    for spare in 0..most_spare(list).min(tries) {
-        try_spare(alloc, list, loops, spare + 1, &mut best)?;
+    match improve(alloc, list, loops, &mut best) {
+        Ok(()) => Ok(best.into_program()),
+        Err(error) => {
+            drop(best);
+            Err(error)
+        }
     }
-    Ok(best.program)
 }
 
 /// Places a list on lanes: returns a program that computes it, on `spare` more lanes than the
@@ -381,8 +411,13 @@ pub fn place_at(
     let loops = count_loops(list);
     let spare = spare.min(most_spare(list));
     let mut placed = place_with(alloc, list, loops, spare, wanted, Travel::Soonest)?;
-    shorten(alloc, list, loops, spare, &mut placed)?;
-    Ok(placed.program)
+    match shorten(alloc, list, loops, spare, &mut placed) {
+        Ok(()) => Ok(placed.into_program()),
+        Err(error) => {
+            drop(placed);
+            Err(error)
+        }
+    }
 }
 
 fn latches_of(alloc: Global, list: &CellList) -> Result<Vec<bool>, PlaceError>

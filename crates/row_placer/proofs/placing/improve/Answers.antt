@@ -1,6 +1,6 @@
 use Rattle.std.proofs.Common.{max, length, arith}
 use Rattle.row_placer.proofs.Finish.{within_more}
-use Rattle.row_placer.proofs.placing.place.Goals as goal
+use Rattle.row_placer.proofs.placing.improve.Goals as goal
 
 pub loop-spare-init : goal.loop-spare-init
 loop-spare-init c =
