@@ -1,4 +1,5 @@
 use Rattle.std.proofs.Common.{List, ℕ, subst}
+use Rattle.std.proofs.lemmas.Result.{err_from_is_err_and}
 use Rattle.cover_mapper.specs.Sourced.{AreMapped}
 use Rattle.cover_mapper.proofs.mapping.map_from.Goals as goal
 
@@ -11,5 +12,18 @@ with_ports-requires-clause-complete c =
       cells = c.in_ok-list.ensures.cells;
       order = c.args.order.now.nodes;
       ordered = c.requires.ordered;
-      mapped = subst (λ (order : List ℕ). AreMapped c.args.flat.now c.in_ok-list.list c.map_nodes.new.list c.map_nodes.new.sources order) c.as_slice.ensures c.in_ok-map_nodes.ensures;
+      mapped = subst (λ (order : List ℕ). AreMapped c.args.flat.now c.in_ok-list.list c.map_nodes.new.list c.map_nodes.new.sources order) c.as_slice.ensures c.in-Ok.ensures;
     }
+
+pub returns-in_err-list : goal.returns-in_err-list
+returns-in_err-list c =
+    let p = (err_from_is_err_and c.from_residual.result c.from_residual.ensures.1).1 in
+    record { mapped = rw p tt; bits = rw p tt; cells = rw p tt; unlisted = rw p tt }
+
+pub returns-in-Err : goal.returns-in-Err
+returns-in-Err c = record { mapped = tt; bits = tt; cells = tt; unlisted = tt }
+
+pub returns-in-Ok : goal.returns-in-Ok
+returns-in-Ok c =
+    let e = c.with_ports.ensures in
+    record { mapped = e.mapped; bits = e.bits; cells = e.cells; unlisted = e.unlisted }

@@ -1,16 +1,20 @@
-use Rattle.std.proofs.Common.{◌≡◌, refl, sym, ◌∙◌, ap, subst, ℕ, List, length, map, get_or, Some, arith}
-use Rattle.std.proofs.lemmas.Option.{get_or_from_slice_get}
+use Rattle.std.proofs.Common.{◌≡◌, refl, sym, ◌∙◌, ap, subst, ℕ, ◌<◌, List, length, map, get_or, Some, arith}
+use Rattle.std.proofs.lemmas.List.{take_all}
+use Rattle.std.proofs.lemmas.List.Elements.{All-get_or}
+use Rattle.std.proofs.lemmas.Option.{get_or_from_slice_get, slice_get_within}
+use Rattle.std.proofs.lemmas.Result.{err_from_is_err_and}
 use Rattle.netlist_core.specs.declared.flat.Node.{Node}
 use Rattle.netlist_core.specs.declared.flat.NetId.{NetId}
-use Rattle.netlist_meaning.specs.Flat.{class_of, node_at, no_node, in_classes}
+use Rattle.netlist_meaning.specs.Flat.{class_of, node_at, no_node, in_classes, IsNetId}
 use Rattle.cell_core.specs.declared.cells.Src.{Src}
 use Rattle.cell_core.specs.declared.cells.Cell.{Cell}
 use Rattle.cover_cells.specs.Covers.{AnswersCover}
 use Rattle.cell_sharing.specs.Grown.{HasSources}
 use Rattle.cell_meaning.specs.Mapped.{IsCell}
 use Rattle.cell_meaning.specs.Singles.{constant_source, single_cell}
-use Rattle.cover_mapper.specs.Sourced.{sources_at, source_at}
+use Rattle.cover_mapper.specs.Sourced.{AreMapped, sources_at, source_at}
 use Rattle.cover_mapper.proofs.Known.{AreKnown, all_gathered, all_there}
+use Rattle.cover_mapper.proofs.Sourcing.{class_within}
 use Rattle.cover_mapper.proofs.NextNode.{reads_known, node_mapped, first_mapped}
 use Rattle.cover_mapper.proofs.nodes.map_nodes.Goals as goal
 
@@ -28,6 +32,28 @@ map_cover-requires c =
     let are : c.in_ok-ins.ins.items ≡ map (source_at sources) (in_classes flat n) =
     c.in_ok-ins.ensures ∙ ap (λ (ids : List NetId). sources_at sources (map (class_of flat) ids)) (c.as_slice.ensures ∙ ap (λ (m : Node). m.ins) at) ∙ all_gathered sources (in_classes flat n) known in
     subst (HasSources c.loop-n.list) (sym (c.deref.ensures.value ∙ are)) (all_there flat _ c.loop-n.list sources (in_classes flat n) c.loop-n.invariant.sourced known)
+
+pub bounds-sources-class_of : goal.bounds-sources-class_of
+bounds-sources-class_of c =
+    let flat = c.args.flat.now in
+    let node = c.get-node.result.now in
+    let n : ℕ = get_or c.args.order.now c.loop-n.n-index 0 in
+    let is_node : n < length flat.nodes = slice_get_within flat.nodes n node c.get-node.ensures in
+    let is_id : IsNetId flat node.out =
+    subst (λ (m : Node). IsNetId flat m.out) (get_or_from_slice_get flat.nodes n node no_node c.get-node.ensures)
+    (All-get_or (λ (m : Node). IsNetId flat m.out) flat.nodes n no_node is_node c.requires.sound.in_range.node_outs) in
+    omega (arith, c.class_of.ensures, c.loop-n.invariant.sourced.long, class_within flat c.requires.sound.in_range node.out is_id)
+
+pub returns-in_err-ins : goal.returns-in_err-ins
+returns-in_err-ins c = rw ((err_from_is_err_and c.from_residual.result c.from_residual.ensures.1).1) tt
+
+pub returns-in_err-source : goal.returns-in_err-source
+returns-in_err-source c = rw ((err_from_is_err_and c.from_residual-in_err-source.result c.from_residual-in_err-source.ensures.1).1) tt
+
+pub returns : goal.returns
+returns c =
+    subst (λ (order : List ℕ). AreMapped c.args.flat.now c.args.list.now c.loop-n.list c.loop-n.sources order)
+    (take_all c.loop-n.n-index c.args.order.now (omega (arith, c.loop-n-test.false))) c.loop-n.invariant
 
 pub loop-n-preserved : goal.loop-n-preserved
 loop-n-preserved c =
