@@ -62,7 +62,10 @@ fn ported(
     requires { HaveOwn old.now kept.now list news.now }
     ensures { IfOk result (λ c. IsPorted old.now kept.now list news.now c.list c.kept.items) }
 {
-    let ports = ports_gone(alloc, old, kept, news)?;
+    let Ok(ports) = ports_gone(alloc, old, kept, news) else {
+        drop(list);
+        return Err(PolarityError::NoMemory);
+    };
     let list = CellList {
         inputs: list.inputs,
         cells: list.cells,
@@ -85,6 +88,11 @@ pub fn complemented(alloc: Global, list: &CellList, kept: &[Src]) -> Result<Kept
     ensures { IfOk result (λ c. Complements list.now kept.now c.list c.kept.items) }
 {
     let mut low = Lowered::begin(alloc, list)?;
-    let news = grow(alloc, list, kept, &mut low)?;
-    ported(alloc, list, kept, low.list, &news)
+    match grow(alloc, list, kept, &mut low) {
+        Ok(news) => ported(alloc, list, kept, low.list, &news),
+        Err(error) => {
+            drop(low);
+            Err(error)
+        }
+    }
 }

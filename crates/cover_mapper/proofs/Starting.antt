@@ -15,13 +15,22 @@ use Rattle.cell_sharing.proofs.Growing.{grows_refl}
 use Rattle.cover_mapper.specs.Sourced.{ClassSources, AreSourced, IsAmongFirst}
 use Rattle.cover_mapper.proofs.Sourcing.{class_within, sourced_more}
 
+-- classes of inputs and of latches are among those of the nets
+pub input_within : (flat : Flat) → IsSound flat → (i : ℕ) (d : FlatPort) (class : ℕ) → i < length flat.ins → class ≡ class_of flat (get_or flat.ins i d).net → class < length flat.nets
+input_within flat sound i d class within is =
+    omega (arith, is, class_within flat sound.in_range (get_or flat.ins i d).net (All-get_or (λ port. IsNetId flat port.net) flat.ins i d within sound.in_range.ins))
+
+pub latch_within : (flat : Flat) → IsSound flat → (i : ℕ) (d : FlatLatch) (class : ℕ) → i < length flat.latches → class ≡ class_of flat (get_or flat.latches i d).output → class < length flat.nets
+latch_within flat sound i d class within is =
+    omega (arith, is, class_within flat sound.in_range (get_or flat.latches i d).output (All-get_or (λ latch. IsNetId flat latch.input × IsNetId flat latch.output) flat.latches i d within sound.in_range.latches).1)
+
 pub input_sourced : (flat : Flat) → IsSound flat → (list : CellList) (sources : ClassSources) (i : ℕ) (d : FlatPort) (class number : ℕ) → i < length flat.ins → list.inputs ≡ length flat.ins
     → class ≡ class_of flat (get_or flat.ins i d).net → number ≡ i → AreSourced flat (IsAmongFirst i 0 []) list sources
     → AreSourced flat (IsAmongFirst (i + 1) 0 []) list (set sources class (Some (Input number)))
 input_sourced flat sound list sources i d class number within inputs is at first =
     sourced_more flat (IsAmongFirst i 0 []) (IsAmongFirst (i + 1) 0 []) list list sources (FlatDriver.input i) class (Input number) 0 ⊥ sound first
     (get_or flat.ins i d, slice_get-get_or flat.ins i d within, sym is)
-    (omega (arith, is, class_within flat sound.in_range (get_or flat.ins i d).net (All-get_or (λ port. IsNetId flat port.net) flat.ins i d within sound.in_range.ins)))
+    (input_within flat sound i d class within is)
     one_more still (omega arith) (ap Input at) (grows_refl list ⊥) (lt-ltb number list.inputs (omega (arith, within, inputs, at))) (λ e. absurd (true≢false (sym e)))
     (λ inputs state bits solves. ap (λ n. get_or inputs n false) at ∙ ap (λ l. get_or l i false) (sym solves.inputs_given) ∙ get_or-map (λ (port : FlatPort). bits (class_of flat port.net)) flat.ins i d false within ∙ ap bits (sym is))
   where
@@ -41,7 +50,7 @@ pub latch_sourced : (flat : Flat) → IsSound flat → (list : CellList) (source
 latch_sourced flat sound list sources i d class number within starts is at first =
     sourced_more flat (IsAmongFirst (length flat.ins) i []) (IsAmongFirst (length flat.ins) (i + 1) []) list list sources (FlatDriver.latch i) class (Latch number) 0 ⊥ sound first
     (get_or flat.latches i d, slice_get-get_or flat.latches i d within, sym is)
-    (omega (arith, is, class_within flat sound.in_range (get_or flat.latches i d).output (All-get_or (λ latch. IsNetId flat latch.input × IsNetId flat latch.output) flat.latches i d within sound.in_range.latches).1))
+    (latch_within flat sound i d class within is)
     one_more still (omega arith) (ap Latch at) (grows_refl list ⊥) (lt-ltb number (length list.starts) (omega (arith, within, starts, at))) (λ e. absurd (true≢false (sym e)))
     (λ inputs state bits solves. ap (λ n. get_or state n false) at ∙ ap (λ l. get_or l i false) (sym solves.latches_hold) ∙ get_or-map (λ (latch : FlatLatch). bits (class_of flat latch.output)) flat.latches i d false within ∙ ap bits (sym is))
   where

@@ -27,5 +27,5 @@ returns c =
     let outs : c.of.result ≡ map (goes_to news) old.outs = search rules in
     let latches : c.of-2.result ≡ map (goes_to news) old.latches = search rules in
     let nets : c.of-3.result ≡ map (goes_to news) old.nets = search rules in
-    let kept : c.in_ok-ports.ports.kept.items ≡ map (goes_to news) c.args.kept.now = search rules in
-    is_ported old c.args.kept.now now news c.requires _ c.in_ok-ports.ports.kept.items refl refl refl outs latches nets kept
+    let kept : c.in-Ok.ports.kept.items ≡ map (goes_to news) c.args.kept.now = search rules in
+    is_ported old c.args.kept.now now news c.requires _ c.in-Ok.ports.kept.items refl refl refl outs latches nets kept

@@ -1,5 +1,6 @@
-use Rattle.std.proofs.Common.{rules, ◌≡◌, refl, sym, ◌∙◌, ap, ap₂, ◌<◌, false, subst, Bool, List, length, get_or, replicate, None, arith}
-use Rattle.std.proofs.lemmas.List.{get_or_default}
+use Rattle.std.proofs.Common.{rules, ◌≡◌, refl, sym, ◌∙◌, ap, ap₂, ◌<◌, true, false, subst, Bool, List, length, get_or, replicate, None, arith}
+use Rattle.std.proofs.lemmas.List.{get_or_default, length-map}
+use Rattle.std.proofs.lemmas.Result.{err_from_is_err_and}
 use Rattle.cell_core.specs.declared.cells.Src.{Src}
 use Rattle.cell_core.specs.declared.cells.Src.TheVariants.{Input, Zero}
 use Rattle.cell_core.specs.declared.cells.Cell.{Cell}
@@ -8,7 +9,7 @@ use Rattle.cell_core.specs.Sources.{reads_there}
 use Rattle.cell_meaning.specs.Moved.{NewSources, goes_to}
 use Rattle.cell_meaning.specs.Same.{cell_over}
 use Rattle.cell_sharing.specs.Grown.{HasSource}
-use Rattle.cell_polarity.specs.Raised.{IsRaised}
+use Rattle.cell_polarity.specs.Raised.{IsRaised, AreRaised}
 use Rattle.cell_polarity.proofs.Raising.{own_there, low_there, raised_more, none_raised}
 use Rattle.cell_polarity.proofs.high.raise_all.Goals as goal
 
@@ -31,6 +32,25 @@ index-src-requires c = omega (arith, c.loop-k-test.true, c.len-k-end.ensures, c.
 
 pub index-zero-requires : goal.index-zero-requires
 index-zero-requires c = omega (arith, c.loop-k-test.true, c.len-k-end.ensures, c.requires.low.zeros_long, ap length c.loop-k.invariant.1)
+
+pub bounds-marks-k : goal.bounds-marks-k
+bounds-marks-k c = omega (arith, c.loop-k-test.true, c.len-k-end.ensures, c.requires.low.zeros_long, c.requires.marks.long)
+
+pub bounds-stays-k : goal.bounds-stays-k
+bounds-stays-k c =
+    omega (arith, c.loop-k-test.true, c.len-k-end.ensures, c.requires.low.zeros_long, c.requires.stays.long, length-map c.args.low.now.zeros.items (λ (zero : Bool). true))
+
+pub returns-in_err-news : goal.returns-in_err-news
+returns-in_err-news c = rw ((err_from_is_err_and c.from_residual.result c.from_residual.ensures.1).1) tt
+
+pub returns-in_err-new : goal.returns-in_err-new
+returns-in_err-new c = rw ((err_from_is_err_and c.from_residual-in_err-new.result c.from_residual-in_err-new.ensures.1).1) tt
+
+pub returns : goal.returns
+returns c =
+    let all : c.loop-k.k ≡ length c.args.old.now.cells = omega (arith, c.loop-k-test.false, c.len-k-end.ensures, c.loop-k.auto.k-end) in
+    subst (λ k. AreRaised c.args.old.now c.args.low.now.list c.args.kept.now c.args.low.now.zeros.items c.args.marks.now c.args.stays.now k c.loop-k.low.list c.loop-k.news.items)
+    all c.loop-k.invariant.0
 
 pub raise-requires-clause-low : goal.raise-requires-clause-low
 unfolding none
