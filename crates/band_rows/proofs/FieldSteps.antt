@@ -5,7 +5,7 @@ use Rattle.std.proofs.Math.Nat.{suc-mul, mul-le-mul_right}
 use Rattle.ww_rule.specs.Wireworld.{Plane, next_plane}
 use Rattle.lane_kernel.specs.Rows.{row_state}
 use Rattle.lane_kernel.specs.Around.{next_word, IsFramed, IsInner}
-use Rattle.lane_kernel.specs.Marked.{AreOn, IsMarked}
+use Rattle.lane_kernel.specs.Marked.{AreListed, AreOn, IsMarked}
 use Rattle.lane_kernel.specs.PlaneRows.{place, row_in_plane, plane_size, stride_of, HasDarkSides, IsInRow, IsEmptyWest, ShowsHeads}
 use Rattle.lane_kernel.proofs.Places.{Fit}
 use Rattle.lane_kernel.proofs.PlaneRows.{is_next_plane}
@@ -36,6 +36,9 @@ pub same_marked : (s : ℕ) {h h' t t' c c' b b' : List ℕ} → h' ≡ h → t'
 same_marked s {h} {h'} {t} {t'} {c} {c'} {b} {b'} p q r u m =
     subst (λ b. IsMarked s h' t' c' b) (sym u) (subst (λ c. IsMarked s h' t' c b) (sym r) (subst (λ t. IsMarked s h' t c b) (sym q) (subst (λ h. IsMarked s h t c b) (sym p) m)))
 
+pub same_listed : (s many : ℕ) {b b' l l' : List ℕ} → b' ≡ b → l' ≡ l → AreListed s b l many → AreListed s b' l' many
+same_listed s many {b} {b'} {l} {l'} p q h = subst (λ l. AreListed s b' l many) (sym q) (subst (λ b. AreListed s b l many) (sym p) h)
+
 pub same_word : (s : ℕ) {h h' t t' c c' : List ℕ} (i : ℕ) → h ≡ h' → t ≡ t' → c ≡ c' → next_word s h t c i ≡ next_word s h' t' c' i
 same_word s {h} {h'} {t} {t'} {c} {c'} i p q r = ap₂ (λ h t. next_word s h t c i) p q ∙ ap (λ c. next_word s h' t' c i) r
 
@@ -49,3 +52,19 @@ field_shows old new is on fits stepped p y bare dark over shown under k x low =
     ap₂ (λ a b. f a b new.tails.items new.cells.items) size.columns size.stride
     ∙ ap₂ (f old.columns old.stride) stepped.tails stepped.cells
     ∙ is_next_plane old.stride old.heads.items old.tails.items old.cells.items new.heads.items fits on stepped.heads old.columns old.rows p y is.stride bare dark over shown under k x (omega (arith, low, rows))
+
+-- a plane has two word columns, and two words, at least
+pub two_columns : (field : Field) → IsPlaneField field → field.stride + field.stride + 2 ≤ length field.cells.items
+two_columns field is =
+    let s = is.stride in
+    let long = is.long_cells in
+    let two : 2 ≤ field.columns + 2 = omega arith in
+    let most = mul-le-mul_right (field.rows + 2) two in
+    omega (arith, s, long, most)
+
+-- the planes of a field in slices
+pub same_on : {c c' w w' : List ℕ} → c' ≡ c → w' ≡ w → AreOn c w → AreOn c' w'
+same_on {c} {c'} {w} {w'} p q on = subst (λ c. AreOn c w') (sym p) (subst (AreOn c) (sym q) on)
+
+pub framed_in : (field : Field) → IsPlaneField field → {cells : List ℕ} → cells ≡ field.cells.items → IsFramed field.stride cells
+framed_in field is e = subst (IsFramed field.stride) (sym e) (framed_of field.columns field.rows field.stride field.cells.items is.stride is.long_cells is.cells_in_rows)

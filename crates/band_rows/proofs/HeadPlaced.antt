@@ -14,7 +14,7 @@ use Rattle.lane_kernel.specs.Marked.{AreCleared, AreListed, AreOn, IsMarked}
 use Rattle.lane_kernel.specs.PlaneRows.{place, row_in_plane, plane_size, stride_of, IsInRow}
 use Rattle.lane_kernel.specs.Rows.{is_set, row_state, state_of}
 use Rattle.band_rows.specs.declared.field.Field.{Field}
-use Rattle.band_rows.specs.Fields.{field_state, IsClosedField}
+use Rattle.band_rows.specs.Fields.{field_state, IsClosedField, IsPlaneField}
 use Rattle.band_rows.proofs.FieldSteps.{inner_place}
 use Rattle.band_rows.proofs.PlaceCells.{head_state, put_bit}
 
@@ -79,12 +79,12 @@ tails_placed cells tails i b lc on j =
     ]
 
 -- the place of a word of a field's rows
-module _ (field : Field) (c k : ℕ) (closed : IsClosedField field) (west : c < field.columns) (low : k < field.rows) where
+module _ (field : Field) (c k : ℕ) (is : IsPlaneField field) (west : c < field.columns) (low : k < field.rows) where
   abbrev spot : ℕ
   spot = place field.stride c (k + 1)
 
   pub word_inner : (plane : List ℕ) → length plane ≡ plane_size field.columns field.rows → IsInner field.stride (length plane) spot
-  word_inner plane long = inner_place field.columns field.rows field.stride c k (length plane) closed.is.stride west low (long ∙ sym (ap (λ s. (field.columns + 2) * s + 2) closed.is.stride))
+  word_inner plane long = inner_place field.columns field.rows field.stride c k (length plane) is.stride west low (long ∙ sym (ap (λ s. (field.columns + 2) * s + 2) is.stride))
 
   pub word_within : (plane : List ℕ) → length plane ≡ plane_size field.columns field.rows → spot < length plane
   word_within plane long = let i = word_inner plane long in let to = i.to in omega (arith, to)
@@ -92,8 +92,8 @@ module _ (field : Field) (c k : ℕ) (closed : IsClosedField field) (west : c < 
   pub word_in_rows : (v j : ℕ) → get_or (slice_set field.cells.items spot v) j 0 ≢ 0 → IsInRow field.columns field.rows j
   word_in_rows v j some =
       elim (cases_eq j spot) [
-        | inl e ↦ record { column = c; row = k; west = west; above = low; is = e ∙ ap (λ s. place s c (k + 1)) closed.is.stride }
-        | inr ne ↦ closed.is.cells_in_rows j (λ zero. some (get_or-set_other field.cells.items spot j v 0 ne ∙ zero))
+        | inl e ↦ record { column = c; row = k; west = west; above = low; is = e ∙ ap (λ s. place s c (k + 1)) is.stride }
+        | inr ne ↦ is.cells_in_rows j (λ zero. some (get_or-set_other field.cells.items spot j v 0 ne ∙ zero))
       ]
 
 -- a field that differs from another by one head and its cell, and by its marks
@@ -113,13 +113,13 @@ module _ (old : Field) (x k : ℕ) (closed : IsClosedField old) (west : x / 64 <
   bit = 1 * 2 ^ (x % 64) % 2 ^ 64
 
   pub inner : (plane : List ℕ) → length plane ≡ plane_size old.columns old.rows → IsInner old.stride (length plane) at
-  inner = word_inner old (x / 64) k closed west low
+  inner = word_inner old (x / 64) k closed.is west low
 
   pub within : (plane : List ℕ) → length plane ≡ plane_size old.columns old.rows → at < length plane
-  within = word_within old (x / 64) k closed west low
+  within = word_within old (x / 64) k closed.is west low
 
   pub in_rows : (j : ℕ) → get_or (with_bit old.cells.items at bit) j 0 ≢ 0 → IsInRow old.columns old.rows j
-  in_rows = word_in_rows old (x / 64) k closed west low (bit_or (get_or old.cells.items at 0) bit)
+  in_rows = word_in_rows old (x / 64) k closed.is west low (bit_or (get_or old.cells.items at 0) bit)
 
   -- the new field, if its marks are as they must be
   pub head_closed : (new : Field) → HasHead old new x k → length new.marks.bytes.items ≡ plane_size old.columns old.rows → length new.spare.bytes.items ≡ plane_size old.columns old.rows

@@ -52,7 +52,7 @@ module _ (old : Field) (c k : ℕ) (closed : IsClosedField old) (unlisted : IsUn
   spot = place old.stride c (k + 1)
 
   within : (plane : List ℕ) → length plane ≡ plane_size old.columns old.rows → spot < length plane
-  within = word_within old c k closed west low
+  within = word_within old c k closed.is west low
 
   below : (j : ℕ) → j < old.rows → j + 1 < old.stride
   below j lt = let s = closed.is.stride in omega (arith, lt, s)
@@ -74,7 +74,7 @@ module _ (old : Field) (c k : ℕ) (closed : IsClosedField old) (unlisted : IsUn
         closed =
             closed_again old new closed unlisted size (ap length heads ∙ length-set old.heads.items spot bits.heads)
             (ap length tails ∙ length-set old.tails.items spot bits.tails) (ap length wires ∙ length-set old.cells.items spot bits.cells) marks spare
-            (λ i some. word_in_rows old c k closed west low bits.cells i (λ zero. some (ap (λ l. get_or l i 0) wires ∙ zero)))
+            (λ i some. word_in_rows old c k closed.is west low bits.cells i (λ zero. some (ap (λ l. get_or l i 0) wires ∙ zero)))
             (subst (λ l. AreOn l new.heads.items) (sym wires) (subst (AreOn (slice_set old.cells.items spot bits.cells)) (sym heads)
             (on_put old.cells.items old.heads.items spot bits.cells bits.heads (within old.cells.items is.long_cells) (within old.heads.items is.long_heads) on.heads closed.heads)))
             (subst (λ l. AreOn l new.tails.items) (sym wires) (subst (AreOn (slice_set old.cells.items spot bits.cells)) (sym tails)

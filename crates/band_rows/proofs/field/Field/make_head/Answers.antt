@@ -1,4 +1,4 @@
-use Rattle.std.proofs.Common.{ℕ, ◌+◌, ◌*◌, ◌/◌, ◌%◌, ◌^◌, ◌≡◌, refl, sym, ap, subst, ◌∙◌, length, get_or, arith}
+use Rattle.std.proofs.Common.{ℕ, ◌+◌, ◌*◌, ◌/◌, ◌%◌, ◌^◌, ◌<◌, ◌≡◌, refl, sym, ap, subst, ◌∙◌, length, get_or, arith}
 use Rattle.std.proofs.lemmas.List.{get_or-set_same, with_items_is, length-set}
 use Rattle.std.specs.Int.RustNames.{bit_or}
 use Rattle.std.specs.Vec.{with_items}
@@ -109,3 +109,39 @@ returns-clause-cells c =
     let q = c.requires in
     let new : Field = record self { heads = with_items self.heads c.set_bits.new.heads; cells = with_items self.cells c.set_bits.new.cells; marks = c.mark_head.new.now } in
     head_cells self c.args.x c.args.k q.closed q.column q.row new (record { columns = refl; rows = refl; stride = refl; heads = heads k; cells = cells k; tails = refl })
+
+pub overflow_mul-i : goal.overflow_mul-i
+overflow_mul-i c =
+    let self = c.args.self.now in
+    let q = c.requires in
+    let at = within self c.args.x c.args.k q.closed q.column q.row self.heads.items q.closed.is.long_heads in
+    let ok = self.heads.ok.0 in
+    omega (arith, at, ok)
+
+pub overflow_add-i-2 : goal.overflow_add-i-2
+overflow_add-i-2 c =
+    let self = c.args.self.now in
+    let q = c.requires in
+    let at = within self c.args.x c.args.k q.closed q.column q.row self.heads.items q.closed.is.long_heads in
+    let ok = self.heads.ok.0 in
+    omega (arith, at, ok)
+
+pub overflow_add-i-4 : goal.overflow_add-i-4
+overflow_add-i-4 c =
+    let self = c.args.self.now in
+    let q = c.requires in
+    let at = within self c.args.x c.args.k q.closed q.column q.row self.heads.items q.closed.is.long_heads in
+    let ok = self.heads.ok.0 in
+    omega (arith, at, ok)
+
+pub set_bits-requires : goal.set_bits-requires
+set_bits-requires c =
+    let self = c.args.self.now in
+    let q = c.requires in
+    let is = q.closed.is in
+    let at = place self.stride (c.args.x / 64) (c.args.k + 1) in
+    record {
+      heads = subst (λ l. at < length l) (sym c.deref_mut.ensures.value) (within self c.args.x c.args.k q.closed q.column q.row self.heads.items is.long_heads);
+      cells = subst (λ l. at < length l) (sym c.deref_mut-2.ensures.value) (within self c.args.x c.args.k q.closed q.column q.row self.cells.items is.long_cells);
+      bit = omega arith;
+    }

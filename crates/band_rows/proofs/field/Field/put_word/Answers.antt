@@ -11,7 +11,7 @@ put_bits-requires c =
     let q = c.requires in
     let is = q.closed.is in
     let at = place self.stride c.args.c (c.args.k + 1) in
-    let within = word_within self c.args.c c.args.k q.closed q.column q.row in
+    let within = word_within self c.args.c c.args.k is q.column q.row in
     record {
       heads = subst (λ l. at < length l) (sym c.deref_mut.ensures.value) (within self.heads.items is.long_heads);
       tails = subst (λ l. at < length l) (sym c.deref_mut-2.ensures.value) (within self.tails.items is.long_tails);
