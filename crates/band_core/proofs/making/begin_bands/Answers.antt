@@ -78,3 +78,48 @@ loop-b-preserved c =
           (pushed (λ k z. ShowsBand plane (due_of_list injections) (k * h) (min h (length rows - k * h)) z) bands band d b many (λ k l. v.shows k d (omega (arith, l, many)))
           (subst (λ n. ShowsBand plane (due_of_list injections) y n band) long (made.shows plane (due_of_list injections) refl due)) k (omega (arith, lk, le, grown, many)));
     }
+
+pub overflow_mul-y : goal.overflow_mul-y
+overflow_mul-y c =
+    let first = starts c.loop-b.b c.args.height (length c.args.rows.now) c.requires.height (subst (λ n. c.loop-b.b < bands_in n c.args.height) c.len.ensures.count c.loop-b-test.true) in
+    let few = c.len.ensures.few in
+    omega (arith, first, few)
+
+pub overflow_sub-len : goal.overflow_sub-len
+overflow_sub-len c =
+    let first = starts c.loop-b.b c.args.height (length c.args.rows.now) c.requires.height (subst (λ n. c.loop-b.b < bands_in n c.args.height) c.len.ensures.count c.loop-b-test.true) in
+    let rows = c.len-in-loop-b.ensures.count in
+    omega (arith, first, rows)
+
+pub begin_band-requires-clause-some : goal.begin_band-requires-clause-some
+begin_band-requires-clause-some c =
+    let first = starts c.loop-b.b c.args.height (length c.args.rows.now) c.requires.height (subst (λ n. c.loop-b.b < bands_in n c.args.height) c.len.ensures.count c.loop-b-test.true) in
+    let rows = c.len-in-loop-b.ensures.count in
+    let many = c.min-many.ensures in
+    let high = c.requires.height in
+    omega (arith, first, rows, many, high)
+
+pub begin_band-requires-clause-few : goal.begin_band-requires-clause-few
+begin_band-requires-clause-few c = c.len.ensures.few
+
+pub begin_band-requires-clause-within : goal.begin_band-requires-clause-within
+begin_band-requires-clause-within c =
+    let first = starts c.loop-b.b c.args.height (length c.args.rows.now) c.requires.height (subst (λ n. c.loop-b.b < bands_in n c.args.height) c.len.ensures.count c.loop-b-test.true) in
+    let rows = c.len-in-loop-b.ensures.count in
+    let many = c.min-many.ensures in
+    omega (arith, first, rows, many)
+
+pub begin_band-requires-clause-wide : goal.begin_band-requires-clause-wide
+begin_band-requires-clause-wide c = c.requires.long
+
+pub loop-b-init : goal.loop-b-init
+loop-b-init c =
+    let none = ap length c.in_ok-bands.ensures.items in
+    record {
+      parts = c.in_ok-shares.ensures.many;
+      left = λ k le lt. c.in_ok-shares.ensures.each k lt;
+      many = none;
+      each = λ k d lt. absurd (omega (arith, lt, none));
+      begun = ap generations_of c.in_ok-bands.ensures.items;
+      shows = λ k d lt. absurd (omega (arith, lt, none));
+    }
