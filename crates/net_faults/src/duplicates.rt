@@ -58,6 +58,7 @@ fn offer_doubles<'a>(
             earliest.offer(word.word);
         }
     }
+    drop(repeats);
     Ok(())
 }
 
@@ -107,5 +108,8 @@ pub fn offer_duplicates<'a>(
 {
     let inputs = FirstLines::of(alloc, &words.names, &words.inputs)?;
     let outputs = FirstLines::of(alloc, &words.names, &words.outputs)?;
-    offer_duplicates_by(alloc, model, words, &inputs, &outputs, earliest)
+    let offered = offer_duplicates_by(alloc, model, words, &inputs, &outputs, earliest);
+    drop(inputs);
+    drop(outputs);
+    offered
 }

@@ -6,6 +6,7 @@ ghost use Rattle.netlist_rules.specs.declared.fault.FaultKind.TheVariants.{Dupli
 ghost use Rattle.model_words.specs.EarliestBroken.{earliest_broken};
 ghost use Rattle.model_words.specs.Words.{earliest_word, earliest_after};
 ghost use Rattle.model_words.specs.Placed.{KnowsPlaced, KnowsPorts};
+ghost use Rattle.net_faults.specs.NetWords.{AreDriverWords, ArePortsOf, HaveNumbers};
 
 use crate::duplicates::offer_duplicates;
 use crate::net_words::NetWords;
@@ -37,6 +38,38 @@ pub struct EarliestWords<'a> {
     undriven: Earliest<'a>,
 }
 
+// Offers the words at which a model breaks the rules, given the words that name its nets.
+fn offer_words<'a>(
+    alloc: Global,
+    model: &'a Model,
+    placed: &PlacedPorts<'_, 'a>,
+    words: &NetWords<'a>,
+    earliest: &mut EarliestWords<'a>,
+) -> Result<(), AllocError>
+    requires numbers { HaveNumbers words.now }
+    requires ports { ArePortsOf words.now model.now }
+    ensures duplicate_port { OnOk result (
+        earliest_word earliest.new.duplicate_port
+        ≡ earliest_after (earliest_word earliest.old.duplicate_port) (
+        duplicate_ports model.now
+        )
+        ) }
+    ensures second_driver { OnOk result ((models : List Model) →
+        AreDriverWords words.now models model.now →
+        earliest_word earliest.new.second_driver ≡
+        earliest_after (earliest_word earliest.old.second_driver)
+        (second_drivers models model.now)) }
+    ensures undriven { OnOk result ((models : List Model) →
+        KnowsPlaced placed.now models model.now →
+        AreDriverWords words.now models model.now →
+        earliest_word earliest.new.undriven ≡
+        earliest_after (earliest_word earliest.old.undriven) (undriven_readings models model.now)) }
+{
+    offer_duplicates(alloc, model, words, &mut earliest.duplicate_port)?;
+    offer_second_drivers(alloc, words, &mut earliest.second_driver)?;
+    offer_undriven(alloc, model, placed, words, &mut earliest.undriven)
+}
+
 // Offers the words at which a model breaks the rules.
 fn offer_model<'a>(
     alloc: Global,
@@ -61,9 +94,9 @@ fn offer_model<'a>(
         earliest_after (earliest_word earliest.old.undriven) (undriven_readings models model.now)) }
 {
     let words = NetWords::of(alloc, model, placed)?;
-    offer_duplicates(alloc, model, &words, &mut earliest.duplicate_port)?;
-    offer_second_drivers(alloc, &words, &mut earliest.second_driver)?;
-    offer_undriven(alloc, model, placed, &words, &mut earliest.undriven)
+    let offered = offer_words(alloc, model, placed, &words, earliest);
+    drop(words);
+    offered
 }
 
 // The earliest word at which models break each rule.

@@ -71,6 +71,7 @@ pub fn firsts<'a>(
             found.push(*word)?;
         }
     }
+    drop(repeats);
     Ok(found)
 }
 
@@ -93,5 +94,6 @@ pub fn offer_repeats<'a>(
             earliest.offer(word.word);
         }
     }
+    drop(repeats);
     Ok(())
 }

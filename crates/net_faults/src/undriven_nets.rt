@@ -46,7 +46,9 @@ fn driver_lines(alloc: Global, words: &NetWords<'_>) -> Result<FirstLines, Alloc
 {
     let mut drivers = words.drivers(alloc)?;
     push_words(&mut drivers, &words.unknown)?;
-    FirstLines::of(alloc, &words.names, &drivers)
+    let lines = FirstLines::of(alloc, &words.names, &drivers);
+    drop(drivers);
+    lines
 }
 
 /// Offers the readings of a model's nets that have no driver. A pin of an unknown model or formal
@@ -68,5 +70,7 @@ pub fn offer_undriven<'a>(
     let drivers = driver_lines(alloc, words)?;
     let readings = reading_words(alloc, model, placed)?;
     offer_unnamed(&readings, &words.names, &drivers, earliest);
+    drop(readings);
+    drop(drivers);
     Ok(())
 }

@@ -3,8 +3,8 @@ use Rattle.net_faults.specs.Numbering.{numbered_ports}
 use Rattle.net_faults.specs.FirstLines.{AreFirstLines}
 use Rattle.net_faults.proofs.duplicates.offer_duplicates.Goals as goal
 
-pub offer_duplicates_by-requires : goal.offer_duplicates_by-requires
-offer_duplicates_by-requires c =
+pub offer_duplicates_by-offered-requires : goal.offer_duplicates_by-offered-requires
+offer_duplicates_by-offered-requires c =
     let names = c.args.words.now.names in
     let ports = c.requires.ports in record {
       numbers = c.requires.numbers;
