@@ -9,8 +9,7 @@ ghost use Rattle.pattern_writing.specs.Writer.{tag_of};
 ghost use Rattle.rle_write.specs.Dark.{bare_piece, bare_row, bare_slot};
 ghost use Rattle.rle_write.specs.Runs.{IsCellRun, spelled};
 
-use crate::rows::Run;
-use pattern_writing::tag_of;
+use crate::rows::{Run, cell_tag};
 use plan_layout::{Piece, Slot};
 use tile_core::Kind;
 use tile_library::Shipped;
@@ -88,7 +87,7 @@ pub fn runs_of_row(slot: Slot, y: u32, runs: &mut [Run], before: usize) -> usize
         let (state, count) = slot_run(slot, x, y);
         runs[found] = Run {
             count: count as usize,
-            tag: tag_of(state),
+            tag: cell_tag(state),
         };
         found += 1;
         x += count;

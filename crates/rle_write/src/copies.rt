@@ -1,9 +1,8 @@
 // Copies of the same cells, run by run.
-ghost use Rattle.std.specs.Prelude.{◌≢◌, ◌≤◌, ◌<◌, ◌+◌, ◌^◌, ℕ, List, ◌++◌, length, All, IfOk, OnErr};
+ghost use Rattle.std.specs.Prelude.{◌≤◌, ◌<◌, ◌+◌, ◌^◌, ℕ, List, ◌++◌, length, All, IfOk, OnErr};
 ghost use Rattle.ww_rule.specs.declared.pattern.State.{State};
-ghost use Rattle.pattern_writing.specs.Writer.{row_end};
 ghost use Rattle.rle_write.specs.Left.{kept_left};
-ghost use Rattle.rle_write.specs.Runs.{IsCellRun, repeated, spelled};
+ghost use Rattle.rle_write.specs.Runs.{IsCellRun, IsCellTag, repeated, spelled};
 ghost use Rattle.ww_base.specs.Pages.{held, column_of};
 ghost use Rattle.ww_base.specs.Progress.{Wrote, Broke};
 
@@ -17,10 +16,10 @@ pub fn add_runs<O: Sink>(
     kept: Kept,
     runs: &[Run],
 ) -> Result<Kept, Failed>
-    requires cell { kept.run.tag ≢ row_end }
+    requires cell { IsCellTag kept.run.tag }
     requires runs { All IsCellRun runs.now }
     requires short { kept.run.count + length (spelled runs.now) < 2 ^ 64 }
-    ensures cell { IfOk result (λ k. k.run.tag ≢ row_end) }
+    ensures cell { IfOk result (λ k. IsCellTag k.run.tag) }
     ensures fewer { IfOk result (λ k. k.due ≤ kept.due) }
     ensures short { IfOk result (λ k. k.run.count ≤ kept.run.count + length (spelled runs.now)) }
     ensures ok { IfOk result (λ k. (more : List ℕ) (rows : List (List State)) →
@@ -46,10 +45,10 @@ pub fn add_copies<O: Sink>(
     runs: &[Run],
     count: usize,
 ) -> Result<Kept, Failed>
-    requires cell { kept.run.tag ≢ row_end }
+    requires cell { IsCellTag kept.run.tag }
     requires runs { All IsCellRun runs.now }
     requires short { kept.run.count + length (repeated count (spelled runs.now)) < 2 ^ 64 }
-    ensures cell { IfOk result (λ k. k.run.tag ≢ row_end) }
+    ensures cell { IfOk result (λ k. IsCellTag k.run.tag) }
     ensures fewer { IfOk result (λ k. k.due ≤ kept.due) }
     ensures short { IfOk result (λ k. k.run.count ≤ kept.run.count + length (repeated count (spelled runs.now))) }
     ensures ok { IfOk result (λ k. (more : List ℕ) (rows : List (List State)) →

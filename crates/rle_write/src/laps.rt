@@ -1,12 +1,11 @@
 // Laps: copies of the same cells after which the column on the line and the kept run are again what
 // they were. So the bytes of the next lap are the same, and are put on the page at once.
-ghost use Rattle.std.specs.Prelude.{◌≡◌, ◌≢◌, ◌≤◌, ◌<◌, ◌+◌, ◌^◌, ℕ, List, [], ◌++◌, length, All, IfOk, IfSome, OnErr, IsTrue};
+ghost use Rattle.std.specs.Prelude.{◌≡◌, ◌≤◌, ◌<◌, ◌+◌, ◌^◌, ℕ, List, [], ◌++◌, length, All, IfOk, IfSome, OnErr, IsTrue};
 ghost use Rattle.ww_rule.specs.declared.pattern.State.{State};
-ghost use Rattle.pattern_writing.specs.Writer.{row_end};
 ghost use Rattle.rle_write.specs.LapBytes.{bytes_of};
 ghost use Rattle.rle_write.specs.Laps.{IsLap};
 ghost use Rattle.rle_write.specs.Left.{kept_left};
-ghost use Rattle.rle_write.specs.Runs.{IsCellRun, repeated, spelled};
+ghost use Rattle.rle_write.specs.Runs.{IsCellRun, IsCellTag, repeated, spelled};
 ghost use Rattle.ww_base.specs.Pages.{held, column_of};
 ghost use Rattle.ww_base.specs.Progress.{Wrote, Broke};
 
@@ -33,7 +32,7 @@ fn is_same(a: Kept, b: Kept) -> bool
 // how many copies of the cells it has, if it has at most `most`.
 fn find_lap(lap: &mut Lap, column: usize, kept: Kept, runs: &[Run], most: usize) -> Option<usize>
     requires short_line { column ≤ 70 }
-    requires cell { kept.run.tag ≢ row_end }
+    requires cell { IsCellTag kept.run.tag }
     requires runs { All IsCellRun runs.now }
     requires short { kept.run.count + length (repeated most (spelled runs.now)) < 2 ^ 64 }
     requires empty { bytes_of lap.old ≡ [] }
@@ -66,10 +65,10 @@ fn add_laps<O: Sink>(
     runs: &[Run],
     count: usize,
 ) -> Result<Kept, Failed>
-    requires cell { kept.run.tag ≢ row_end }
+    requires cell { IsCellTag kept.run.tag }
     requires runs { All IsCellRun runs.now }
     requires short { kept.run.count + length (repeated count (spelled runs.now)) < 2 ^ 64 }
-    ensures cell { IfOk result (λ k. k.run.tag ≢ row_end) }
+    ensures cell { IfOk result (λ k. IsCellTag k.run.tag) }
     ensures fewer { IfOk result (λ k. k.due ≤ kept.due) }
     ensures short { IfOk result (λ k. k.run.count ≤ kept.run.count + length (repeated count (spelled runs.now))) }
     ensures ok { IfOk result (λ k. (more : List ℕ) (rows : List (List State)) →
@@ -100,11 +99,11 @@ fn add_after<O: Sink>(
     first: usize,
     count: usize,
 ) -> Result<Kept, Failed>
-    requires cell { kept.run.tag ≢ row_end }
+    requires cell { IsCellTag kept.run.tag }
     requires runs { All IsCellRun runs.now }
     requires first { first ≤ count }
     requires short { kept.run.count + length (repeated count (spelled runs.now)) < 2 ^ 64 }
-    ensures cell { IfOk result (λ k. k.run.tag ≢ row_end) }
+    ensures cell { IfOk result (λ k. IsCellTag k.run.tag) }
     ensures fewer { IfOk result (λ k. k.due ≤ kept.due) }
     ensures short { IfOk result (λ k. k.run.count ≤ kept.run.count + length (repeated count (spelled runs.now))) }
     ensures ok { IfOk result (λ k. (more : List ℕ) (rows : List (List State)) →
@@ -127,10 +126,10 @@ pub fn add_many<O: Sink>(
     runs: &[Run],
     count: usize,
 ) -> Result<Kept, Failed>
-    requires cell { kept.run.tag ≢ row_end }
+    requires cell { IsCellTag kept.run.tag }
     requires runs { All IsCellRun runs.now }
     requires short { kept.run.count + length (repeated count (spelled runs.now)) < 2 ^ 64 }
-    ensures cell { IfOk result (λ k. k.run.tag ≢ row_end) }
+    ensures cell { IfOk result (λ k. IsCellTag k.run.tag) }
     ensures fewer { IfOk result (λ k. k.due ≤ kept.due) }
     ensures short { IfOk result (λ k. k.run.count ≤ kept.run.count + length (repeated count (spelled runs.now))) }
     ensures ok { IfOk result (λ k. (more : List ℕ) (rows : List (List State)) →

@@ -1,15 +1,15 @@
 // The rows of stretches of blocks, where no electron stands. The runs of such a row are those of what
 // stands in the blocks. Where the same stands again and again, in each block or in a motif of some
 // blocks, they are found once, and copies of their cells are written.
-ghost use Rattle.std.specs.Prelude.{◌≡◌, ◌≢◌, ◌≤◌, ◌<◌, ◌+◌, ◌*◌, ◌^◌, ◌/◌, ℕ, List, ◌∷◌, ◌++◌, map, drop, take, length, All, IfOk, OnErr};
+ghost use Rattle.std.specs.Prelude.{◌≡◌, ◌≤◌, ◌<◌, ◌+◌, ◌*◌, ◌^◌, ◌/◌, ℕ, List, ◌∷◌, ◌++◌, map, drop, take, length, All, IfOk, OnErr};
 ghost use Rattle.ww_rule.specs.declared.pattern.State.{State};
 ghost use Rattle.lane_core.specs.Plans.{IsAdmissible, size_of};
 ghost use Rattle.grid_assembly.specs.PlanDrawing.{start_row};
-ghost use Rattle.pattern_writing.specs.Writer.{tag_of, row_end};
+ghost use Rattle.pattern_writing.specs.Writer.{tag_of};
 ghost use Rattle.rle_write.specs.Blocks.{AreBlocks, IsFigure, IsStretch, tags_of_blocks};
 ghost use Rattle.rle_write.specs.Dark.{IsDark};
 ghost use Rattle.rle_write.specs.Left.{rows_left, kept_left, text_left};
-ghost use Rattle.rle_write.specs.Runs.{IsCellRun, repeated, spelled};
+ghost use Rattle.rle_write.specs.Runs.{IsCellRun, IsCellTag, repeated, spelled};
 ghost use Rattle.ww_base.specs.Pages.{held, column_of};
 ghost use Rattle.ww_base.specs.Progress.{Wrote, Broke};
 
@@ -34,11 +34,11 @@ fn add_stretch<O: Sink>(
     runs: &[Run],
     count: usize,
 ) -> Result<Kept, Failed>
-    requires cell { kept.run.tag ≢ row_end }
+    requires cell { IsCellTag kept.run.tag }
     requires runs { All IsCellRun runs.now }
     requires some { 1 ≤ count }
     requires short { kept.run.count + length (repeated count (spelled runs.now)) < 2 ^ 64 }
-    ensures cell { IfOk result (λ k. k.run.tag ≢ row_end) }
+    ensures cell { IfOk result (λ k. IsCellTag k.run.tag) }
     ensures fewer { IfOk result (λ k. k.due ≤ kept.due) }
     ensures short { IfOk result (λ k. k.run.count ≤ kept.run.count + length (repeated count (spelled runs.now))) }
     ensures ok { IfOk result (λ k. (more : List ℕ) (rows : List (List State)) →
@@ -111,7 +111,7 @@ pub fn write_stretches<O: Sink>(
     requires kept { AreBlocks plan.now (y / 16) blocks.now }
     requires inside { 32 * length blocks.now ≤ (size_of plan.now).0 }
     requires dark { 1 ≤ length blocks.now → IsDark plan.now y }
-    ensures cell { IfOk result (λ k. k.run.tag ≢ row_end) }
+    ensures cell { IfOk result (λ k. IsCellTag k.run.tag) }
     ensures fewer { IfOk result (λ k. k.due ≤ ends) }
     ensures short { IfOk result (λ k. k.run.count ≤ 32 * length blocks.now) }
     ensures ok { IfOk result (λ k. (rows : List (List State)) →

@@ -15,10 +15,10 @@ cells-preserved c =
       within = omega (arith, run.within, c.cells-test.true);
       few = omega (arith, c.cells.invariant.few, run.some);
       size = length-set c.cells.runs c.cells.found _ ∙ c.cells.invariant.size;
-      cells = cells_more c.cells.runs c.cells.found _ lt c.cells.invariant.cells (record { some = run.some; cell = c.tag_of.ensures.cell });
+      cells = cells_more c.cells.runs c.cells.found _ lt c.cells.invariant.cells (record { some = run.some; cell = c.cell_tag.ensures.cell });
       spelled =
           spelled_more c.cells.runs c.cells.found _ lt
-          ∙ ap₂ (λ a b. a ++ b) c.cells.invariant.spelled (ap (λ t. replicate count t) c.tag_of.ensures.tag)
+          ∙ ap₂ (λ a b. a ++ b) c.cells.invariant.spelled (ap (λ t. replicate count t) c.cell_tag.ensures.tag)
           ∙ append_assoc before _ _
           ∙ ap (λ l. before ++ l) (sym (row_more (slot_of c.args.slot) c.args.y c.cells.x c.slot_run-state.result.0 count run));
     }

@@ -1,8 +1,7 @@
-use Rattle.std.proofs.Common.{◌≢◌, ◌≤◌, ◌+◌, ◌-◌, ℕ, List, ◌++◌, length, replicate}
+use Rattle.std.proofs.Common.{◌≤◌, ◌+◌, ◌-◌, ℕ, List, ◌++◌, length, replicate}
 use Rattle.ww_rule.specs.declared.pattern.State.{State}
-use Rattle.pattern_writing.specs.Writer.{row_end}
 use Rattle.rle_write.specs.Left.{row_left, text_left}
-use Rattle.rle_write.specs.Runs.{repeated, spelled}
+use Rattle.rle_write.specs.Runs.{IsCellTag, repeated, spelled}
 use Rattle.ww_base.specs.Pages.{held, column_of}
 use Rattle.ww_base.specs.Progress.{Wrote}
 use Rattle.rle_write.proofs.copies.add_copies.Given as goal
@@ -11,7 +10,7 @@ abbrev pub invariant-loop : goal.invariant-loop
 invariant-loop g l = record {
   fewer : l.kept.due ≤ l.initial.kept.due;
   short : l.kept.run.count + length (repeated (l.count - l.counter) (spelled l.runs)) ≤ l.initial.kept.run.count + length (repeated l.count (spelled l.runs));
-  cell : l.kept.run.tag ≢ row_end;
+  cell : IsCellTag l.kept.run.tag;
   wrote : (more : List ℕ) (rows : List (List State)) →
       Wrote (g.O.Sink.written l.initial.sink) (g.O.Sink.written l.sink) (g.O.Sink.faults l.initial.sink) (g.O.Sink.faults l.sink)
       (text_left (held l.initial.page) (column_of l.initial.page)

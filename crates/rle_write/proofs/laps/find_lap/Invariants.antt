@@ -1,17 +1,16 @@
-use Rattle.std.proofs.Common.{◌≢◌, ◌≤◌, ◌+◌, ◌-◌, ℕ, List, [], ◌++◌, length, replicate}
+use Rattle.std.proofs.Common.{◌≤◌, ◌+◌, ◌-◌, ℕ, List, [], ◌++◌, length, replicate}
 use Rattle.std.specs.Prelude.{Some}
 use Rattle.ww_rule.specs.declared.pattern.State.{State}
-use Rattle.pattern_writing.specs.Writer.{row_end}
 use Rattle.rle_write.specs.LapBytes.{bytes_of}
 use Rattle.rle_write.specs.Left.{row_left, text_left}
-use Rattle.rle_write.specs.Runs.{repeated, spelled}
+use Rattle.rle_write.specs.Runs.{IsCellTag, repeated, spelled}
 use Rattle.ww_base.specs.Pages.{held, column_of}
 use Rattle.ww_base.specs.Progress.{Wrote}
 use Rattle.rle_write.proofs.laps.find_lap.Given as goal
 
 abbrev pub invariant-loop-before : goal.invariant-loop-before
 invariant-loop-before l = record {
-  cell : l.now.run.tag ≢ row_end;
+  cell : IsCellTag l.now.run.tag;
   short : l.now.run.count + length (repeated (l.most - l.before) (spelled l.runs)) ≤ l.kept.run.count + length (repeated l.most (spelled l.runs));
   wrote : (more : List ℕ) (rows : List (List State)) →
       Wrote (Some (bytes_of l.initial.lap)) (Some (bytes_of l.lap)) l.initial.lap.faults l.lap.faults

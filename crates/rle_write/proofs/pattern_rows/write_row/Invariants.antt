@@ -1,6 +1,7 @@
-use Rattle.std.proofs.Common.{◌≢◌, ◌≤◌, List, ◌∷◌, ◌++◌, map, drop, replicate}
+use Rattle.std.proofs.Common.{◌≤◌, List, ◌∷◌, ◌++◌, map, drop, replicate}
 use Rattle.ww_rule.specs.declared.pattern.State.{State}
 use Rattle.pattern_writing.specs.Writer.{tag_of, row_end}
+use Rattle.rle_write.specs.Runs.{IsCellTag}
 use Rattle.rle_write.specs.Left.{rows_left, row_left, text_left}
 use Rattle.ww_base.specs.Pages.{held, column_of}
 use Rattle.ww_base.specs.Progress.{Wrote}
@@ -10,7 +11,7 @@ abbrev pub invariant-loop-state : goal.invariant-loop-state
 invariant-loop-state g l = record {
   fewer : l.kept.due ≤ l.ends;
   short : l.kept.run.count ≤ l.state-index;
-  cell : l.kept.run.tag ≢ row_end;
+  cell : IsCellTag l.kept.run.tag;
   wrote : (rows : List (List State)) →
       Wrote (g.O.Sink.written l.initial.sink) (g.O.Sink.written l.sink) (g.O.Sink.faults l.initial.sink) (g.O.Sink.faults l.sink)
       (text_left (held l.initial.page) (column_of l.initial.page) (rows_left l.ends (l.row ∷ rows)))

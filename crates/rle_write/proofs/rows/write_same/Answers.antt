@@ -10,7 +10,7 @@ returns-clause-ok g c =
     let run = c.args.kept.run in
     IfOk-weaker c.add_run.result _ _ (λ k wrote more rows.
     wrote_as
-    (left_by (held c.args.page.now) (column_of c.args.page.now) c.args.kept.due run.count run.tag rows (ap (λ t. replicate c.args.count t ++ more) (sym c.tag_of-tag.ensures.tag)))
+    (left_by (held c.args.page.now) (column_of c.args.page.now) c.args.kept.due run.count run.tag rows (ap (λ t. replicate c.args.count t ++ more) (sym c.cell_tag-tag.ensures.tag)))
     (wrote more rows))
     c.add_run.ensures.ok
 
@@ -19,6 +19,6 @@ returns-clause-err g c =
     let run = c.args.kept.run in
     on_err_weaker c.add_run.result (λ broke more rows.
     broke_as
-    (left_by (held c.args.page.now) (column_of c.args.page.now) c.args.kept.due run.count run.tag rows (ap (λ t. replicate c.args.count t ++ more) (sym c.tag_of-tag.ensures.tag)))
+    (left_by (held c.args.page.now) (column_of c.args.page.now) c.args.kept.due run.count run.tag rows (ap (λ t. replicate c.args.count t ++ more) (sym c.cell_tag-tag.ensures.tag)))
     (broke more rows))
     c.add_run.ensures.err

@@ -2,6 +2,7 @@ use Rattle.std.proofs.Common.{◌≡◌, ◌≢◌, ◌≤◌, ◌-◌, ◌*◌,
 use Rattle.ww_rule.specs.declared.pattern.State.{State}
 use Rattle.grid_assembly.specs.PlanDrawing.{start_row}
 use Rattle.pattern_writing.specs.Writer.{tag_of, row_end}
+use Rattle.rle_write.specs.Runs.{IsCellTag}
 use Rattle.rle_write.specs.Left.{rows_left, row_left, text_left}
 use Rattle.ww_base.specs.Pages.{held, column_of}
 use Rattle.ww_base.specs.Progress.{Wrote}
@@ -13,7 +14,7 @@ invariant-stretches g l = record {
   room : length l.runs ≡ 128;
   fewer : l.kept.due ≤ l.ends;
   short : l.kept.run.count ≤ 32 * l.column;
-  cell : l.kept.run.tag ≢ row_end;
+  cell : IsCellTag l.kept.run.tag;
   wrote : (rows : List (List State)) →
       Wrote (g.O.Sink.written l.initial.sink) (g.O.Sink.written l.sink) (g.O.Sink.faults l.initial.sink) (g.O.Sink.faults l.sink)
       (text_left (held l.initial.page) (column_of l.initial.page) (rows_left l.ends (start_row l.plan l.y ∷ rows)))
