@@ -1,6 +1,6 @@
 use Rattle.std.proofs.Common.{◌∙◌, ap, map}
 use Rattle.std.proofs.lemmas.Result.{err_from_is_err_and}
-use Rattle.cell_moves.specs.Moved.{goes_to}
+use Rattle.cell_meaning.specs.Moved.{goes_to}
 use Rattle.cell_polarity.proofs.building.ports_gone.Goals as goal
 
 pub returns-in_err-outs : goal.returns-in_err-outs
