@@ -86,6 +86,17 @@ fn add_all_ports(ports: &mut Vec<PortRow>, rows: &[GateRow]) -> bool {
 }
 
 impl FedPorts {
+    /// Returns the ports of no gates.
+    pub fn new(alloc: Global) -> FedPorts {
+        FedPorts {
+            ports: Vec::new(alloc),
+            wires: Vec::new(alloc),
+            driven: Vec::new(alloc),
+            fault: None,
+            is_short: false,
+        }
+    }
+
     // Notes a fault at the gate with this number, unless one was found before.
     fn refuse(&mut self, drawing: &Drawing, gate: u32, word: FaultWord) {
         if self.fault.is_none() {

@@ -18,7 +18,7 @@ pub struct GateRow {
 /// whose kind keeps no law.
 #[derive(Drop)]
 pub struct GateRows {
-    pub names: Vec<GateKind>,
+    names: Vec<GateKind>,
     pub kinds: Vec<LawfulGate>,
     pub rows: Vec<GateRow>,
     pub fault: Option<CellFault>,
@@ -83,6 +83,16 @@ fn add_kind(
 }
 
 impl GateRows {
+    /// Returns the rows of no gates.
+    pub fn new(alloc: Global) -> GateRows {
+        GateRows {
+            names: Vec::new(alloc),
+            kinds: Vec::new(alloc),
+            rows: Vec::new(alloc),
+            fault: None,
+        }
+    }
+
     /// Adds the gates of a drawing, whose ports are numbered one gate after the other; returns whether memory ran out.
     pub fn fill(&mut self, alloc: Global, drawing: &Drawing) -> bool {
         let (mut number, mut first, mut is_short) = (0u32, 0usize, false);

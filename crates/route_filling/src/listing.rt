@@ -65,6 +65,17 @@ fn list_gates(
 }
 
 impl Listing {
+    /// Returns the listing of no gates and no wires.
+    pub fn new(alloc: Global) -> Listing {
+        Listing {
+            cells: Vec::new(alloc),
+            groups: Vec::new(alloc),
+            wires: Vec::new(alloc),
+            gates: Vec::new(alloc),
+            serials: Vec::new(alloc),
+        }
+    }
+
     // Adds a wire, and lists its cells, whose group is this one; returns whether memory ran out.
     fn add_wire(&mut self, path: &[(u32, u32)], wire: &DrawnWire, group: u32) -> bool {
         let row = TableWire {

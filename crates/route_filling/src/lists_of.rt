@@ -55,6 +55,16 @@ fn put_all_latches(latches: &mut [Src], rows: &[GateRow], ports: &[PortRow], wir
 }
 
 impl Ends {
+    /// Returns the ends of a list with no ports and no latches.
+    pub fn new(alloc: Global) -> Ends {
+        Ends {
+            outs: Vec::new(alloc),
+            nets: Vec::new(alloc),
+            latches: Vec::new(alloc),
+            starts: Vec::new(alloc),
+        }
+    }
+
     /// Adds the ends of a drawing, of which these are the nets' ports; returns whether memory ran out.
     pub fn fill(
         &mut self,

@@ -6,10 +6,11 @@ use crate::listing::part;
 use cell_core::{Cell, Src};
 use gate_library::{Answer, DrawnPort, GatePort};
 use route_tables::Feed;
+use std::alloc::Global;
 
 /// A port, by its number, whose source is known.
 #[derive(Clone, Copy)]
-pub struct Known {
+struct Known {
     port: usize,
     source: Src,
 }
@@ -19,7 +20,7 @@ pub struct Known {
 #[derive(Drop)]
 pub struct Search {
     pub cells: Vec<Cell>,
-    pub waiting: Vec<Known>,
+    waiting: Vec<Known>,
     pub is_short: bool,
 }
 
@@ -63,6 +64,15 @@ fn source_at(ports: &[PortRow], number: u32) -> Option<Src> {
 }
 
 impl Search {
+    /// Returns a search that has not begun.
+    pub fn new(alloc: Global) -> Search {
+        Search {
+            cells: Vec::new(alloc),
+            waiting: Vec::new(alloc),
+            is_short: false,
+        }
+    }
+
     // Begins at the inputs that are driven, and at those at the ends of wires with latches.
     fn begin(&mut self, ports: &[PortRow], wires: &[WireRow], inputs: u32) {
         for port in 0..ports.len() {

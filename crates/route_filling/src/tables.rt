@@ -24,40 +24,13 @@ struct Filling {
 }
 
 impl Filling {
-    // What is found before a drawing is looked at: nothing.
     fn new(alloc: Global) -> Filling {
         Filling {
-            gates: GateRows {
-                names: Vec::new(alloc),
-                kinds: Vec::new(alloc),
-                rows: Vec::new(alloc),
-                fault: None,
-            },
-            fed: FedPorts {
-                ports: Vec::new(alloc),
-                wires: Vec::new(alloc),
-                driven: Vec::new(alloc),
-                fault: None,
-                is_short: false,
-            },
-            search: Search {
-                cells: Vec::new(alloc),
-                waiting: Vec::new(alloc),
-                is_short: false,
-            },
-            listing: Listing {
-                cells: Vec::new(alloc),
-                groups: Vec::new(alloc),
-                wires: Vec::new(alloc),
-                gates: Vec::new(alloc),
-                serials: Vec::new(alloc),
-            },
-            ends: Ends {
-                outs: Vec::new(alloc),
-                nets: Vec::new(alloc),
-                latches: Vec::new(alloc),
-                starts: Vec::new(alloc),
-            },
+            gates: GateRows::new(alloc),
+            fed: FedPorts::new(alloc),
+            search: Search::new(alloc),
+            listing: Listing::new(alloc),
+            ends: Ends::new(alloc),
             outs: Vec::new(alloc),
             nets: Vec::new(alloc),
             fault: None,

@@ -9,13 +9,15 @@ use std::collections::BinaryHeap;
 // The times that were raised, with their generations.
 type Raised = BinaryHeap<(i64, u32)>;
 
+// A time is raised by no more periods.
+const MOST_PERIODS: i64 = 4294967295;
+
 // Lets a time be no earlier than a generation, as far as whole periods go.
 fn raise(times: &mut Times, todo: &mut Raised, number: u32, least: i64) {
     let (time, period) = (times.generation(number), i64::from(times.period));
     let periods = least.saturating_sub(time).checked_div(period).unwrap_or(0);
-    let periods = i64::from(u32::try_from(periods).unwrap_or(0));
     let place = number as usize;
-    if periods > 0 && place < times.all.len() {
+    if periods > 0 && periods <= MOST_PERIODS && place < times.all.len() {
         let raised = time.saturating_add(periods.saturating_mul(period));
         times.all[place] = Some(raised);
         times.is_short |= todo.push((raised, number)).is_err();
