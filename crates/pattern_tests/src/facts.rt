@@ -6,7 +6,7 @@ use crate::macro_steps::{Course, keeps_course};
 use crate::pages::Page;
 use crate::slots::is_row_of_slots;
 use grid_assembly::{cell, fill_row, size};
-use lane_core::{NetPlace, Plan, Start, in_cell, latency, net_cell, out_cell, period};
+use lane_core::{Plan, in_cell, latency, net_cell, out_cell, period};
 use std::alloc::Global;
 use ww_rule::State;
 
@@ -17,10 +17,6 @@ pub enum Fact {
     Size(u64, u64),
     Period(u64),
     Latency(u64),
-    Columns(usize),
-    Latches(u32),
-    Starts(&'static [Start]),
-    Nets(&'static [NetPlace]),
     Ports(Port, &'static [(u64, u64, u64)]),
     Cells(&'static [(u64, u64, State)]),
     Rows(&'static str),
@@ -112,15 +108,6 @@ fn has_rows(plan: &Plan, rows: &str, are_slots: bool) -> bool
     true
 }
 
-fn are_places(places: &[NetPlace], want: &[NetPlace]) -> bool {
-    for (i, place) in places.iter().enumerate() {
-        if i >= want.len() || place.lane != want[i].lane || place.after != want[i].after {
-            return false;
-        }
-    }
-    places.len() == want.len()
-}
-
 fn has(alloc: Global, plan: &Plan, fact: &Fact) -> bool
     requires admissible { IsAdmissible plan.now }
     requires starts { HasStartEdges plan.now }
@@ -129,10 +116,6 @@ fn has(alloc: Global, plan: &Plan, fact: &Fact) -> bool
         Fact::Size(width, height) => size(plan) == (*width, *height),
         Fact::Period(generations) => period(plan) == *generations,
         Fact::Latency(generations) => latency(plan) == *generations,
-        Fact::Columns(count) => plan.columns.len() == *count,
-        Fact::Latches(count) => plan.latches == *count,
-        Fact::Starts(starts) => plan.starts.list.as_slice() == *starts,
-        Fact::Nets(places) => are_places(plan.nets.as_slice(), places),
         Fact::Ports(port, cells) => has_ports(plan, *port, cells),
         Fact::Cells(cells) => has_cells(plan, cells),
         Fact::Rows(rows) => has_rows(plan, rows, false),

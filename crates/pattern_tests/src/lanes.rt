@@ -1,8 +1,7 @@
-// What each instruction does, how lanes are brought to others, and columns.
+// What each instruction does, and columns.
 ghost use Rattle.std.specs.Prelude.{◌≡◌};
 ghost use Rattle.lane_core.specs.Plans.{IsAdmissible};
 
-use crate::bringing::expect_routes;
 use crate::pages::Page;
 use crate::plans::{Written, admitted, column_of};
 use lane_core::{Column, Instr, Plan, run_columns, run_instrs};
@@ -117,10 +116,9 @@ fn are_found(alloc: Global) -> bool {
     }
 }
 
-/// Notes it unless instructions change two lanes, in order, and are found by lane, and lanes are brought to others.
+/// Notes it unless instructions change two lanes, in order, and are found by lane.
 pub fn expect_lanes(page: &mut Page) {
     expect_answers(page);
-    expect_routes(page);
     page.expect_holds(b"the lanes of a column", are_found(page.alloc()));
     page.expect_holds(b"the order", is_ordered(page.alloc()));
 }

@@ -6,11 +6,7 @@
 #[cfg(test)]
 mod bands;
 #[cfg(test)]
-mod bringing;
-#[cfg(test)]
 mod cases;
-#[cfg(test)]
-mod closing;
 #[cfg(test)]
 mod facts;
 #[cfg(test)]
@@ -18,23 +14,17 @@ mod found;
 #[cfg(test)]
 mod gates;
 #[cfg(test)]
-mod kernel;
-#[cfg(test)]
 mod lanes;
 #[cfg(test)]
 mod lines;
 #[cfg(test)]
 mod macro_steps;
 #[cfg(test)]
-mod packing;
-#[cfg(test)]
 mod pages;
 #[cfg(test)]
 mod patterns;
 #[cfg(test)]
 mod plans;
-#[cfg(test)]
-mod programs;
 #[cfg(test)]
 mod rule;
 #[cfg(test)]

@@ -88,31 +88,35 @@ impl Page {
 
     /// Ends a case: notes what is said, unless it is `want`.
     pub fn expect(&mut self, want: &[u8]) {
-        if self.said.as_slice() != want {
+        let is_said = self.said.as_slice() == want;
+        if !is_said {
             self.push(b", and not ");
             self.push(want);
-            self.push(b"; ");
-            self.is_cut |= self.wrong.extend_from_slice(self.said.as_slice()).is_err();
         }
-        self.said.clear();
+        self.end_case(is_said);
     }
 
     /// Notes what a case is about, unless it holds.
     pub fn expect_holds(&mut self, about: &[u8], holds: bool) {
-        if !holds {
-            self.push(about);
-        }
-        self.expect(b"");
+        self.push(about);
+        self.end_case(holds);
     }
 
     /// Notes what a turn is about and its number, unless it holds.
     pub fn expect_turn(&mut self, about: &[u8], turn: usize, holds: bool) {
+        self.push(about);
+        self.push(b", turn ");
+        self.push_number(turn as u64);
+        self.end_case(holds);
+    }
+
+    // Notes what is said, unless it holds, and begins anew.
+    fn end_case(&mut self, holds: bool) {
         if !holds {
-            self.push(about);
-            self.push(b", turn ");
-            self.push_number(turn as u64);
+            self.push(b"; ");
+            self.is_cut |= self.wrong.extend_from_slice(self.said.as_slice()).is_err();
         }
-        self.expect(b"");
+        self.said.clear();
     }
 
     /// Fails if something was wrong.

@@ -50,8 +50,8 @@ pub fn column_of(alloc: Global, instrs: &[Instr]) -> Option<Column> {
     Some(Column { instrs })
 }
 
-/// Returns the items in a list of their own, or notes in `refused` that memory ran out.
-pub fn list_of<T: Copy>(alloc: Global, items: &[T], refused: &mut bool) -> List<T> {
+// The items in a list of their own; notes in `refused` that memory ran out.
+fn list_of<T: Copy>(alloc: Global, items: &[T], refused: &mut bool) -> List<T> {
     match items.to_vec(alloc) {
         Ok(items) => List::of(items),
         Err(_) => {

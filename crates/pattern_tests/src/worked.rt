@@ -3,25 +3,20 @@ ghost use Rattle.std.specs.Prelude.{IfSome};
 ghost use Rattle.lane_core.specs.Plans.{IsAdmissible};
 ghost use Rattle.plan_layout.specs.Starts.{HasStartEdges};
 
-use crate::closing::{FIVE_LANES, THREE_COLUMNS, TWO_LOOPS, closed};
 use crate::facts::{Fact, Port, expect_facts};
 use crate::macro_steps::Course;
 use crate::pages::Page;
 use crate::plans::admitted;
 use crate::samples::{Sample, written};
 use crate::tapes::taped;
-use lane_core::{NetPlace, Plan, Start};
+use lane_core::Plan;
 use std::alloc::Global;
 use ww_rule::State;
 
-// Where a plan comes from: a sample, a sample with these bits on its tape, or a program of
-// `closing`.
+// Where a plan comes from: a sample, or a sample with these bits on its tape.
 enum Origin {
     Written(Sample),
     Taped(Sample, &'static [&'static [u8]]),
-    FiveLanes,
-    TwoLoops,
-    ThreeColumns,
 }
 
 struct Case {
@@ -235,50 +230,6 @@ const PLANS: &[Case] = &[
             Fact::Cells(&[(96, 8, State::Head), (95, 8, State::Tail)]),
         ],
     },
-    Case {
-        about: "places are those of last uses",
-        plan: Origin::FiveLanes,
-        facts: &[
-            Fact::Columns(3),
-            Fact::Nets(&[
-                NetPlace {
-                    lane: 0,
-                    after: Some(2),
-                },
-                NetPlace {
-                    lane: 0,
-                    after: Some(0),
-                },
-                NetPlace {
-                    lane: 4,
-                    after: None,
-                },
-                NetPlace {
-                    lane: 3,
-                    after: None,
-                },
-            ]),
-        ],
-    },
-    Case {
-        about: "there are as many columns as loops",
-        plan: Origin::TwoLoops,
-        facts: &[
-            Fact::Columns(2),
-            Fact::Latches(2),
-            Fact::Starts(&[Start { x: 64, y: 8 }]),
-        ],
-    },
-    Case {
-        about: "loops take each column twice",
-        plan: Origin::ThreeColumns,
-        facts: &[
-            Fact::Columns(3),
-            Fact::Latency(96),
-            Fact::Period(448),
-            Fact::Size(225, 96),
-        ],
-    },
 ];
 
 fn made(alloc: Global, origin: &Origin) -> Option<Plan>
@@ -288,9 +239,6 @@ fn made(alloc: Global, origin: &Origin) -> Option<Plan>
     match origin {
         Origin::Written(sample) => admitted(alloc, &written(*sample)),
         Origin::Taped(sample, bits) => taped(alloc, &written(*sample), bits),
-        Origin::FiveLanes => closed(alloc, &FIVE_LANES),
-        Origin::TwoLoops => closed(alloc, &TWO_LOOPS),
-        Origin::ThreeColumns => closed(alloc, &THREE_COLUMNS),
     }
 }
 
