@@ -66,6 +66,9 @@ pub fn lower(alloc: Global, aig: &Aig) -> Result<Lowered, LowerError>
     let flat = flat_of(alloc, aig, &own, weight)?;
     match loop_check::order(alloc, &flat) {
         Ok(order) => Ok(Lowered { flat, order }),
-        Err(error) => Err(refusal(alloc, aig, &own, error)),
+        Err(error) => {
+            drop(flat);
+            Err(refusal(alloc, aig, &own, error))
+        }
     }
 }

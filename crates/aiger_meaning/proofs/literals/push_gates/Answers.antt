@@ -2,7 +2,11 @@ use Rattle.std.proofs.Common.{refl, ap, ◌∙◌, ◌++◌, List, map}
 use Rattle.std.proofs.lemmas.List.{take_all}
 use Rattle.lists.proofs.Cuts.{added_more}
 use Rattle.aiger_text.specs.declared.aig.AigAnd.{AigAnd}
+use Rattle.std.proofs.lemmas.Result.{err_from_is_err_and}
 use Rattle.aiger_meaning.proofs.literals.push_gates.Goals as goal
+
+pub returns-in_err-push : goal.returns-in_err-push
+returns-in_err-push c = rw ((err_from_is_err_and c.from_residual.result c.from_residual.ensures.1).1) tt
 
 pub loop-gate-preserved : goal.loop-gate-preserved
 loop-gate-preserved c =

@@ -1,13 +1,28 @@
 use Rattle.std.proofs.Common.{◌∙◌, sym, ap, ap₂, List, ◌++◌, ◌∷◌, [], ℕ, get_or, map, take}
-use Rattle.std.proofs.lemmas.List.{map_more, map_push}
+use Rattle.std.proofs.lemmas.List.{map_more, map_push, take_all}
 use Rattle.netlist_core.specs.declared.flat.NetId.{NetId}
 use Rattle.lists.specs.Items.{number_at}
+use Rattle.std.proofs.lemmas.Result.{err_from_is_err_and}
 use Rattle.aiger_meaning.specs.Ids.{net_numbers}
 use Rattle.aiger_meaning.specs.Laws.{literal_of_net}
 use Rattle.aiger_meaning.proofs.loop_literals.literals_at.Goals as goal
 
 abbrev no_net : NetId
 no_net = record { 0 = 0 }
+
+pub returns-in_err-found : goal.returns-in_err-found
+returns-in_err-found c = rw ((err_from_is_err_and c.from_residual.result c.from_residual.ensures.1).1) tt
+
+pub returns-in_err-push : goal.returns-in_err-push
+returns-in_err-push c = rw ((err_from_is_err_and c.from_residual-in_err-push.result c.from_residual-in_err-push.ensures.1).1) tt
+
+pub loop-net-init : goal.loop-net-init
+loop-net-init c = c.in_ok-found.ensures.items
+
+pub returns : goal.returns
+returns c =
+    c.of.ensures ∙ c.loop-net.invariant
+    ∙ ap (λ (nets : List NetId). map (literal_of_net c.args.aig.now) (net_numbers nets)) (take_all c.loop-net.net-index c.args.nets.now c.loop-net-test.false)
 
 pub loop-net-preserved : goal.loop-net-preserved
 loop-net-preserved c =

@@ -2,10 +2,20 @@ use Rattle.std.proofs.Common.{◌<◌, ◌≤◌, ℕ, List, [], ◌++◌, ◌�
 use Rattle.std.proofs.lemmas.List.{take_all}
 use Rattle.lists.proofs.Cuts.{added_more}
 use Rattle.aiger_text.specs.declared.aig.AigLatch.{AigLatch}
+use Rattle.std.proofs.lemmas.Result.{err_from_is_err_and}
 use Rattle.aiger_meaning.proofs.nodes.buffer_literals.Goals as goal
 
 abbrev no_latch : AigLatch
 no_latch = record { lit = 0; next = 0; reset = 0 }
+
+pub returns-in_err-push : goal.returns-in_err-push
+returns-in_err-push c = rw ((err_from_is_err_and c.from_residual.result c.from_residual.ensures.1).1) tt
+
+pub returns-in_err-extend_from_slice : goal.returns-in_err-extend_from_slice
+returns-in_err-extend_from_slice c = rw ((err_from_is_err_and c.from_residual-in_err-extend_from_slice.result c.from_residual-in_err-extend_from_slice.ensures.1).1) tt
+
+pub loop-latch-init : goal.loop-latch-init
+loop-latch-init c = c.new-lits.ensures.items
 
 pub loop-latch-preserved : goal.loop-latch-preserved
 loop-latch-preserved c =

@@ -1,6 +1,7 @@
-use Rattle.std.proofs.Common.{◌+◌, refl, length, take, arith}
-use Rattle.std.proofs.lemmas.List.{length-take-le}
-use Rattle.aiger_meaning.specs.FlatOf.{buffer}
+use Rattle.std.proofs.Common.{ℕ, ◌+◌, refl, ◌∙◌, ap, List, ◌++◌, length, map, take, arith}
+use Rattle.std.proofs.lemmas.List.{length-take-le, take_all}
+use Rattle.std.proofs.lemmas.Result.{err_from_is_err_and}
+use Rattle.aiger_meaning.specs.FlatOf.{nodes_from, buffer}
 use Rattle.aiger_meaning.proofs.Pushes.{many_read, read_more}
 use Rattle.aiger_meaning.proofs.nodes.push_buffers.Goals as goal
 
@@ -13,6 +14,15 @@ push_node-requires-clause-room c =
       many_read buffer c.args.aig.now (length c.args.aig.now.inputs + length c.args.aig.now.latches) c.args.nodes.now.items c.loop-lit.nodes.items (take c.loop-lit.lit-index c.args.lits.now) c.loop-lit.invariant,
       length-take-le c.loop-lit.lit-index c.args.lits.now (omega (arith, c.loop-lit-test.true)),
     )
+
+pub returns-in_err-push_node : goal.returns-in_err-push_node
+returns-in_err-push_node c = rw ((err_from_is_err_and c.from_residual.result c.from_residual.ensures.1).1) tt
+
+pub returns : goal.returns
+returns c =
+    c.loop-lit.invariant
+    ∙ ap (λ (lits : List ℕ). c.args.nodes.now.items ++ nodes_from c.args.aig.now (length c.args.aig.now.inputs + length c.args.aig.now.latches + length c.args.nodes.now.items) (map buffer lits))
+    (take_all c.loop-lit.lit-index c.args.lits.now c.loop-lit-test.false)
 
 pub loop-lit-preserved : goal.loop-lit-preserved
 loop-lit-preserved c =
