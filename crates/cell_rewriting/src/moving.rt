@@ -176,4 +176,16 @@ impl Moved {
             _ => self.come(subst, number),
         }
     }
+
+    /// Moves cells one after another.
+    pub fn add_all(&mut self, subst: &Substitution, order: &[u32]) -> Result<(), RewriteError>
+        requires are { AreMoved subst.now.list self.old.cells.items self.old.news.items }
+        requires equal { AreEqual subst.now.list subst.now.instead.items }
+        ensures { OnOk result (AreMoved subst.now.list self.new.cells.items self.new.news.items) }
+    {
+        for number in order {
+            self.add(subst, *number)?;
+        }
+        Ok(())
+    }
 }

@@ -83,6 +83,25 @@ impl Walk {
         Ok(())
     }
 
+    // Walks down from the ports and nets of the list.
+    fn from_ports(&mut self, subst: &Substitution) -> Result<(), RewriteError> {
+        let list: &CellList = &subst.list;
+        self.from_all(subst, list.outs.as_slice())?;
+        self.from_all(subst, list.latches.as_slice())?;
+        self.from_all(subst, list.nets.as_slice())
+    }
+
+    // Walks down from the marked cells.
+    fn from_marked(&mut self, subst: &Substitution, marks: &[bool]) -> Result<(), RewriteError> {
+        for (place, is_marked) in marks.iter().enumerate() {
+            if *is_marked {
+                let number = u32::try_from(place).unwrap_or(u32::MAX);
+                self.from(subst, Src::Cell(number))?;
+            }
+        }
+        Ok(())
+    }
+
     fn from_all(&mut self, subst: &Substitution, sources: &[Src]) -> Result<(), RewriteError> {
         for src in sources {
             self.from(subst, *src)?;
@@ -93,12 +112,14 @@ impl Walk {
 
 // A mark for each cell that an output, a latch or a net needs.
 fn needed(alloc: Global, subst: &Substitution) -> Result<Vec<bool>, RewriteError> {
-    let list: &CellList = &subst.list;
-    let mut walk = Walk::begin(alloc, list.cells.len())?;
-    walk.from_all(subst, list.outs.as_slice())?;
-    walk.from_all(subst, list.latches.as_slice())?;
-    walk.from_all(subst, list.nets.as_slice())?;
-    Ok(walk.seen)
+    let mut walk = Walk::begin(alloc, subst.list.cells.len())?;
+    match walk.from_ports(subst) {
+        Ok(()) => Ok(walk.seen),
+        Err(error) => {
+            drop(walk);
+            Err(error)
+        }
+    }
 }
 
 /// Returns the needed cells, each after those that it reads, and otherwise in the order of the
@@ -106,11 +127,11 @@ fn needed(alloc: Global, subst: &Substitution) -> Result<Vec<bool>, RewriteError
 pub fn order_of(alloc: Global, subst: &Substitution) -> Result<Vec<u32>, RewriteError> {
     let needed = needed(alloc, subst)?;
     let mut walk = Walk::begin(alloc, needed.len())?;
-    for (place, is_needed) in needed.iter().enumerate() {
-        if *is_needed {
-            let number = u32::try_from(place).unwrap_or(u32::MAX);
-            walk.from(subst, Src::Cell(number))?;
+    match walk.from_marked(subst, &needed) {
+        Ok(()) => Ok(walk.order),
+        Err(error) => {
+            drop(walk);
+            Err(error)
         }
     }
-    Ok(walk.order)
 }

@@ -49,6 +49,23 @@ fn list_of(
     }))
 }
 
+// The kept sources in the new list, if each has stayed the cell that it is.
+fn still_kept(
+    alloc: Global,
+    list: &CellList,
+    kept: &[Src],
+    new: &CellList,
+    news: &[Option<Src>],
+) -> Result<Option<Vec<Src>>, RewriteError>
+    requires { IsRebuilt list.now news.now new.now }
+    ensures { IfOk result (λ o. IfSome o (λ still. Keeps list.now kept.now new.now still.items)) }
+{
+    if !stay_cells(list, new, news, kept) {
+        return Ok(None);
+    }
+    new_sources(alloc, news, kept)
+}
+
 // The new list with its kept sources, if each has stayed the cell that it is.
 fn with_kept(
     alloc: Global,
@@ -60,16 +77,17 @@ fn with_kept(
     requires { IsRebuilt list.now news.now new }
     ensures { IfOk result (λ o. IfSome o (λ n. Keeps list.now kept.now n.list n.kept.items)) }
 {
-    if !stay_cells(list, &new, news, kept) {
-        return Ok(None);
+    match still_kept(alloc, list, kept, &new, news) {
+        Ok(Some(kept)) => Ok(Some(KeptList { list: new, kept })),
+        Ok(None) => {
+            drop(new);
+            Ok(None)
+        }
+        Err(error) => {
+            drop(new);
+            Err(error)
+        }
     }
-    let Some(still) = new_sources(alloc, news, kept)? else {
-        return Ok(None);
-    };
-    Ok(Some(KeptList {
-        list: new,
-        kept: still,
-    }))
 }
 
 // The cells of a list that is to be rebuilt, moved one after another.
@@ -79,10 +97,13 @@ fn moved_by(alloc: Global, subst: &Substitution) -> Result<Moved, RewriteError>
 {
     let order = order_of(alloc, subst)?;
     let mut moved = Moved::begin(alloc, &subst.list)?;
-    for number in &order {
-        moved.add(subst, *number)?;
+    match moved.add_all(subst, &order) {
+        Ok(()) => Ok(moved),
+        Err(error) => {
+            drop(moved);
+            Err(error)
+        }
     }
-    Ok(moved)
 }
 
 /// Returns the list after all replacements, if it can be put in order and the kept sources stay the

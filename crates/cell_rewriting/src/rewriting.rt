@@ -11,6 +11,7 @@ use crate::substitution::Substitution;
 use cell_core::{CellList, Draws, Src};
 use resubstitution::{Replacement, Round, replacements};
 use std::alloc::Global;
+use std::mem;
 
 // The greatest number of rounds that are to make cells fewer.
 const ROUNDS: u32 = 6;
@@ -35,8 +36,13 @@ fn substituted(
     ensures extends { IfOk result (λ s. Extends list.now s.list) }
 {
     let mut subst = Substitution::begin(alloc, list)?;
-    subst.replace_all(alloc, all)?;
-    Ok(subst)
+    match subst.replace_all(alloc, all) {
+        Ok(()) => Ok(subst),
+        Err(error) => {
+            drop(subst);
+            Err(error)
+        }
+    }
 }
 
 // The list after the replacements, if it can be put in order and the kept sources stay the cells
@@ -50,17 +56,21 @@ fn replaced(
         n.kept.items)) }
 {
     let subst = substituted(alloc, &now.list, all)?;
-    rebuilt(alloc, &subst, &now.kept)
+    let new = rebuilt(alloc, &subst, &now.kept);
+    drop(subst);
+    new
 }
 
 // The new list, if it is no larger.
-fn if_no_larger(now: &KeptList, new: Option<KeptList>) -> Option<KeptList>
-    requires { IfSome new (λ n. Keeps now.now.list now.now.kept.items n.list n.kept.items) }
+fn if_no_larger(now: &KeptList, new: KeptList) -> Option<KeptList>
+    requires { Keeps now.now.list now.now.kept.items new.list new.kept.items }
     ensures { IfSome result (λ n. IsRewritten now.now.list now.now.kept.items n.list n.kept.items) }
 {
-    match new {
-        Some(new) if is_no_larger(&now.list, &new.list) => Some(new),
-        _ => None,
+    if is_no_larger(&now.list, &new.list) {
+        Some(new)
+    } else {
+        drop(new);
+        None
     }
 }
 
@@ -78,19 +88,9 @@ fn next_list(
     if all.is_empty() {
         return Ok(None);
     }
-    let new = replaced(alloc, now, &all)?;
-    Ok(if_no_larger(now, new))
-}
-
-// The next list, or the old one if there is none.
-#[tactic(auto, using(crate::proofs::Keeping::itself_rewritten))]
-fn next_or(now: KeptList, next: Option<KeptList>) -> KeptList
-    requires { IfSome next (λ n. IsRewritten now.list now.kept.items n.list n.kept.items) }
-    ensures { IsRewritten now.list now.kept.items result.list result.kept.items }
-{
-    match next {
-        Some(new) => new,
-        None => now,
+    match replaced(alloc, now, &all)? {
+        Some(new) => Ok(if_no_larger(now, new)),
+        None => Ok(None),
     }
 }
 
@@ -105,14 +105,25 @@ fn begun(alloc: Global, list: &CellList, kept: &[Src]) -> Result<KeptList, Rewri
     })
 }
 
-// The new list, if it is no larger and has fewer cells.
-fn if_fewer(now: &KeptList, new: Option<KeptList>) -> Option<KeptList>
-    requires { IfSome new (λ n. Keeps now.now.list now.now.kept.items n.list n.kept.items) }
-    ensures { IfSome result (λ n. IsRewritten now.now.list now.now.kept.items n.list n.kept.items) }
+// Whether the new list has fewer cells, and names constant 1 only if the old one does.
+fn is_smaller(list: &CellList, new: &CellList) -> bool
+    ensures { result ≡ true → IsNoLarger list.now new.now }
 {
-    match if_no_larger(now, new) {
-        Some(new) if new.list.cells.len() < now.list.cells.len() => Some(new),
-        _ => None,
+    new.cells.len() < list.cells.len() && is_no_larger(list, new)
+}
+
+// The new list if it is smaller, and else the old one.
+#[tactic(auto, using(crate::proofs::Keeping::itself_rewritten))]
+fn smaller_of(now: KeptList, new: KeptList) -> KeptList
+    requires { Keeps now.list now.kept.items new.list new.kept.items }
+    ensures { IsRewritten now.list now.kept.items result.list result.kept.items }
+{
+    if is_smaller(&now.list, &new.list) {
+        drop(now);
+        new
+    } else {
+        drop(new);
+        now
     }
 }
 
@@ -121,29 +132,89 @@ fn swept(alloc: Global, list: &CellList, kept: &[Src]) -> Result<KeptList, Rewri
     ensures { IfOk result (λ n. IsRewritten list.now kept.now n.list n.kept.items) }
 {
     let now = begun(alloc, list, kept)?;
-    let new = replaced(alloc, &now, &[])?;
-    let fewer = if_fewer(&now, new);
-    Ok(next_or(now, fewer))
+    match replaced(alloc, &now, &[]) {
+        Ok(Some(new)) => Ok(smaller_of(now, new)),
+        Ok(None) => Ok(now),
+        Err(error) => {
+            drop(now);
+            Err(error)
+        }
+    }
 }
 
-// The list after rounds in which cells become fewer, as long as they do.
+// Takes the list after a round, if there is one, and answers whether there is.
+#[tactic(auto, using(crate::proofs::Keeping::itself_rewritten))]
+fn turn(
+    alloc: Global,
+    now: &mut KeptList,
+    round: Round,
+    draws: &mut Draws,
+) -> Result<bool, RewriteError>
+    ensures { OnOk result (
+        IsRewritten now.old.list now.old.kept.items now.new.list now.new.kept.items
+        ) }
+{
+    match next_list(alloc, now, round, draws)? {
+        Some(next) => {
+            drop(mem::replace(now, next));
+            Ok(true)
+        }
+        None => Ok(false),
+    }
+}
+
+// Does rounds in which cells become fewer, as long as they do.
+fn reduce(alloc: Global, now: &mut KeptList) -> Result<(), RewriteError>
+    ensures { OnOk result (
+        IsRewritten now.old.list now.old.kept.items now.new.list now.new.kept.items
+        ) }
+{
+    let mut draws = Draws::new(0);
+    for _ in 0..ROUNDS {
+        if !turn(alloc, now, Round::Fewer, &mut draws)? {
+            return Ok(());
+        }
+    }
+    Ok(())
+}
+
+// The list after rounds in which cells become fewer.
 fn reduced(alloc: Global, list: &CellList, kept: &[Src]) -> Result<KeptList, RewriteError>
     ensures { IfOk result (λ n. IsRewritten list.now kept.now n.list n.kept.items) }
 {
     let mut now = swept(alloc, list, kept)?;
-    let mut draws = Draws::new(0);
-    for _ in 0..ROUNDS {
-        let next = next_list(alloc, &now, Round::Fewer, &mut draws)?;
-        let is_last = next.is_none();
-        now = next_or(now, next);
-        if is_last {
-            break;
+    match reduce(alloc, &mut now) {
+        Ok(()) => Ok(now),
+        Err(error) => {
+            drop(now);
+            Err(error)
         }
     }
-    Ok(now)
 }
 
-// The list after rounds, every other one of which makes changes by chance.
+// Every other round makes changes by chance.
+fn round_at(turn: u32) -> Round {
+    if turn % 2 == 0 {
+        Round::Wander
+    } else {
+        Round::Fewer
+    }
+}
+
+// Does rounds, every other one of which makes changes by chance.
+fn wander(alloc: Global, now: &mut KeptList, start: u64, rounds: u32) -> Result<(), RewriteError>
+    ensures { OnOk result (
+        IsRewritten now.old.list now.old.kept.items now.new.list now.new.kept.items
+        ) }
+{
+    let mut draws = Draws::new(start);
+    for at in 0..rounds {
+        turn(alloc, now, round_at(at), &mut draws)?;
+    }
+    Ok(())
+}
+
+// The list after rounds by chance.
 fn wandered(
     alloc: Global,
     from: &KeptList,
@@ -153,17 +224,13 @@ fn wandered(
     ensures { IfOk result (λ n. IsRewritten from.now.list from.now.kept.items n.list n.kept.items) }
 {
     let mut now = begun(alloc, &from.list, &from.kept)?;
-    let mut draws = Draws::new(start);
-    for turn in 0..rounds {
-        let round = if turn % 2 == 0 {
-            Round::Wander
-        } else {
-            Round::Fewer
-        };
-        let next = next_list(alloc, &now, round, &mut draws)?;
-        now = next_or(now, next);
+    match wander(alloc, &mut now, start, rounds) {
+        Ok(()) => Ok(now),
+        Err(error) => {
+            drop(now);
+            Err(error)
+        }
     }
-    Ok(now)
 }
 
 // Adds a list that rounds by chance make of another one.
@@ -191,6 +258,22 @@ fn how_many(cells: usize) -> (u64, u32) {
     }
 }
 
+// Adds the lists that are made of another one by chance.
+fn add_all_wandered(
+    lists: &mut Vec<CellList>,
+    alloc: Global,
+    from: &KeptList,
+) -> Result<(), RewriteError>
+    requires { All (IsRewrittenFrom from.now) lists.old.items }
+    ensures { OnOk result (All (IsRewrittenFrom from.now) lists.new.items) }
+{
+    let (others, rounds) = how_many(from.list.cells.len());
+    for start in 0..others {
+        add_wandered(lists, alloc, from, start, rounds)?;
+    }
+    Ok(())
+}
+
 /// Rewrites `list` into one or more lists that compute the same with no more cells. `kept` are the
 /// sources of `list` that stay the cells that they are. Each list is found with other random
 /// choices, and the last one with none.
@@ -203,11 +286,12 @@ pub fn rewritten(
     ensures same { IfOk result (λ lists. All (Rewrites list.now kept.now) lists.items) }
 {
     let first = reduced(alloc, list, kept)?;
-    let (others, rounds) = how_many(first.list.cells.len());
     let mut lists = Vec::new(alloc);
-    for start in 0..others {
-        add_wandered(&mut lists, alloc, &first, start, rounds)?;
-    }
+    let Ok(()) = add_all_wandered(&mut lists, alloc, &first) else {
+        drop(first);
+        drop(lists);
+        return Err(RewriteError::NoMemory);
+    };
     lists.push(first.list)?;
     Ok(lists)
 }

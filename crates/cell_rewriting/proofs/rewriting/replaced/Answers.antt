@@ -10,6 +10,6 @@ pub returns : goal.returns
 returns c =
     let old = c.args.now.now in
     let grown = c.in_ok-subst.subst in
-    IfOk-weaker c.rebuilt.result _ _
+    IfOk-weaker c.rebuilt-new.result _ _
     (λ o h. some_weaker o _ _ (λ n k. then_keeps old.list grown.list n.list old.kept.items old.kept.items n.kept.items (added_keeps old.list grown.list c.in_ok-subst.ensures.extends old.kept.items) k) h)
-    (subst (λ (kept : List Src). IfOk c.rebuilt.result (λ o. IfSome o (λ n. Keeps grown.list kept n.list n.kept.items))) c.deref.ensures.value c.rebuilt.ensures)
+    (subst (λ (kept : List Src). IfOk c.rebuilt-new.result (λ o. IfSome o (λ n. Keeps grown.list kept n.list n.kept.items))) c.deref.ensures.value c.rebuilt-new.ensures)
