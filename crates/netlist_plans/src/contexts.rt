@@ -84,8 +84,14 @@ pub fn plan_contexts(
         ) }
     ensures places { IfOk result (λ p. HasNetPlaces flat.now p.plan) }
 {
-    let loops = all_loop_bits(alloc, &plan, starts)?;
+    let Ok(loops) = all_loop_bits(alloc, &plan, starts) else {
+        drop(plan);
+        return Err(NetlistPlanError::NoMemory);
+    };
     let plan = start_contexts(alloc, plan, &loops)?;
-    let ports = plan_ports::of_plan(alloc, flat, &plan, starts.len() as u64)?;
+    let Ok(ports) = plan_ports::of_plan(alloc, flat, &plan, starts.len() as u64) else {
+        drop(plan);
+        return Err(NetlistPlanError::NoMemory);
+    };
     Ok(Planned { plan, ports })
 }

@@ -70,6 +70,7 @@ fn complements(
     }
     let low = complemented(alloc, &mapped.list, &mapped.singles)?;
     if !is_allowed(flat, &low.list) {
+        drop(low);
         return Ok(None);
     }
     Ok(Some(low))
@@ -117,12 +118,20 @@ fn joined(
 {
     let _flat = flat;
     if !are_wanted && fewest_cells(&others) >= fewest_cells(&first) {
+        drop(others);
         return Ok(first);
     }
     let mut lists = first;
     let mut more = others;
-    lists.append(&mut more)?;
-    Ok(lists)
+    let appended = lists.append(&mut more);
+    drop(more);
+    match appended {
+        Ok(()) => Ok(lists),
+        Err(_) => {
+            drop(lists);
+            Err(NetlistPlanError::NoMemory)
+        }
+    }
 }
 
 // Lists of both kinds. If the second list names no constant 1 and there are no latches, only lists
@@ -146,8 +155,13 @@ fn lists_of_both(
     if spares_one && flat.latches.len() == 0 {
         return Ok(low_lists);
     }
-    let lists = rewritten_lists(alloc, flat, &mapped.list, &mapped.singles)?;
-    joined(flat, lists, low_lists, spares_one)
+    match rewritten_lists(alloc, flat, &mapped.list, &mapped.singles) {
+        Ok(lists) => joined(flat, lists, low_lists, spares_one),
+        Err(error) => {
+            drop(low_lists);
+            Err(error)
+        }
+    }
 }
 
 /// Makes lists of cells of a sound flat netlist; each list computes the netlist. `order` is an order
@@ -166,9 +180,22 @@ pub fn cell_lists(
     ensures spares { IfOk result (λ lists. SparesOne flat.now → All NamesNoOne lists.items) }
 {
     let mapped = cover_mapper::map(alloc, flat, order)?;
-    match complements(alloc, flat, &mapped)? {
-        None => rewritten_lists(alloc, flat, &mapped.list, &mapped.singles),
-        Some(low) => lists_of_both(alloc, flat, &mapped, &low),
+    match complements(alloc, flat, &mapped) {
+        Ok(None) => {
+            let lists = rewritten_lists(alloc, flat, &mapped.list, &mapped.singles);
+            drop(mapped);
+            lists
+        }
+        Ok(Some(low)) => {
+            let lists = lists_of_both(alloc, flat, &mapped, &low);
+            drop(low);
+            drop(mapped);
+            lists
+        }
+        Err(error) => {
+            drop(mapped);
+            Err(error)
+        }
     }
 }
 
@@ -228,6 +255,9 @@ pub fn plan_netlist(alloc: Global, flat: &Flat, order: &Order) -> Result<Planned
     ensures at_zero { IfOk result (λ p. SparesOne flat.now → p.ports.p ≡ 32) }
 {
     let plan = plan_flat(alloc, flat, order)?;
-    let ports = plan_ports::of_plan(alloc, flat, &plan, 1)?;
+    let Ok(ports) = plan_ports::of_plan(alloc, flat, &plan, 1) else {
+        drop(plan);
+        return Err(NetlistPlanError::NoMemory);
+    };
     Ok(Planned { plan, ports })
 }

@@ -42,6 +42,9 @@ pub fn load_netlist(
         (pattern_text (start_grid p.plan) p.ports) flat.now (rows_of streams.now)) }
 {
     let plan = plan_waves::load(alloc, plan, streams.bits.as_slice())?;
-    let ports = plan_ports::of_plan(alloc, flat, &plan, 1)?;
+    let Ok(ports) = plan_ports::of_plan(alloc, flat, &plan, 1) else {
+        drop(plan);
+        return Err(NetlistPlanError::NoMemory);
+    };
     Ok(Planned { plan, ports })
 }

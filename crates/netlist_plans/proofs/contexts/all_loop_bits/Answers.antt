@@ -1,7 +1,23 @@
-use Rattle.std.proofs.Common.{◌∙◌, ap, []}
+use Rattle.std.proofs.Common.{◌≡◌, ◌∙◌, ap, subst, Bool, List, [], map, arith}
+use Rattle.std.proofs.lemmas.List.{take_all}
+use Rattle.std.proofs.lemmas.Result.{err_from_is_err_and}
 use Rattle.lists.proofs.Cuts.{added_more}
 use Rattle.netlist_plans.specs.Contexts.{loop_starting_bits}
 use Rattle.netlist_plans.proofs.contexts.all_loop_bits.Goals as goal
+
+pub returns-in_err-loop_starting_bits : goal.returns-in_err-loop_starting_bits
+returns-in_err-loop_starting_bits c = rw ((err_from_is_err_and c.from_residual.result c.from_residual.ensures.1).1) tt
+
+pub returns-in_err-push : goal.returns-in_err-push
+returns-in_err-push c = rw ((err_from_is_err_and c.from_residual-in_err-push.result c.from_residual-in_err-push.ensures.1).1) tt
+
+pub loop-latches-init : goal.loop-latches-init
+loop-latches-init c = c.new-all.ensures.items
+
+pub returns : goal.returns
+returns c =
+    subst (λ (starts : List (List Bool)). c.loop-latches.all.items ≡ map (loop_starting_bits c.args.plan.now) starts)
+    (take_all c.loop-latches.latches-index c.args.starts.now (omega (arith, c.loop-latches-test.false))) c.loop-latches.invariant
 
 pub loop-latches-preserved : goal.loop-latches-preserved
 loop-latches-preserved c =

@@ -15,12 +15,12 @@ use Rattle.netlist_plans.proofs.contexts.plan_contexts.Goals as goal
 
 pub start_contexts-requires-clause-fit : goal.start_contexts-requires-clause-fit
 start_contexts-requires-clause-fit c =
-    let many : length c.deref.result.now ≡ length c.args.starts.now = ap length (c.deref.ensures.value ∙ c.in_ok-loops.ensures) ∙ length-map c.args.starts.now (loop_starting_bits c.args.plan) in
+    let many : length c.deref.result.now ≡ length c.args.starts.now = ap length (c.deref.ensures.value ∙ c.in-Ok.ensures) ∙ length-map c.args.starts.now (loop_starting_bits c.args.plan) in
     omega (arith, many, contexts_fit c.args.plan (length c.args.starts.now) c.requires.starts.fit)
 
 pub start_contexts-requires-clause-long : goal.start_contexts-requires-clause-long
 start_contexts-requires-clause-long c =
-    subst (λ (all : List (List Bool)). All (λ bits. length bits ≡ c.args.plan.latches) all) (sym (c.deref.ensures.value ∙ c.in_ok-loops.ensures))
+    subst (λ (all : List (List Bool)). All (λ bits. length bits ≡ c.args.plan.latches) all) (sym (c.deref.ensures.value ∙ c.in-Ok.ensures))
     (loops_long c.args.flat.now c.args.plan c.requires.weighed c.requires.planned c.args.starts.now c.requires.starts.long)
 
 pub start_contexts-requires-clause-few : goal.start_contexts-requires-clause-few
@@ -40,23 +40,23 @@ returns-clause-bare c = c.in_ok-plan.ensures.padded.tape ∙ c.requires.planned.
 
 pub returns-clause-padded : goal.returns-clause-padded
 returns-clause-padded c =
-    let many : length c.deref.result.now ≡ length c.args.starts.now = ap length (c.deref.ensures.value ∙ c.in_ok-loops.ensures) ∙ length-map c.args.starts.now (loop_starting_bits c.args.plan) in
+    let many : length c.deref.result.now ≡ length c.args.starts.now = ap length (c.deref.ensures.value ∙ c.in-Ok.ensures) ∙ length-map c.args.starts.now (loop_starting_bits c.args.plan) in
     subst (λ n. IsPaddedFor n c.args.plan c.in_ok-plan.plan) many c.in_ok-plan.ensures.padded
 
 pub returns-clause-starts : goal.returns-clause-starts
 returns-clause-starts c =
-    subst (StartsLoops c.in_ok-plan.plan) (c.deref.ensures.value ∙ c.in_ok-loops.ensures) c.in_ok-plan.ensures.contexts
+    subst (StartsLoops c.in_ok-plan.plan) (c.deref.ensures.value ∙ c.in-Ok.ensures) c.in_ok-plan.ensures.contexts
 
 pub returns-clause-carries : goal.returns-clause-carries
 returns-clause-carries c =
     let k = c.requires.planned in
     let plan = c.in_ok-plan.plan in
-    let is = c.deref.ensures.value ∙ c.in_ok-loops.ensures ∙ loops_are c.args.flat.now c.args.plan c.requires.weighed k c.args.starts.now c.requires.starts.long in
+    let is = c.deref.ensures.value ∙ c.in-Ok.ensures ∙ loops_are c.args.flat.now c.args.plan c.requires.weighed k c.args.starts.now c.requires.starts.long in
     let bare : plan.tape ≡ [] = c.in_ok-plan.ensures.padded.tape ∙ k.is.bare in
-    subst (λ (grid : Grid). CarriesFlatContexts (pattern_text grid c.in_ok-ports.ports) c.args.flat.now c.args.starts.now) (sym (bare_grid plan bare))
-    (texts_carry_contexts c.args.flat.now k.list plan c.in_ok-ports.ports c.args.starts.now c.requires.starts.some
-    (compiled c.args.flat.now c.requires.compilable.0 k.list plan (length c.args.starts.now) c.in_ok-ports.ports c.requires.compilable.1 k.computes c.in_ok-plan.ensures.admissible bare
-    (padding_keeps_cells k.list _ c.args.plan plan c.in_ok-plan.ensures.padded c.in_ok-plan.ensures.same k.is.computes) c.in_ok-ports.ensures)
+    subst (λ (grid : Grid). CarriesFlatContexts (pattern_text grid c.in-Ok-of_plan.ports) c.args.flat.now c.args.starts.now) (sym (bare_grid plan bare))
+    (texts_carry_contexts c.args.flat.now k.list plan c.in-Ok-of_plan.ports c.args.starts.now c.requires.starts.some
+    (compiled c.args.flat.now c.requires.compilable.0 k.list plan (length c.args.starts.now) c.in-Ok-of_plan.ports c.requires.compilable.1 k.computes c.in_ok-plan.ensures.admissible bare
+    (padding_keeps_cells k.list _ c.args.plan plan c.in_ok-plan.ensures.padded c.in_ok-plan.ensures.same k.is.computes) c.in-Ok-of_plan.ensures)
     (start_edges plan) (record {
       long = c.requires.starts.long;
       on_plan = subst (StartsLoops plan) is c.in_ok-plan.ensures.contexts;

@@ -11,7 +11,7 @@ pub returns-clause-admissible : goal.returns-clause-admissible
 returns-clause-admissible c = c.in_ok-plan.ensures.planned.is.admissible
 
 pub returns-clause-carries : goal.returns-clause-carries
-returns-clause-carries c = c.in_ok-plan.ensures.carries c.in_ok-ports.ports c.in_ok-ports.ensures
+returns-clause-carries c = c.in_ok-plan.ensures.carries c.in-Ok.ports c.in-Ok.ensures
 
 pub returns-clause-small : goal.returns-clause-small
 returns-clause-small c = c.in_ok-plan.ensures.small
@@ -26,7 +26,7 @@ pub returns-clause-places : goal.returns-clause-places
 returns-clause-places c = c.in_ok-plan.ensures.places
 
 pub returns-clause-period : goal.returns-clause-period
-returns-clause-period c none e = c.in_ok-ports.ensures.period ∙ c.in_ok-plan.ensures.period none e
+returns-clause-period c none e = c.in-Ok.ensures.period ∙ c.in_ok-plan.ensures.period none e
 
 pub returns-clause-at_zero : goal.returns-clause-at_zero
-returns-clause-at_zero c spares = c.in_ok-ports.ensures.period ∙ c.in_ok-plan.ensures.at_zero spares
+returns-clause-at_zero c spares = c.in-Ok.ensures.period ∙ c.in_ok-plan.ensures.at_zero spares

@@ -47,7 +47,7 @@ returns-clause-runs c =
     let plan = c.args.plan in
     let streams = c.args.streams.now in
     let p = c.requires.planned in
-    let ports = c.in_ok-ports.ports in
+    let ports = c.in-Ok.ports in
     let is : c.in_ok-plan.plan ≡ with_tape streams.bits plan = c.in_ok-plan.ensures.loaded ∙ ap (λ (bits : List (List Bool)). with_tape bits plan) c.as_slice.ensures in
     let many = planned_ports flat plan p in
     let own = planned_table flat plan p in
@@ -55,4 +55,4 @@ returns-clause-runs c =
     (runs_on_streams (pattern_text (start_grid (with_tape streams.bits plan)) ports) flat plan streams zeros_change_nothing c.requires.many c.requires.long
     (tapes_run_by_themselves flat p.list plan own.0 (planned_compiled flat c.requires.compilable.0 plan own.0 c.requires.compilable.1 p own.1) (starts_as_flat flat p.list plan p.computes p.is.starts) p.is.edges streams.bits
     (c.requires.many ∙ sym many.ins) (are_lists streams.bits streams.cycles c.requires.some c.requires.few c.requires.long)
-    ports (subst (λ (loaded : Plan). IsTableOf flat loaded 1 ports) is c.in_ok-ports.ensures)))
+    ports (subst (λ (loaded : Plan). IsTableOf flat loaded 1 ports) is c.in-Ok.ensures)))
