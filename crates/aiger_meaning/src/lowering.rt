@@ -65,10 +65,15 @@ pub fn lower(alloc: Global, aig: &Aig) -> Result<Lowered, LowerError>
     let own = OwnLiterals::new(alloc, aig)?;
     let flat = flat_of(alloc, aig, &own, weight)?;
     match loop_check::order(alloc, &flat) {
-        Ok(order) => Ok(Lowered { flat, order }),
+        Ok(order) => {
+            drop(own);
+            Ok(Lowered { flat, order })
+        }
         Err(error) => {
             drop(flat);
-            Err(refusal(alloc, aig, &own, error))
+            let refused = refusal(alloc, aig, &own, error);
+            drop(own);
+            Err(refused)
         }
     }
 }

@@ -18,9 +18,9 @@ returns-in-Ok-clause-lowered c =
 pub returns-in-Ok-clause-no_loop : goal.returns-in-Ok-clause-no_loop
 returns-in-Ok-clause-no_loop c lits l = c.in-Ok.ensures.no_loop (map (net_of_literal c.args.aig.now) lits) ((same_loops c.args.aig.now c.in_ok-flat.flat c.requires c.in_ok-flat.ensures).is_flat lits l)
 
-pub returns-clause-refused : goal.returns-clause-refused
-returns-clause-refused c =
-    c.refusal.ensures c.in_ok-flat.flat c.requires c.in_ok-flat.ensures (omega (arith, c.weight_of-weight.ensures, c.if-weight-gt-WEIGHT_LIMIT.false)) c.in-Err.ensures.refused
+pub returns-in-Err-clause-refused : goal.returns-in-Err-clause-refused
+returns-in-Err-clause-refused c =
+    c.refusal-refused.ensures c.in_ok-flat.flat c.requires c.in_ok-flat.ensures (omega (arith, c.weight_of-weight.ensures, c.if-weight-gt-WEIGHT_LIMIT.false)) c.in-Err.ensures.refused
 
 pub returns-in_err-own-clause-is_flat : goal.returns-in_err-own-clause-is_flat
 returns-in_err-own-clause-is_flat c = rw ((err_from_is_err_and c.from_residual.result c.from_residual.ensures.1).1) tt
