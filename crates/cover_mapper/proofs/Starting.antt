@@ -1,19 +1,44 @@
 -- Inputs and latches get their sources.
-use Rattle.std.proofs.Common.{◌≡◌, sym, ◌∙◌, ap, ℕ, ◌+◌, ◌<◌, false, [], set, length, get_or, Some, ◌⊎◌, inl, inr, ⊎_elim, arith}
+use Rattle.std.proofs.Common.{◌≡◌, refl, sym, ◌∙◌, ap, ℕ, zero, suc, ◌+◌, ◌<◌, false, [], set, length, get_or, replicate, Option, Some, None, ◌⊎◌, inl, inr, ⊎_elim, arith}
 use Rattle.std.proofs.lemmas.Bool.{lt-ltb, true≢false}
-use Rattle.std.proofs.lemmas.Option.{slice_get-get_or}
-use Rattle.std.proofs.lemmas.List.{get_or-map}
+use Rattle.std.proofs.lemmas.Option.{none-some, slice_get-get_or}
+use Rattle.std.proofs.lemmas.List.{get_or-map, length-replicate}
 use Rattle.std.proofs.lemmas.List.Elements.{All-get_or}
 use Rattle.lists.proofs.Numbers.{less_or_last}
 use Rattle.netlist_core.specs.declared.flat.FlatPort.{FlatPort}
 use Rattle.netlist_core.specs.declared.flat.FlatLatch.{FlatLatch}
 use Rattle.netlist_core.specs.declared.flat.Flat.{Flat}
 use Rattle.netlist_meaning.specs.Flat.{class_of, IsNetId, IsSound, FlatDriver}
+use Rattle.cell_core.specs.declared.cells.Src.{Src}
 use Rattle.cell_core.specs.declared.cells.Src.TheVariants.{Input, Latch}
 use Rattle.cell_core.specs.declared.list.CellList.{CellList}
 use Rattle.cell_sharing.proofs.Growing.{grows_refl}
 use Rattle.cover_mapper.specs.Sourced.{ClassSources, AreSourced, IsAmongFirst}
 use Rattle.cover_mapper.proofs.Sourcing.{class_within, sourced_more}
+
+-- before the first input no class has a source
+none_at : (n i : ℕ) → get_or {A = Option Src} (replicate n None) i None ≡ None
+none_at zero i = refl
+none_at (suc n) zero = refl
+none_at (suc n) (suc i) = none_at n i
+
+not_among : (d : FlatDriver) → IsAmongFirst 0 0 [] d → ⊥
+not_among (FlatDriver.input n) lt = absurd (omega (arith, lt))
+not_among (FlatDriver.latch n) lt = absurd (omega (arith, lt))
+not_among (FlatDriver.node n) has = absurd (omega (arith, has.1))
+
+pub none_sourced : (flat : Flat) (list : CellList) (sources : ClassSources) → sources ≡ replicate (length flat.nets) None → AreSourced flat (IsAmongFirst 0 0 []) list sources
+none_sourced flat list sources is =
+    let none : (class : ℕ) → get_or sources class None ≡ None = λ class. ap (λ (l : ClassSources). get_or l class None) is ∙ none_at (length flat.nets) class in
+    record {
+      long = ap length is ∙ length-replicate (length flat.nets) None;
+      all = λ class d drives made. absurd (not_among d made);
+      only = λ class src e. absurd (none-some src (sym (none class) ∙ e));
+      own = λ class d src drives made e. absurd (not_among d made);
+      there = λ class src e. absurd (none-some src (sym (none class) ∙ e));
+      one = λ class src e one. absurd (none-some src (sym (none class) ∙ e));
+      bits = λ inputs state bits solves class src e. absurd (none-some src (sym (none class) ∙ e));
+    }
 
 -- classes of inputs and of latches are among those of the nets
 pub input_within : (flat : Flat) → IsSound flat → (i : ℕ) (d : FlatPort) (class : ℕ) → i < length flat.ins → class ≡ class_of flat (get_or flat.ins i d).net → class < length flat.nets

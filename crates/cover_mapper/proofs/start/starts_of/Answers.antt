@@ -1,4 +1,4 @@
-use Rattle.std.proofs.Common.{◌≡◌, ◌==◌, refl, subst, [], get_or, List, None, map, arith}
+use Rattle.std.proofs.Common.{◌≡◌, ◌==◌, refl, subst, [], List, None, map, arith}
 use Rattle.std.proofs.lemmas.List.{take_all}
 use Rattle.std.proofs.lemmas.Result.{err_from_is_err_and}
 use Rattle.lists.proofs.Cuts.{added_more}
