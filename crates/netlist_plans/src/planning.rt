@@ -166,7 +166,6 @@ fn lists_of_both(
 
 /// Makes lists of cells of a sound flat netlist; each list computes the netlist. `order` is an order
 /// of its covers in which each cover comes after those that it reads.
-#[tactic(auto, using(crate::proofs::Sparing::has_room))]
 pub fn cell_lists(
     alloc: Global,
     flat: &Flat,

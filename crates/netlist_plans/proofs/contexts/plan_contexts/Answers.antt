@@ -1,4 +1,5 @@
 use Rattle.std.proofs.Common.{◌≡◌, sym, ◌∙◌, ap, subst, Bool, List, [], length, arith}
+use Rattle.std.proofs.lemmas.Result.{err_from_is_err_and}
 use Rattle.std.specs.Prelude.{All}
 use Rattle.std.proofs.lemmas.List.{length-map}
 use Rattle.ww_rule.specs.Grid.{Grid}
@@ -34,6 +35,11 @@ of_plan-requires-clause-ports c =
     let k = c.requires.planned in
     plans_have_ports c.args.flat.now k.list c.in_ok-plan.plan k.computes
     (padding_keeps_cells k.list _ c.args.plan c.in_ok-plan.plan c.in_ok-plan.ensures.padded c.in_ok-plan.ensures.same k.is.computes)
+
+pub returns-in_err-plan : goal.returns-in_err-plan
+returns-in_err-plan c =
+    let p = (err_from_is_err_and c.from_residual.result c.from_residual.ensures.1).1 in
+    record { admissible = rw p tt; edges = rw p tt; bare = rw p tt; padded = rw p tt; starts = rw p tt; table = rw p tt; carries = rw p tt; places = rw p tt }
 
 pub returns-clause-bare : goal.returns-clause-bare
 returns-clause-bare c = c.in_ok-plan.ensures.padded.tape ∙ c.requires.planned.is.bare

@@ -1,10 +1,16 @@
 use Rattle.std.proofs.Common.{rules, arith, sym, ◌∙◌, ◌≡◌, ◌≤◌, ◌*◌, true, false, true≢false, subst, List, length}
+use Rattle.std.proofs.lemmas.Result.{err_from_is_err_and}
 use Rattle.cell_meaning.specs.Needs.{covers_weight}
 use Rattle.cell_core.specs.declared.cells.Src.{Src}
 use Rattle.cell_polarity.specs.Complements.{Complements}
 use Rattle.cell_polarity.proofs.Mapped.{complements_spare_one}
 use Rattle.netlist_plans.proofs.LowLists.{maps_low}
 use Rattle.netlist_plans.proofs.planning.complements.Goals as goal
+
+pub returns-in_err-low : goal.returns-in_err-low
+returns-in_err-low c =
+    let p = (err_from_is_err_and c.from_residual.result c.from_residual.ensures.1).1 in
+    record { maps = rw p tt; spares = rw p tt }
 
 pub returns-clause-maps : goal.returns-clause-maps
 returns-clause-maps c =

@@ -1,4 +1,5 @@
 use Rattle.std.proofs.Common.{List, subst, sym}
+use Rattle.std.proofs.lemmas.Result.{err_from_is_err_and}
 use Rattle.std.specs.Prelude.{All}
 use Rattle.cell_core.specs.declared.list.CellList.{CellList}
 use Rattle.cell_plans.specs.PlanOf.{IsPlanOfOne, IsPlannable}
@@ -10,6 +11,16 @@ pub best_plan-requires-clause-short : goal.best_plan-requires-clause-short
 best_plan-requires-clause-short c =
     subst (λ (l : List CellList). All IsPlannable l) (sym c.deref.ensures.value)
     (all_short c.args.flat.now c.in_ok-lists.lists.items c.requires.weighed c.requires.small c.in_ok-lists.ensures.computes)
+
+pub returns-in_err-lists : goal.returns-in_err-lists
+returns-in_err-lists c =
+    let p = (err_from_is_err_and c.from_residual.result c.from_residual.ensures.1).1 in
+    record { planned = rw p tt; spares = rw p tt }
+
+pub returns-in_err-chosen : goal.returns-in_err-chosen
+returns-in_err-chosen c =
+    let p = (err_from_is_err_and c.from_residual-in_err-chosen.result c.from_residual-in_err-chosen.ensures.1).1 in
+    record { planned = rw p tt; spares = rw p tt }
 
 pub returns-clause-planned : goal.returns-clause-planned
 returns-clause-planned c =

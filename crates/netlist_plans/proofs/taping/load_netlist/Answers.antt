@@ -1,4 +1,5 @@
 use Rattle.std.proofs.Common.{◌≡◌, sym, ◌∙◌, ap, subst, Bool, List, length}
+use Rattle.std.proofs.lemmas.Result.{err_from_is_err_and}
 use Rattle.lane_core.specs.declared.plan.Plan.{Plan}
 use Rattle.lane_core.specs.Tape.{AreTapeLists}
 use Rattle.grid_assembly.specs.PlanDrawing.{start_grid}
@@ -31,6 +32,11 @@ pub of_plan-requires-clause-ports : goal.of_plan-requires-clause-ports
 of_plan-requires-clause-ports c =
     subst (HasPortsOf c.args.flat.now) (sym c.in_ok-plan.ensures.loaded)
     (ports_with_tape c.args.flat.now c.args.plan c.as_slice.result.now (planned_ports c.args.flat.now c.args.plan c.requires.planned))
+
+pub returns-in_err-plan : goal.returns-in_err-plan
+returns-in_err-plan c =
+    let p = (err_from_is_err_and c.from_residual.result c.from_residual.ensures.1).1 in
+    record { admissible = rw p tt; edges = rw p tt; loaded = rw p tt; table = rw p tt; small = λ s. rw p tt; runs = rw p tt }
 
 pub returns-clause-edges : goal.returns-clause-edges
 returns-clause-edges c = subst HasStartEdges (sym c.in_ok-plan.ensures.loaded) c.requires.planned.is.edges
