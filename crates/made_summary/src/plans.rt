@@ -47,7 +47,10 @@ pub fn plan_made(alloc: Global, seed: u32, size: u32) -> Result<MadePlan, Summar
 {
     let made = made_netlists::make(alloc, seed, size)?;
     let netlist = netlist_in(alloc, made.text.as_slice())?;
-    let planned = plan_netlist(alloc, &netlist.flat, &netlist.order)?;
+    let Ok(planned) = plan_netlist(alloc, &netlist.flat, &netlist.order) else {
+        drop(netlist);
+        return Err(SummaryError::NoMemory);
+    };
     Ok(MadePlan {
         netlist,
         planned,

@@ -11,7 +11,7 @@ ghost use Rattle.made_summary.specs.declared.error.SummaryError.TheVariants.{NoM
 
 use crate::drawing::draw_streams;
 use crate::error::SummaryError;
-use crate::plans::plan_made;
+use crate::plans::{MadePlan, plan_made};
 use drive::{SimulateError, Streams};
 use grid_assembly::pattern_of;
 use lists::List;
@@ -144,7 +144,10 @@ fn outputs_in(
     ensures outputs { IfOk result (AreOutputsIn netlist.design streams.now simulated.now) }
     ensures refused { IfErr result (λ e. e ≡ NoMemory) }
 {
-    let names = netlist.out_names(alloc)?;
+    let Ok(names) = netlist.out_names(alloc) else {
+        drop(netlist);
+        return Err(SummaryError::NoMemory);
+    };
     let evaluated = netlist_run::run(alloc, netlist, streams)?;
     let outputs = outputs_by_name(alloc, names.as_slice(), simulated, evaluated.as_slice())?;
     Ok(outputs)
@@ -170,9 +173,16 @@ fn told_by(
         streams.now)) }
 {
     let weight = netlist.flat.weight;
-    let simulated = shown_by(alloc, planned, streams)?;
-    let outputs = outputs_in(alloc, netlist, streams, simulated.as_slice())?;
-    Ok(told(weight, planned, outputs))
+    match shown_by(alloc, planned, streams) {
+        Ok(simulated) => {
+            let outputs = outputs_in(alloc, netlist, streams, simulated.as_slice())?;
+            Ok(told(weight, planned, outputs))
+        }
+        Err(error) => {
+            drop(netlist);
+            Err(error)
+        }
+    }
 }
 
 /// Makes, compiles, simulates and evaluates the netlist of a seed and a number of gates, under
@@ -191,7 +201,17 @@ pub fn summarize(
     ensures summary { IfOk result (Summarizes seed size cycles) }
     ensures refused { IfErr result (HasSummaryCause seed size cycles) }
 {
-    let made = plan_made(alloc, seed, size)?;
-    let streams = draw_streams(alloc, made.state, cycles)?;
-    told_by(alloc, made.netlist, &made.planned, &streams)
+    let MadePlan {
+        netlist,
+        planned,
+        state,
+    } = plan_made(alloc, seed, size)?;
+    let Ok(streams) = draw_streams(alloc, state, cycles) else {
+        drop(netlist);
+        drop(planned);
+        return Err(SummaryError::NoMemory);
+    };
+    let summary = told_by(alloc, netlist, &planned, &streams);
+    drop(planned);
+    summary
 }

@@ -1,8 +1,19 @@
 use Rattle.std.proofs.Common.{◌≡◌, ◌==◌, ◌∙◌, ap, Bool, List, [], ◌∷◌, ◌++◌, arith}
+use Rattle.std.proofs.lemmas.Result.{err_from_is_err_and}
 use Rattle.made_netlists.specs.Draws.{state_after}
 use Rattle.made_summary.specs.Streams.{stream_after}
 use Rattle.made_summary.proofs.Drawn.{one_drawn}
 use Rattle.made_summary.proofs.drawing.draw_stream.Goals as goal
+
+pub returns-in_err-stream : goal.returns-in_err-stream
+returns-in_err-stream c =
+    let p = (err_from_is_err_and c.from_residual.result c.from_residual.ensures.1).1 in
+    record { stream = rw p tt; state = rw p tt; range = rw p tt }
+
+pub returns-in_err-push : goal.returns-in_err-push
+returns-in_err-push c =
+    let p = (err_from_is_err_and c.from_residual-in_err-push.result c.from_residual-in_err-push.ensures.1).1 in
+    record { stream = rw p tt; state = rw p tt; range = rw p tt }
 
 pub loop-cycle-preserved : goal.loop-cycle-preserved
 loop-cycle-preserved c =

@@ -1,9 +1,16 @@
 use Rattle.std.proofs.Common.{ℕ, ◌≡◌, ◌∙◌, sym, ap, Bool, List, [], ◌∷◌, ◌++◌, map, ◌*◌, ◌+◌, arith}
 use Rattle.std.specs.List.{range_with_len}
+use Rattle.std.proofs.lemmas.Result.{err_from_is_err_and}
 use Rattle.std.proofs.lemmas.List.FromFn.{map-range_with_len_more}
 use Rattle.made_summary.specs.Streams.{stream_after}
 use Rattle.made_summary.proofs.Drawn.{one_stream}
 use Rattle.made_summary.proofs.drawing.draw_streams.Goals as goal
+
+pub returns-in_err-draw_stream : goal.returns-in_err-draw_stream
+returns-in_err-draw_stream c = rw ((err_from_is_err_and c.from_residual.result c.from_residual.ensures.1).1) tt
+
+pub returns-in_err-push : goal.returns-in_err-push
+returns-in_err-push c = rw ((err_from_is_err_and c.from_residual-in_err-push.result c.from_residual-in_err-push.ensures.1).1) tt
 
 pub loop-input-preserved : goal.loop-input-preserved
 loop-input-preserved c =

@@ -44,8 +44,8 @@ pub returns-clause-plan : goal.returns-clause-plan
 returns-clause-plan c =
     let text = c.as_slice.ensures ∙ c.in_ok-made.ensures.text in
     is_planned designs_are_carried are_netlists have_sizes texts_are_decided written_plans_read c.args.seed c.args.size c.requires.some_gate c.requires.few_gates
-    c.in_ok-netlist.netlist c.in_ok-planned.planned (subst (λ (t : List ℕ). IsNetlist t c.in_ok-netlist.netlist.design) text c.in_ok-netlist.ensures.netlist) c.in_ok-netlist.ensures.parts
-    c.in_ok-planned.ensures.admissible c.in_ok-planned.ensures.bare c.in_ok-planned.ensures.table c.in_ok-planned.ensures.carries c.in_ok-planned.ensures.small
+    c.in_ok-netlist.netlist c.in-Ok.planned (subst (λ (t : List ℕ). IsNetlist t c.in_ok-netlist.netlist.design) text c.in_ok-netlist.ensures.netlist) c.in_ok-netlist.ensures.parts
+    c.in-Ok.ensures.admissible c.in-Ok.ensures.bare c.in-Ok.ensures.table c.in-Ok.ensures.carries c.in-Ok.ensures.small
 
 pub make-requires-clause-seed : goal.make-requires-clause-seed
 make-requires-clause-seed c = c.requires.seed
@@ -88,18 +88,4 @@ returns-in_err-netlist-clause-range c = rw ((err_from_is_err_and c.from_residual
 pub returns-in_err-netlist-clause-refused : goal.returns-in_err-netlist-clause-refused
 returns-in_err-netlist-clause-refused c =
     let p = err_from_is_err_and c.from_residual-in_err-netlist.result c.from_residual-in_err-netlist.ensures.1 in
-    rw (p.1) p.2
-
-pub returns-in_err-planned-clause-plan : goal.returns-in_err-planned-clause-plan
-returns-in_err-planned-clause-plan c = rw ((err_from_is_err_and c.from_residual-in_err-planned.result c.from_residual-in_err-planned.ensures.1).1) tt
-
-pub returns-in_err-planned-clause-state : goal.returns-in_err-planned-clause-state
-returns-in_err-planned-clause-state c = rw ((err_from_is_err_and c.from_residual-in_err-planned.result c.from_residual-in_err-planned.ensures.1).1) tt
-
-pub returns-in_err-planned-clause-range : goal.returns-in_err-planned-clause-range
-returns-in_err-planned-clause-range c = rw ((err_from_is_err_and c.from_residual-in_err-planned.result c.from_residual-in_err-planned.ensures.1).1) tt
-
-pub returns-in_err-planned-clause-refused : goal.returns-in_err-planned-clause-refused
-returns-in_err-planned-clause-refused c =
-    let p = err_from_is_err_and c.from_residual-in_err-planned.result c.from_residual-in_err-planned.ensures.1 in
     rw (p.1) p.2

@@ -1,10 +1,23 @@
 use Rattle.std.proofs.Common.{◌≡◌, ◌<◌, ◌∙◌, sym, ap, List, [], ◌∷◌, ◌++◌, length, map, arith}
 use Rattle.std.specs.List.{range_with_len}
+use Rattle.std.proofs.lemmas.Result.{err_from_is_err_and}
 use Rattle.std.proofs.lemmas.List.FromFn.{map-range_with_len_more}
 use Rattle.made_summary.specs.Summaries.{output_at}
 use Rattle.made_summary.specs.declared.summarizing.OutputBits.{OutputBits}
 use Rattle.made_summary.proofs.Summarized.{output_is}
 use Rattle.made_summary.proofs.summarizing.outputs_by_name.Goals as goal
+
+pub returns-in_err-outputs : goal.returns-in_err-outputs
+returns-in_err-outputs c = rw ((err_from_is_err_and c.from_residual.result c.from_residual.ensures.1).1) tt
+
+pub returns-in_err-output_of : goal.returns-in_err-output_of
+returns-in_err-output_of c = rw ((err_from_is_err_and c.from_residual-in_err-output_of.result c.from_residual-in_err-output_of.ensures.1).1) tt
+
+pub returns-in_err-push : goal.returns-in_err-push
+returns-in_err-push c = rw ((err_from_is_err_and c.from_residual-in_err-push.result c.from_residual-in_err-push.ensures.1).1) tt
+
+pub loop-k-init : goal.loop-k-init
+loop-k-init c = c.in_ok-outputs.ensures.items
 
 pub loop-k-preserved : goal.loop-k-preserved
 loop-k-preserved c =

@@ -21,66 +21,58 @@ pub plan_made-requires-clause-few_gates : goal.plan_made-requires-clause-few_gat
 plan_made-requires-clause-few_gates c = c.requires.few_gates
 
 pub draw_streams-requires : goal.draw_streams-requires
-draw_streams-requires c = c.in_ok-made.ensures.range
+draw_streams-requires c = c.in_ok-netlist.ensures.range
 
-pub told_by-requires-clause-driven : goal.told_by-requires-clause-driven
-told_by-requires-clause-driven c =
-    let are = c.in_ok-streams.ensures ∙ ap (λ (s : ℕ). streams_after s c.args.cycles) c.in_ok-made.ensures.state in
+pub told_by-summary-requires-clause-driven : goal.told_by-summary-requires-clause-driven
+told_by-summary-requires-clause-driven c =
+    let are = c.in-Ok.ensures ∙ ap (λ (s : ℕ). streams_after s c.args.cycles) c.in_ok-netlist.ensures.state in
     record {
-      admissible = c.in_ok-made.ensures.plan.is_plan.admissible;
-      cycles = subst (λ (s : Streams). 0 < s.cycles) (sym c.in_ok-streams.ensures) c.requires.some_cycle;
-      fit = streams_fit c.args.seed c.args.size c.args.cycles c.in_ok-made.made.netlist c.in_ok-made.made.planned c.in_ok-streams.streams c.in_ok-made.ensures.plan are;
-      in_box = c.in_ok-made.ensures.plan.reads.inside;
-      quiet = is_quiet one_context_is_quiet c.args.seed c.args.size c.args.cycles c.in_ok-made.made.netlist c.in_ok-made.made.planned c.in_ok-streams.streams c.in_ok-made.ensures.plan are;
+      admissible = c.in_ok-netlist.ensures.plan.is_plan.admissible;
+      cycles = subst (λ (s : Streams). 0 < s.cycles) (sym c.in-Ok.ensures) c.requires.some_cycle;
+      fit = streams_fit c.args.seed c.args.size c.args.cycles c.in_ok-netlist.field-0.netlist c.in_ok-netlist.field-0.planned c.in-Ok.streams c.in_ok-netlist.ensures.plan are;
+      in_box = c.in_ok-netlist.ensures.plan.reads.inside;
+      quiet = is_quiet one_context_is_quiet c.args.seed c.args.size c.args.cycles c.in_ok-netlist.field-0.netlist c.in_ok-netlist.field-0.planned c.in-Ok.streams c.in_ok-netlist.ensures.plan are;
     }
 
-pub told_by-requires-clause-parts : goal.told_by-requires-clause-parts
-told_by-requires-clause-parts c = c.in_ok-made.ensures.plan.parts
+pub told_by-summary-requires-clause-parts : goal.told_by-summary-requires-clause-parts
+told_by-summary-requires-clause-parts c = c.in_ok-netlist.ensures.plan.parts
 
-pub told_by-requires-clause-many : goal.told_by-requires-clause-many
-told_by-requires-clause-many c =
-    let are = c.in_ok-streams.ensures ∙ ap (λ (s : ℕ). streams_after s c.args.cycles) c.in_ok-made.ensures.state in
-    (streams_feed c.args.seed c.args.size c.args.cycles c.in_ok-made.made.netlist c.in_ok-made.made.planned c.in_ok-streams.streams c.in_ok-made.ensures.plan are).0
+pub told_by-summary-requires-clause-many : goal.told_by-summary-requires-clause-many
+told_by-summary-requires-clause-many c =
+    let are = c.in-Ok.ensures ∙ ap (λ (s : ℕ). streams_after s c.args.cycles) c.in_ok-netlist.ensures.state in
+    (streams_feed c.args.seed c.args.size c.args.cycles c.in_ok-netlist.field-0.netlist c.in_ok-netlist.field-0.planned c.in-Ok.streams c.in_ok-netlist.ensures.plan are).0
 
-pub told_by-requires-clause-long : goal.told_by-requires-clause-long
-told_by-requires-clause-long c =
-    let are = c.in_ok-streams.ensures ∙ ap (λ (s : ℕ). streams_after s c.args.cycles) c.in_ok-made.ensures.state in
-    (streams_feed c.args.seed c.args.size c.args.cycles c.in_ok-made.made.netlist c.in_ok-made.made.planned c.in_ok-streams.streams c.in_ok-made.ensures.plan are).1
+pub told_by-summary-requires-clause-long : goal.told_by-summary-requires-clause-long
+told_by-summary-requires-clause-long c =
+    let are = c.in-Ok.ensures ∙ ap (λ (s : ℕ). streams_after s c.args.cycles) c.in_ok-netlist.ensures.state in
+    (streams_feed c.args.seed c.args.size c.args.cycles c.in_ok-netlist.field-0.netlist c.in_ok-netlist.field-0.planned c.in-Ok.streams c.in_ok-netlist.ensures.plan are).1
 
-pub told_by-requires-clause-outputs : goal.told_by-requires-clause-outputs
-told_by-requires-clause-outputs c =
-    let planned = c.in_ok-made.made.planned in
-    let bits = shown_bits planned.ports c.in_ok-streams.streams (plane_of (start_grid planned.plan).rows) in
-    shown_many c.args.seed c.args.size c.in_ok-made.made.netlist planned c.in_ok-streams.streams (main_outputs c.in_ok-made.made.netlist.design) bits c.in_ok-made.ensures.plan refl refl
+pub told_by-summary-requires-clause-outputs : goal.told_by-summary-requires-clause-outputs
+told_by-summary-requires-clause-outputs c =
+    let planned = c.in_ok-netlist.field-0.planned in
+    let bits = shown_bits planned.ports c.in-Ok.streams (plane_of (start_grid planned.plan).rows) in
+    shown_many c.args.seed c.args.size c.in_ok-netlist.field-0.netlist planned c.in-Ok.streams (main_outputs c.in_ok-netlist.field-0.netlist.design) bits c.in_ok-netlist.ensures.plan refl refl
 
 pub returns-clause-summary : goal.returns-clause-summary
 returns-clause-summary c =
-    let are = c.in_ok-streams.ensures ∙ ap (λ (s : ℕ). streams_after s c.args.cycles) c.in_ok-made.ensures.state in
-    let names = main_outputs c.in_ok-made.made.netlist.design in
-    IfOk-weaker c.told_by.result _ _
-    (λ m h. summarizes carriers_show_runs c.args.seed c.args.size c.args.cycles c.in_ok-made.made.netlist c.in_ok-made.made.planned c.in_ok-streams.streams
-    names _ h.outputs.evaluated m c.in_ok-made.ensures.plan are refl refl h.outputs.runs h.weight h.lanes h.columns h.period h.latency h.outputs.are h.near)
-    c.told_by.ensures.told
+    let are = c.in-Ok.ensures ∙ ap (λ (s : ℕ). streams_after s c.args.cycles) c.in_ok-netlist.ensures.state in
+    let names = main_outputs c.in_ok-netlist.field-0.netlist.design in
+    IfOk-weaker c.told_by-summary.result _ _
+    (λ m h. summarizes carriers_show_runs c.args.seed c.args.size c.args.cycles c.in_ok-netlist.field-0.netlist c.in_ok-netlist.field-0.planned c.in-Ok.streams
+    names _ h.outputs.evaluated m c.in_ok-netlist.ensures.plan are refl refl h.outputs.runs h.weight h.lanes h.columns h.period h.latency h.outputs.are h.near)
+    c.told_by-summary.ensures.told
 
 pub returns-clause-refused : goal.returns-clause-refused
 returns-clause-refused c =
-    let are = c.in_ok-streams.ensures ∙ ap (λ (s : ℕ). streams_after s c.args.cycles) c.in_ok-made.ensures.state in
-    IfErr-weaker c.told_by.result _ _
-    (not_run c.args.seed c.args.size c.args.cycles c.in_ok-made.made.netlist c.in_ok-made.made.planned c.in_ok-streams.streams c.in_ok-made.ensures.plan are)
-    c.told_by.ensures.refused
+    let are = c.in-Ok.ensures ∙ ap (λ (s : ℕ). streams_after s c.args.cycles) c.in_ok-netlist.ensures.state in
+    IfErr-weaker c.told_by-summary.result _ _
+    (not_run c.args.seed c.args.size c.args.cycles c.in_ok-netlist.field-0.netlist c.in_ok-netlist.field-0.planned c.in-Ok.streams c.in_ok-netlist.ensures.plan are)
+    c.told_by-summary.ensures.refused
 
-pub returns-in_err-made-clause-refused : goal.returns-in_err-made-clause-refused
-returns-in_err-made-clause-refused c =
+pub returns-in_err-netlist-clause-refused : goal.returns-in_err-netlist-clause-refused
+returns-in_err-netlist-clause-refused c =
     let p = err_from_is_err_and c.from_residual.result c.from_residual.ensures.1 in
-    rw (p.1, p.2, c.in_err-made.ensures.refused) tt
+    rw (p.1, p.2, c.in_err-netlist.ensures.refused) tt
 
-pub returns-in_err-streams-clause-refused : goal.returns-in_err-streams-clause-refused
-returns-in_err-streams-clause-refused c =
-    let p = err_from_is_err_and c.from_residual-in_err-streams.result c.from_residual-in_err-streams.ensures.1 in
-    rw (p.1, p.2) tt
-
-pub returns-in_err-made-clause-summary : goal.returns-in_err-made-clause-summary
-returns-in_err-made-clause-summary c = rw ((err_from_is_err_and c.from_residual.result c.from_residual.ensures.1).1) tt
-
-pub returns-in_err-streams-clause-summary : goal.returns-in_err-streams-clause-summary
-returns-in_err-streams-clause-summary c = rw ((err_from_is_err_and c.from_residual-in_err-streams.result c.from_residual-in_err-streams.ensures.1).1) tt
+pub returns-in_err-netlist-clause-summary : goal.returns-in_err-netlist-clause-summary
+returns-in_err-netlist-clause-summary c = rw ((err_from_is_err_and c.from_residual.result c.from_residual.ensures.1).1) tt

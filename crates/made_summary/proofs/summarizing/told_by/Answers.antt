@@ -18,32 +18,24 @@ outputs_in-requires-clause-long c = c.requires.long
 
 pub outputs_in-requires-clause-simulated : goal.outputs_in-requires-clause-simulated
 outputs_in-requires-clause-simulated c =
-    ap (λ (rows : List (List Bool)). length rows) (c.as_slice.ensures ∙ c.in_ok-simulated.ensures.bits) ∙ c.requires.outputs
+    ap (λ (rows : List (List Bool)). length rows) (c.as_slice.ensures ∙ c.in-Ok.ensures.bits) ∙ c.requires.outputs
 
-pub returns-clause-told : goal.returns-clause-told
-returns-clause-told c = record {
+pub returns-in_ok-outputs-in-Ok-clause-told : goal.returns-in_ok-outputs-in-Ok-clause-told
+returns-in_ok-outputs-in-Ok-clause-told c = record {
   weight = c.told.ensures.weight;
   lanes = c.told.ensures.lanes;
   columns = c.told.ensures.columns;
   period = c.told.ensures.period;
   latency = c.told.ensures.latency;
-  near = c.in_ok-simulated.ensures.near;
-  outputs = subst (λ (rows : List (List Bool)). AreOutputsIn c.args.netlist.design c.args.streams.now rows c.told.result.outputs) (c.as_slice.ensures ∙ c.in_ok-simulated.ensures.bits)
-      (subst (λ (outputs : List OutputBits). AreOutputsIn c.args.netlist.design c.args.streams.now c.as_slice.result.now outputs) (sym c.told.ensures.outputs) c.in_ok-outputs.ensures.outputs);
+  near = c.in-Ok.ensures.near;
+  outputs = subst (λ (rows : List (List Bool)). AreOutputsIn c.args.netlist.design c.args.streams.now rows c.told.result.outputs) (c.as_slice.ensures ∙ c.in-Ok.ensures.bits)
+      (subst (λ (outputs : List OutputBits). AreOutputsIn c.args.netlist.design c.args.streams.now c.as_slice.result.now outputs) (sym c.told.ensures.outputs) c.in_ok-outputs-in-Ok.ensures.outputs);
 }
 
-pub returns-in_err-simulated-clause-told : goal.returns-in_err-simulated-clause-told
-returns-in_err-simulated-clause-told c = rw ((err_from_is_err_and c.from_residual.result c.from_residual.ensures.1).1) tt
+pub returns-in_err-outputs-in-Ok-clause-told : goal.returns-in_err-outputs-in-Ok-clause-told
+returns-in_err-outputs-in-Ok-clause-told c = rw ((err_from_is_err_and c.from_residual.result c.from_residual.ensures.1).1) tt
 
-pub returns-in_err-simulated-clause-refused : goal.returns-in_err-simulated-clause-refused
-returns-in_err-simulated-clause-refused c =
+pub returns-in_err-outputs-in-Ok-clause-refused : goal.returns-in_err-outputs-in-Ok-clause-refused
+returns-in_err-outputs-in-Ok-clause-refused c =
     let p = err_from_is_err_and c.from_residual.result c.from_residual.ensures.1 in
-    rw (p.1, p.2) c.in_err-simulated.ensures.refused
-
-pub returns-in_err-outputs-clause-told : goal.returns-in_err-outputs-clause-told
-returns-in_err-outputs-clause-told c = rw ((err_from_is_err_and c.from_residual-in_err-outputs.result c.from_residual-in_err-outputs.ensures.1).1) tt
-
-pub returns-in_err-outputs-clause-refused : goal.returns-in_err-outputs-clause-refused
-returns-in_err-outputs-clause-refused c =
-    let p = err_from_is_err_and c.from_residual-in_err-outputs.result c.from_residual-in_err-outputs.ensures.1 in
-    rw (p.1, p.2, c.in_err-outputs.ensures.refused) tt
+    rw (p.1, p.2, c.in_err-outputs-in-Ok.ensures.refused) tt
