@@ -1,5 +1,6 @@
-use Rattle.std.proofs.Common.{sym, ◌∙◌, ap, ap₂, subst, ◌<◌, ◌++◌, ◌∷◌, [], length, get_or, arith}
-use Rattle.std.proofs.lemmas.List.{map_more}
+use Rattle.std.proofs.Common.{sym, ◌∙◌, ap, ap₂, subst, ◌<◌, ◌++◌, ◌∷◌, [], map, length, get_or, arith}
+use Rattle.std.proofs.lemmas.Result.{err_from_is_err_and}
+use Rattle.std.proofs.lemmas.List.{map_more, take_all}
 use Rattle.std.proofs.lemmas.Option.{get_or_from_slice_get}
 use Rattle.cell_core.specs.declared.cells.Src.TheVariants.{Zero}
 use Rattle.cell_core.specs.declared.cells.Cell.TheVariants.{Or}
@@ -13,6 +14,15 @@ find_gate-requires-clause-there c =
     let below : c.loop-at.at < length list.cells = omega (arith, c.loop-at-test.true, c.len.ensures) in
     subst (ReadsThere list (length list.cells)) (get_or_from_slice_get list.cells c.loop-at.at c.get.result.now (Or Zero Zero) c.get.ensures)
     (reads_later list c.loop-at.at (length list.cells) (get_or list.cells c.loop-at.at (Or Zero Zero)) (omega (arith, below)) (c.requires.sound.cells c.loop-at.at (Or Zero Zero) below))
+
+pub returns-in_err-push : goal.returns-in_err-push
+returns-in_err-push c = rw ((err_from_is_err_and c.from_residual.result c.from_residual.ensures.1).1) tt
+
+pub loop-at-init : goal.loop-at-init
+loop-at-init c = c.new-gates.ensures.items
+
+pub returns : goal.returns
+returns c = c.loop-at.invariant ∙ ap (map (gate_of c.args.list.now)) (take_all c.loop-at.at c.args.list.now.cells (omega (arith, c.loop-at-test.false, c.len.ensures)))
 
 pub loop-at-preserved : goal.loop-at-preserved
 loop-at-preserved c =

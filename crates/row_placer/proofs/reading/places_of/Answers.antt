@@ -1,5 +1,6 @@
-use Rattle.std.proofs.Common.{sym, ◌∙◌, ap, ap₂, subst, ◌<◌, ◌++◌, ◌∷◌, [], length, arith}
-use Rattle.std.proofs.lemmas.List.{map_more}
+use Rattle.std.proofs.Common.{sym, ◌∙◌, ap, ap₂, subst, ◌<◌, ◌++◌, ◌∷◌, [], map, length, arith}
+use Rattle.std.proofs.lemmas.Result.{err_from_is_err_and}
+use Rattle.std.proofs.lemmas.List.{map_more, take_all}
 use Rattle.std.proofs.lemmas.Option.{get_or_from_slice_get}
 use Rattle.cell_core.specs.declared.cells.Src.TheVariants.{Zero}
 use Rattle.row_placer.specs.Numbers.{IsThere}
@@ -17,6 +18,15 @@ find_place-requires c =
       places = c.requires.places;
       zero = subst (HasHomeIfZero list c.args.homes.now) is (c.requires.zero c.loop-at.at Zero below);
     }
+
+pub returns-in_err-push : goal.returns-in_err-push
+returns-in_err-push c = rw ((err_from_is_err_and c.from_residual.result c.from_residual.ensures.1).1) tt
+
+pub loop-at-init : goal.loop-at-init
+loop-at-init c = c.new-places.ensures.items
+
+pub returns : goal.returns
+returns c = c.loop-at.invariant ∙ ap (map (net_place_of c.args.list.now c.args.homes.now c.args.made.now)) (take_all c.loop-at.at c.args.list.now.nets (omega (arith, c.loop-at-test.false, c.len.ensures)))
 
 pub loop-at-preserved : goal.loop-at-preserved
 loop-at-preserved c =

@@ -1,9 +1,15 @@
 use Rattle.std.proofs.Common.{◌≡◌, subst, ◌+◌, ◌<◌, arith}
+use Rattle.std.proofs.lemmas.Result.{err_from_is_err_and}
 use Rattle.channel_router.specs.Routes.{brought, swapped, distance}
 use Rattle.channel_router.proofs.Swaps.{down_one}
 use Rattle.row_placer.specs.Steps.{MovesTags}
 use Rattle.row_placer.proofs.Carry.{kept_on, moved_on}
 use Rattle.row_placer.proofs.lanes.Lanes.bring_down.Goals as goal
+
+pub returns-in_err-swap : goal.returns-in_err-swap
+returns-in_err-swap c =
+    let p = (err_from_is_err_and c.from_residual.result c.from_residual.ensures.1).1 in
+    record { moved = rw p tt; kept = kept_on c.args.self.now c.loop-at.self c.swap.new.self c.loop-at.invariant.kept c.swap.ensures.kept }
 
 pub loop-at-preserved : goal.loop-at-preserved
 loop-at-preserved c =

@@ -1,4 +1,5 @@
 use Rattle.std.proofs.Common.{◌≡◌, ◌∙◌, ap, subst, ◌-◌, ◌<◌, length, arith}
+use Rattle.std.proofs.lemmas.Result.{err_from_is_err_and}
 use Rattle.std.specs.Prelude.{slice_get, Some}
 use Rattle.std.proofs.lemmas.Option.{get_or_from_slice_get}
 use Rattle.row_placer.specs.declared.job.Job.{Job}
@@ -13,6 +14,11 @@ find-lane-requires c =
     let less : c.loop-port.port < length job.ports = omega (arith, c.loop-port-test.true, c.requires.loops) in
     port_has job (length job.ports) c.loop-port.port c.get-value.result.now c.loop-port.self.tags.items i.held less
     (subst (λ (j : Job). slice_get j.ports c.loop-port.port ≡ Some c.get-value.result.now) i.kept.job c.get-value.ensures)
+
+pub returns-in_err-bring : goal.returns-in_err-bring
+returns-in_err-bring c =
+    let p = (err_from_is_err_and c.from_residual.result c.from_residual.ensures.1).1 in
+    record { held = rw p tt; settled = rw p tt; adds = rw p tt; kept = kept_on c.args.self.now c.loop-port.self c.bring.new.self c.loop-port.invariant.kept c.bring.ensures.kept }
 
 pub loop-port-preserved : goal.loop-port-preserved
 loop-port-preserved c =

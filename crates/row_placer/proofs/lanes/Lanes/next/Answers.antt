@@ -1,4 +1,5 @@
 use Rattle.std.proofs.Common.{◌≡◌, sym, ◌∙◌, ap, ap₂, subst, ◌+◌, ◌-◌, ◌≤◌, length, get_or, cond, arith}
+use Rattle.std.proofs.lemmas.Result.{err_from_is_err_and}
 use Rattle.std.specs.Prelude.{◌==◌}
 use Rattle.std.proofs.lemmas.List.{length-set}
 use Rattle.row_placer.specs.declared.job.Job.{Job}
@@ -56,6 +57,21 @@ end-requires c =
     subst (λ n. 1 ≤ count n Kept c.gate.new.self.tags.items) (sym value)
     (result_there (c.use_value-2.new.self.job.base + length c.use_value-2.new.self.made.items) gate.first gate.second c.use_value-2.new.self.tags.items c.gate.new.self.tags.items c.in_ok-gate.ensures.made.exchanged)
 
+pub returns-in_err-use_value : goal.returns-in_err-use_value
+returns-in_err-use_value c =
+    let p = (err_from_is_err_and c.from_residual.result c.from_residual.ensures.1).1 in
+    record { ready = rw p tt; adds = rw p tt; made = rw p tt; job = c.use_value.ensures.kept.job; left = rw p tt }
+
+pub returns-in_err-use_value-2 : goal.returns-in_err-use_value-2
+returns-in_err-use_value-2 c =
+    let p = (err_from_is_err_and c.from_residual-in_err-use_value-2.result c.from_residual-in_err-use_value-2.ensures.1).1 in
+    record { ready = rw p tt; adds = rw p tt; made = rw p tt; job = c.use_value-2.ensures.kept.job ∙ c.in_ok-use_value.ensures.kept.job; left = rw p tt }
+
+pub returns-in_err-gate : goal.returns-in_err-gate
+returns-in_err-gate c =
+    let p = (err_from_is_err_and c.from_residual-in_err-gate.result c.from_residual-in_err-gate.ensures.1).1 in
+    record { ready = rw p tt; adds = rw p tt; made = rw p tt; job = c.gate.ensures.job ∙ c.in_ok-use_value-2.ensures.kept.job ∙ c.in_ok-use_value.ensures.kept.job; left = rw p tt }
+
 pub returns-clause-ready : goal.returns-clause-ready
 returns-clause-ready c =
     let s = c.args.self.now in
@@ -101,9 +117,3 @@ returns-clause-left c =
     let later = c.use_value.new.left in
     ap length c.in_ok-use_value-2.ensures.left ∙ length-set later gate.second (get_or later gate.second 0 - 1)
     ∙ ap length c.in_ok-use_value.ensures.left ∙ length-set first gate.first (get_or first gate.first 0 - 1)
-
-pub returns-in_err-use_value-2-clause-job : goal.returns-in_err-use_value-2-clause-job
-returns-in_err-use_value-2-clause-job c = c.use_value-2.ensures.kept.job ∙ c.in_ok-use_value.ensures.kept.job
-
-pub returns-in_err-gate-clause-job : goal.returns-in_err-gate-clause-job
-returns-in_err-gate-clause-job c = c.gate.ensures.job ∙ c.in_ok-use_value-2.ensures.kept.job ∙ c.in_ok-use_value.ensures.kept.job

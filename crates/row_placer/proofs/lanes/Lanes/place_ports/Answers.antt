@@ -1,4 +1,5 @@
 use Rattle.std.proofs.Common.{◌≡◌, ap, subst, ◌<◌, length, arith}
+use Rattle.std.proofs.lemmas.Result.{err_from_is_err_and}
 use Rattle.std.specs.Prelude.{slice_get, Some}
 use Rattle.row_placer.specs.declared.job.Job.{Job}
 use Rattle.row_placer.specs.Ready.{HoldPorts}
@@ -14,6 +15,11 @@ use_value-requires-clause-usable c =
     let less : c.loop-port.port < length job.ports = omega (arith, c.loop-port-test.true, c.len.ensures, ap (λ (j : Job). length j.ports) i.kept.job) in
     let p = ported job c.loop-port.port c.get-value.result.now s.tags.items c.loop-port.left (subst (λ (j : Job). slice_get j.ports c.loop-port.port ≡ Some c.get-value.result.now) i.kept.job c.get-value.ensures) less c.requires.known i.ready in
     p.usable
+
+pub returns-in_err-use_value : goal.returns-in_err-use_value
+returns-in_err-use_value c =
+    let p = (err_from_is_err_and c.from_residual.result c.from_residual.ensures.1).1 in
+    record { held = rw p tt; adds = rw p tt; kept = kept_on c.args.self.now c.loop-port.self c.use_value.new.self c.loop-port.invariant.kept c.use_value.ensures.kept }
 
 pub loop-port-preserved : goal.loop-port-preserved
 loop-port-preserved c =

@@ -1,4 +1,5 @@
 use Rattle.std.proofs.Common.{◌≡◌, refl, subst, ◌+◌, take, length, get_or, arith}
+use Rattle.std.proofs.lemmas.Result.{err_from_is_err_and}
 use Rattle.std.proofs.Math.Seq.{take-length}
 use Rattle.channel_router.specs.Routes.{swapped}
 use Rattle.row_placer.specs.Settling.{came_from}
@@ -12,6 +13,11 @@ swap-requires c =
     let i = c.loop-next.invariant in
     let on = c.requires c.loop-next.next 0 c.loop-next-test.true in
     omega (arith, on, i.moved.long)
+
+pub returns-in_err-swap : goal.returns-in_err-swap
+returns-in_err-swap c =
+    let p = (err_from_is_err_and c.from_residual.result c.from_residual.ensures.1).1 in
+    record { moved = rw p tt; kept = kept_on c.args.self.now c.loop-next.self c.swap.new.self c.loop-next.invariant.kept c.swap.ensures.kept }
 
 pub loop-next-preserved : goal.loop-next-preserved
 loop-next-preserved c =
