@@ -74,6 +74,24 @@ fn if_no_larger(now: &KeptList, new: KeptList) -> Option<KeptList>
     }
 }
 
+// The list after these replacements, if there are any and it is no larger.
+fn next_by(
+    alloc: Global,
+    now: &KeptList,
+    all: &[Replacement],
+) -> Result<Option<KeptList>, RewriteError>
+    ensures { IfOk result (λ o. IfSome o (λ n. IsRewritten now.now.list now.now.kept.items n.list
+        n.kept.items)) }
+{
+    if all.is_empty() {
+        return Ok(None);
+    }
+    match replaced(alloc, now, all)? {
+        Some(new) => Ok(if_no_larger(now, new)),
+        None => Ok(None),
+    }
+}
+
 // The list after a round, if there are replacements.
 fn next_list(
     alloc: Global,
@@ -85,13 +103,9 @@ fn next_list(
         n.kept.items)) }
 {
     let all = replacements(alloc, &now.list, &now.kept, round, draws)?;
-    if all.is_empty() {
-        return Ok(None);
-    }
-    match replaced(alloc, now, &all)? {
-        Some(new) => Ok(if_no_larger(now, new)),
-        None => Ok(None),
-    }
+    let next = next_by(alloc, now, &all);
+    drop(all);
+    next
 }
 
 // A copy of a list and of its kept sources.
