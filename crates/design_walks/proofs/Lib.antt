@@ -2,3 +2,4 @@ pub mod Walked
 pub mod Weighing
 pub mod Positioned
 pub mod Sorted
+pub mod Added

@@ -32,8 +32,9 @@ impl<'a> ModelNames<'a> {
         ensures { IfOk result (λ names. names ≡ names_in_order model.now) }
     {
         let words = words_by_line(alloc, model)?;
-        let names = first_names(alloc, &words)?;
-        Ok(ModelNames { names })
+        let names = first_names(alloc, &words);
+        drop(words);
+        Ok(ModelNames { names: names? })
     }
 
     /// Returns the names, in order.

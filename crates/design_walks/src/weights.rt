@@ -64,7 +64,10 @@ pub fn weight_or_circle(alloc: Global, design: &Design) -> Result<u64, ModelOrde
     let models = design.models.as_slice();
     let named = NamedModels::new(alloc, models)?;
     let order = order(alloc, models, &named)?;
-    let weights = weights(alloc, design, &named, order.as_slice())?;
+    let weights = weights(alloc, design, &named, order.as_slice());
+    drop(order);
+    drop(named);
+    let weights = weights?;
     Ok(weights.first().copied().unwrap_or(0))
 }
 
