@@ -1,4 +1,4 @@
-use Rattle.std.proofs.Common.{◌≡◌, sym, ap, subst, ◌∙◌, [], ◌∷◌, ◌++◌, length, get_or, arith}
+use Rattle.std.proofs.Common.{◌≡◌, sym, ap, subst, ◌∙◌, [], ◌∷◌, length, get_or, arith}
 use Rattle.std.proofs.lemmas.List.{length-append}
 use Rattle.ww_rule.proofs.RowLemmas.{pushed}
 use Rattle.band_core.proofs.making.empty_lists.Goals as goal

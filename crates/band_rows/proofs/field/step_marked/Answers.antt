@@ -1,7 +1,7 @@
 use Rattle.std.proofs.Common.{ℕ, ◌<◌, ◌≤◌, refl, sym, ap, subst, ◌∙◌, List, length, take, get_or, arith}
 use Rattle.std.proofs.lemmas.List.{get_or-take, length-take-le, with_items_is}
 use Rattle.lane_kernel.specs.Around.{IsInner}
-use Rattle.lane_kernel.specs.Marked.{AreCleared, IsAmong}
+use Rattle.lane_kernel.specs.Marked.{IsAmong}
 use Rattle.band_rows.proofs.FieldSteps.{same_listed, same_marked}
 use Rattle.band_rows.proofs.field.step_marked.Goals as goal
 

@@ -1,4 +1,4 @@
-use Rattle.std.proofs.Common.{ℕ, ◌+◌, ◌<◌, ◌/◌, ◌%◌, sym, ap, ap₂, subst, ◌∙◌, List, length, get_or, arith}
+use Rattle.std.proofs.Common.{◌+◌, ◌<◌, ◌/◌, ◌%◌, sym, ap, ap₂, subst, ◌∙◌, length, get_or, arith}
 use Rattle.lists.specs.Bits.{has_bit}
 use Rattle.lane_kernel.specs.Rows.{state_of}
 use Rattle.lane_kernel.specs.PlaneRows.{place}
