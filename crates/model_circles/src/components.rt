@@ -160,6 +160,17 @@ impl Components {
         }
         Ok(())
     }
+
+    // The rank of each model, and 0 for one that has none.
+    fn ranks(&self, alloc: Global) -> Result<Vec<usize>, AllocError>
+        ensures { IfOk result (λ ranks. length ranks.items ≡ length self.now.notes.items) }
+    {
+        let mut ranks = Vec::new(alloc);
+        for note in &self.notes {
+            ranks.push(note.rank.unwrap_or(0))?;
+        }
+        Ok(ranks)
+    }
 }
 
 // How many steps a walk takes at most: each passes a line or leaves a model.
@@ -185,9 +196,7 @@ pub fn component_ranks(
     for n in 0..models.len() {
         components.reach(models, named, n, steps)?;
     }
-    components
-        .notes
-        .iter()
-        .map(|note| note.rank.unwrap_or(0))
-        .collect(alloc)
+    let ranks = components.ranks(alloc);
+    drop(components);
+    ranks
 }
