@@ -1,6 +1,7 @@
 // The flat netlist.
-ghost use Rattle.std.specs.Prelude.{ℕ, ◌≡◌, ◌<◌, ◌≤◌, ◌^◌, min, IfOk, OnOk, IsErrOf, IsOkUnless};
-ghost use Rattle.netlist_meaning.specs.FlatOf.{IsFlatOf};
+ghost use Rattle.std.specs.Prelude.{ℕ, ◌≡◌, ◌<◌, ◌≤◌, ◌^◌, map, min, IfOk, OnOk, IsErrOf, IsOkUnless};
+ghost use Rattle.netlist_meaning.specs.InOrder.{nets_in_order};
+ghost use Rattle.netlist_meaning.specs.FlatOf.{class_of_net, IsFlatOf};
 ghost use Rattle.netlist_meaning.specs.Weight.{weight};
 ghost use Rattle.netlist_rules.specs.ModelFaults.{AreFaultless};
 ghost use Rattle.netlist_core.specs.Limit.{weight_limit};
@@ -18,17 +19,21 @@ use lists::List;
 use netlist_core::{Design, Flat, WEIGHT_LIMIT};
 use std::alloc::{AllocError, Global};
 
-// The flat netlist of a numbered design of a known weight.
-fn flat_of(alloc: Global, numbers: &Numbers<'_>, found: u64) -> Result<Flat, AllocError>
+// The flat netlist of a numbered design of a known weight, from the class of each net.
+fn flat_by_classes(
+    alloc: Global,
+    numbers: &Numbers<'_>,
+    found: u64,
+    classes: &[u32],
+) -> Result<Flat, AllocError>
     requires faultless { AreFaultless numbers.now.models }
-    requires few { weight numbers.now < 2 ^ 32 }
     requires weight { found ≡ weight numbers.now }
+    requires classes { classes.now ≡ map (class_of_net numbers.now) (nets_in_order numbers.now) }
     ensures { IfOk result (IsFlatOf numbers.now) }
 {
-    let classes = classes_of(alloc, numbers)?;
     let latches = latches_of(alloc, numbers)?;
-    let ports = flat_ports(alloc, numbers, &classes, &latches)?;
-    let nets = nets_of(alloc, numbers, &classes)?;
+    let ports = flat_ports(alloc, numbers, classes, &latches)?;
+    let nets = nets_of(alloc, numbers, classes)?;
     let nodes = nodes_of(alloc, numbers)?;
     Ok(Flat {
         nets: List::of(nets),
@@ -43,6 +48,17 @@ fn flat_of(alloc: Global, numbers: &Numbers<'_>, found: u64) -> Result<Flat, All
     })
 }
 
+// The flat netlist of a numbered design of a known weight.
+fn flat_of(alloc: Global, numbers: &Numbers<'_>, found: u64) -> Result<Flat, AllocError>
+    requires faultless { AreFaultless numbers.now.models }
+    requires few { weight numbers.now < 2 ^ 32 }
+    requires weight { found ≡ weight numbers.now }
+    ensures { IfOk result (IsFlatOf numbers.now) }
+{
+    let classes = classes_of(alloc, numbers)?;
+    flat_by_classes(alloc, numbers, found, &classes)
+}
+
 // The flat netlist of a design of a known weight, whose nets are numbered first.
 fn numbered_flat(alloc: Global, design: &Design, found: u64) -> Result<Flat, AllocError>
     requires faultless { AreFaultless design.now.models }
@@ -51,7 +67,9 @@ fn numbered_flat(alloc: Global, design: &Design, found: u64) -> Result<Flat, All
     ensures { IfOk result (IsFlatOf design.now) }
 {
     let numbers = Numbers::new(alloc, design)?;
-    flat_of(alloc, &numbers, found)
+    let flat = flat_of(alloc, &numbers, found);
+    drop(numbers);
+    flat
 }
 
 /// Makes the flat netlist of a design without a fault.

@@ -44,7 +44,9 @@ fn placed_models(alloc: Global, design: &Design) -> Result<List<PlacedModel>, Al
     ensures { IfOk result (ArePlaces design.now) }
 {
     let named = NamedModels::new(alloc, design.models.as_slice())?;
-    places(alloc, design, &named)
+    let placed = places(alloc, design, &named);
+    drop(named);
+    placed
 }
 
 impl<'a> Numbers<'a> {

@@ -1,6 +1,6 @@
 use Rattle.std.proofs.Common.{◌∙◌, sym, ap, refl}
 use Rattle.netlist_meaning.specs.FlatOf.{first_control}
-use Rattle.netlist_flatten.proofs.flattening.flat_of.Goals as goal
+use Rattle.netlist_flatten.proofs.flattening.flat_by_classes.Goals as goal
 
 pub returns : goal.returns
 returns c =
@@ -13,7 +13,7 @@ returns c =
       ins = ports.ins.are_flat;
       outs = ports.outs;
       clocks = ports.clocks;
-      control = c.first_control.ensures ∙ ap first_control (c.deref-4.ensures.value ∙ sym c.of-3.ensures);
+      control = c.first_control.ensures ∙ ap first_control (c.deref-2.ensures.value ∙ sym c.of-3.ensures);
       weight = c.requires.weight;
       listed = refl;
     }
