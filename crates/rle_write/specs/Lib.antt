@@ -6,3 +6,4 @@ pub mod Left
 pub mod Opening
 pub mod PlanText
 pub mod Runs
+pub mod Taken

@@ -1,7 +1,7 @@
 // Items on lines.
 ghost use Rattle.std.specs.Prelude.{◌≡◌, ◌≢◌, ◌≤◌, ◌<◌, ◌+◌, ℕ, List, ◌∷◌, ◌++◌, length, OnOk, OnErr};
 ghost use Rattle.pattern_writing.specs.Writer.{count_text, run_text, line_break, used_after};
-ghost use Rattle.rle_write.specs.Left.{line_left};
+ghost use Rattle.rle_write.specs.Taken.{BreaksInItem, WritesItem};
 ghost use Rattle.ww_base.specs.Pages.{held, column_of};
 ghost use Rattle.ww_base.specs.Progress.{Wrote, Broke};
 
@@ -44,13 +44,10 @@ fn break_line<O: Sink>(sink: &mut O, page: &mut Page, size: usize) -> Result<(),
 // Puts the bytes of an item on the line, or on the next one if they do not fit.
 fn write_bytes<O: Sink>(sink: &mut O, page: &mut Page, item: &[u8]) -> Result<(), Failed>
     requires { length item.now ≤ 41 }
-    ensures ok { OnOk result ((items : List (List ℕ)) →
-        Wrote (O.written sink.old) (O.written sink.new) (O.faults sink.old) (O.faults sink.new)
-        (line_left (held page.old) (column_of page.old) (item.now ∷ items))
-        (line_left (held page.new) (column_of page.new) items)) }
-    ensures err { OnErr result ((items : List (List ℕ)) →
-        Broke (O.written sink.old) (O.written sink.new) (O.faults sink.old) (O.faults sink.new)
-        (line_left (held page.old) (column_of page.old) (item.now ∷ items))) }
+    ensures ok { OnOk result (WritesItem (O.written sink.old) (O.written sink.new) (O.faults sink.old)
+        (O.faults sink.new) page.old page.new item.now) }
+    ensures err { OnErr result (BreaksInItem (O.written sink.old) (O.written sink.new) (O.faults sink.old)
+        (O.faults sink.new) page.old item.now) }
 {
     break_line(sink, page, item.len())?;
     page.put(sink, item)?;
@@ -61,15 +58,10 @@ fn write_bytes<O: Sink>(sink: &mut O, page: &mut Page, item: &[u8]) -> Result<()
 // Puts an item whose count has more than two digits.
 fn write_long<O: Sink>(sink: &mut O, page: &mut Page, count: usize, tag: u8) -> Result<(), Failed>
     requires { 100 ≤ count }
-    ensures ok { OnOk result ((items : List (List ℕ)) →
-        Wrote (O.written sink.old) (O.written sink.new) (O.faults sink.old) (O.faults sink.new)
-        (line_left (held page.old) (column_of page.old)
-        (run_text (record { count = count; tag = tag }) ∷ items))
-        (line_left (held page.new) (column_of page.new) items)) }
-    ensures err { OnErr result ((items : List (List ℕ)) →
-        Broke (O.written sink.old) (O.written sink.new) (O.faults sink.old) (O.faults sink.new)
-        (line_left (held page.old) (column_of page.old)
-        (run_text (record { count = count; tag = tag }) ∷ items))) }
+    ensures ok { OnOk result (WritesItem (O.written sink.old) (O.written sink.new) (O.faults sink.old)
+        (O.faults sink.new) page.old page.new (run_text (record { count = count; tag = tag }))) }
+    ensures err { OnErr result (BreaksInItem (O.written sink.old) (O.written sink.new) (O.faults sink.old)
+        (O.faults sink.new) page.old (run_text (record { count = count; tag = tag }))) }
 {
     let mut buffer = Buffer::new();
     let digits = count_digits(&mut buffer, count);
@@ -97,15 +89,10 @@ pub fn write_item<O: Sink>(
     count: usize,
     tag: u8,
 ) -> Result<(), Failed>
-    ensures ok { OnOk result ((items : List (List ℕ)) →
-        Wrote (O.written sink.old) (O.written sink.new) (O.faults sink.old) (O.faults sink.new)
-        (line_left (held page.old) (column_of page.old)
-        (run_text (record { count = count; tag = tag }) ∷ items))
-        (line_left (held page.new) (column_of page.new) items)) }
-    ensures err { OnErr result ((items : List (List ℕ)) →
-        Broke (O.written sink.old) (O.written sink.new) (O.faults sink.old) (O.faults sink.new)
-        (line_left (held page.old) (column_of page.old)
-        (run_text (record { count = count; tag = tag }) ∷ items))) }
+    ensures ok { OnOk result (WritesItem (O.written sink.old) (O.written sink.new) (O.faults sink.old)
+        (O.faults sink.new) page.old page.new (run_text (record { count = count; tag = tag }))) }
+    ensures err { OnErr result (BreaksInItem (O.written sink.old) (O.written sink.new) (O.faults sink.old)
+        (O.faults sink.new) page.old (run_text (record { count = count; tag = tag }))) }
 {
     if count == 1 {
         write_bytes(sink, page, &[tag])

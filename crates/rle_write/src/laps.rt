@@ -1,25 +1,25 @@
 // Laps: copies of the same cells after which the column on the line and the kept run are again what
 // they were. So the bytes of the next lap are the same, and are put on the page at once.
-ghost use Rattle.std.specs.Prelude.{◌≡◌, ◌≤◌, ◌<◌, ◌+◌, ◌^◌, ℕ, List, [], ◌++◌, length, All, IfOk, IfSome, OnErr, IsTrue};
-ghost use Rattle.ww_rule.specs.declared.pattern.State.{State};
+ghost use Rattle.std.specs.Prelude.{◌≡◌, ◌≤◌, ◌<◌, ◌+◌, ◌^◌, [], length, All, IfOk, IfSome, OnErr, IsTrue};
 ghost use Rattle.rle_write.specs.LapBytes.{bytes_of};
 ghost use Rattle.rle_write.specs.Laps.{IsLap};
-ghost use Rattle.rle_write.specs.Left.{kept_left};
 ghost use Rattle.rle_write.specs.Runs.{IsCellRun, IsCellTag, repeated, spelled};
-ghost use Rattle.ww_base.specs.Pages.{held, column_of};
-ghost use Rattle.ww_base.specs.Progress.{Wrote, Broke};
+ghost use Rattle.rle_write.specs.Taken.{BreaksInTags, TakesTags};
 
 use crate::copies::{add_copies, add_runs};
 use crate::lap_sink::Lap;
 use crate::rows::{Kept, Run};
 use ww_base::{Failed, Page, Sink};
 
-// The most copies of a lap, as many as there are columns: by then one has come again. So many copies
-// are also enough for the columns to begin to come again.
+// The most copies of a lap, as many as there are columns: by then one has come again.
 const COPIES: usize = 71;
 
+// After so many copies the columns have begun to come again: two lines of cells that take four
+// bytes, as the shortest do.
+const FIRST: usize = 36;
+
 // How many copies are worth the search for a lap.
-const MANY: usize = 4 * COPIES;
+const MANY: usize = 96;
 
 // Whether the same is kept.
 fn is_same(a: Kept, b: Kept) -> bool
@@ -71,13 +71,10 @@ fn add_laps<O: Sink>(
     ensures cell { IfOk result (λ k. IsCellTag k.run.tag) }
     ensures fewer { IfOk result (λ k. k.due ≤ kept.due) }
     ensures short { IfOk result (λ k. k.run.count ≤ kept.run.count + length (repeated count (spelled runs.now))) }
-    ensures ok { IfOk result (λ k. (more : List ℕ) (rows : List (List State)) →
-        Wrote (O.written sink.old) (O.written sink.new) (O.faults sink.old) (O.faults sink.new)
-        (kept_left (held page.old) (column_of page.old) kept (repeated count (spelled runs.now) ++ more) rows)
-        (kept_left (held page.new) (column_of page.new) k more rows)) }
-    ensures err { OnErr result ((more : List ℕ) (rows : List (List State)) →
-        Broke (O.written sink.old) (O.written sink.new) (O.faults sink.old) (O.faults sink.new)
-        (kept_left (held page.old) (column_of page.old) kept (repeated count (spelled runs.now) ++ more) rows)) }
+    ensures ok { IfOk result (TakesTags (O.written sink.old) (O.written sink.new) (O.faults sink.old)
+        (O.faults sink.new) page.old page.new kept (repeated count (spelled runs.now))) }
+    ensures err { OnErr result (BreaksInTags (O.written sink.old) (O.written sink.new) (O.faults sink.old)
+        (O.faults sink.new) page.old kept (repeated count (spelled runs.now))) }
 {
     let mut lap = Lap::new();
     let most = count.min(COPIES);
@@ -106,13 +103,10 @@ fn add_after<O: Sink>(
     ensures cell { IfOk result (λ k. IsCellTag k.run.tag) }
     ensures fewer { IfOk result (λ k. k.due ≤ kept.due) }
     ensures short { IfOk result (λ k. k.run.count ≤ kept.run.count + length (repeated count (spelled runs.now))) }
-    ensures ok { IfOk result (λ k. (more : List ℕ) (rows : List (List State)) →
-        Wrote (O.written sink.old) (O.written sink.new) (O.faults sink.old) (O.faults sink.new)
-        (kept_left (held page.old) (column_of page.old) kept (repeated count (spelled runs.now) ++ more) rows)
-        (kept_left (held page.new) (column_of page.new) k more rows)) }
-    ensures err { OnErr result ((more : List ℕ) (rows : List (List State)) →
-        Broke (O.written sink.old) (O.written sink.new) (O.faults sink.old) (O.faults sink.new)
-        (kept_left (held page.old) (column_of page.old) kept (repeated count (spelled runs.now) ++ more) rows)) }
+    ensures ok { IfOk result (TakesTags (O.written sink.old) (O.written sink.new) (O.faults sink.old)
+        (O.faults sink.new) page.old page.new kept (repeated count (spelled runs.now))) }
+    ensures err { OnErr result (BreaksInTags (O.written sink.old) (O.written sink.new) (O.faults sink.old)
+        (O.faults sink.new) page.old kept (repeated count (spelled runs.now))) }
 {
     let begun = add_copies(sink, page, kept, runs, first)?;
     add_laps(sink, page, begun, runs, count - first)
@@ -132,16 +126,13 @@ pub fn add_many<O: Sink>(
     ensures cell { IfOk result (λ k. IsCellTag k.run.tag) }
     ensures fewer { IfOk result (λ k. k.due ≤ kept.due) }
     ensures short { IfOk result (λ k. k.run.count ≤ kept.run.count + length (repeated count (spelled runs.now))) }
-    ensures ok { IfOk result (λ k. (more : List ℕ) (rows : List (List State)) →
-        Wrote (O.written sink.old) (O.written sink.new) (O.faults sink.old) (O.faults sink.new)
-        (kept_left (held page.old) (column_of page.old) kept (repeated count (spelled runs.now) ++ more) rows)
-        (kept_left (held page.new) (column_of page.new) k more rows)) }
-    ensures err { OnErr result ((more : List ℕ) (rows : List (List State)) →
-        Broke (O.written sink.old) (O.written sink.new) (O.faults sink.old) (O.faults sink.new)
-        (kept_left (held page.old) (column_of page.old) kept (repeated count (spelled runs.now) ++ more) rows)) }
+    ensures ok { IfOk result (TakesTags (O.written sink.old) (O.written sink.new) (O.faults sink.old)
+        (O.faults sink.new) page.old page.new kept (repeated count (spelled runs.now))) }
+    ensures err { OnErr result (BreaksInTags (O.written sink.old) (O.written sink.new) (O.faults sink.old)
+        (O.faults sink.new) page.old kept (repeated count (spelled runs.now))) }
 {
     if count < MANY {
         return add_copies(sink, page, kept, runs, count);
     }
-    add_after(sink, page, kept, runs, COPIES, count)
+    add_after(sink, page, kept, runs, FIRST, count)
 }

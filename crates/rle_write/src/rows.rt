@@ -4,6 +4,7 @@ ghost use Rattle.std.specs.Prelude.{◌≡◌, ◌≤◌, ◌<◌, ◌+◌, ◌^
 ghost use Rattle.ww_rule.specs.declared.pattern.State.{State};
 ghost use Rattle.pattern_writing.specs.Writer.{TagRun, tag_of};
 ghost use Rattle.rle_write.specs.Runs.{IsCellRun, IsCellTag};
+ghost use Rattle.rle_write.specs.Taken.{BreaksInTags, TakesTags};
 ghost use Rattle.rle_write.specs.Left.{rows_left, row_left, kept_left, end_items, items_left, text_left, IsRunBefore};
 ghost use Rattle.ww_base.specs.Pages.{held, column_of};
 ghost use Rattle.ww_base.specs.Progress.{Wrote, Broke};
@@ -151,13 +152,10 @@ pub fn add_run<O: Sink>(sink: &mut O, page: &mut Page, kept: Kept, run: Run) -> 
     ensures cell { IfOk result (λ k. IsCellTag k.run.tag) }
     ensures fewer { IfOk result (λ k. k.due ≤ kept.due) }
     ensures short { IfOk result (λ k. k.run.count ≤ kept.run.count + run.count) }
-    ensures ok { IfOk result (λ k. (more : List ℕ) (rows : List (List State)) →
-        Wrote (O.written sink.old) (O.written sink.new) (O.faults sink.old) (O.faults sink.new)
-        (kept_left (held page.old) (column_of page.old) kept (replicate run.count run.tag ++ more) rows)
-        (kept_left (held page.new) (column_of page.new) k more rows)) }
-    ensures err { OnErr result ((more : List ℕ) (rows : List (List State)) →
-        Broke (O.written sink.old) (O.written sink.new) (O.faults sink.old) (O.faults sink.new)
-        (kept_left (held page.old) (column_of page.old) kept (replicate run.count run.tag ++ more) rows)) }
+    ensures ok { IfOk result (TakesTags (O.written sink.old) (O.written sink.new) (O.faults sink.old)
+        (O.faults sink.new) page.old page.new kept (replicate run.count run.tag)) }
+    ensures err { OnErr result (BreaksInTags (O.written sink.old) (O.written sink.new) (O.faults sink.old)
+        (O.faults sink.new) page.old kept (replicate run.count run.tag)) }
 {
     let tag = run.tag;
     if tag == kept.run.tag {
@@ -185,13 +183,10 @@ pub fn write_same<O: Sink>(
     ensures cell { IfOk result (λ k. IsCellTag k.run.tag) }
     ensures fewer { IfOk result (λ k. k.due ≤ kept.due) }
     ensures short { IfOk result (λ k. k.run.count ≤ kept.run.count + count) }
-    ensures ok { IfOk result (λ k. (more : List ℕ) (rows : List (List State)) →
-        Wrote (O.written sink.old) (O.written sink.new) (O.faults sink.old) (O.faults sink.new)
-        (kept_left (held page.old) (column_of page.old) kept (replicate count (tag_of state) ++ more) rows)
-        (kept_left (held page.new) (column_of page.new) k more rows)) }
-    ensures err { OnErr result ((more : List ℕ) (rows : List (List State)) →
-        Broke (O.written sink.old) (O.written sink.new) (O.faults sink.old) (O.faults sink.new)
-        (kept_left (held page.old) (column_of page.old) kept (replicate count (tag_of state) ++ more) rows)) }
+    ensures ok { IfOk result (TakesTags (O.written sink.old) (O.written sink.new) (O.faults sink.old)
+        (O.faults sink.new) page.old page.new kept (replicate count (tag_of state))) }
+    ensures err { OnErr result (BreaksInTags (O.written sink.old) (O.written sink.new) (O.faults sink.old)
+        (O.faults sink.new) page.old kept (replicate count (tag_of state))) }
 {
     let tag = cell_tag(state);
     add_run(sink, page, kept, Run { count, tag })

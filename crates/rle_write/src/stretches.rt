@@ -10,6 +10,7 @@ ghost use Rattle.rle_write.specs.Blocks.{AreBlocks, IsFigure, IsStretch, tags_of
 ghost use Rattle.rle_write.specs.Dark.{IsDark};
 ghost use Rattle.rle_write.specs.Left.{rows_left, kept_left, text_left};
 ghost use Rattle.rle_write.specs.Runs.{IsCellRun, IsCellTag, repeated, spelled};
+ghost use Rattle.rle_write.specs.Taken.{BreaksInTags, TakesTags};
 ghost use Rattle.ww_base.specs.Pages.{held, column_of};
 ghost use Rattle.ww_base.specs.Progress.{Wrote, Broke};
 
@@ -41,13 +42,10 @@ fn add_stretch<O: Sink>(
     ensures cell { IfOk result (λ k. IsCellTag k.run.tag) }
     ensures fewer { IfOk result (λ k. k.due ≤ kept.due) }
     ensures short { IfOk result (λ k. k.run.count ≤ kept.run.count + length (repeated count (spelled runs.now))) }
-    ensures ok { IfOk result (λ k. (more : List ℕ) (rows : List (List State)) →
-        Wrote (O.written sink.old) (O.written sink.new) (O.faults sink.old) (O.faults sink.new)
-        (kept_left (held page.old) (column_of page.old) kept (repeated count (spelled runs.now) ++ more) rows)
-        (kept_left (held page.new) (column_of page.new) k more rows)) }
-    ensures err { OnErr result ((more : List ℕ) (rows : List (List State)) →
-        Broke (O.written sink.old) (O.written sink.new) (O.faults sink.old) (O.faults sink.new)
-        (kept_left (held page.old) (column_of page.old) kept (repeated count (spelled runs.now) ++ more) rows)) }
+    ensures ok { IfOk result (TakesTags (O.written sink.old) (O.written sink.new) (O.faults sink.old)
+        (O.faults sink.new) page.old page.new kept (repeated count (spelled runs.now))) }
+    ensures err { OnErr result (BreaksInTags (O.written sink.old) (O.written sink.new) (O.faults sink.old)
+        (O.faults sink.new) page.old kept (repeated count (spelled runs.now))) }
 {
     if runs.len() == 1 {
         let run = Run {

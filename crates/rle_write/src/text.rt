@@ -1,5 +1,5 @@
 // The whole text: the lines of the port table, the header, and the items.
-ghost use Rattle.std.specs.Prelude.{◌≡◌, ◌≤◌, ◌<◌, ◌*◌, ◌^◌, ℕ, List, ◌++◌, take, decimal, OnOk, OnErr};
+ghost use Rattle.std.specs.Prelude.{◌≡◌, ◌≤◌, ◌<◌, ◌*◌, ◌^◌, ℕ, take, decimal, OnOk, OnErr};
 ghost use Rattle.std.specs.Io.KnownBytes.{Appends};
 ghost use Rattle.ww_base.specs.Faults.{HasCause};
 ghost use Rattle.lane_core.specs.Plans.{IsAdmissible};
@@ -7,8 +7,8 @@ ghost use Rattle.pattern_writing.specs.Writer.{grid_of, header_text};
 ghost use Rattle.pattern_writing.specs.WrittenText.{IsWritable, pattern_text};
 ghost use Rattle.rle_write.specs.Opening.{opening_text};
 ghost use Rattle.rle_write.specs.PlanText.{text_of_plan};
-ghost use Rattle.ww_base.specs.Pages.{held, column_of};
-ghost use Rattle.ww_base.specs.Progress.{Wrote, Broke};
+ghost use Rattle.rle_write.specs.Taken.{BreaksInText, WritesText};
+ghost use Rattle.ww_base.specs.Pages.{column_of};
 
 use crate::blocks::Stretch;
 use crate::pattern_rows::write_rows;
@@ -36,12 +36,10 @@ fn kept_blocks(width: u64) -> usize
 // Writes the digits of a number.
 fn write_number<O: Sink>(sink: &mut O, page: &mut Page, number: u64) -> Result<(), Failed>
     ensures column { column_of page.new ≡ column_of page.old }
-    ensures ok { OnOk result ((rest : List ℕ) →
-        Wrote (O.written sink.old) (O.written sink.new) (O.faults sink.old) (O.faults sink.new)
-        (held page.old ++ (decimal number ++ rest)) (held page.new ++ rest)) }
-    ensures err { OnErr result ((rest : List ℕ) →
-        Broke (O.written sink.old) (O.written sink.new) (O.faults sink.old) (O.faults sink.new)
-        (held page.old ++ (decimal number ++ rest))) }
+    ensures ok { OnOk result (WritesText (O.written sink.old) (O.written sink.new) (O.faults sink.old)
+        (O.faults sink.new) page.old page.new (decimal number)) }
+    ensures err { OnErr result (BreaksInText (O.written sink.old) (O.written sink.new) (O.faults sink.old)
+        (O.faults sink.new) page.old (decimal number)) }
 {
     let mut buffer = Buffer::new();
     let digits = buffer.format(number);
@@ -56,12 +54,10 @@ fn write_header<O: Sink>(
     height: u64,
 ) -> Result<(), Failed>
     ensures column { column_of page.new ≡ column_of page.old }
-    ensures ok { OnOk result ((rest : List ℕ) →
-        Wrote (O.written sink.old) (O.written sink.new) (O.faults sink.old) (O.faults sink.new)
-        (held page.old ++ (header_text width height ++ rest)) (held page.new ++ rest)) }
-    ensures err { OnErr result ((rest : List ℕ) →
-        Broke (O.written sink.old) (O.written sink.new) (O.faults sink.old) (O.faults sink.new)
-        (held page.old ++ (header_text width height ++ rest))) }
+    ensures ok { OnOk result (WritesText (O.written sink.old) (O.written sink.new) (O.faults sink.old)
+        (O.faults sink.new) page.old page.new (header_text width height)) }
+    ensures err { OnErr result (BreaksInText (O.written sink.old) (O.written sink.new) (O.faults sink.old)
+        (O.faults sink.new) page.old (header_text width height)) }
 {
     page.put(sink, b"x = ")?;
     write_number(sink, page, width)?;
@@ -80,12 +76,10 @@ fn write_opening<O: Sink>(
 ) -> Result<(), Failed>
     ensures fits { (width < 2 ^ 64) × (height < 2 ^ 64) }
     ensures column { column_of page.new ≡ column_of page.old }
-    ensures ok { OnOk result ((rest : List ℕ) →
-        Wrote (O.written sink.old) (O.written sink.new) (O.faults sink.old) (O.faults sink.new)
-        (held page.old ++ (opening_text ports.now width height ++ rest)) (held page.new ++ rest)) }
-    ensures err { OnErr result ((rest : List ℕ) →
-        Broke (O.written sink.old) (O.written sink.new) (O.faults sink.old) (O.faults sink.new)
-        (held page.old ++ (opening_text ports.now width height ++ rest))) }
+    ensures ok { OnOk result (WritesText (O.written sink.old) (O.written sink.new) (O.faults sink.old)
+        (O.faults sink.new) page.old page.new (opening_text ports.now width height)) }
+    ensures err { OnErr result (BreaksInText (O.written sink.old) (O.written sink.new) (O.faults sink.old)
+        (O.faults sink.new) page.old (opening_text ports.now width height)) }
 {
     write_table(sink, page, ports)?;
     write_header(sink, page, width, height)

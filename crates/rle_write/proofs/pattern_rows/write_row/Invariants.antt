@@ -1,6 +1,6 @@
 use Rattle.std.proofs.Common.{◌≤◌, List, ◌∷◌, ◌++◌, map, drop, replicate}
 use Rattle.ww_rule.specs.declared.pattern.State.{State}
-use Rattle.pattern_writing.specs.Writer.{tag_of, row_end}
+use Rattle.pattern_writing.specs.Writer.{tag_of}
 use Rattle.rle_write.specs.Runs.{IsCellTag}
 use Rattle.rle_write.specs.Left.{rows_left, row_left, text_left}
 use Rattle.ww_base.specs.Pages.{held, column_of}

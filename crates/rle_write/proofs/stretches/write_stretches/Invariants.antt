@@ -1,7 +1,7 @@
-use Rattle.std.proofs.Common.{◌≡◌, ◌≢◌, ◌≤◌, ◌-◌, ◌*◌, List, ◌∷◌, ◌++◌, map, drop, length, replicate}
+use Rattle.std.proofs.Common.{◌≡◌, ◌≤◌, ◌-◌, ◌*◌, List, ◌∷◌, ◌++◌, map, drop, length, replicate}
 use Rattle.ww_rule.specs.declared.pattern.State.{State}
 use Rattle.grid_assembly.specs.PlanDrawing.{start_row}
-use Rattle.pattern_writing.specs.Writer.{tag_of, row_end}
+use Rattle.pattern_writing.specs.Writer.{tag_of}
 use Rattle.rle_write.specs.Runs.{IsCellTag}
 use Rattle.rle_write.specs.Left.{rows_left, row_left, text_left}
 use Rattle.ww_base.specs.Pages.{held, column_of}
