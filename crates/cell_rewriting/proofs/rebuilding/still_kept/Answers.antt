@@ -1,6 +1,6 @@
 use Rattle.std.proofs.Common.{rules, ◌≡◌, true}
 use Rattle.std.proofs.lemmas.Result.{IfOk-weaker}
-use Rattle.cell_moves.proofs.Moves.{keeps_moved}
+use Rattle.cell_meaning.proofs.Moves.{keeps_moved}
 use Rattle.cell_rewriting.proofs.Keeping.{some_weaker}
 use Rattle.cell_rewriting.proofs.rebuilding.still_kept.Goals as goal
 

@@ -1,4 +1,4 @@
-use Rattle.cell_moves.specs.Same.{IsRewritten}
+use Rattle.cell_meaning.specs.Same.{IsRewritten}
 use Rattle.cell_rewriting.proofs.rewriting.wander.Given as goal
 
 abbrev pub invariant-loop-at : goal.invariant-loop-at

@@ -1,6 +1,6 @@
 use Rattle.std.proofs.Common.{List, subst}
 use Rattle.cell_core.specs.declared.cells.Src.{Src}
-use Rattle.cell_moves.specs.Same.{IsRewritten}
+use Rattle.cell_meaning.specs.Same.{IsRewritten}
 use Rattle.cell_rewriting.proofs.Keeping.{then_rewritten}
 use Rattle.cell_rewriting.proofs.rewriting.wandered.Goals as goal
 

@@ -1,4 +1,4 @@
-use Rattle.cell_moves.specs.Moved.{AreMoved}
+use Rattle.cell_meaning.specs.Moved.{AreMoved}
 use Rattle.cell_rewriting.proofs.moving.Moved.add_all.Given as goal
 
 abbrev pub invariant-loop-number : goal.invariant-loop-number
