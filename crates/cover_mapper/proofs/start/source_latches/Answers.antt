@@ -6,9 +6,13 @@ use Rattle.cover_mapper.proofs.start.source_latches.Goals as goal
 
 pub bounds-sources-class_of : goal.bounds-sources-class_of
 bounds-sources-class_of c =
-    omega (arith, c.loop-i.invariant.long, latch_within c.args.flat.now c.requires.sound c.loop-i.i _ c.class_of.result
-    (omega (arith, c.loop-i-test.true, ap length c.as_slice-latch-items.ensures))
-    (c.class_of.ensures ∙ ap (λ (l : List FlatLatch). class_of c.args.flat.now (get_or l c.loop-i.i _).output) c.as_slice-latch-items.ensures))
+    omega (
+      arith,
+      c.loop-i.invariant.long,
+      latch_within c.args.flat.now c.requires.sound c.loop-i.i _ c.class_of.result
+          (omega (arith, c.loop-i-test.true, ap length c.as_slice-latch-items.ensures))
+          (c.class_of.ensures ∙ ap (λ (l : List FlatLatch). class_of c.args.flat.now (get_or l c.loop-i.i _).output) c.as_slice-latch-items.ensures),
+    )
 
 pub loop-i-preserved : goal.loop-i-preserved
 loop-i-preserved c =
