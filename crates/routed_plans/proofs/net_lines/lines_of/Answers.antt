@@ -1,4 +1,5 @@
 use Rattle.std.proofs.Common.{◌++◌, ◌∙◌, ap, ap₂, sym, refl, ℕ, ◌<◌, List, [], length, map, get_or, arith}
+use Rattle.std.proofs.lemmas.Result.{err_from_is_err_and}
 use Rattle.std.specs.Prelude.{None, option_map}
 use Rattle.std.specs.Option.{option_to_list}
 use Rattle.std.proofs.lemmas.List.{take_all}
@@ -13,6 +14,9 @@ use Rattle.routed_plans.proofs.net_lines.lines_of.Goals as goal
 
 pub loop-k-init : goal.loop-k-init
 loop-k-init c = ap names_and_paths c.new-lines.ensures.items ∙ sym (drawn_none c.args.ports.now [] refl)
+
+pub returns-in_err-add_line : goal.returns-in_err-add_line
+returns-in_err-add_line c = rw ((err_from_is_err_and c.from_residual.result c.from_residual.ensures.1).1) tt
 
 pub loop-k-preserved : goal.loop-k-preserved
 loop-k-preserved c =

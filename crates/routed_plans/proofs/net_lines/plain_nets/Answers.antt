@@ -1,9 +1,16 @@
 use Rattle.std.proofs.Common.{◌++◌, ◌∷◌, ◌∙◌, ap, ap₂, sym, ◌<◌, List, [], filter, length, get_or, take, arith}
+use Rattle.std.proofs.lemmas.Result.{err_from_is_err_and}
 use Rattle.std.proofs.lemmas.List.Elements.{filter_more}
 use Rattle.netlist_core.specs.declared.flat.Flat.{Flat}
 use Rattle.netlist_core.specs.declared.flat.Net.{Net as FlatNet}
 use Rattle.routed_plans.specs.Drawn.{is_plain}
 use Rattle.routed_plans.proofs.net_lines.plain_nets.Goals as goal
+
+pub returns-in_err-clocks : goal.returns-in_err-clocks
+returns-in_err-clocks c = rw ((err_from_is_err_and c.from_residual.result c.from_residual.ensures.1).1) tt
+
+pub returns-in_err-add_plain : goal.returns-in_err-add_plain
+returns-in_err-add_plain c = rw ((err_from_is_err_and c.from_residual-in_err-add_plain.result c.from_residual-in_err-add_plain.ensures.1).1) tt
 
 pub loop-net-preserved : goal.loop-net-preserved
 loop-net-preserved c =

@@ -1,4 +1,5 @@
 use Rattle.std.proofs.Common.{ℕ, List, ◌++◌, subst}
+use Rattle.std.proofs.lemmas.Result.{err_from_is_err_and}
 use Rattle.std.specs.Prelude.{Option, IfSome}
 use Rattle.ww_rule.specs.Patterns.{grid_of}
 use Rattle.pattern_writing.specs.WrittenText.{pattern_text}
@@ -11,6 +12,16 @@ use Rattle.routed_plans.proofs.routes.checked.Goals as goal
 
 pub page_of-requires : goal.page_of-requires
 page_of-requires c = c.requires.compilable.1.sound.in_range
+
+pub returns-in_err-lines : goal.returns-in_err-lines
+returns-in_err-lines c =
+    let p = (err_from_is_err_and c.from_residual.result c.from_residual.ensures.1).1 in
+    record { routed = rw p tt; nets = rw p tt; lines = rw p tt }
+
+pub returns-in_err-page : goal.returns-in_err-page
+returns-in_err-page c =
+    let p = (err_from_is_err_and c.from_residual-in_err-page.result c.from_residual-in_err-page.ensures.1).1 in
+    record { routed = rw p tt; nets = rw p tt; lines = rw p tt }
 
 pub returns-in-Ok-true-clause-routed : goal.returns-in-Ok-true-clause-routed
 returns-in-Ok-true-clause-routed c =
