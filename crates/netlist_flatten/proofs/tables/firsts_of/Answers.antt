@@ -1,4 +1,4 @@
-use Rattle.std.proofs.Common.{◌<◌, ◌≡◌, ◌+◌, ◌^◌, sym, subst, refl, slice_get, Some, List, ℕ, length, arith}
+use Rattle.std.proofs.Common.{◌<◌, ◌≡◌, ◌+◌, ◌^◌, sym, ap, subst, refl, slice_get, Some, List, ℕ, length, arith}
 use Rattle.std.proofs.lemmas.Option.{slice_get_read}
 use Rattle.netlist_meaning.specs.InOrder.{places_in_order, nets_at}
 use Rattle.netlist_flatten.specs.Numbered.{place_at}
@@ -28,3 +28,16 @@ pub loop-at-preserved : goal.loop-at-preserved
 loop-at-preserved c =
     subst (λ (v : List ℕ). FirstsBefore c.args.design.now (c.loop-at.at-index + 1) (c.loop-at.first + c.count_of.result) v) (sym (c.in_ok-push.ensures {u = tt}).items)
     (firsts_next c.args.design.now c.loop-at.at-index c.loop-at.first c.count_of.result c.loop-at.firsts.items (within c) (is_own c) c.loop-at.invariant)
+
+pub count_of-requires : goal.count_of-requires
+count_of-requires c =
+    let at = slice_get_read c.args.placed.now (length c.args.placed.now) c.loop-at.at-index c.at-item.result refl c.loop-at-test.true c.at-item.is in
+    let here : c.at-item.result.model < length c.args.design.now.models = (c.requires.places.models c.loop-at.at-index c.at-item.result at).is_there in
+    let many = c.requires.names.many in
+    omega (arith, here, many)
+
+pub loop-at-init : goal.loop-at-init
+loop-at-init c = record { is_first = refl; many = ap length c.in_ok-firsts.ensures.items; firsts_are = λ k lt. absurd (omega (arith, lt)) }
+
+pub returns : goal.returns
+returns c k lt = let end = c.loop-at-test.false in c.loop-at.invariant.firsts_are k (omega (arith, lt, end))
