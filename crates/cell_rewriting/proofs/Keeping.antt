@@ -1,5 +1,5 @@
 -- Lists that compute the same, one after another.
-use Rattle.std.proofs.Common.{◌≡◌, refl, sym, ◌∙◌, ap, ap₂, ℕ, Bool, true, ◌||◌, List, [], ◌∷◌, ◌++◌, length, map, subst, slice_get, Option, Some, None, ◌<◌, get_or, arith}
+use Rattle.std.proofs.Common.{◌≡◌, refl, sym, ◌∙◌, ap, ap₂, ℕ, Bool, true, ◌||◌, List, [], ◌∷◌, ◌++◌, length, map, subst, slice_get, Option, Some, None, ◌<◌, arith}
 use Rattle.std.specs.Prelude.{Contains, IfSome}
 use Rattle.std.specs.List.{list_any}
 use Rattle.std.proofs.lemmas.Bool.{and_parts, lt-ltb}
@@ -11,7 +11,6 @@ use Rattle.cell_core.specs.declared.cells.Cell.TheVariants.{Or, Xor, AndNot}
 use Rattle.cell_core.specs.declared.list.CellList.{CellList}
 use Rattle.cell_core.specs.Sources.{is_there, are_there, is_one, read_one}
 use Rattle.cell_core.specs.Meaning.{bit_in}
-use Rattle.cell_core.specs.Adding.{Adds}
 use Rattle.cell_core.proofs.Bits.{appending_keeps_bits}
 use Rattle.cell_meaning.specs.Mapped.{IsCell}
 use Rattle.cell_meaning.specs.Same.{cell_over, StaysCell, StaysBit, Keeps, IsNoLarger, IsRewritten, AreAlike, Rewrites}

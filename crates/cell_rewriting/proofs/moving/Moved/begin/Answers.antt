@@ -1,4 +1,4 @@
-use Rattle.std.proofs.Common.{rules, ◌≡◌, [], None, replicate, length}
+use Rattle.std.proofs.Common.{rules, ◌≡◌, None, replicate, length}
 use Rattle.cell_meaning.proofs.Moves.{none_moved}
 use Rattle.cell_rewriting.proofs.moving.Moved.begin.Goals as goal
 
