@@ -3,7 +3,8 @@
 //!
 //! The functions here do nothing: their clauses are the laws.
 //!
-//! Theorem: `mapped_stays`, `bits_stay`; definition `IsMapped`, `ComputesByProgram`, `ComputesByPlan`, `MovesBy`, `Keeps`.
+//! Theorem: `mapped_stays`, `bits_stay`; definition `IsMapped`, `ComputesByProgram`, `ComputesByPlan`, `MovesBy`,
+//! `Keeps`.
 #![tactic(auto)]
 
 pub mod laws;
