@@ -1,6 +1,7 @@
 -- The blocks of a lane that are kept for its rows of cells, and what stands west of them.
 use Rattle.std.specs.Prelude.{ℕ, zero, suc, Bool, List, [], ◌<◌, ◌≤◌, ◌≡◌, ◌⊎◌, ◌+◌, ◌*◌, ◌++◌, IsTrue, length, get_or, map}
 use Rattle.lane_core.specs.declared.plan.Plan.{Plan}
+use Rattle.plan_layout.specs.declared.slot.Slot.{Slot}
 use Rattle.plan_layout.specs.declared.slot.Slot.TheVariants.{Nothing}
 use Rattle.plan_layout.specs.Slots.{slot_of}
 use Rattle.plan_layout.specs.Tape.{drawn_tiling}
@@ -19,13 +20,19 @@ pub record IsMotif (plan : Plan) (lane size k motif reach : ℕ) : Type 0 where
   pub within : k + reach ≤ size
   pub again : (i : ℕ) → i + motif < reach → drawn_tiling plan (k + i + motif) lane ≡ drawn_tiling plan (k + i) lane
 
+-- what stands in a block of this lane stands also in those below it, before the lane `until`
+abbrev pub StandsUntil : Plan → (column lane until : ℕ) → Slot → Type 0
+StandsUntil plan column lane until slot =
+    (l : ℕ) → lane ≤ l → l < until → slot_of slot ≡ drawn_tiling plan column l
+
 -- from the k-th block of a lane eastward the same stands in a number of blocks, within the first
--- `size` ones, and a motif
+-- `size` ones, and a motif; what is known of the blocks below it holds
 pub record IsStretch (plan : Plan) (lane size k : ℕ) (stretch : Stretch) : Type 0 where
   pub some : 1 ≤ stretch.count
   pub within : k + stretch.count ≤ size
   pub alike : (i : ℕ) → i < stretch.count → slot_of stretch.slot ≡ drawn_tiling plan (k + i) lane
   pub repeats : IsMotif plan lane size k stretch.motif stretch.reach
+  pub below : StandsUntil plan k lane stretch.below.until stretch.slot
 
 -- the motif of a block and its reach, by those east of it: a motif of this block alone, or one that
 -- is longer by this block, or the same motif, which goes on
@@ -37,7 +44,7 @@ IsNextMotif east goes_on next =
 
 -- no stretch, in place of one that is not kept
 abbrev pub no_stretch : Stretch
-no_stretch = record { slot = Nothing; motif = 0; count = 0; reach = 0; above = 0 }
+no_stretch = record { slot = Nothing; motif = 0; count = 0; reach = 0; below = record { above = 0; until = 0 } }
 
 -- the kept stretches are those of the first blocks of a lane of the drawing, from this block on
 abbrev pub AreBlocksFrom : Plan → (lane first : ℕ) → List Stretch → Type 0
@@ -48,6 +55,12 @@ AreBlocksFrom plan lane first blocks =
 -- and so they are from the first block on
 abbrev pub AreBlocks : Plan → ℕ → List Stretch → Type 0
 AreBlocks plan lane blocks = AreBlocksFrom plan lane 0 blocks
+
+-- what is known of the blocks below the kept ones holds on this lane, and on those below it
+abbrev pub AreKnownBelow : Plan → ℕ → List Stretch → Type 0
+AreKnownBelow plan lane blocks =
+    (k : ℕ) → k < length blocks
+    → StandsUntil plan k lane (get_or blocks k no_stretch).below.until (get_or blocks k no_stretch).slot
 
 -- from the k-th block of a lane eastward a number of blocks, at most four, stands so often
 pub record IsFigure (plan : Plan) (lane size k figure often : ℕ) : Type 0 where

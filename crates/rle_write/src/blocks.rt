@@ -1,26 +1,25 @@
 // The first blocks of a lane, looked up once for the sixteen rows of cells that cross them.
-ghost use Rattle.std.specs.Prelude.{◌≡◌, ◌≢◌, ◌≤◌, ◌<◌, ◌+◌, ◌/◌, ◌%◌, IsTrue, length};
+ghost use Rattle.std.specs.Prelude.{◌≡◌, ◌≢◌, ◌≤◌, ◌<◌, ◌+◌, ◌/◌, ◌%◌, ℕ, IsTrue, length};
 ghost use Rattle.lane_core.specs.Plans.{IsAdmissible};
 ghost use Rattle.plan_layout.specs.Layout.{tiling_of};
 ghost use Rattle.plan_layout.specs.Tape.{drawn_tiling};
 ghost use Rattle.plan_layout.specs.Slots.{slot_of};
-ghost use Rattle.rle_write.specs.Blocks.{AreBlocks, AreBlocksFrom, IsNextMotif, IsStretch};
+ghost use Rattle.rle_write.specs.Blocks.{AreBlocks, AreBlocksFrom, AreKnownBelow, IsNextMotif, IsStretch, StandsUntil};
 
-use crate::body::body_block;
+use crate::body::{Below, body_block};
 use lane_core::Plan;
 use plan_layout::{Piece, Slot, slot_at, slot_drawn_at};
 
 /// What stands in a block, and in how many blocks from it eastward, itself among them, the same
 /// stands. The motif is so many blocks from it eastward as stand again and again, as far as the
-/// reach: so many blocks, those of the motif among them. Above the lane lie so many instructions of
-/// the block's column of the body; nothing rests on this number.
+/// reach: so many blocks, those of the motif among them.
 #[derive(Clone, Copy)]
 pub struct Stretch {
     pub slot: Slot,
     pub motif: u8,
     pub count: u32,
     pub reach: u32,
-    pub above: u32,
+    pub below: Below,
 }
 
 // The most blocks of a motif.
@@ -50,35 +49,53 @@ fn is_same(a: Slot, b: Slot) -> bool
     }
 }
 
-// What stands in a block of a plan without its tape, and how many instructions of its column of the
-// body lie above its lane, if so many lie above the lane before it.
-fn bare_block(plan: &Plan, column: u64, lane: u64, before: u32) -> (Slot, u32)
+// What stands in a block of a plan without its tape, and on the lanes below it. So many instructions
+// of its column of the body lie above the lane before it, or else one is searched.
+fn bare_block(plan: &Plan, column: u64, lane: u64, before: u32) -> (Slot, Below)
     requires admissible { IsAdmissible plan.now }
-    ensures { slot_of result.0 ≡ tiling_of plan.now column lane }
+    ensures here { slot_of result.0 ≡ tiling_of plan.now column lane }
+    ensures below { (l : ℕ) → lane ≤ l → l < result.1.until →
+        slot_of result.0 ≡ tiling_of plan.now column l }
 {
     let loops = plan.latches as u64;
     let end = loops + plan.columns.len() as u64;
     if loops <= column && column < end && lane < plan.lanes as u64 {
-        body_block(
-            plan.columns.get((column - loops) as usize),
-            lane as u32,
-            before,
+        let instrs = plan.columns.get((column - loops) as usize);
+        let (slot, below) = body_block(instrs, lane as u32, before);
+        let until = below.until.min(plan.lanes);
+        (
+            slot,
+            Below {
+                above: below.above,
+                until,
+            },
         )
     } else {
-        (slot_at(plan, column, lane), before)
+        (
+            slot_at(plan, column, lane),
+            Below {
+                above: before,
+                until: 0,
+            },
+        )
     }
 }
 
-// What stands in a block of the drawing: if the plan has no tape, what the plan has there. The
-// numbers are those of `bare_block`.
-fn block_at(plan: &Plan, column: u64, lane: u64, before: u32) -> (Slot, u32)
+// What stands in a block of the drawing, and on the lanes below it: if the plan has no tape, what the
+// plan has there. It is known if it stood in the block above, and stands on the lanes below that.
+fn block_at(plan: &Plan, column: u64, lane: u64, slot: Slot, below: Below) -> (Slot, Below)
     requires admissible { IsAdmissible plan.now }
-    ensures { slot_of result.0 ≡ drawn_tiling plan.now column lane }
+    requires known { StandsUntil plan.now column lane below.until slot }
+    ensures here { slot_of result.0 ≡ drawn_tiling plan.now column lane }
+    ensures below { StandsUntil plan.now column lane result.1.until result.0 }
 {
+    if lane < below.until as u64 {
+        return (slot, below);
+    }
     if plan.tape.len() == 0 {
-        bare_block(plan, column, lane, before)
+        bare_block(plan, column, lane, below.above)
     } else {
-        (slot_drawn_at(plan, column, lane), before)
+        (slot_drawn_at(plan, column, lane), below)
     }
 }
 
@@ -113,17 +130,19 @@ fn next_motif(east: Stretch, goes_on: bool) -> (u8, u32)
 fn stretch_at(plan: &Plan, lane: u64, blocks: &[Stretch], i: usize) -> Stretch
     requires admissible { IsAdmissible plan.now }
     requires inside { i < length blocks.now }
+    requires known { AreKnownBelow plan.now lane blocks.now }
     requires east { AreBlocksFrom plan.now lane (i + 1) blocks.now }
     ensures { IsStretch plan.now lane (length blocks.now) i result }
 {
-    let (slot, above) = block_at(plan, i as u64, lane, blocks[i].above);
+    let before = blocks[i];
+    let (slot, below) = block_at(plan, i as u64, lane, before.slot, before.below);
     if i + 1 == blocks.len() {
         return Stretch {
             slot,
             motif: 1,
             count: 1,
             reach: 1,
-            above,
+            below,
         };
     }
     let east = blocks[i + 1];
@@ -134,13 +153,14 @@ fn stretch_at(plan: &Plan, lane: u64, blocks: &[Stretch], i: usize) -> Stretch
         motif,
         count: next_count(slot, east),
         reach,
-        above,
+        below,
     }
 }
 
 // Looks up what stands in the first blocks of a lane, from east to west.
 fn look_up(plan: &Plan, lane: u64, blocks: &mut [Stretch])
     requires admissible { IsAdmissible plan.now }
+    requires known { AreKnownBelow plan.now lane blocks.old }
     ensures size { length blocks.new ≡ length blocks.old }
     ensures blocks { AreBlocks plan.now lane blocks.new }
 {
@@ -154,6 +174,7 @@ fn look_up(plan: &Plan, lane: u64, blocks: &mut [Stretch])
 pub fn keep_blocks(plan: &Plan, y: u64, blocks: &mut [Stretch])
     requires admissible { IsAdmissible plan.now }
     requires before { y % 16 ≢ 0 → AreBlocks plan.now (y / 16) blocks.old }
+    requires known { AreKnownBelow plan.now (y / 16) blocks.old }
     ensures size { length blocks.new ≡ length blocks.old }
     ensures blocks { AreBlocks plan.now (y / 16) blocks.new }
 {
@@ -171,6 +192,6 @@ pub fn kept_block(plan: &Plan, blocks: &[Stretch], column: u64, lane: u64) -> Sl
     if column < blocks.len() as u64 {
         blocks[column as usize].slot
     } else {
-        block_at(plan, column, lane, 0).0
+        slot_drawn_at(plan, column, lane)
     }
 }

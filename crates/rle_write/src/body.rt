@@ -1,6 +1,6 @@
 // What stands in the blocks of a plan's body. From lane to lane it is known of each column how many
 // of its instructions lie above, so that the instruction on a lane needs no search.
-ghost use Rattle.std.specs.Prelude.{◌≡◌, ◌≤◌, ◌<◌, ◌+◌, IsTrue, false};
+ghost use Rattle.std.specs.Prelude.{◌≡◌, ◌≤◌, ◌<◌, ◌+◌, ℕ, None, IsTrue, false};
 ghost use Rattle.std.specs.List.{AllWithin};
 ghost use Rattle.lane_core.specs.Instrs.{lane_of, are_sorted_apart, instr_on};
 ghost use Rattle.plan_layout.specs.Layout.{kind_of, body_slot};
@@ -9,6 +9,14 @@ ghost use Rattle.plan_layout.specs.Slots.{slot_of};
 use lane_core::{Column, Instr};
 use plan_layout::{Piece, Slot};
 use tile_core::Kind;
+
+/// What is known of a column below a lane. What stands on the lane stands on each lane from it on
+/// before `until`. So many instructions of the column lie above the lane; nothing rests on this number.
+#[derive(Clone, Copy)]
+pub struct Below {
+    pub above: u32,
+    pub until: u32,
+}
 
 // The kind of tile that does an instruction.
 fn kind_of(instr: Instr) -> Kind
@@ -58,8 +66,23 @@ fn are_above(instrs: &[Instr], lane: u32, count: usize) -> bool
     count == 0 || (count <= instrs.len() && is_above(instrs[count - 1], lane))
 }
 
-// The instruction of a column that works on a lane, if there is one. It is searched if another
-// number of instructions than this one lies above the lane.
+// The lane before which no instruction of a column works from this lane on, as far as it is known: if
+// so many instructions lie above the lane.
+fn free_until(column: &Column, lane: u32, above: usize) -> u32
+    ensures { (l : ℕ) → lane ≤ l → l < result → instr_on column.now.instrs l ≡ None }
+{
+    let instrs = column.instrs.as_slice();
+    if !are_above(instrs, lane, above) {
+        return 0;
+    }
+    match instrs.get(above) {
+        Some(instr) => instr.lane(),
+        None => u32::MAX,
+    }
+}
+
+// The instruction of a column that works on a lane, if there is one. It is searched if it is not the
+// first of those after so many, or if another number of instructions lies above the lane.
 fn instr_after(column: &Column, lane: u32, above: usize) -> Option<Instr>
     ensures { result ≡ instr_on column.now.instrs lane }
 {
@@ -68,18 +91,23 @@ fn instr_after(column: &Column, lane: u32, above: usize) -> Option<Instr>
         return column.instr_on(lane);
     }
     match instrs.get(above) {
-        Some(instr) if lane < instr.lane() => None,
-        Some(instr) if !is_above(*instr, lane) => Some(*instr),
+        Some(instr) if instr.lane() <= lane && !is_above(*instr, lane) => Some(*instr),
         _ => column.instr_on(lane),
     }
 }
 
-/// Returns what stands on a lane of a column of the body, and how many of the column's instructions
-/// lie above the lane, if so many lie above the lane before it.
-pub fn body_block(column: &Column, lane: u32, before: u32) -> (Slot, u32)
-    ensures { slot_of result.0 ≡ body_slot lane (instr_on column.now.instrs lane) }
+/// Returns what stands on a lane of a column of the body, and what is known of the lanes below it.
+/// If so many of the column's instructions lie above the lane before it, no instruction is searched.
+pub fn body_block(column: &Column, lane: u32, before: u32) -> (Slot, Below)
+    ensures here { slot_of result.0 ≡ body_slot lane (instr_on column.now.instrs lane) }
+    ensures below { (l : ℕ) → lane ≤ l → l < result.1.until →
+        slot_of result.0 ≡ body_slot l (instr_on column.now.instrs l) }
 {
     let above = count_above(column.instrs.as_slice(), lane, before);
+    let until = free_until(column, lane, above as usize);
+    if lane < until {
+        return (Slot::Whole(Piece::Tile(Kind::East)), Below { above, until });
+    }
     let instr = instr_after(column, lane, above as usize);
-    (slot_by(lane, instr), above)
+    (slot_by(lane, instr), Below { above, until: 0 })
 }

@@ -10,7 +10,7 @@ ghost use Rattle.plan_layout.specs.Slots.{slot_of};
 ghost use Rattle.grid_assembly.specs.PlanDrawing.{start_row, start_grid};
 ghost use Rattle.grid_assembly.specs.West.{tape_end};
 ghost use Rattle.pattern_writing.specs.Writer.{item_texts, wrapped};
-ghost use Rattle.rle_write.specs.Blocks.{AreBlocks, IsWestUpTo};
+ghost use Rattle.rle_write.specs.Blocks.{AreBlocks, AreKnownBelow, IsWestUpTo};
 ghost use Rattle.rle_write.specs.Dark.{IsDark};
 ghost use Rattle.rle_write.specs.Left.{rows_left, text_left};
 ghost use Rattle.ww_base.specs.Pages.{held, column_of};
@@ -147,6 +147,7 @@ pub fn write_plan_rows<O: Sink>(
     requires wide { width ≡ (size_of plan.now).0 }
     requires high { height ≡ (size_of plan.now).1 }
     requires inside { 32 * length blocks.old ≤ width }
+    requires known { AreKnownBelow plan.now 0 blocks.old }
     requires begun { column_of page.old ≡ 0 }
     ensures ok { OnOk result ((rest : List ℕ) →
         Wrote (O.written sink.old) (O.written sink.new) (O.faults sink.old) (O.faults sink.new)

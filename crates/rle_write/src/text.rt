@@ -11,6 +11,7 @@ ghost use Rattle.rle_write.specs.Taken.{BreaksInText, WritesText};
 ghost use Rattle.ww_base.specs.Pages.{column_of};
 
 use crate::blocks::Stretch;
+use crate::body::Below;
 use crate::pattern_rows::write_rows;
 use crate::plan_rows::write_plan_rows;
 use grid_assembly::size;
@@ -106,7 +107,7 @@ pub fn write<O: Sink>(plan: &Plan, ports: &Ports, sink: &mut O) -> Result<(), Fa
         motif: 0,
         count: 0,
         reach: 0,
-        above: 0,
+        below: Below { above: 0, until: 0 },
     }; KEPT];
     let kept = &mut blocks[..kept_blocks(width)];
     write_plan_rows(sink, &mut page, plan, kept, width, height)?;

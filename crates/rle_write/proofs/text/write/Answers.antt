@@ -1,11 +1,12 @@
-use Rattle.std.proofs.Common.{[]}
+use Rattle.std.proofs.Common.{[], refl}
 use Rattle.std.proofs.lemmas.Result.{err_from_is_err_and, on_ok_weaker, on_err_weaker}
 use Rattle.grid_assembly.specs.PlanDrawing.{start_grid}
 use Rattle.ww_base.specs.Pages.{held}
 use Rattle.lists.proofs.Results.{on_err}
 use Rattle.ww_base.proofs.Steps.{wrote_then, wrote_broke, wrote_as, wrote_whole, broke_as, front_of, broke_cause, cause_of}
+use Rattle.rle_write.specs.Blocks.{no_stretch}
 use Rattle.rle_write.proofs.Wholes.{items_text, whole_text}
-use Rattle.rle_write.proofs.KeptBlocks.{few_taken}
+use Rattle.rle_write.proofs.KeptBlocks.{few_taken, known_none}
 use Rattle.rle_write.proofs.text.write.Goals as goal
 
 pub returns-in_err-write_opening : goal.returns-in_err-write_opening
@@ -44,3 +45,6 @@ returns g c =
 
 pub write_plan_rows-requires-clause-inside : goal.write_plan_rows-requires-clause-inside
 write_plan_rows-requires-clause-inside g c = few_taken c.kept_blocks.result _ _ c.kept_blocks.ensures.inside
+
+pub write_plan_rows-requires-clause-known : goal.write_plan_rows-requires-clause-known
+write_plan_rows-requires-clause-known g c = known_none c.args.plan.now c.kept_blocks.result 32768 no_stretch refl
