@@ -18,7 +18,7 @@ fn send<O: Sink>(sink: &mut O, piece: &[u8]) -> Result<(), Failed>
 }
 
 /// The most bytes that a page holds.
-const PAGE: usize = 4096;
+const PAGE: usize = 16384;
 
 /// Bytes that are still to be sent, and a count of the bytes of items on the last line, whether
 /// they are sent or not.
@@ -27,7 +27,7 @@ pub struct Page {
     bytes: [u8; PAGE],
     used: usize,
     column: usize,
-    ghost room: { used ≤ 4096 },
+    ghost room: { used ≤ 16384 },
     ghost short: { column ≤ 70 },
 }
 
@@ -73,7 +73,7 @@ impl Page {
 
     // Puts a piece on the page.
     fn push(&mut self, piece: &[u8])
-        requires { length (held self.old) + length piece.now ≤ 4096 }
+        requires { length (held self.old) + length piece.now ≤ 16384 }
         ensures held { held self.new ≡ held self.old ++ piece.now }
         ensures column { column_of self.new ≡ column_of self.old }
     {
@@ -100,8 +100,8 @@ impl Page {
 
     // Sends what the page holds if a piece of `size` bytes has no room on it.
     fn make_room<O: Sink>(&mut self, sink: &mut O, size: usize) -> Result<(), Failed>
-        ensures room { OnOk result (size ≤ 4096 → length (held self.new) + size ≤ 4096) }
-        ensures empty { OnOk result (4096 < size → held self.new ≡ []) }
+        ensures room { OnOk result (size ≤ 16384 → length (held self.new) + size ≤ 16384) }
+        ensures empty { OnOk result (16384 < size → held self.new ≡ []) }
         ensures column { column_of self.new ≡ column_of self.old }
         ensures ok { OnOk result ((rest : List ℕ) →
             Wrote (O.written sink.old) (O.written sink.new) (O.faults sink.old) (O.faults sink.new)
