@@ -35,8 +35,8 @@ def found(name):
         return os.path.abspath(named)
     said = subprocess.run([ROOT / "dev/program", name], capture_output=True, text=True)
     if said.returncode:
-        reason = said.stderr.strip().removeprefix(f"{name}: ") or "none was built here"
-        raise ValueError(f"there is no program {name} yet ({reason}); ./{name} builds one")
+        reason = said.stderr.strip().removeprefix(f"{name}: ")
+        raise ValueError(f"there is no program {name} yet ({reason}); ./{name} --build builds one")
     return said.stdout.strip()
 
 
