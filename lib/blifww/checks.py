@@ -2,7 +2,8 @@
 `.ci/run` adds up.
 
 `#!/usr/bin/env python3` takes the first python3 on the PATH, and that may be a launcher that needs more time than a
-script: pyenv's is one. So scripts that are started by others here run in the Python of the one that starts them.
+script: pyenv's is one. So scripts that are started by others here run in the Python of the one that starts them, which
+keeps what it compiles of them: else each start would take four times as long where PYTHONDONTWRITEBYTECODE is set.
 """
 import contextlib
 import os
@@ -42,14 +43,15 @@ class Checks:
 @contextlib.contextmanager
 def own_python():
     """Makes this Python the first python3 on the PATH, within a `with`. It has its own library alone (-S): the
-    scripts here need no other."""
-    before = {it: os.environ.get(it) for it in ("PATH", "PYTHONPYCACHEPREFIX")}
+    scripts here need no other. What it compiles goes into a folder of its own, or that of the gate."""
+    before = {it: os.environ.get(it) for it in ("PATH", "PYTHONPYCACHEPREFIX", "PYTHONDONTWRITEBYTECODE")}
     with tempfile.TemporaryDirectory() as folder:
         launcher = Path(folder, "python3")
         launcher.write_text(f'#!/bin/sh\nexec {shlex.quote(sys.executable)} -S "$@"\n')
         launcher.chmod(0o755)
         os.environ["PATH"] = f"{folder}:{before['PATH'] or os.defpath}"
-        os.environ["PYTHONPYCACHEPREFIX"] = f"{folder}/compiled"
+        os.environ["PYTHONPYCACHEPREFIX"] = before["PYTHONPYCACHEPREFIX"] or f"{folder}/compiled"
+        os.environ.pop("PYTHONDONTWRITEBYTECODE", None)
         try:
             yield
         finally:
