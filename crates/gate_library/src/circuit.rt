@@ -17,14 +17,14 @@ pub struct DrawnGate {
 }
 
 /// A port of a gate: one of its inputs or one of its outputs, by its number from 0.
-#[derive(Clone, Copy, PartialEq)]
+#[derive(Clone, Copy)]
 pub enum GatePort {
     In(u32),
     Out(u32),
 }
 
 /// A port of the gate with this number.
-#[derive(Clone, Copy, PartialEq)]
+#[derive(Clone, Copy)]
 pub struct DrawnPort {
     pub gate: u32,
     pub port: GatePort,

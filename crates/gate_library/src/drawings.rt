@@ -1,5 +1,5 @@
 // The drawings of all kinds of gates.
-ghost use Rattle.std.specs.Prelude.{◌≡◌, length, IfOk};
+ghost use Rattle.std.specs.Prelude.{◌≡◌, false, length, IfOk};
 
 use crate::gate::{Answer, GateDrawing};
 use crate::kind::{GateKind, Turn};
@@ -8,7 +8,7 @@ use crate::tables::table_of;
 use crate::turning::{find, letter_at, size_of, width_of};
 use gate_laws::{InCell, OutCell};
 use lists::{List, OutOfMemory};
-use std::alloc::{AllocError, Global};
+use std::alloc::Global;
 use ww_rule::State;
 
 fn state_of(letter: u8) -> State {
@@ -19,25 +19,28 @@ fn state_of(letter: u8) -> State {
     }
 }
 
-fn cells_of(alloc: Global, sketch: &Sketch, turn: Turn) -> Result<Vec<State>, AllocError> {
-    let mut cells = Vec::new(alloc);
+// Adds the cells of a sketch, and answers whether memory ran out.
+fn add_cells(cells: &mut Vec<State>, sketch: &Sketch, turn: Turn) -> bool {
     for cell in 0..size_of(sketch) {
-        cells.push(state_of(letter_at(sketch, turn, cell)))?;
+        if cells.push(state_of(letter_at(sketch, turn, cell))).is_err() {
+            return true;
+        }
     }
-    Ok(cells)
+    false
 }
 
-// The inputs of a sketch, which are the letters from `a` on.
-fn ins_of(alloc: Global, sketch: &Sketch, turn: Turn) -> Result<Vec<InCell>, AllocError> {
-    let mut ins = Vec::new(alloc);
+// Adds the inputs of a sketch, which are the letters from `a` on, and answers whether memory ran out.
+fn add_ins(ins: &mut Vec<InCell>, sketch: &Sketch, turn: Turn) -> bool {
     let mut letter = b'a';
     for time in sketch.ins {
         let (x, y) = find(sketch, turn, letter);
         let generation = *time;
-        ins.push(InCell { x, y, generation })?;
+        if ins.push(InCell { x, y, generation }).is_err() {
+            return true;
+        }
         letter = letter.saturating_add(1);
     }
-    Ok(ins)
+    false
 }
 
 fn out_of(sketch: &Sketch, turn: Turn, out: (u8, Answer)) -> OutCell {
@@ -51,43 +54,43 @@ fn out_of(sketch: &Sketch, turn: Turn, out: (u8, Answer)) -> OutCell {
     }
 }
 
-// The outputs of a sketch.
-fn outs_of(alloc: Global, sketch: &Sketch, turn: Turn) -> Result<Vec<OutCell>, AllocError>
-    ensures { IfOk result (λ outs. length outs.items ≡ length sketch.now.outs.now) }
+// Adds the outputs of a sketch, and the answer of each, and answers whether memory ran out.
+fn add_outs(outs: &mut Vec<OutCell>, answers: &mut Vec<Answer>, sketch: &Sketch, turn: Turn) -> bool
+    requires same { length outs.old.items ≡ length answers.old.items }
+    ensures { result ≡ false → length answers.new.items ≡ length outs.new.items }
 {
-    let mut outs = Vec::new(alloc);
     for out in sketch.outs {
-        outs.push(out_of(sketch, turn, *out))?;
+        let is_short = outs.push(out_of(sketch, turn, *out)).is_err();
+        if is_short | answers.push(out.1).is_err() {
+            return true;
+        }
     }
-    Ok(outs)
-}
-
-fn answers_of(alloc: Global, sketch: &Sketch) -> Result<Vec<Answer>, AllocError>
-    ensures { IfOk result (λ answers. length answers.items ≡ length sketch.now.outs.now) }
-{
-    let mut answers = Vec::new(alloc);
-    for out in sketch.outs {
-        answers.push(out.1)?;
-    }
-    Ok(answers)
+    false
 }
 
 /// Makes the drawing of a kind of gate, with one answer for each output.
 pub fn drawing_of(alloc: Global, kind: GateKind) -> Result<GateDrawing, OutOfMemory>
     ensures { IfOk result (λ drawing. length drawing.answers ≡ length drawing.outs) }
 {
-    let sketch = sketch_of(kind.shape);
-    let cells = cells_of(alloc, sketch, kind.turn)?;
-    let ins = ins_of(alloc, sketch, kind.turn)?;
-    let outs = outs_of(alloc, sketch, kind.turn)?;
-    let answers = answers_of(alloc, sketch)?;
-    Ok(GateDrawing {
-        width: width_of(sketch, kind.turn),
+    let (sketch, turn) = (sketch_of(kind.shape), kind.turn);
+    let (mut cells, mut ins) = (Vec::new(alloc), Vec::new(alloc));
+    let (mut outs, mut answers) = (Vec::new(alloc), Vec::new(alloc));
+    let is_short = add_cells(&mut cells, sketch, turn)
+        | add_ins(&mut ins, sketch, turn)
+        | add_outs(&mut outs, &mut answers, sketch, turn);
+    let drawing = GateDrawing {
+        width: width_of(sketch, turn),
         cells: List::of(cells),
         ins: List::of(ins),
         outs: List::of(outs),
         answers: List::of(answers),
         time: sketch.time,
         timing: sketch.timing,
-    })
+    };
+    if is_short {
+        drop(drawing);
+        Err(OutOfMemory::NoMemory)
+    } else {
+        Ok(drawing)
+    }
 }

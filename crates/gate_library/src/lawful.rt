@@ -33,6 +33,7 @@ impl LawfulGate {
         if is_lawful(&drawing) {
             Some(LawfulGate { drawing })
         } else {
+            drop(drawing);
             None
         }
     }

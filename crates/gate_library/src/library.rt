@@ -1,5 +1,5 @@
 // All drawings, each made once.
-ghost use Rattle.std.specs.Prelude.{◌<◌, ◌≡◌, vec_len};
+ghost use Rattle.std.specs.Prelude.{◌<◌, ◌≡◌, vec_len, OnOk};
 
 use crate::drawings::drawing_of;
 use crate::gate::GateDrawing;
@@ -15,20 +15,34 @@ pub struct GateLibrary {
     ghost whole: { vec_len drawings ≡ 80 },
 }
 
+// Adds the drawings of all kinds.
+fn add_all(drawings: &mut Vec<GateDrawing>, alloc: Global) -> Result<(), OutOfMemory>
+    requires none { vec_len drawings.old ≡ 0 }
+    ensures { OnOk result (vec_len drawings.new ≡ 80) }
+{
+    for shape in SHAPES {
+        for turn in TURNS {
+            let kind = GateKind {
+                shape: *shape,
+                turn: *turn,
+            };
+            drawings.push(drawing_of(alloc, kind)?)?;
+        }
+    }
+    Ok(())
+}
+
 impl GateLibrary {
     /// Makes the drawings of all kinds.
     pub fn new(alloc: Global) -> Result<GateLibrary, OutOfMemory> {
         let mut drawings = Vec::new(alloc);
-        for shape in SHAPES {
-            for turn in TURNS {
-                let kind = GateKind {
-                    shape: *shape,
-                    turn: *turn,
-                };
-                drawings.push(drawing_of(alloc, kind)?)?;
+        match add_all(&mut drawings, alloc) {
+            Ok(()) => Ok(GateLibrary { drawings }),
+            Err(error) => {
+                drop(drawings);
+                Err(error)
             }
         }
-        Ok(GateLibrary { drawings })
     }
 
     /// Returns the drawing of a kind.

@@ -80,10 +80,10 @@ fn shape_of(word: &[u8]) -> Option<Shape> {
 /// Returns the kind with this name: the word of its shape, a hyphen, and the letter of its turn.
 pub fn kind_named(name: &[u8]) -> Option<GateKind> {
     match name {
-        [word @ .., b'-', letter] => Some(GateKind {
-            shape: shape_of(word)?,
-            turn: turn_of(*letter)?,
-        }),
+        [word @ .., b'-', letter] => match (shape_of(word), turn_of(*letter)) {
+            (Some(shape), Some(turn)) => Some(GateKind { shape, turn }),
+            _ => None,
+        },
         _ => None,
     }
 }

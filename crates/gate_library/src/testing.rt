@@ -19,7 +19,8 @@ fn bit_at(bits: &[bool], i: u32) -> bool
     }
 }
 
-fn answer_of(bits: &[bool], answer: Answer) -> bool
+/// Returns the bit of an answer to these bits of inputs.
+pub fn answer_of(bits: &[bool], answer: Answer) -> bool
     ensures { result ≡ answer_bit bits.now answer }
 {
     match answer {
