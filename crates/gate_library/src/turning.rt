@@ -51,11 +51,10 @@ pub fn letter_at(sketch: &Sketch, turn: Turn, cell: u32) -> u8 {
         .width
         .saturating_add(1)
         .saturating_mul(v)
-        .saturating_add(u) as usize;
-    if place < sketch.rows.len() {
-        sketch.rows[place]
-    } else {
-        b'.'
+        .saturating_add(u);
+    match sketch.rows.get(place as usize) {
+        Some(letter) => *letter,
+        None => b'.',
     }
 }
 
