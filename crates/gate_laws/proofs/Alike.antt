@@ -1,16 +1,14 @@
 -- Signals that are lit alike, and inputs that are never lit.
-use Rattle.std.proofs.Common.{ℤ, ℕ, suc, ◌≡◌, sym, ap, ◌∙◌, subst, inl, inr, true, ◌&&◌, ◌||◌, List, ◌∷◌, ◌++◌}
+use Rattle.std.proofs.Common.{ℤ, ℕ, suc, ◌≡◌, sym, ◌∙◌, subst, inl, inr, true, List, ◌++◌}
 use Rattle.std.specs.Prelude.{Contains, ◌≢◌, ◌↔◌}
 use Rattle.std.specs.Cmp.{both_ways}
-use Rattle.std.specs.Ordering.{int_eq}
 use Rattle.std.proofs.Math.Path.{fun_ext}
 use Rattle.std.proofs.lemmas.List.Elements.{Contains-append_cases, Contains-append_left}
 use Rattle.ww_rule.specs.declared.pattern.State.TheVariants.{Empty, Head}
 use Rattle.ww_rule.specs.Wireworld.{driven}
 use Rattle.gate_laws.specs.Signals.{Signal, cell_state, is_lit, due_of_signals, IsReady}
-use Rattle.gate_laws.specs.Laws.{HasLitAlike, SignalsLitAlike, DarkInputsMayGo}
+use Rattle.gate_laws.specs.Laws.{HasLitAlike, SignalsLitAlike}
 use Rattle.gate_laws.proofs.Dues.{due_by_signal, signal_is_due}
-use Rattle.gate_laws.proofs.Feed.{among_more, input_more}
 
 due_alike : (period : ℕ) (ins inputs : List Signal) → ((s : Signal) → Contains ins s → HasLitAlike period inputs s) → (g : ℕ) (x y : ℤ) → due_of_signals period ins g x y ≡ true → due_of_signals period inputs g x y ≡ true
 due_alike period ins inputs alike g x y e =
@@ -37,14 +35,3 @@ signals_lit_alike period p ins outs inputs outputs there back shown run =
           | inl i ↦ let r = back s i in (r.0, Contains-append_left ins outs r.0 r.1, r.2)
           | inr o ↦ shown s o
         ]
-
-pub dark_inputs_may_go : DarkInputsMayGo
-dark_inputs_may_go period p s ins outs dark run =
-    record {
-      drawn = λ r among. run.drawn r (among_more s r ins outs among);
-      shows = λ r among g. subst (λ due. (cell_state (driven due p g) r.cell ≡ Head) ↔ (is_lit period r g ≡ true)) dues (run.shows r (among_more s r ins outs among) g);
-      ready = λ r among g lit. subst (λ due. IsReady (driven due p g) r.cell) dues (run.ready r (input_more s r ins among) g lit);
-    }
-  where
-    dues : due_of_signals period (s ∷ ins) ≡ due_of_signals period ins
-    dues = fun_ext (λ g. fun_ext (λ x. fun_ext (λ y. ap (λ b. b && int_eq s.cell.0 x && int_eq s.cell.1 y || due_of_signals period ins g x y) (dark g))))

@@ -1,5 +1,5 @@
--- Planes that are moved with their signals.
-use Rattle.std.proofs.Common.{ℤ, pos, ◌+ℤ◌, ◌-ℤ◌, ℕ, suc, ◌+◌, ◌≡◌, refl, sym, ap, ap₂, ◌∙◌, subst, inl, inr, true, List, ◌++◌, map, arith}
+-- Planes that are moved with their signals, and parts.
+use Rattle.std.proofs.Common.{ℤ, [], ◌∷◌, Bool, pos, ◌+ℤ◌, ◌-ℤ◌, ℕ, suc, ◌+◌, ◌≡◌, refl, sym, ap, ap₂, ◌∙◌, subst, inl, inr, true, List, ◌++◌, map, arith}
 use Rattle.std.specs.Prelude.{Contains, ◌≢◌, ◌↔◌}
 use Rattle.std.specs.Cmp.{both_ways}
 use Rattle.std.proofs.lemmas.Int.{ints}
@@ -14,7 +14,9 @@ use Rattle.ww_rule.proofs.Cells.{sum_same}
 use Rattle.ww_rule.proofs.DrivenPlanes.{drives_anywhere}
 use Rattle.ww_rule.proofs.Turns.{drives_turned_too}
 use Rattle.gate_laws.specs.Signals.{Signal, cell_state, is_lit, due_of_signals, IsReady, CarriesSignals}
-use Rattle.gate_laws.specs.Moved.{signal_at, CarriesAnywhere}
+use Rattle.gate_laws.specs.Rows.{Port, signal_of, signals_at}
+use Rattle.gate_laws.specs.Moved.{signal_at, CarriesAlso, CarriesAnywhere}
+use Rattle.gate_laws.specs.PartLaws.{moved_port, IsPartAlso, PartsMove}
 use Rattle.gate_laws.proofs.Dues.{due_by_signal, signal_is_due, same_cell}
 
 -- a way to move cells, with its way back, and how planes and what is due go with it
@@ -195,4 +197,23 @@ carries_anywhere p =
       mirrors = λ a period ins outs run. carried_also (λ c. (a -ℤ c.0, c.1)) (λ c. (a -ℤ c.0, c.1)) (mirrored a) (due_mirrored a) (is_mirrored a) p period ins outs run;
       mirrors_down = λ b period ins outs run. carried_also (λ c. (c.0, b -ℤ c.1)) (λ c. (c.0, b -ℤ c.1)) (upside_down b) (due_upside_down b) (is_upside_down b) p period ins outs run;
       turns = λ period ins outs run. carried_also (λ c. (c.1, c.0)) (λ c. (c.1, c.0)) turned due_turned is_turned p period ins outs run;
+    }
+
+ports_moved : (place : ℤ × ℤ → ℤ × ℤ) (ports : List Port) (bits : ℕ → ℕ → Bool) → signals_at (map (moved_port place) ports) bits ≡ map (signal_at place) (signals_at ports bits)
+ports_moved place [] bits = refl
+ports_moved place (port ∷ ports) bits =
+    ap (λ rest. signal_of (moved_port place port) (λ t. bits t 0) ∷ rest) (ports_moved place ports (λ t i. bits t (suc i)))
+
+part_also : (place : ℤ × ℤ → ℤ × ℤ) (p q : Plane) → CarriesAlso place p q → IsPartAlso place p q
+part_also place p q also period ins outs meaning part bits =
+    subst (λ signals. CarriesSignals period q signals (signals_at (map (moved_port place) outs) (meaning bits))) (sym (ports_moved place ins bits)) (subst (CarriesSignals period q (map (signal_at place) (signals_at ins bits))) (sym (ports_moved place outs (meaning bits))) (also period (signals_at ins bits) (signals_at outs (meaning bits)) (part bits)))
+
+pub parts_move : (p : Plane) → PartsMove p
+parts_move p =
+    let carries = carries_anywhere p in
+    record {
+      moves = λ a b. part_also (λ cell. (cell.0 +ℤ a, cell.1 +ℤ b)) p (moved a b p) (carries.moves a b);
+      mirrors = λ a. part_also (λ cell. (a -ℤ cell.0, cell.1)) p (mirrored a p) (carries.mirrors a);
+      mirrors_down = λ b. part_also (λ cell. (cell.0, b -ℤ cell.1)) p (upside_down b p) (carries.mirrors_down b);
+      turns = part_also (λ cell. (cell.1, cell.0)) p (turned p) carries.turns;
     }

@@ -10,7 +10,7 @@ use Rattle.gate_laws.specs.Signals.{Signal, is_lit}
 use Rattle.gate_laws.specs.Rows.{Port, signal_of, signals_at, PartMeaning, IsCausalMeaning, row_of_both}
 use Rattle.gate_laws.specs.Laws.{AreLitAlike, HasLitAlike}
 use Rattle.gate_laws.specs.PortWires.{nth_port}
-use Rattle.gate_laws.specs.PartTimes.{ArePortsLitAlike, PartsLitAlike, cycles_later, held_back, meaning_later, PartsBeginLater, OutputsBeginEarlier}
+use Rattle.gate_laws.specs.PartTimes.{ArePortsLitAlike, PartsLitAlike, cycles_later, held_back, meaning_later, PartsBeginLater}
 use Rattle.gate_laws.proofs.WireLit.{lit_in, in_lit}
 use Rattle.gate_laws.proofs.Rows.{port_signal, no_port, port_of_signal, signal_of_port}
 use Rattle.gate_laws.proofs.Alike.{signals_lit_alike}
@@ -123,10 +123,4 @@ pub parts_begin_later : PartsBeginLater
 parts_begin_later period some p ins outs meaning later outs_later dark part = (
   parts_lit_alike period p ins outs (cycles_later period later ins) (cycles_later period outs_later outs) meaning (meaning_later later outs_later meaning) (held_back later) (alike_later period some later ins) (λ bits. alike_without period some outs_later outs (meaning (held_back later bits)) (dark bits)) part,
   causal_later later outs_later meaning,
-)
-
-pub outputs_begin_earlier : OutputsBeginEarlier
-outputs_begin_earlier period some p ins outs meaning earlier part = (
-  parts_lit_alike period p ins (cycles_later period earlier outs) ins outs meaning (λ bits. held_back earlier (meaning bits)) (λ bits. bits) (λ bits. record { count = refl; alike = λ i l. record { cell = refl; lit = λ g. refl } }) (λ bits. flipped period outs (cycles_later period earlier outs) (held_back earlier (meaning bits)) (meaning bits) (alike_later period some earlier outs (meaning bits))) part,
-  λ causal bits others t same. fun_ext (λ o. both_same (earlier o) (λ u. false) (λ u. meaning bits u o) (λ u. meaning others u o) t (λ s le. ap (λ row. row o) (causal bits others s (λ u l. same u (omega (arith, l, le)))))),
 )

@@ -7,14 +7,14 @@ use Rattle.std.proofs.Math.Path.{fun_ext}
 use Rattle.std.proofs.lemmas.Bool.{and_parts, and_from, eqb-true, eq-eqb, true≢false, false_from_ne_true}
 use Rattle.std.proofs.lemmas.Nat.{div-add-mod'}
 use Rattle.std.proofs.Math.Nat.{mul-mod_left, mul-div_cancel, mul-le-mul, mul_assoc}
-use Rattle.lists.proofs.Members.{in_from, contains_from, in_left, in_right, in_parts, in_map, in_mapped}
+use Rattle.lists.proofs.Members.{in_from, contains_from, in_left, in_right, in_parts, in_map}
 use Rattle.ww_rule.specs.declared.pattern.State.{State}
 use Rattle.ww_rule.specs.declared.pattern.State.TheVariants.{Empty, Head, Tail, Conductor}
 use Rattle.ww_rule.specs.Wireworld.{Plane, next_plane, next_state, heads_around, driven}
 use Rattle.ww_rule.proofs.Cells.{not_counted, sum_none}
 use Rattle.gate_laws.specs.Signals.{Signal, cell_state, is_lit, due_of_signals, IsReady, CarriesSignals}
 use Rattle.gate_laws.specs.Rows.{signals_at, stretched, HasNoElectrons, AnswersEachRow}
-use Rattle.gate_laws.specs.Laws.{StretchedAreSlower, AnswersGoSlower}
+use Rattle.gate_laws.specs.Laws.{AnswersGoSlower}
 use Rattle.gate_laws.proofs.WireLit.{lit_in, in_lit}
 use Rattle.gate_laws.proofs.Dues.{due_by_signal}
 use Rattle.gate_laws.proofs.Rows.{port_signal, no_port, port_of_signal, signal_of_port, same_signals}
@@ -64,13 +64,6 @@ module _ (period times : ℕ) (some : 0 < period) (more : 0 < times) where
         | inr o ↦ contains_from _ (stretched times s) (in_right (map (stretched times) ins) (map (stretched times) outs) (stretched times s) (in_map (stretched times) outs s o))
       ]
 
-  unmapped_both : (ins outs : List Signal) (s : Signal) → Contains (map (stretched times) ins ++ map (stretched times) outs) s → (r : Signal) × Contains (ins ++ outs) r × (s ≡ stretched times r)
-  unmapped_both ins outs s among =
-      elim (in_parts (map (stretched times) ins) (map (stretched times) outs) s (in_from (map (stretched times) ins ++ map (stretched times) outs) s among)) [
-        | inl i ↦ let r = in_mapped (stretched times) ins s i in (r.0, contains_from (ins ++ outs) r.0 (in_left ins outs r.0 r.1), r.2)
-        | inr o ↦ let r = in_mapped (stretched times) outs s o in (r.0, contains_from (ins ++ outs) r.0 (in_right ins outs r.0 r.1), r.2)
-      ]
-
   slower : (p : Plane) (ins outs : List Signal) → CarriesSignals period p (map (stretched times) ins) (map (stretched times) outs) → CarriesSignals (times * period) p ins outs
   slower p ins outs run =
       record {
@@ -78,18 +71,6 @@ module _ (period times : ℕ) (some : 0 < period) (more : 0 < times) where
         shows = λ s among g. subst (λ due. (cell_state (driven due p g) s.cell ≡ Head) ↔ (is_lit (times * period) s g ≡ true)) (dues ins) (subst (λ b. (cell_state (driven (due_of_signals period (map (stretched times) ins)) p g) s.cell ≡ Head) ↔ (b ≡ true)) (lit_slower s g) (run.shows (stretched times s) (mapped_both ins outs s among) g));
         ready = λ s among g lit. subst (λ due. IsReady (driven due p g) s.cell) (dues ins) (run.ready (stretched times s) (mapped ins s among) g (lit_slower s (suc g) ∙ lit));
       }
-
-  faster : (p : Plane) (ins outs : List Signal) → CarriesSignals (times * period) p ins outs → CarriesSignals period p (map (stretched times) ins) (map (stretched times) outs)
-  faster p ins outs run =
-      record {
-        drawn = λ s among. (let r = unmapped_both ins outs s among in subst (λ s. cell_state p s.cell ≢ Empty) (sym r.2) (run.drawn r.0 r.1));
-        shows = λ s among g. (let r = unmapped_both ins outs s among in subst (λ s. (cell_state (driven (due_of_signals period (map (stretched times) ins)) p g) s.cell ≡ Head) ↔ (is_lit period s g ≡ true)) (sym r.2) (subst (λ due. (cell_state (driven due p g) r.0.cell ≡ Head) ↔ (is_lit period (stretched times r.0) g ≡ true)) (sym (dues ins)) (subst (λ b. (cell_state (driven (due_of_signals (times * period) ins) p g) r.0.cell ≡ Head) ↔ (b ≡ true)) (sym (lit_slower r.0 g)) (run.shows r.0 r.1 g))));
-        ready = λ s among g lit. (let r = in_mapped (stretched times) ins s (in_from (map (stretched times) ins) s among) in subst (λ s. IsReady (driven (due_of_signals period (map (stretched times) ins)) p g) s.cell) (sym r.2) (subst (λ due. IsReady (driven due p g) r.0.cell) (sym (dues ins)) (run.ready r.0 (contains_from ins r.0 r.1) g (sym (lit_slower r.0 (suc g)) ∙ ap (λ s. is_lit period s (suc g)) (sym r.2) ∙ lit))));
-      }
-
-pub stretched_are_slower : StretchedAreSlower
-stretched_are_slower period times some more p ins outs =
-    (slower period times some more p ins outs, faster period times some more p ins outs)
 
 -- the signals of stretched bits
 stretched_bits : (times : ℕ) (ports : List ((ℤ × ℤ) × ℕ)) (bits : ℕ → ℕ → Bool) → map (stretched times) (signals_at ports bits) ≡ signals_at ports (λ t i. t % times == 0 && bits (t / times) i)

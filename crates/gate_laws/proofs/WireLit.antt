@@ -5,7 +5,6 @@ use Rattle.std.proofs.lemmas.Bool.{and_parts, and_from, leb-true, le-leb, eqb-tr
 use Rattle.std.proofs.lemmas.Nat.{div-add-mod'}
 use Rattle.std.proofs.Math.Nat.{mul-mod_left, mul-div_cancel, mul-le-mul_right}
 use Rattle.gate_laws.specs.Signals.{Signal, is_lit}
-use Rattle.gate_laws.specs.Laws.{SignalsKeepTime}
 
 -- the cycle in which a signal is lit
 pub lit_in : (period : ℕ) (s : Signal) (g : ℕ) → is_lit period s g ≡ true → (t : ℕ) × (g ≡ s.first + t * period) × (s.bit t ≡ true)
@@ -24,9 +23,6 @@ in_lit period s g t some time bit =
     let whole : (g - s.first) % period ≡ 0 = ap (λ n. n % period) since ∙ mul-mod_left t period in
     let cycle : (g - s.first) / period ≡ t = ap (λ n. n / period) since ∙ mul-div_cancel t some in
     and_from (nat_le s.first g && ((g - s.first) % period == 0)) (s.bit ((g - s.first) / period)) (and_from (nat_le s.first g) ((g - s.first) % period == 0) (le-leb s.first g begun) (eq-eqb ((g - s.first) % period) 0 whole)) (ap s.bit cycle ∙ bit)
-
-pub keeps_time : SignalsKeepTime
-keeps_time period some s g = (lit_in period s g, λ h. in_lit period s g h.0 some h.1 h.2)
 
 -- a signal is not lit twice within less than a period
 pub not_soon : (period : ℕ) (s : Signal) (g d : ℕ) → is_lit period s g ≡ true → is_lit period s (g + d) ≡ true → 0 < d → d < period → ⊥

@@ -1,19 +1,13 @@
 -- Laws of planes that carry signals: put side by side, joined by wires, and run later or more
 -- slowly.
-use Rattle.std.specs.Prelude.{ℤ, ℕ, ◌+◌, ◌*◌, ◌<◌, ◌≤◌, ◌≡◌, ◌≢◌, ◌↔◌, Bool, true, false, List, [], ◌∷◌, ◌++◌, map, Contains}
+use Rattle.std.specs.Prelude.{ℤ, ℕ, ◌+◌, ◌*◌, ◌<◌, ◌≤◌, ◌≡◌, ◌≢◌, ◌↔◌, Bool, List, [], ◌∷◌, ◌++◌, map, Contains}
 use Rattle.ww_rule.specs.declared.pattern.State.{State}
 use Rattle.ww_rule.specs.declared.pattern.State.TheVariants.{Empty, Conductor}
 use Rattle.ww_rule.specs.Wireworld.{Plane}
 use Rattle.ww_rule.specs.Injections.{due_of_streams}
 use Rattle.gate_laws.specs.Signals.{Signal, cell_state, is_lit, due_of_signals, CarriesSignals}
 use Rattle.gate_laws.specs.Wires.{IsNear, Wire, HasWires, ComesByWire, ComesCyclesLater}
-use Rattle.gate_laws.specs.Rows.{Port, signals_of_rows, stretched, HasNoElectrons, AnswersEachRow}
-
--- a signal is lit exactly at the generations of its cycles in which the bit is 1
-abbrev pub SignalsKeepTime : Type 0
-SignalsKeepTime =
-    (period : ℕ) → 0 < period → (s : Signal) (g : ℕ)
-    → (is_lit period s g ≡ true) ↔ ((t : ℕ) × (g ≡ s.first + t * period) × (s.bit t ≡ true))
+use Rattle.gate_laws.specs.Rows.{Port, signals_of_rows, HasNoElectrons, AnswersEachRow}
 
 -- the signals of rows of bits drive a plane as the rows do
 abbrev pub RowsAreSignals : Type 0
@@ -61,13 +55,6 @@ SignalsLitAlike =
     → ((s : Signal) → Contains outputs s → HasLitAlike period (ins ++ outs) s)
     → CarriesSignals period p ins outs → CarriesSignals period p inputs outputs
 
--- an input that is never lit may be left without a drive
-abbrev pub DarkInputsMayGo : Type 0
-DarkInputsMayGo =
-    (period : ℕ) (p : Plane) (s : Signal) (ins outs : List Signal)
-    → ((g : ℕ) → is_lit period s g ≡ false)
-    → CarriesSignals period p (s ∷ ins) outs → CarriesSignals period p ins outs
-
 -- the signal so many generations later
 abbrev pub begun_later : ℕ → Signal → Signal
 begun_later d s = record { cell = s.cell; first = d + s.first; bit = s.bit }
@@ -114,13 +101,6 @@ abbrev pub WiresDelay : Type 0
 WiresDelay =
     (period size m : ℕ) (from to : Signal) → 0 < period
     → ComesCyclesLater period size m from to → ComesByWire period size from to
-
--- a plane carries stretched signals at a period exactly if it carries the signals at a multiple
-abbrev pub StretchedAreSlower : Type 0
-StretchedAreSlower =
-    (period times : ℕ) → 0 < period → 0 < times → (p : Plane) (ins outs : List Signal)
-    → CarriesSignals period p (map (stretched times) ins) (map (stretched times) outs)
-    ↔ CarriesSignals (times * period) p ins outs
 
 -- A part without electrons that answers row by row does so at each multiple of its period. A part
 -- with electrons has its one period, and one whose rows are not independent is another part at a

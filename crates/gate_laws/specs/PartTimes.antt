@@ -1,5 +1,5 @@
 -- Laws of the times of a part's ports: other ports that are lit alike may stand for them, and they
--- may begin cycles later or earlier.
+-- may begin cycles later.
 use Rattle.std.specs.Prelude.{ℕ, suc, ◌+◌, ◌*◌, ◌<◌, ◌≤◌, ◌≡◌, Bool, false, List, [], ◌∷◌, length}
 use Rattle.ww_rule.specs.Wireworld.{Plane}
 use Rattle.gate_laws.specs.Rows.{Port, signal_of, PartMeaning, IsPart, IsCausalMeaning, row_of_both}
@@ -61,11 +61,3 @@ PartsBeginLater =
     (meaning_later later outs_later meaning)
     × (((i o : ℕ) → outs_later o ≤ later i) → IsCausalMeaning meaning
     → IsCausalMeaning (meaning_later later outs_later meaning))
-
--- outputs of a part may begin so many cycles earlier: in these cycles their bits are 0
-abbrev pub OutputsBeginEarlier : Type 0
-OutputsBeginEarlier =
-    (period : ℕ) → 0 < period → (p : Plane) (ins outs : List Port) (meaning : PartMeaning)
-    (earlier : ℕ → ℕ) → IsPart period p ins (cycles_later period earlier outs) meaning
-    → IsPart period p ins outs (λ bits. held_back earlier (meaning bits))
-    × (IsCausalMeaning meaning → IsCausalMeaning (λ bits. held_back earlier (meaning bits)))

@@ -17,7 +17,7 @@ use Rattle.gate_laws.proofs.Together.{wires_feed}
 use Rattle.gate_laws.proofs.Delay.{wires_delay}
 use Rattle.gate_laws.proofs.Rows.{same_signals}
 use Rattle.gate_laws.proofs.Later.{parts_start_later}
-use Rattle.gate_laws.proofs.Ordered.{parts_move}
+use Rattle.gate_laws.proofs.Moved.{parts_move}
 use Rattle.gate_laws.specs.Gates.{Gate, gate_answer, IsGateForPeriod}
 use Rattle.routed_circuits.specs.Routed.{PlacedGate, gate_plane, placed_port, placed_ins, placed_outs, gates_plane, signals_of, GatesCarry, RoutedCarry}
 
