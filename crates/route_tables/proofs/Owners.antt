@@ -15,11 +15,6 @@ is_somebody Nobody = false
 is_somebody (OfGate k) = true
 is_somebody (OfWire w i) = true
 
-abbrev gate_number : Owner → ℕ
-gate_number Nobody = 0
-gate_number (OfGate k) = k
-gate_number (OfWire w i) = 0
-
 module _ (gates : List PlacedGate) (wires : List Wire) (cells : List (ℕ × ℕ)) (states : List State) (serials : List ℕ) (width : ℕ) (groups : List ℕ) (limit : ℕ) (own : ℕ → Owner) (h : AreSerials cells states serials width groups limit) (is : IsListing gates wires cells groups limit own) where
   abbrev serial : ℤ × ℤ → ℕ
   serial c = serial_at serials width c.0 c.1

@@ -27,12 +27,6 @@ IsListedAt cells states serials width k =
     ⊎ ((0 < get_or serials k 0) × (get_or serials k 0 ≤ length cells)
     × (get_or cells (get_or serials k 0 - 1) (0, 0) ≡ (k % width, k / width)))
 
--- the table has each listed cell, and no other; what it does not have is not drawn
-pub record HasListedCells (cells : List (ℕ × ℕ)) (states : List State) (serials : List ℕ)
-    (width : ℕ) : Type 0 where
-  pub numbers : (n : ℕ) → n < length cells → HasSerial cells serials width n
-  pub places : (k : ℕ) → k < length serials → IsListedAt cells states serials width k
-
 -- the cell of this serial, if any, is of the same group, or of one that is not below the limit
 abbrev pub MayTouch : List ℕ → (limit n serial : ℕ) → Type 0
 MayTouch groups limit n serial =

@@ -54,9 +54,20 @@ fn serial_before(serials: &[u32], width: u32, x: usize, y: usize) -> u32
 pub fn src_at(sources: &[Src], i: usize) -> Src
     ensures { result ≡ src_at sources.now i }
 {
-    match sources.get(i) {
-        Some(source) => *source,
-        None => Src::Zero,
+    if i < sources.len() {
+        sources[i]
+    } else {
+        Src::Zero
+    }
+}
+
+fn feed_at(feeds: &[Feed], i: usize) -> Option<Feed>
+    ensures { result ≡ slice_get feeds.now i }
+{
+    if i < feeds.len() {
+        Some(feeds[i])
+    } else {
+        None
     }
 }
 
@@ -149,10 +160,7 @@ impl Tables {
         ensures { result ≡ slice_get (table_gate self.now at.gate).feeds at.input }
     {
         match self.gates.as_slice().get(at.gate as usize) {
-            Some(gate) => match gate.feeds.as_slice().get(at.input as usize) {
-                Some(feed) => Some(*feed),
-                None => None,
-            },
+            Some(gate) => feed_at(gate.feeds.as_slice(), at.input as usize),
             None => None,
         }
     }
@@ -180,20 +188,16 @@ impl Tables {
     pub fn cell(&self, n: usize) -> (u32, u32)
         ensures { result ≡ get_or self.now.cells n (0, 0) }
     {
-        match self.cells.as_slice().get(n) {
-            Some(cell) => *cell,
-            None => (0, 0),
-        }
+        let cells = self.cells.as_slice();
+        if n < cells.len() { cells[n] } else { (0, 0) }
     }
 
     /// Returns the group of the listed cell of a number.
     pub fn group(&self, n: usize) -> u32
         ensures { result ≡ group self.now n }
     {
-        match self.groups.as_slice().get(n) {
-            Some(group) => *group,
-            None => 0,
-        }
+        let groups = self.groups.as_slice();
+        if n < groups.len() { groups[n] } else { 0 }
     }
 
     /// Returns the serial at the column and the row before x and y, which are counted from 1.
