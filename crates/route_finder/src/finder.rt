@@ -54,7 +54,7 @@ fn find_wires(links: &mut Links, board: &mut Board, pattern: &Pattern, table: &[
         board,
         table,
     );
-    direct_wires(links, board, pattern);
+    direct_wires(links, &mut board.path, pattern);
     let fault = fault_of_ends(links, board, pattern);
     links.note(fault);
 }
@@ -69,7 +69,14 @@ fn finish(
 ) {
     let mut times = find_times(alloc, links, board, pattern, table);
     find_periods(alloc, &mut times, links, board, table);
-    let fault = add_wires(board, &times, pattern, links);
+    let fault = add_wires(
+        &mut board.wiring,
+        board.gates.as_slice(),
+        board.path.as_slice(),
+        pattern,
+        links,
+        &times,
+    );
     links.note(fault);
     time_gates(board, &times);
     board.add_ports(table);

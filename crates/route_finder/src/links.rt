@@ -3,14 +3,10 @@
 
 use crate::error::{DrawingFault, FindError};
 use crate::lone::add_lone;
-use crate::wires::{Link, Links, Way, state_at};
+use crate::wires::{Link, Links, Way, small, state_at};
 use gate_library::{DrawnPort, GatePort};
 use route_lines::{Board, Owner, STEPS, port_cell};
 use ww_rule::{Pattern, State};
-
-fn small(number: usize) -> u32 {
-    u32::try_from(number).unwrap_or(u32::MAX)
-}
 
 // Adds the wire between two ports with so many cells of the path, from a place on.
 fn add_link(links: &mut Links, from: DrawnPort, to: DrawnPort, start: u32, size: u32) {
@@ -87,7 +83,7 @@ fn follow(
         links.note(Some(FindError::at(fault, end)));
         return;
     };
-    if to == from {
+    if end == cell {
         add_ring(links, board, pattern, from, start, size);
     } else {
         add_link(links, from, to, start, size);

@@ -3,7 +3,7 @@
 use crate::crossings::{is_mirrored, mirrored, port_after};
 use crate::error::{DrawingFault, FindError};
 use crate::times::{Span, Times};
-use crate::wires::{Link, Links, cells_of, state_at};
+use crate::wires::{Link, Links, cells_of, small, state_at};
 use gate_library::{DrawnGate, DrawnWire, GatePort, Timing};
 use route_lines::{Board, Wiring};
 use ww_rule::{Pattern, State};
@@ -51,38 +51,46 @@ fn add_wire(
     }
 }
 
-// The wire of a link, whose start bits come next, or none if it leads to no input.
-fn wire_of(board: &Board, times: &Times, link: &Link, span: Span) -> Option<DrawnWire> {
-    let GatePort::In(input) = port_after(times, &board.gates, link.to).port else {
+// The wire of a link, whose start bits are those from place `latch` on, or none if it leads to no input.
+fn wire_of(
+    gates: &[DrawnGate],
+    times: &Times,
+    link: &Link,
+    span: Span,
+    latch: u32,
+) -> Option<DrawnWire> {
+    let GatePort::In(input) = port_after(times, gates, link.to).port else {
         return None;
     };
     Some(DrawnWire {
-        from: port_after(times, &board.gates, link.from),
+        from: port_after(times, gates, link.from),
         gate: link.to.gate,
         input,
         start: link.start,
         size: link.size,
-        latch: u32::try_from(board.wiring.starts.len()).unwrap_or(u32::MAX),
+        latch,
         cycles: periods_of(times, span, link),
     })
 }
 
 /// Adds all wires up to the first that leads to no input, and returns the fault of that.
 pub fn add_wires(
-    board: &mut Board,
-    times: &Times,
+    wiring: &mut Wiring,
+    gates: &[DrawnGate],
+    path: &[(u32, u32)],
     pattern: &Pattern,
     links: &Links,
+    times: &Times,
 ) -> Option<FindError> {
     for number in 0..links.all.len().min(times.spans.len()) {
         let (link, span) = (links.all[number], times.spans[number]);
-        let Some(wire) = wire_of(board, times, &link, span) else {
-            let cells = cells_of(&board.path, &link);
+        let cells = cells_of(path, &link);
+        let latch = small(wiring.starts.len());
+        let Some(wire) = wire_of(gates, times, &link, span, latch) else {
             let first = if cells.is_empty() { (0, 0) } else { cells[0] };
             return Some(FindError::at(DrawingFault::Wire, first));
         };
-        let cells = cells_of(&board.path, &link);
-        add_wire(&mut board.wiring, times, pattern, cells, span, wire);
+        add_wire(wiring, times, pattern, cells, span, wire);
     }
     None
 }
@@ -110,7 +118,7 @@ fn timed(times: &Times, board: &Board, gate: DrawnGate, number: u32) -> DrawnGat
 pub fn time_gates(board: &mut Board, times: &Times) {
     for place in 0..board.gates.len() {
         if place < board.gates.len() {
-            let number = u32::try_from(place).unwrap_or(u32::MAX);
+            let number = small(place);
             let gate = timed(times, board, board.gates[place], number);
             board.put_gate(gate, number);
         }

@@ -1,35 +1,43 @@
 // In which direction each wire runs.
 
-use crate::wires::{Link, Links, Way, cells_of, state_at};
+use crate::wires::{Link, Links, Way, cells_of, small, state_at};
 use gate_library::{DrawnPort, GatePort};
-use route_lines::Board;
 use ww_rule::{Pattern, State};
 
-// The number of an input among those of all gates.
-fn input_number(gate: u32, input: u32) -> usize {
-    (gate as usize)
-        .saturating_mul(2)
-        .saturating_add(input as usize)
+// The number of an input among those of all gates, each of which has two at most; none for an output.
+fn input_number(port: DrawnPort) -> Option<u32> {
+    match port.port {
+        GatePort::In(input) => Some(port.gate.saturating_mul(2).saturating_add(input)),
+        GatePort::Out(_) => None,
+    }
+}
+
+// Whether a port is the input with this number.
+fn is_input(port: DrawnPort, number: u32) -> bool {
+    match input_number(port) {
+        Some(other) => other == number,
+        None => false,
+    }
 }
 
 /// Notes that a wire leads to a port, or that it is driven from outside.
 pub fn feed(are_fed: &mut [bool], port: DrawnPort) {
-    if let GatePort::In(input) = port.port {
-        let number = input_number(port.gate, input);
-        if number < are_fed.len() {
-            are_fed[number] = true;
+    if let Some(number) = input_number(port) {
+        let place = number as usize;
+        if place < are_fed.len() {
+            are_fed[place] = true;
         }
     }
 }
 
 // Whether wires lead from a port: from an output, or an input that is fed.
-fn is_source(links: &Links, port: DrawnPort) -> bool {
-    match port.port {
-        GatePort::In(input) => {
-            let number = input_number(port.gate, input);
-            number < links.are_fed.len() && links.are_fed[number]
+fn is_source(are_fed: &[bool], port: DrawnPort) -> bool {
+    match input_number(port) {
+        Some(number) => {
+            let place = number as usize;
+            place < are_fed.len() && are_fed[place]
         }
-        GatePort::Out(_) => true,
+        None => true,
     }
 }
 
@@ -63,19 +71,17 @@ fn run(link: Link, way: Way) -> Link {
 }
 
 // Directs the wires whose directions are known at once: from their ports, else from their electrons.
-fn direct_at_once(links: &mut Links, board: &Board, pattern: &Pattern) {
-    for number in 0..links.all.len() {
-        if number < links.all.len() {
-            let link = links.all[number];
-            let way = if is_source(links, link.from) {
-                Way::Onward
-            } else if is_source(links, link.to) {
-                Way::Back
-            } else {
-                way_of_electrons(pattern, cells_of(&board.path, &link))
-            };
-            links.all[number] = run(link, way);
-        }
+fn direct_at_once(links: &mut [Link], are_fed: &[bool], path: &[(u32, u32)], pattern: &Pattern) {
+    for place in links.iter_mut() {
+        let link = *place;
+        let way = if is_source(are_fed, link.from) {
+            Way::Onward
+        } else if is_source(are_fed, link.to) {
+            Way::Back
+        } else {
+            way_of_electrons(pattern, cells_of(path, &link))
+        };
+        *place = run(link, way);
     }
 }
 
@@ -103,9 +109,9 @@ fn direct(links: &mut Links, number: u32, way: Way) {
     }
 }
 
-// How many ends of wires are at a port whose directions are not known.
-fn open_count(links: &Links, port: DrawnPort) -> u32 {
-    let (mut number, mut count) = (links.first_at(port.gate), 0u32);
+// How many ends of wires are at an input of a gate whose directions are not known.
+fn open_count(links: &Links, gate: u32, input: u32) -> u32 {
+    let (mut number, mut count) = (links.first_at(gate), 0u32);
     for _ in 0..links.all.len() {
         let place = number as usize;
         if place >= links.all.len() {
@@ -113,19 +119,22 @@ fn open_count(links: &Links, port: DrawnPort) -> u32 {
         }
         let link = links.all[place];
         if let Way::Unknown = link.way {
-            let (at_from, at_to) = (link.from == port, link.to == port);
+            let (at_from, at_to) = (is_input(link.from, input), is_input(link.to, input));
             count = count.saturating_add(u32::from(at_from) + u32::from(at_to));
         }
-        number = link.next_at(port.gate);
+        number = link.next_at(gate);
     }
     count
 }
 
-// Directs the wires at a port that have only one direction left: from it if it is a source, and to it if there is one
-// wire alone.
+// Directs the wires at an input that have only one direction left: from it if it is fed, and to it if there is one
+// wire alone. Those at an output are directed at once.
 fn settle(links: &mut Links, port: DrawnPort) {
-    let is_source = is_source(links, port);
-    if !is_source && open_count(links, port) != 1 {
+    let Some(input) = input_number(port) else {
+        return;
+    };
+    let is_fed = is_source(links.are_fed.as_slice(), port);
+    if !is_fed && open_count(links, port.gate, input) != 1 {
         return;
     }
     let mut number = links.first_at(port.gate);
@@ -135,9 +144,9 @@ fn settle(links: &mut Links, port: DrawnPort) {
             break;
         }
         let link = links.all[place];
-        let at_from = link.from == port;
-        if at_from || link.to == port {
-            let way = if at_from == is_source {
+        let at_from = is_input(link.from, input);
+        if at_from || is_input(link.to, input) {
+            let way = if at_from == is_fed {
                 Way::Onward
             } else {
                 Way::Back
@@ -161,8 +170,7 @@ fn settle_all(links: &mut Links) {
 
 // Looks at the inputs of each gate, of which there are two at most.
 fn add_inputs(links: &mut Links) {
-    let inputs = u32::try_from(links.are_fed.len()).unwrap_or(u32::MAX);
-    for number in 0..inputs {
+    for number in 0..small(links.are_fed.len()) {
         let port = DrawnPort {
             gate: number / 2,
             port: GatePort::In(number % 2),
@@ -184,13 +192,18 @@ fn turn_about(path: &mut [(u32, u32)], links: &[Link]) {
 
 /// Directs all wires: from outputs, from driven inputs, as electrons run, and so that one wire leads to each input.
 /// Those that are left run onward, each with what it tells of others.
-pub fn direct_wires(links: &mut Links, board: &mut Board, pattern: &Pattern) {
-    direct_at_once(links, board, pattern);
+pub fn direct_wires(links: &mut Links, path: &mut Vec<(u32, u32)>, pattern: &Pattern) {
+    direct_at_once(
+        links.all.as_mut_slice(),
+        links.are_fed.as_slice(),
+        path.as_slice(),
+        pattern,
+    );
     feed_ends(links.all.as_slice(), links.are_fed.as_mut_slice());
     add_inputs(links);
-    for number in 0..u32::try_from(links.all.len()).unwrap_or(u32::MAX) {
+    for number in 0..small(links.all.len()) {
         settle_all(links);
         direct(links, number, Way::Onward);
     }
-    turn_about(board.path.as_mut_slice(), links.all.as_slice());
+    turn_about(path.as_mut_slice(), links.all.as_slice());
 }

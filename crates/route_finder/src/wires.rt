@@ -97,3 +97,8 @@ pub fn state_at(pattern: &Pattern, cell: (u32, u32)) -> State {
         State::Empty
     }
 }
+
+/// Returns a number as one of 32 bits.
+pub fn small(number: usize) -> u32 {
+    u32::try_from(number).unwrap_or(u32::MAX)
+}
