@@ -21,14 +21,13 @@ fn latch_of(list: &CellList, src: Src) -> Option<LatchRow>
         return None;
     };
     let l = l as usize;
-    if l < list.latches.len() {
-        Some(LatchRow {
-            reads: *list.latches.get(l),
-            start: *list.starts.get(l),
-        })
-    } else {
-        None
+    if l >= list.latches.len() {
+        return None;
     }
+    Some(LatchRow {
+        reads: *list.latches.get(l),
+        start: *list.starts.get(l),
+    })
 }
 
 /// Returns the start bits of as many latches as lead back from the source `to` to the source `from`,

@@ -56,13 +56,14 @@ fn is_input(t: &Tables, states: &[State], i: usize, line: &PortLine) -> bool
     let Ok(number) = u32::try_from(i) else {
         return false;
     };
-    match t.driven.as_slice().get(i) {
-        Some(at) => {
-            is_point(t, input_port(*at), line.x, line.y, 0, Src::Input(number))
-                && is_dark_cell(t, states, line)
-        }
-        None => false,
+    if i >= t.driven.len() {
+        return false;
     }
+    let at = input_port(*t.driven.get(i));
+    if !is_point(t, at, line.x, line.y, 0, Src::Input(number)) {
+        return false;
+    }
+    is_dark_cell(t, states, line)
 }
 
 /// Tests that the IN lines stand at the first driven inputs, in order.
@@ -83,8 +84,9 @@ pub fn test_dark(t: &Tables, from: usize) -> Result<(), CellFault>
     ensures { IfOk result (λ _. (d : ℕ) (at : GateInput) → from ≤ d
         → slice_get t.now.driven d ≡ Some at → IsDark t.now at) }
 {
-    for (d, at) in t.driven.as_slice().iter().enumerate() {
-        if d >= from && !is_same_src(t.source(input_port(*at)), Src::Zero) {
+    for d in from..t.driven.len() {
+        let at = *t.driven.get(d);
+        if !is_same_src(t.source(input_port(at)), Src::Zero) {
             return Err(t.fault_at_gate(FaultWord::Fed, at.gate as usize));
         }
     }
