@@ -1,11 +1,11 @@
 // The command that words ask for.
-ghost use Rattle.std.specs.Prelude.{◌≡◌, ◌≤◌, ◌==◌, not, IfOk, IfSome, List, None, OnOk, IsErrOf, MatchResult, Some, length, map, option_and_then, option_map, string_bytes};
+ghost use Rattle.std.specs.Prelude.{◌≡◌, ◌≤◌, ◌==◌, not, IfOk, IfSome, List, None, OnOk, IsErrOf, MatchResult, Some, codes, length, map, option_and_then, option_map, string_bytes};
 ghost use Rattle.clap.specs.Simple.{subcommand_rows_of};
 ghost use Rattle.clap.specs.Lexer.{usize_max};
 ghost use Rattle.clap.specs.Walk.{Row, first_of, rows_of};
 ghost use Rattle.clap.specs.Words.{found_of};
 ghost use Rattle.command_words.specs.StreamCommands.{Reads, range_of, values_by, values_of_kind};
-ghost use Rattle.command_words.specs.Numbers.{TakesNumber, contexts_range, cycles_range, seed_range, size_range, tape_cycles_range};
+ghost use Rattle.command_words.specs.Numbers.{TakesNumber, contexts_range, seed_range, size_range};
 ghost use Rattle.command_words.specs.Shapes.{CommandValues, HasNumbersInRange, HasViewInRange, IsTaken, IsWritten, command_values, compile_by, contexts_met, driven_command_by, make_by, number_met, probe_by, self_by, streams_met, values_by_name, values_met, values_of, view_met, window_by};
 
 use crate::WordsError;
@@ -14,6 +14,11 @@ use crate::program::blifww_command;
 use clap::ArgMatches;
 use lists::List;
 use std::alloc::{AllocError, Global};
+
+// The greatest number of cycles, of `tape` and of the other commands.
+const MOST_TAPE_CYCLES: u64 = 4_096;
+
+const MOST_CYCLES: u64 = 1_048_576;
 
 /// A part of the plane at a generation: `height` rows of `width` cells, of which the first is the
 /// cell at column `x` and row `y`.
@@ -92,8 +97,10 @@ impl StreamCommand {
         ensures bounds { IfSome result (TakesNumber (range_of self)) }
     {
         match self {
-            StreamCommand::Tape => tape_cycles_in(found),
-            StreamCommand::Simulate | StreamCommand::Eval | StreamCommand::Vcd => cycles_in(found),
+            StreamCommand::Tape => cycles_in(found, MOST_TAPE_CYCLES),
+            StreamCommand::Simulate | StreamCommand::Eval | StreamCommand::Vcd => {
+                cycles_in(found, MOST_CYCLES)
+            }
         }
     }
 
@@ -147,18 +154,12 @@ fn number_in(found: &ArgMatches<'_>, name: &str, least: u64, most: u64) -> Optio
     number_between(text_in(found, name)?, least, most)
 }
 
-fn cycles_in(found: &ArgMatches<'_>) -> Option<usize>
-    ensures value { result ≡ number_met cycles_range (rows_of (found_of found.now)) }
-    ensures bounds { IfSome result (TakesNumber cycles_range) }
+fn cycles_in(found: &ArgMatches<'_>, most: u64) -> Option<usize>
+    ensures value { result ≡ number_met (record { name = codes "cycles"; least = 1; most = most })
+        (rows_of (found_of found.now)) }
+    ensures bounds { IfSome result (λ cycles. (1 ≤ cycles) × (cycles ≤ most)) }
 {
-    Some(number_in(found, "cycles", 1, 1_048_576)? as usize)
-}
-
-fn tape_cycles_in(found: &ArgMatches<'_>) -> Option<usize>
-    ensures value { result ≡ number_met tape_cycles_range (rows_of (found_of found.now)) }
-    ensures bounds { IfSome result (TakesNumber tape_cycles_range) }
-{
-    Some(number_in(found, "cycles", 1, 4_096)? as usize)
+    Some(number_in(found, "cycles", 1, most)? as usize)
 }
 
 fn seed_in(found: &ArgMatches<'_>) -> Option<u32>
@@ -237,7 +238,7 @@ fn driven_in(
 fn probe_in(alloc: Global, found: &ArgMatches<'_>) -> Result<Command, WordsError>
     ensures { Reads (probe_by (rows_of (found_of found.now))) result }
 {
-    let cycles = cycles_in(found).ok_or(WordsError::Usage)?;
+    let cycles = cycles_in(found, MOST_CYCLES).ok_or(WordsError::Usage)?;
     let net = text_in(found, "net").ok_or(WordsError::Usage)?;
     let path = text_in(found, "path").unwrap_or("-");
     let net = String::from_str(alloc, net)?;
@@ -272,7 +273,7 @@ fn self_in(found: &ArgMatches<'_>) -> Result<Command, WordsError>
 {
     let seed = seed_in(found).ok_or(WordsError::Usage)?;
     let size = size_in(found).ok_or(WordsError::Usage)?;
-    let cycles = cycles_in(found).ok_or(WordsError::Usage)?;
+    let cycles = cycles_in(found, MOST_CYCLES).ok_or(WordsError::Usage)?;
     Ok(Command::Self_ { seed, size, cycles })
 }
 
@@ -372,5 +373,7 @@ pub fn command_of(alloc: Global, words: &[String]) -> Result<Command, WordsError
 {
     length_fits(words);
     let found = blifww_command(alloc)?.try_get_matches_from(words)?;
-    command_in(alloc, &found)
+    let command = command_in(alloc, &found);
+    drop(found);
+    command
 }

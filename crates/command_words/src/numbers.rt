@@ -8,7 +8,13 @@ ghost use Rattle.command_words.specs.Numbers.{number_between};
 fn has_only_digits(text: &str) -> bool
     ensures { result ≡ list_all is_ascii_digit text.now }
 {
-    text.as_bytes().iter().all(|byte| byte.is_ascii_digit())
+    let bytes = text.as_bytes();
+    for byte in bytes {
+        if !byte.is_ascii_digit() {
+            return false;
+        }
+    }
+    true
 }
 
 /// Returns the number that the text writes in decimal digits, without a sign, if it lies between

@@ -27,25 +27,25 @@ returns-in_err-found-clause-written c =
 pub returns-clause-taken : goal.returns-clause-taken
 returns-clause-taken c =
     let words = map string_bytes c.args.words.now in
-    OnOk-by c.command_in.result (parsed_taken (app_of c.in_ok-blifww_command.field-0) words c.in_ok-found.found c.in_ok-blifww_command.ensures c.in_ok-found.ensures.kinds)
+    OnOk-by c.command_in-command.result (parsed_taken (app_of c.in_ok-blifww_command.field-0) words c.in_ok-found.found c.in_ok-blifww_command.ensures c.in_ok-found.ensures.kinds)
 
 pub returns-clause-ok : goal.returns-clause-ok
 returns-clause-ok c =
     let words = map string_bytes c.args.words.now in
     let same = ap values_met (parsed_rows _ words c.in_ok-found.found c.in_ok-blifww_command.ensures c.in_ok-found.ensures.matches) in
-    read_ok (command_values words) c.command_in.result (subst (λ (o : Option CommandValues). Reads o c.command_in.result) same c.command_in.ensures)
+    read_ok (command_values words) c.command_in-command.result (subst (λ (o : Option CommandValues). Reads o c.command_in-command.result) same c.command_in-command.ensures)
 
 pub returns-clause-numbers : goal.returns-clause-numbers
-returns-clause-numbers c = read_numbers (values_met (subcommand_rows_of c.in_ok-found.found)) c.command_in.result c.command_in.ensures
+returns-clause-numbers c = read_numbers (values_met (subcommand_rows_of c.in_ok-found.found)) c.command_in-command.result c.command_in-command.ensures
 
 pub returns-clause-usage : goal.returns-clause-usage
 returns-clause-usage c e i =
     let words = map string_bytes c.args.words.now in
     let same = ap values_met (parsed_rows _ words c.in_ok-found.found c.in_ok-blifww_command.ensures c.in_ok-found.ensures.matches) in
-    sym same ∙ read_usage (values_met (subcommand_rows_of c.in_ok-found.found)) c.command_in.result c.command_in.ensures e
+    sym same ∙ read_usage (values_met (subcommand_rows_of c.in_ok-found.found)) c.command_in-command.result c.command_in-command.ensures e
 
 pub returns-clause-written : goal.returns-clause-written
 returns-clause-written c =
     let words = map string_bytes c.args.words.now in
     let short : length words ≤ usize_max = search (rules, length-map) in
-    λ v w. answered c.command_in.result words v (returns-clause-ok c) (returns-clause-usage c) short w
+    λ v w. answered c.command_in-command.result words v (returns-clause-ok c) (returns-clause-usage c) short w
