@@ -25,16 +25,16 @@ rows_more g p cells (r ∷ rows) row n e =
     ∙ sym (append_assoc (injections_of_row g cells r) (injections_from (g + p) p cells rows) (injections_of_row n cells row))
 
 -- the inputs so far, and the next one, with its bit
-pub row_turn : (g : ℕ) (inputs : List PortLine) (row : List Bool) (n : ℕ) (input : PortLine) (bit : Bool) → n < length inputs → n < length row → ((d : PortLine) → input ≡ get_or inputs n d) → ((d : Bool) → bit ≡ get_or row n d)
+pub row_turn : (g : ℕ) (inputs : List PortLine) (row : List Bool) (n : ℕ) (input : PortLine) (bit d : Bool) → n < length inputs → n < length row → input ≡ get_or inputs n input → bit ≡ get_or row n d
     → injections_of_row g (take (n + 1) (cells_of inputs)) (take (n + 1) row) ≡ injections_of_row g (take n (cells_of inputs)) (take n row) ++ cond bit (record { generation = g; x = input.x; y = input.y } ∷ []) []
-row_turn g inputs row n input bit in_inputs in_row input_is bit_is =
+row_turn g inputs row n input bit d in_inputs in_row input_is bit_is =
     let cells = cells_of inputs in
     let cell : ℕ × ℕ = (input.x, input.y) in
     let long : length cells ≡ length inputs = length-map inputs (λ line. (line.x, line.y)) in
     let in_cells : n < length cells = omega arith in
-    let at : get_or cells n cell ≡ cell = get_or-map (λ (line : PortLine). (line.x, line.y)) inputs n input cell in_inputs ∙ ap (λ (line : PortLine). (line.x, line.y)) (sym (input_is input)) in
+    let at : get_or cells n cell ≡ cell = get_or-map (λ (line : PortLine). (line.x, line.y)) inputs n input cell in_inputs ∙ ap (λ (line : PortLine). (line.x, line.y)) (sym input_is) in
     let more_cells : take (n + 1) cells ≡ take n cells ++ cell ∷ [] = take_more cells n cell in_cells ∙ ap (λ (c : ℕ × ℕ). take n cells ++ c ∷ []) at in
-    let more_row : take (n + 1) row ≡ take n row ++ bit ∷ [] = take_more row n bit in_row ∙ ap (λ (b : Bool). take n row ++ b ∷ []) (sym (bit_is bit)) in
+    let more_row : take (n + 1) row ≡ take n row ++ bit ∷ [] = take_more row n d in_row ∙ ap (λ (b : Bool). take n row ++ b ∷ []) (sym bit_is) in
     let same : length (take n cells) ≡ length (take n row) = length-take-le n cells (omega arith) ∙ sym (length-take-le n row (omega arith)) in
     ap (λ (cells : List (ℕ × ℕ)). injections_of_row g cells (take (n + 1) row)) more_cells
     ∙ ap (λ (row : List Bool). injections_of_row g (take n cells ++ cell ∷ []) row) more_row

@@ -27,8 +27,8 @@ fn push_row(
         due.new.items ≡ due.old.items ++
         injections_of_row generation (cells_of inputs.now) row.now) }
 {
-    for (input, bit) in inputs.iter().zip(row) {
-        if *bit {
+    for (i, input) in inputs.iter().enumerate() {
+        if row[i] {
             due.push(Injection {
                 generation,
                 x: input.x,

@@ -1,7 +1,8 @@
 use Rattle.std.specs.Prelude.{flat_map}
-use Rattle.std.proofs.Common.{true, ◌==◌, ◌*◌, ◌++◌, sym, ap, ap₂, ◌∙◌, map, take, drop, length, List, Bool, ◌≡◌, ℕ, [], subst, arith}
+use Rattle.std.proofs.Common.{true, ◌==◌, ◌*◌, ◌++◌, sym, ap, ap₂, All, ◌<◌, ◌∙◌, map, take, drop, length, List, Bool, ◌≡◌, ℕ, [], subst, arith}
 use Rattle.std.specs.List.{range_with_len}
 use Rattle.std.proofs.lemmas.Bool.{eqb-true}
+use Rattle.std.proofs.lemmas.List.{length-map}
 use Rattle.ww_rule.specs.declared.pattern.Injection.{Injection}
 use Rattle.ww_rule.specs.Injections.{injections_from}
 use Rattle.pattern_reading.specs.declared.ports.PortLine.{PortLine}
@@ -31,6 +32,24 @@ returns-then-is_empty c =
       due = ap due_of_list list ∙ list_is_due ports streams;
       sorted = subst (AreInOrderFrom 0) (sym list) (injections_in_order ports streams c.requires);
     }
+
+pub loop-cycle-init : goal.loop-cycle-init
+loop-cycle-init c = c.new-due.ensures.items
+
+pub bits_across-requires : goal.bits_across-requires
+bits_across-requires c =
+    let early = c.loop-cycle-test.true in
+    subst (All (λ (bits : List Bool). c.loop-cycle.cycle < length bits)) (sym c.as_slice.ensures)
+    (λ i d lt. let long = c.requires.long i d lt in omega (arith, early, long))
+
+pub push_cycle-requires-clause-many : goal.push_cycle-requires-clause-many
+push_cycle-requires-clause-many c =
+    let streams = c.args.streams.now in
+    ap length (c.deref.ensures.value ∙ c.in_ok-bits.ensures {u = tt})
+    ∙ length-map c.as_slice.result.now _
+    ∙ ap length c.as_slice.ensures
+    ∙ c.requires.many
+    ∙ ap (λ (inputs : List PortLine). c.args.ports.now.c * length inputs) (sym c.as_slice-inputs.ensures)
 
 pub loop-cycle-preserved : goal.loop-cycle-preserved
 loop-cycle-preserved c =
