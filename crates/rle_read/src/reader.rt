@@ -54,18 +54,23 @@ fn read_header(line: Line<'_>) -> Result<Header<'_>, RleFault>
     ensures fault { IfErr result (λ fault. IsHeaderFault line.entry.bytes.now fault.kind
         × (fault.line ≡ line.entry.number)) }
 {
-    let fault = |kind| RleFault {
-        kind,
-        line: line.number,
-    };
     if after_word(b"x", line.bytes).is_none() {
-        return Err(fault(RleFaultKind::NoHeader));
+        return Err(RleFault {
+            kind: RleFaultKind::NoHeader,
+            line: line.number,
+        });
     }
     let Some(header) = header_in(line.bytes) else {
-        return Err(fault(RleFaultKind::BadHeader));
+        return Err(RleFault {
+            kind: RleFaultKind::BadHeader,
+            line: line.number,
+        });
     };
     if !header.is_wireworld() {
-        return Err(fault(RleFaultKind::OtherRule));
+        return Err(RleFault {
+            kind: RleFaultKind::OtherRule,
+            line: line.number,
+        });
     }
     Ok(header)
 }

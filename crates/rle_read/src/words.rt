@@ -35,7 +35,12 @@ pub fn digits_at_front(bytes: &[u8]) -> usize
     ensures count { result ≡ prefix_len is_ascii_digit bytes.now }
     ensures within { result ≤ length bytes.now }
 {
-    bytes.iter().take_while(|b| b.is_ascii_digit()).count()
+    for (i, byte) in bytes.iter().enumerate() {
+        if !byte.is_ascii_digit() {
+            return i;
+        }
+    }
+    bytes.len()
 }
 
 /// Returns a number and what follows its digits, or `None` if the bytes begin with none. Blanks may
