@@ -30,7 +30,12 @@ fn table_entry(bytes: &[u8]) -> Option<&[u8]>
 fn bytes_before_space(entry: &[u8]) -> usize
     ensures { result ≡ prefix_len (λ b. not (b == 32)) entry.now }
 {
-    entry.iter().take_while(|b| **b != b' ').count()
+    for (i, byte) in entry.iter().enumerate() {
+        if *byte == b' ' {
+            return i;
+        }
+    }
+    entry.len()
 }
 
 // The first field of an entry.
