@@ -1,10 +1,10 @@
 // Runs of `aiger`.
 
 /// The circuit of a gate whose output is 0 exactly if both inputs are 1.
-pub const NAND: &str = "aag 3 2 0 1 1\n2\n4\n7\n6 2 4\ni0 a\ni1 b\no0 y\n";
+pub const NAND: &[u8] = b"aag 3 2 0 1 1\n2\n4\n7\n6 2 4\ni0 a\ni1 b\no0 y\n";
 
 /// Circuits, texts that are none, and what the patterns of circuits show.
-pub const CASES: &str = "
+pub const CASES: &[u8] = b"
 > aiger -- a circuit has a pattern
 aag 3 2 0 1 1
 2

@@ -1,14 +1,14 @@
 // What `compile` writes, and what it shows when streams drive it.
 
 /// The netlist of a latch that flips in each cycle.
-pub const TOGGLE: &str = ".model t\n.outputs q\n.latch n q 0\n.names q n\n0 1\n.end\n";
+pub const TOGGLE: &[u8] = b".model t\n.outputs q\n.latch n q 0\n.names q n\n0 1\n.end\n";
 
 /// The netlist of an inverter.
-pub const INVERTER: &str = ".model n\n.inputs a\n.outputs y\n.names a y\n0 1\n";
+pub const INVERTER: &[u8] = b".model n\n.inputs a\n.outputs y\n.names a y\n0 1\n";
 
 /// Netlists and how their patterns begin: with the times and the names, some of which have escapes;
 /// then netlists that print what their patterns print, drawn by lanes and as routed circuits.
-pub const CASES: &str = "
+pub const CASES: &[u8] = b"
 > compile -- a gate is compiled by its names
 .model X
 .inputs X sum_of_2_inputs_0
@@ -54,9 +54,9 @@ x = 0, y = 0, rule = WireWorld
 #C BLIFWW 2 P 32 L ...
 > compile
 .model or
-.inputs a% é
+.inputs a% \xc3\xa9
 .outputs y
-.names a% é y
+.names a% \xc3\xa9 y
 1- 1
 -1 1
 .end

@@ -2,7 +2,7 @@
 
 /// Netlists in several contexts: contexts that cannot be, and contexts that each start as their
 /// words say. The last cases drive a wire.
-pub const CASES: &str = "
+pub const CASES: &[u8] = b"
 > compile --contexts 2 -- contexts that cannot be
 .model or
 .inputs a b
@@ -174,12 +174,12 @@ stream: MissingInput 1:a
 ";
 
 /// The pattern of a wire of three cells in two contexts.
-pub const WIRE: &str =
-    "#C BLIFWW 1 P 64 L 2 C 2\n#C BLIFWW IN 0 0 a\n#C BLIFWW OUT 2 0 y\n#C BLIFWW NET 1 0 1 m -\nx = 3, y = 1, rule = WireWorld\n3C!\n";
+pub const WIRE: &[u8] =
+    b"#C BLIFWW 1 P 64 L 2 C 2\n#C BLIFWW IN 0 0 a\n#C BLIFWW OUT 2 0 y\n#C BLIFWW NET 1 0 1 m -\nx = 3, y = 1, rule = WireWorld\n3C!\n";
 
 /// The netlist of two latches: q1 of the main model starts with 1, and the one of model `l` with 0.
 /// The main model connects its net q0 to the output of `l`, and drives n by a cover.
-pub const LATCHES: &str = "\
+pub const LATCHES: &[u8] = b"\
 .model k
 .outputs q1
 .subckt l d=n q=q0

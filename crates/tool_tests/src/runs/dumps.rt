@@ -2,7 +2,7 @@
 
 /// Patterns with other port tables than the gate's, and texts and words that give no dump; then the
 /// gate's pattern, where the block of cycle 1 begins with the line of the input that changes.
-pub const CASES: &str = "
+pub const CASES: &[u8] = b"
 > vcd --cycles 1 a=1 -- all nets are dumped
 #C BLIFWW 1 P 4 L 2
 #C BLIFWW IN 0 0 a

@@ -1,7 +1,7 @@
 // Runs of `eval`, and of `compile` over texts that both refuse.
 
 /// Netlists that run, and texts and words that give no run.
-pub const CASES: &str = "
+pub const CASES: &[u8] = b"
 > eval --cycles 1 & compile -- texts that are no netlists
 == 1
 B22 NoModel line 1: -

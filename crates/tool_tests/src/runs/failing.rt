@@ -1,12 +1,9 @@
 // Sources and sinks that fail, and what such runs leave behind.
-ghost use Rattle.std.specs.Prelude.{◌≤◌};
-
-use crate::runs::{GATE, Outcome, USAGE, run_on, words_of};
-use std::alloc::Global;
-use ww_base::MemSource;
+use crate::runs::GATE;
+use crate::runs::runner::{AMPLE, Limits, Runner};
 
 /// Runs with a source or a sink that fails. No run makes a call of the source with the number 99.
-pub const CASES: &str = "
+pub const CASES: &[u8] = b"
 > lift [99 99 99] -- an empty text is no pattern
 == 8
 G1 NoHeader line 1
@@ -234,72 +231,38 @@ read fault
 write fault
 ";
 
-// The numbers of calls of a sink that takes 7 bytes a call. The usage line takes fewer calls.
-const CALLS: &[u64] = &[0, 1, 2, 3, 4, 5, 6, 7, 8, 9, 10, 11, 12];
-
-// The status, how often `out` and `err` failed, and the lengths of what they hold.
-type Counts = (u8, u64, u64, usize, usize);
-
-// Whether a run ended with these counts.
-fn has_counts(got: &Outcome, counts: Counts) -> bool {
-    (
-        got.status,
-        got.faults.0,
-        got.faults.1,
-        got.out.len(),
-        got.err.len(),
-    ) == counts
-}
-
-// The outcome of a run over the gate. The calls of `out` that fail are those of `CALLS` from `calls.0` on, and those of
-// `err` from `calls.1` on.
-fn run_failing(alloc: Global, command: &str, calls: (usize, usize)) -> Option<Outcome>
-    requires out { calls.0 ≤ 13 }
-    requires err { calls.1 ≤ 13 }
-{
-    let fails = (&CALLS[calls.0..], &CALLS[calls.1..]);
-    match (
-        words_of(alloc, command),
-        MemSource::new(alloc, GATE.as_bytes(), 4096, &[]),
-    ) {
-        (Ok(words), Ok(mut src)) => {
-            let outcome = run_on(alloc, &words, &mut src, (99, 99), fails);
-            drop(words);
-            drop(src);
-            outcome
-        }
-        _ => None,
-    }
-}
-
-// Whether a run has these counts, as it has not if it calls a sink again that has failed.
-fn are_counts(alloc: Global, command: &str, calls: (usize, usize), counts: Counts) -> bool
-    requires out { calls.0 ≤ 13 }
-    requires err { calls.1 ≤ 13 }
-{
-    match run_failing(alloc, command, calls) {
-        Some(got) => {
-            let are_so = has_counts(&got, counts);
-            drop(got);
-            are_so
-        }
-        None => false,
-    }
+// Whether a run over the gate ends with this status and these counts, as it does not if it calls a sink again that has
+// failed. The calls of `out` fail from the one with number `fails.0` on, and those of `err` from `fails.1` on.
+fn are_counts(
+    runner: &mut Runner,
+    command: &str,
+    fails: (usize, usize),
+    status: u8,
+    faults: (u64, u64),
+    lengths: (usize, usize),
+) -> bool {
+    let limits = Limits {
+        rooms: (99, 99),
+        fails,
+        ..AMPLE
+    };
+    runner.run_all(command, GATE, limits);
+    runner.has_counts(status, faults, lengths)
 }
 
 /// Returns the first runs of which one calls a sink again that has failed.
-pub fn wrong_counts(alloc: Global) -> Option<&'static str> {
+pub fn wrong_counts(runner: &mut Runner) -> Option<&'static str> {
     for call in 0..9 {
-        if !are_counts(alloc, "", (0, call), (6, 0, 1, 0, 7 * call)) {
+        if !are_counts(runner, "", (0, call), 6, (0, 1), (0, 7 * call)) {
             return Some("the calls of `err`");
         }
-        if !are_counts(alloc, "compile", (call, 12), (6, 1, 0, 7 * call, 12)) {
+        if !are_counts(runner, "compile", (call, 12), 6, (1, 0), (7 * call, 12)) {
             return Some("the calls of `out`");
         }
     }
-    // All calls fail: the first call of each sink is its last.
-    if are_counts(alloc, "compile", (0, 0), (6, 1, 1, 0, 0))
-        && are_counts(alloc, "", (0, 12), (2, 0, 0, 0, USAGE.len()))
+    // All calls fail: the first call of each sink is its last. The usage line has 79 bytes.
+    if are_counts(runner, "compile", (0, 0), 6, (1, 1), (0, 0))
+        && are_counts(runner, "", (0, 12), 2, (0, 0), (0, 79))
     {
         None
     } else {

@@ -3,7 +3,7 @@
 /// Circuits that are lifted, and what is lifted from what `aiger`, `compile` and `tape` write; then
 /// changes to the gate's pattern and to that of two loops. Nothing is lifted if the pattern is no
 /// longer a circuit; else the ports keep their names, and loops are lifted cell by cell.
-pub const CASES: &str = "
+pub const CASES: &[u8] = b"
 > lift
 #C BLIFWW 2 P 32 L 0 C 1
 x = 0, y = 0, rule = WireWorld
@@ -641,7 +641,7 @@ not a circuit: Cells
 ";
 
 // The gate's pattern without its nets, with each row of the drawing on a line of its own.
-pub const GATE_LINES: &str = "\
+pub const GATE_LINES: &[u8] = b"\
 #C BLIFWW 2 P 32 L 32 C 1
 #C BLIFWW IN 0 8 a
 #C BLIFWW IN 0 24 b
@@ -668,7 +668,7 @@ x = 33, y = 32, rule = WireWorld
 ";
 
 // The pattern of two loops that feed each other. The first starts with 1.
-pub const RING_LINES: &str = "\
+pub const RING_LINES: &[u8] = b"\
 #C BLIFWW 2 P 384 L 64 C 1
 #C BLIFWW OUT 128 8 q
 x = 193, y = 80, rule = WireWorld

@@ -1,7 +1,7 @@
 // Runs of many cycles.
 
 /// A summary of 64 cycles, and a dump of 40 in which both nets change in each cycle.
-pub const CASES: &str = "
+pub const CASES: &[u8] = b"
 > self --seed 1 --size 2 --cycles 64
 == 0
 weight 22

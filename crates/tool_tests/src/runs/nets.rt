@@ -2,16 +2,16 @@
 // further output: a net that both print has the same bits in both.
 
 /// The netlist of a counter with two latches.
-pub const COUNTER: &str =
-    ".model k\n.outputs q0 q1\n.latch n0 q0 0\n.latch n1 q1 0\n.names q0 n0\n0 1\n.names q0 q1 n1\n10 1\n01 1\n.end\n";
+pub const COUNTER: &[u8] =
+    b".model k\n.outputs q0 q1\n.latch n0 q0 0\n.latch n1 q1 0\n.names q0 n0\n0 1\n.names q0 q1 n1\n10 1\n01 1\n.end\n";
 
 /// The netlist of an adder of two bits, made of two full adders.
-pub const ADDER: &str =
-    ".model add\n.inputs a0 a1 b0 b1 ci\n.outputs s0 s1 c\n.subckt fa a=a0 b=b0 c=ci s=s0 co=k\n.subckt fa a=a1 b=b1 c=k s=s1 co=c\n.end\n.model fa\n.inputs a b c\n.outputs s co\n.names a b c s\n100 1\n010 1\n001 1\n111 1\n.names a b c co\n11- 1\n1-1 1\n-11 1\n.end\n";
+pub const ADDER: &[u8] =
+    b".model add\n.inputs a0 a1 b0 b1 ci\n.outputs s0 s1 c\n.subckt fa a=a0 b=b0 c=ci s=s0 co=k\n.subckt fa a=a1 b=b1 c=k s=s1 co=c\n.end\n.model fa\n.inputs a b c\n.outputs s co\n.names a b c s\n100 1\n010 1\n001 1\n111 1\n.names a b c co\n11- 1\n1-1 1\n-11 1\n.end\n";
 
 /// What the netlists' patterns show at each net, and changes that make a net the first output. A
 /// port cannot become an output again.
-pub const CASES: &str = "
+pub const CASES: &[u8] = b"
 @ toggle
 > compile | probe --net q --path - --cycles 4
 == 0

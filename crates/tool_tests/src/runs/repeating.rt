@@ -1,12 +1,12 @@
 // Texts that repeat a part: models inside models, weights near the limit and far beyond it, a long
 // loop, texts at the limit of length and beyond it, and the longest tape.
+use crate::runs::runner::Runner;
 use crate::runs::{Case, are_ends, halves};
 use itoa::Buffer;
-use std::alloc::{AllocError, Global};
 
 /// Cases that each begin with a number of repetitions and a command. Their commands and texts repeat
 /// what stands in braces, where `%` stands for the number of the repetition, counted from 0.
-pub const CASES: &str = "
+pub const CASES: &[u8] = b"
 > 300 eval --cycles 3 a=011 -- models that each place the next; the last one inverts its input
 .model c{
 .inputs a
@@ -302,50 +302,48 @@ B22 NoModel line 1: -
 too long: limit 16777216
 ";
 
-// Adds a part with a number in place of each `%`.
-fn push_numbered(text: &mut String, part: &str, number: &str) -> Result<(), AllocError> {
+// Adds a part with a number in place of each `%`. Returns whether memory ran out.
+fn push_numbered(text: &mut String, part: &str, number: &str) -> bool {
+    let mut is_short = false;
     for piece in part.split_inclusive('%') {
         let (front, _) = halves(piece, "%");
-        text.push_str(front)?;
-        if front.len() < piece.len() {
-            text.push_str(number)?;
-        }
+        let digits = if front.len() < piece.len() {
+            number
+        } else {
+            ""
+        };
+        is_short |= text.push_str(front).is_err() | text.push_str(digits).is_err();
     }
-    Ok(())
+    is_short
 }
 
-// Adds `times` repetitions of a part.
-fn push_repeated(text: &mut String, part: &str, times: usize) -> Result<(), AllocError> {
+// Adds a piece of a text, with so many repetitions of what stands after its brace.
+fn push_piece(text: &mut String, piece: &str, times: usize) -> bool {
+    let (begin, part) = halves(piece, "{");
+    let mut is_short = text.push_str(begin).is_err();
     let mut digits = Buffer::new();
     for number in 0..times {
-        push_numbered(text, part, digits.format(number))?;
+        is_short |= push_numbered(text, part, digits.format(number));
     }
-    Ok(())
+    is_short
 }
 
-// A text with so many repetitions of what stands in braces.
-fn repeated(alloc: Global, of: &str, times: usize) -> Result<String, AllocError> {
-    let mut text = String::new(alloc);
+// Adds a text with so many repetitions of what stands in braces.
+fn push_repeated(text: &mut String, of: &str, times: usize) -> bool {
+    let mut is_short = false;
     for piece in of.split('}') {
-        let (begin, part) = halves(piece, "{");
-        text.push_str(begin)?;
-        push_repeated(&mut text, part, times)?;
+        is_short |= push_piece(text, piece, times);
     }
-    Ok(text)
+    is_short
 }
 
 /// Returns whether commands end as a case wants if they and its text repeat so often what stands in braces.
-pub fn is_repeated(alloc: Global, case: &Case, commands: &str, times: usize) -> bool {
-    match (
-        repeated(alloc, commands, times),
-        repeated(alloc, case.text, times),
-    ) {
-        (Ok(commands), Ok(text)) => {
-            let is_so = are_ends(alloc, case, &commands, text.as_bytes());
-            drop(commands);
-            drop(text);
-            is_so
-        }
-        _ => false,
-    }
+pub fn is_repeated(runner: &mut Runner, case: &Case, of: &str, times: usize) -> bool {
+    let (mut commands, mut text) = (String::new(runner.alloc()), String::new(runner.alloc()));
+    let is_short = push_repeated(&mut commands, of, times)
+        | push_repeated(&mut text, case.text, times);
+    let is_so = !is_short && are_ends(runner, case, &commands, text.as_bytes());
+    drop(commands);
+    drop(text);
+    is_so
 }

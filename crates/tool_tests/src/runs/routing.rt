@@ -1,7 +1,7 @@
 // What `route` and `extract` write and tell, also with sources and sinks that fail.
 
 /// Words that are no command, sources that fail, and what `extract` makes of what `route` wrote.
-pub const CASES: &str = "
+pub const CASES: &[u8] = b"
 > route --net [0 99 99] -- words that are no command: the first call of the source would fail
 == 2
 usage: wwroute extract|route
@@ -119,7 +119,7 @@ c=1
 ";
 
 /// A netlist of weight 401: 15 inputs, one output, one cover, and 24 rows of weight 16.
-pub const HEAVY: &str = "\
+pub const HEAVY: &[u8] = b"\
 .model m
 .inputs a b c d e f g h i j k l m n o
 .outputs y

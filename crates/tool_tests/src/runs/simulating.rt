@@ -3,7 +3,7 @@
 /// Patterns that run, and texts and words that give no run. Then come a latch, and changes to its
 /// pattern: it starts with 0, its electron is late, its loop is cut, it has lines of nets, whatever
 /// these say, and it has names that no netlist can have.
-pub const CASES: &str = "
+pub const CASES: &[u8] = b"
 > simulate --cycles 2 a=11 -- a wire shows what its period lets through
 #C BLIFWW 1 P 4 L 2
 #C BLIFWW IN 0 0 a
@@ -39,7 +39,7 @@ x = 3, y = 1, rule = wireworld
 x = 3, y = 1, rule = WireWorld
 3C!
 == 0
-%é=11
+%\xc3\xa9=11
 > simulate --cycles 1 -- a box without cells shows nothing
 x = 18446744073709551615, y = 0, rule = WireWorld
 !== 0
@@ -445,7 +445,7 @@ q=100101
 ";
 
 /// The pattern of a latch that starts with 1.
-pub const LATCH: &str = "\
+pub const LATCH: &[u8] = b"\
 #C BLIFWW 2 P 192 L 32 C 1
 #C BLIFWW IN 32 8 d
 #C BLIFWW OUT 64 8 q

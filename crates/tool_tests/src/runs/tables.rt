@@ -1,7 +1,7 @@
 // The port tables of patterns.
 
 /// Patterns whose port tables are read, and patterns whose tables are at fault.
-pub const CASES: &str = "
+pub const CASES: &[u8] = b"
 > simulate --cycles 1 -- other comments, and a line after the header
 #C BLIFWW
 #C BLIFWWW 2

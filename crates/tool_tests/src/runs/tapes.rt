@@ -2,7 +2,7 @@
 
 /// Tapes, and texts and words that give none. The port table of a tape has no inputs. In the tape
 /// of the gate for two cycles, the cells that the table names stand 32 cells further east.
-pub const CASES: &str = "
+pub const CASES: &[u8] = b"
 > tape --cycles 4 -- texts that give no tape
 .model m
 .outputs y

@@ -2,7 +2,7 @@
 
 /// Words that are no command: the first call of the source would fail. Then come words in other orders and forms, the
 /// greatest numbers, and words that are a command of which something else is refused.
-pub const CASES: &str = "
+pub const CASES: &[u8] = b"
 > none & compile --contexts '' & simulate --cycles '' &  & compile 1:q=1 & \
 compile --contexts 4294967296 & compile --contexts 0 & compile --contexts +2 & \
 compile --contexts & compile compile & Compile & simulate & simulate a=01 & simulate a=01 b=01 & \
