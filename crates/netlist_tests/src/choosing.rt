@@ -1,5 +1,5 @@
 // Which of several lists is chosen for its plan, and how large the plan is.
-ghost use Rattle.std.specs.Prelude.{All, IfSome};
+ghost use Rattle.std.specs.Prelude.{◌≡◌, ◌⊎◌, ◌++◌, ◌∷◌, [], All, IfSome};
 ghost use Rattle.cell_plans.specs.PlanOf.{IsPlannable};
 
 use crate::pages::Page;
@@ -73,13 +73,21 @@ fn list_by(alloc: Global, cells: u8) -> Option<CellList>
     list_of(alloc, written)
 }
 
+// Puts an item after the others, if memory is enough. The item's type is open here, so that what is dropped if memory
+// is refused costs no proof time.
+fn put<T: Drop>(items: &mut Vec<T>, item: T) -> bool
+    ensures { (items.new.items ≡ items.old.items) ⊎ (items.new.items ≡ items.old.items ++ item ∷ []) }
+{
+    items.push(item).is_ok()
+}
+
 // Appends a list, if memory is enough.
 fn push_list(alloc: Global, lists: &mut Vec<CellList>, cells: u8) -> bool
     requires { All IsPlannable lists.old.items }
     ensures { All IsPlannable lists.new.items }
 {
     match list_by(alloc, cells) {
-        Some(list) => lists.push(list).is_ok(),
+        Some(list) => put(lists, list),
         None => false,
     }
 }

@@ -6,14 +6,16 @@ use crate::sizes::tiles_of;
 use cell_core::CellList;
 use cell_plans::climbed_plan;
 use order_climbing::{Climbed, Start, climb};
-use std::alloc::{AllocError, Global};
+use std::alloc::Global;
 use std::slice::from_ref;
 
-fn push_cells(order: &mut Vec<u32>, cells: usize) -> Result<(), AllocError> {
+// Appends the numbers of so many cells. Returns whether memory ran out.
+fn push_cells(order: &mut Vec<u32>, cells: usize) -> bool {
+    let mut is_short = false;
     for cell in 0..cells {
-        order.push(u32::try_from(cell).unwrap_or(u32::MAX))?;
+        is_short |= order.push(u32::try_from(cell).unwrap_or(u32::MAX)).is_err();
     }
-    Ok(())
+    is_short
 }
 
 // What climbing finds from the order in which the cells stand.
@@ -22,7 +24,7 @@ fn climbed(alloc: Global, list: &CellList) -> Option<Climbed> {
         list: 0,
         order: Vec::new(alloc),
     };
-    if push_cells(&mut start.order, list.cells.len()).is_err() {
+    if push_cells(&mut start.order, list.cells.len()) {
         drop(start);
         return None;
     }

@@ -1,30 +1,8 @@
 // Lists of cells in which what is 1 at zero is kept as its complement.
+use crate::listed::{Asked, expect_list};
 use crate::pages::Page;
-use crate::rewriting::{push_list, three_inputs};
-use crate::written::{Written, list_of};
-use cell_core::{Cell, CellList, Src};
-use cell_polarity::complemented;
-
-// Appends what a list becomes. The sources in `kept` are kept.
-fn push_complemented(page: &mut Page, list: &CellList, kept: &[Src]) {
-    match complemented(page.alloc(), list, kept) {
-        Ok(low) => {
-            push_list(page, &low.list);
-            drop(low);
-        }
-        Err(_) => page.cut(),
-    }
-}
-
-fn push_written(page: &mut Page, written: &Written<'_>, kept: &[Src]) {
-    match list_of(page.alloc(), written) {
-        Some(list) => {
-            push_complemented(page, &list, kept);
-            drop(list);
-        }
-        None => page.cut(),
-    }
-}
+use crate::rewriting::three_inputs;
+use cell_core::{Cell, Src};
 
 // A NAND of two inputs, and its AND with a third.
 const NAND: &[Cell] = &[
@@ -72,7 +50,10 @@ const LISTS: &[(&[Cell], &[Src], &[Src], &str)] = &[
 /// Notes it unless what is one at zero is kept as its complement.
 pub fn expect_complements(page: &mut Page) {
     for (cells, nets, kept, want) in LISTS {
-        push_written(page, &three_inputs(cells, nets), kept);
-        page.expect(want.as_bytes());
+        expect_list(
+            page,
+            &three_inputs(cells, nets),
+            Asked::Complemented(kept, want),
+        );
     }
 }

@@ -4,7 +4,7 @@ ghost use Rattle.cell_plans.specs.PlanOf.{IsPlannable};
 
 use crate::written::{Parts, list_in, no_parts};
 use cell_core::{Cell, CellList, Src};
-use std::alloc::{AllocError, Global};
+use std::alloc::Global;
 
 /// A generator of random numbers.
 #[derive(Clone, Copy)]
@@ -47,16 +47,14 @@ fn draw_source(draw: &mut Draw, counts: Counts) -> Src {
     }
 }
 
-fn draw_sources(
-    draw: &mut Draw,
-    counts: Counts,
-    many: u32,
-    sources: &mut Vec<Src>,
-) -> Result<(), AllocError> {
+// Draws so many sources, and returns whether memory ran out.
+fn draw_sources(draw: &mut Draw, counts: Counts, many: u32, sources: &mut Vec<Src>) -> bool {
     for turn in 0..many {
-        sources.push(draw_source(draw, counts))?;
+        if sources.push(draw_source(draw, counts)).is_err() {
+            return true;
+        }
     }
-    Ok(())
+    false
 }
 
 fn draw_cell(draw: &mut Draw, counts: Counts) -> Cell {
@@ -69,34 +67,43 @@ fn draw_cell(draw: &mut Draw, counts: Counts) -> Cell {
     }
 }
 
-// Draws cells that read only inputs, latches, constants and earlier cells.
-fn draw_cells(draw: &mut Draw, counts: Counts, drawn: &mut Vec<Cell>) -> Result<(), AllocError> {
+// Draws cells that read only inputs, latches, constants and earlier cells, and returns whether memory ran out.
+fn draw_cells(draw: &mut Draw, counts: Counts, drawn: &mut Vec<Cell>) -> bool {
     for cells in 0..counts.cells {
-        drawn.push(draw_cell(draw, Counts { cells, ..counts }))?;
+        if drawn
+            .push(draw_cell(draw, Counts { cells, ..counts }))
+            .is_err()
+        {
+            return true;
+        }
     }
-    Ok(())
+    false
 }
 
-fn draw_bits(draw: &mut Draw, many: u32, bits: &mut Vec<bool>) -> Result<(), AllocError> {
+// Draws so many bits, and returns whether memory ran out.
+fn draw_bits(draw: &mut Draw, many: u32, bits: &mut Vec<bool>) -> bool {
     for turn in 0..many {
-        bits.push(draw.below(2) == 1)?;
+        if bits.push(draw.below(2) == 1).is_err() {
+            return true;
+        }
     }
-    Ok(())
+    false
 }
 
-// Draws all parts but the number of inputs.
-fn draw_parts(draw: &mut Draw, parts: &mut Parts) -> Result<(), AllocError> {
+// Draws all parts but the number of inputs, and returns whether memory ran out.
+fn draw_parts(draw: &mut Draw, parts: &mut Parts) -> bool {
     let counts = Counts {
         inputs: parts.inputs,
         latches: draw.below(4),
         cells: draw.below(14),
     };
-    draw_bits(draw, counts.latches, &mut parts.starts)?;
-    draw_cells(draw, counts, &mut parts.cells)?;
+    let is_short = draw_bits(draw, counts.latches, &mut parts.starts)
+        | draw_cells(draw, counts, &mut parts.cells);
     let (outs, nets) = (draw.below(6), draw.below(10));
-    draw_sources(draw, counts, outs, &mut parts.outs)?;
-    draw_sources(draw, counts, counts.latches, &mut parts.latches)?;
-    draw_sources(draw, counts, nets, &mut parts.nets)
+    is_short
+        | draw_sources(draw, counts, outs, &mut parts.outs)
+        | draw_sources(draw, counts, counts.latches, &mut parts.latches)
+        | draw_sources(draw, counts, nets, &mut parts.nets)
 }
 
 /// Draws a list with at most 4 inputs, 3 latches, 13 cells, 5 outputs and 9 nets.
@@ -104,7 +111,7 @@ pub fn draw_list(alloc: Global, draw: &mut Draw) -> Option<CellList>
     ensures { IfSome result IsPlannable }
 {
     let mut parts = no_parts(alloc, draw.below(5));
-    if draw_parts(draw, &mut parts).is_err() {
+    if draw_parts(draw, &mut parts) {
         drop(parts);
         return None;
     }

@@ -1,6 +1,6 @@
-//! Tests of the public calls that cut texts of BLIF into lines, map covers to cells, rewrite lists of cells, make plans
-//! of them, and lift lists of cells from plans. Also compares the stages of docs/TOUR.md with what the crates make.
-//! `tool_tests` tries what a command shows of a call.
+//! Tests of the public calls that cut texts of BLIF into lines, map covers to cells, rewrite lists of cells, and make
+//! plans of them. Also compares the stages of docs/TOUR.md with what the crates make. `tool_tests` tries what a command
+//! shows of a call, as what is lifted from plans.
 #![tactic(auto)]
 
 #[cfg(test)]
@@ -14,7 +14,7 @@ mod covers;
 #[cfg(test)]
 mod drawing;
 #[cfg(test)]
-mod lifting;
+mod listed;
 #[cfg(test)]
 mod logical_lines;
 #[cfg(test)]

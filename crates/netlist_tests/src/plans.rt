@@ -16,19 +16,19 @@ struct Run {
 
 const RUNS: &[Run] = &[
     Run {
-        lists: 250,
+        lists: 60,
         draw: Draw { state: 1 },
         climbs: false,
     },
     Run {
-        lists: 250,
+        lists: 60,
         draw: Draw {
             state: 2_669_688_757,
         },
         climbs: false,
     },
     Run {
-        lists: 60,
+        lists: 20,
         draw: Draw { state: 7 },
         climbs: true,
     },

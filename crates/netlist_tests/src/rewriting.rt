@@ -1,8 +1,8 @@
 // Lists of cells that are rewritten to fewer cells.
+use crate::listed::{Asked, expect_list};
 use crate::pages::Page;
-use crate::written::{Written, list_of};
+use crate::written::Written;
 use cell_core::{Cell, CellList, Src};
-use cell_rewriting::rewritten;
 
 /// How a list with three inputs, these cells and these nets is written down.
 pub fn three_inputs<'a>(cells: &'a [Cell], nets: &'a [Src]) -> Written<'a> {
@@ -28,8 +28,8 @@ pub fn push_list(page: &mut Page, list: &CellList) {
     }
 }
 
-// How many of the lists have this text, or 0 if the first one has another.
-fn count_of(page: &mut Page, lists: &[CellList], want: &str) -> u64 {
+/// Returns how many of the lists have this text, or 0 if the first one has another.
+pub fn count_of(page: &mut Page, lists: &[CellList], want: &str) -> u64 {
     let mut count: u64 = 0;
     for list in lists {
         push_list(page, list);
@@ -40,32 +40,6 @@ fn count_of(page: &mut Page, lists: &[CellList], want: &str) -> u64 {
         }
     }
     count
-}
-
-// How many of the lists to which this one is rewritten have this text, or 0 if the first one has another.
-fn count_in(page: &mut Page, list: &CellList, kept: &[Src], want: &str) -> u64 {
-    match rewritten(page.alloc(), list, kept) {
-        Ok(lists) => {
-            let count = count_of(page, &lists, want);
-            drop(lists);
-            count
-        }
-        Err(_) => 0,
-    }
-}
-
-// Notes it unless exactly eight of the lists to which this one is rewritten have this text, the first one among them.
-// The sources in `kept` are kept.
-fn expect_lists(page: &mut Page, written: &Written<'_>, kept: &[Src], want: &str) {
-    match list_of(page.alloc(), written) {
-        Some(list) => {
-            let count = count_in(page, &list, kept, want);
-            drop(list);
-            page.push(want.as_bytes());
-            page.expect_holds(count == 8);
-        }
-        None => page.cut(),
-    }
 }
 
 // An XOR of two inputs as two AND-NOTs and an OR.
@@ -106,6 +80,10 @@ const LISTS: &[(&[Cell], &[Src], &[Src], &str)] = &[
 /// Notes it unless lists come to have fewer cells.
 pub fn expect_rewritten(page: &mut Page) {
     for (cells, nets, kept, want) in LISTS {
-        expect_lists(page, &three_inputs(cells, nets), kept, want);
+        expect_list(
+            page,
+            &three_inputs(cells, nets),
+            Asked::Rewritten(kept, want),
+        );
     }
 }

@@ -1,9 +1,11 @@
 // How many tiles the plans of small circuits take.
 ghost use Rattle.cell_plans.specs.PlanOf.{IsPlannable};
 
+use crate::listed::{Asked, expect_list};
 use crate::pages::Page;
-use crate::written::{Written, list_of, plan_of_list};
+use crate::written::Written;
 use cell_core::{Cell, CellList, Src};
+use cell_plans::plan_of;
 use lane_core::Plan;
 use std::alloc::Global;
 
@@ -173,25 +175,13 @@ pub fn tiles_of(plan: &Plan) -> u64 {
 pub fn tiles_of_list(alloc: Global, list: &CellList) -> Option<u64>
     requires { IsPlannable list.now }
 {
-    match plan_of_list(alloc, list) {
-        Some(plan) => {
+    match plan_of(alloc, list) {
+        Ok(plan) => {
             let tiles = tiles_of(&plan);
             drop(plan);
             Some(tiles)
         }
-        None => None,
-    }
-}
-
-// The tiles of the plan of a list that is written down.
-fn tiles_of_written(alloc: Global, written: &Written<'_>) -> Option<u64> {
-    match list_of(alloc, written) {
-        Some(list) => {
-            let tiles = tiles_of_list(alloc, &list);
-            drop(list);
-            tiles
-        }
-        None => None,
+        Err(_) => None,
     }
 }
 
@@ -199,10 +189,6 @@ fn tiles_of_written(alloc: Global, written: &Written<'_>) -> Option<u64> {
 pub fn expect_sizes(page: &mut Page) {
     for case in CASES {
         page.push(case.name.as_bytes());
-        let is_small = match tiles_of_written(page.alloc(), &case.list) {
-            Some(tiles) => tiles <= case.plain,
-            None => false,
-        };
-        page.expect_holds(is_small);
+        expect_list(page, &case.list, Asked::Tiles(case.plain));
     }
 }

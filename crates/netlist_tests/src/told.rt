@@ -2,7 +2,6 @@
 use crate::choosing::expect_choices;
 use crate::complements::expect_complements;
 use crate::covers::expect_counts;
-use crate::lifting::expect_lifted;
 use crate::logical_lines::expect_lines;
 use crate::pages::Page;
 use crate::plans::expect_runs;
@@ -22,7 +21,6 @@ fn texts_are_cut_lists_are_made_and_planned_and_stages_are_those_of_the_tour(
     expect_rewritten(&mut page);
     expect_sizes(&mut page);
     expect_choices(&mut page);
-    expect_lifted(&mut page);
     expect_runs(&mut page);
     expect_stages(&mut page, TOGGLE);
     page.end()

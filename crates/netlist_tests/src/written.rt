@@ -2,13 +2,10 @@
 ghost use Rattle.std.specs.Prelude.{◌≡◌, ◌<◌, ◌+◌, IsTrue, IfSome, length};
 ghost use Rattle.cell_core.specs.Sources.{are_in_order, are_there};
 ghost use Rattle.cell_plans.specs.PlanOf.{IsPlannable};
-ghost use Rattle.lane_core.specs.Plans.{IsAdmissible};
 
 use cell_core::{Cell, CellList, Src};
-use cell_plans::plan_of;
-use lane_core::Plan;
 use lists::List;
-use std::alloc::{AllocError, Global};
+use std::alloc::Global;
 
 /// A list of cells as a test writes it down. `latches` are the sources of the latches, and `starts`
 /// the bits with which the latches start, in the same order.
@@ -113,13 +110,19 @@ pub fn list_in(parts: Parts) -> Option<CellList>
     })
 }
 
-// Appends what is written down to empty parts.
-fn fill(parts: &mut Parts, written: &Written<'_>) -> Result<(), AllocError> {
-    parts.cells.extend_from_slice(written.cells)?;
-    parts.outs.extend_from_slice(written.outs)?;
-    parts.latches.extend_from_slice(written.latches)?;
-    parts.starts.extend_from_slice(written.starts)?;
-    parts.nets.extend_from_slice(written.nets)
+// Appends copies of items, and returns whether memory ran out. The items' type is open here, so that the clauses of the
+// call cost little.
+fn add<T: Copy>(items: &mut Vec<T>, more: &[T]) -> bool {
+    items.extend_from_slice(more).is_err()
+}
+
+// Appends what is written down to empty parts, and returns whether memory ran out.
+fn fill(parts: &mut Parts, written: &Written<'_>) -> bool {
+    add(&mut parts.cells, written.cells)
+        | add(&mut parts.outs, written.outs)
+        | add(&mut parts.latches, written.latches)
+        | add(&mut parts.starts, written.starts)
+        | add(&mut parts.nets, written.nets)
 }
 
 /// Makes the list that is written down, if it is one and small, and if memory is enough.
@@ -127,20 +130,9 @@ pub fn list_of(alloc: Global, written: &Written<'_>) -> Option<CellList>
     ensures { IfSome result IsPlannable }
 {
     let mut parts = no_parts(alloc, written.inputs);
-    if fill(&mut parts, written).is_err() {
+    if fill(&mut parts, written) {
         drop(parts);
         return None;
     }
     list_in(parts)
-}
-
-/// Makes the plan of a list, if memory is enough.
-pub fn plan_of_list(alloc: Global, list: &CellList) -> Option<Plan>
-    requires { IsPlannable list.now }
-    ensures { IfSome result IsAdmissible }
-{
-    match plan_of(alloc, list) {
-        Ok(plan) => Some(plan),
-        Err(_) => None,
-    }
 }
