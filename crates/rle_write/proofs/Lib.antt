@@ -8,5 +8,6 @@ pub mod StretchCells
 pub mod FigureCells
 pub mod CopiedTags
 pub mod LapTexts
+pub mod StepTexts
 pub mod Wholes
 pub mod KeptBlocks

@@ -1,6 +1,6 @@
 -- The cells of a block's row, by its runs.
 use Rattle.std.proofs.Common.{◌≡◌, refl, sym, ◌∙◌, ap, ℕ, ◌+◌, ◌-◌, ◌*◌, ◌/◌, ◌%◌, ◌<◌, ◌≤◌, List, [], ◌∷◌, ◌++◌, map, take, drop, set, length, replicate, get_or, All, subst, arith, append_assoc, length-drop, length-take-le, drop_of_length-le}
-use Rattle.std.proofs.lemmas.List.{append-nil, drop_more, ext_get_or, get_or-take, get_or-drop, get_or-replicate, length-append, length-replicate, map-append, take_more_set}
+use Rattle.std.proofs.lemmas.List.{append-nil, drop_more, ext_get_or, get_or-take, get_or-drop, get_or-replicate, length-append, length-replicate, map-append, take_more, take_more_set}
 use Rattle.std.proofs.lemmas.List.Elements.{All-append}
 use Rattle.std.proofs.lemmas.List.FromFn.{length-map-range_with_len, get_or-map-range_with_len}
 use Rattle.std.proofs.Math.Seq.{take-add}
@@ -32,6 +32,14 @@ pub spelled_more : (runs : List Run) (i : ℕ) (run : Run) → i < length runs
     → spelled (take (i + 1) (set runs i run)) ≡ spelled (take i runs) ++ replicate run.count run.tag
 spelled_more runs i run lt =
     ap spelled (take_more_set runs i run lt) ∙ spelled_joined (take i runs) (run ∷ [])
+    ∙ ap (λ l. spelled (take i runs) ++ l) (append-nil (replicate run.count run.tag))
+
+-- one more run of a list
+pub spelled_taken : (runs : List Run) (i : ℕ) (d : Run) → i < length runs
+    → spelled (take (i + 1) runs) ≡ spelled (take i runs) ++ replicate (get_or runs i d).count (get_or runs i d).tag
+spelled_taken runs i d lt =
+    let run : Run = get_or runs i d in
+    ap spelled (take_more runs i d lt) ∙ spelled_joined (take i runs) (run ∷ [])
     ∙ ap (λ l. spelled (take i runs) ++ l) (append-nil (replicate run.count run.tag))
 
 pub cells_more : (runs : List Run) (i : ℕ) (run : Run) → i < length runs → All IsCellRun (take i runs) → IsCellRun run

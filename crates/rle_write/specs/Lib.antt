@@ -6,4 +6,5 @@ pub mod Left
 pub mod Opening
 pub mod PlanText
 pub mod Runs
+pub mod Steps
 pub mod Taken

@@ -8,8 +8,8 @@ ghost use Rattle.ww_base.specs.Progress.{Wrote, Broke};
 use itoa::Buffer;
 use ww_base::{Failed, Page, Sink};
 
-// The greatest number of bytes in a line of items.
-const LINE: usize = 70;
+/// The greatest number of bytes in a line of items.
+pub const LINE: usize = 70;
 
 // The digits of a count that is not 1.
 fn count_digits(buffer: &mut Buffer, count: usize) -> &str
@@ -73,8 +73,8 @@ fn write_long<O: Sink>(sink: &mut O, page: &mut Page, count: usize, tag: u8) -> 
     Ok(())
 }
 
-// A decimal digit.
-fn digit(number: usize) -> u8
+/// A decimal digit.
+pub fn digit(number: usize) -> u8
     requires { number < 10 }
     ensures { result ≡ 48 + number }
 {

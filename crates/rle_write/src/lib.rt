@@ -14,6 +14,7 @@ mod laps;
 mod pattern_rows;
 mod plan_rows;
 mod rows;
+mod steps;
 mod stretches;
 mod text;
 

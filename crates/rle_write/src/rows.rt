@@ -33,8 +33,8 @@ pub fn cell_tag(state: State) -> usize
     tag_of(state) as usize
 }
 
-// The byte of a tag.
-fn byte_of(tag: usize) -> u8
+/// Returns the byte of a tag.
+pub fn byte_of(tag: usize) -> u8
     requires { tag < 256 }
     ensures { result ≡ tag }
 {

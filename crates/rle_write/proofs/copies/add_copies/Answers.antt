@@ -1,56 +1,59 @@
-use Rattle.std.proofs.Common.{◌≡◌, ◌+◌, ◌-◌, ◌∙◌, ℕ, List, ◌++◌, ap, arith, append_assoc}
+use Rattle.std.proofs.Common.{◌-◌, ◌∙◌, ℕ, List, ◌++◌, ap, arith, append_assoc}
+use Rattle.std.proofs.lemmas.Result.{IfOk-weaker, on_err_weaker}
 use Rattle.ww_rule.specs.declared.pattern.State.{State}
 use Rattle.rle_write.specs.Runs.{repeated, spelled}
 use Rattle.ww_base.specs.Pages.{held, column_of}
+use Rattle.rle_write.proofs.CopiedTags.{repeated_split, repeated_parts}
 use Rattle.rle_write.proofs.Lefts.{left_by}
-use Rattle.rle_write.proofs.CopiedTags.{repeated_next, repeated_long}
 use Rattle.lists.proofs.Results.{on_err}
-use Rattle.ww_base.proofs.Steps.{wrote_then, wrote_broke, wrote_to}
+use Rattle.ww_base.proofs.Steps.{wrote_as, broke_as, wrote_then, wrote_broke}
 use Rattle.rle_write.proofs.copies.add_copies.Goals as goal
 
-pub loop-preserved : goal.loop-preserved
-loop-preserved g c =
-    let tags : List ℕ = spelled c.args.runs.now in
-    let n : ℕ = c.args.count in
-    let i : ℕ = c.loop.counter in
-    let rest : List ℕ = repeated (n - (i + 1)) tags in
-    let next = repeated_next n i tags c.loop-test.true in
-    let kept = c.loop.kept in
-    record {
-      fewer = omega (arith, c.in_ok-kept.ensures.fewer, c.loop.invariant.fewer);
-      short = omega (arith, c.in_ok-kept.ensures.short, c.loop.invariant.short, repeated_long n i tags c.loop-test.true);
-      cell = c.in_ok-kept.ensures.cell;
-      wrote = λ more rows.
-          wrote_then
-          (wrote_to
-          (left_by (held c.loop.page) (column_of c.loop.page) kept.due kept.run.count kept.run.tag rows
-          (ap (λ l. l ++ more) next ∙ append_assoc tags rest more))
-          (c.loop.invariant.wrote more rows))
-          (c.in_ok-kept.ensures.ok (rest ++ more) rows);
-    }
+pub add_each-2-requires-clause-short : goal.add_each-2-requires-clause-short
+add_each-2-requires-clause-short g c =
+    omega (arith, c.requires.short, repeated_parts 1 c.args.count (spelled c.args.runs.now) (omega (arith, c.if-count-lt-FEW.false)))
 
-pub returns-in_err-kept-clause-err : goal.returns-in_err-kept-clause-err
-returns-in_err-kept-clause-err g c =
+pub add_steps-requires-clause-short : goal.add_steps-requires-clause-short
+add_steps-requires-clause-short g c =
+    omega (arith, c.requires.short, c.in_ok-begun.ensures.short, repeated_parts 1 c.args.count (spelled c.args.runs.now) (omega (arith, c.if-count-lt-FEW.false)))
+
+pub returns-in_err-begun-clause-err : goal.returns-in_err-begun-clause-err
+returns-in_err-begun-clause-err g c =
     let tags : List ℕ = spelled c.args.runs.now in
-    let n : ℕ = c.args.count in
-    let i : ℕ = c.loop.counter in
-    let rest : List ℕ = repeated (n - (i + 1)) tags in
-    let next = repeated_next n i tags c.loop-test.true in
-    let kept = c.loop.kept in
+    let rest : List ℕ = repeated (c.args.count - 1) tags in
+    let kept = c.args.kept in
     let f = λ (more : List ℕ) (rows : List (List State)).
-    wrote_broke
-    (wrote_to
-    (left_by (held c.loop.page) (column_of c.loop.page) kept.due kept.run.count kept.run.tag rows
-    (ap (λ l. l ++ more) next ∙ append_assoc tags rest more))
-    (c.loop.invariant.wrote more rows))
-    (c.in_err-kept.ensures.err (rest ++ more) rows) in
+    broke_as
+    (left_by (held c.args.page.now) (column_of c.args.page.now) kept.due kept.run.count kept.run.tag rows
+    (ap (λ l. l ++ more) (repeated_split 1 c.args.count tags (omega (arith, c.if-count-lt-FEW.false))) ∙ append_assoc (repeated 1 tags) rest more))
+    (c.in_err-begun.ensures.err (rest ++ more) rows) in
     on_err _ f
 
+pub returns-clause-short : goal.returns-clause-short
+returns-clause-short g c =
+    let parts = repeated_parts 1 c.args.count (spelled c.args.runs.now) (omega (arith, c.if-count-lt-FEW.false)) in
+    IfOk-weaker c.add_steps.result _ _ (λ k short. omega (arith, short, c.in_ok-begun.ensures.short, parts)) c.add_steps.ensures.short
+
 pub returns-clause-ok : goal.returns-clause-ok
-returns-clause-ok g c more rows =
+returns-clause-ok g c =
     let tags : List ℕ = spelled c.args.runs.now in
-    let none : c.args.count - c.loop.counter ≡ 0 = omega (arith, c.loop-test.false) in
-    let kept = c.loop.kept in
-    wrote_to
-    (left_by (held c.loop.page) (column_of c.loop.page) kept.due kept.run.count kept.run.tag rows (ap (λ n. repeated n tags ++ more) none))
-    (c.loop.invariant.wrote more rows)
+    let rest : List ℕ = repeated (c.args.count - 1) tags in
+    let kept = c.args.kept in
+    IfOk-weaker c.add_steps.result _ _ (λ k wrote more rows.
+    wrote_as
+    (left_by (held c.args.page.now) (column_of c.args.page.now) kept.due kept.run.count kept.run.tag rows
+    (ap (λ l. l ++ more) (repeated_split 1 c.args.count tags (omega (arith, c.if-count-lt-FEW.false))) ∙ append_assoc (repeated 1 tags) rest more))
+    (wrote_then (c.in_ok-begun.ensures.ok (rest ++ more) rows) (wrote more rows)))
+    c.add_steps.ensures.ok
+
+pub returns-clause-err : goal.returns-clause-err
+returns-clause-err g c =
+    let tags : List ℕ = spelled c.args.runs.now in
+    let rest : List ℕ = repeated (c.args.count - 1) tags in
+    let kept = c.args.kept in
+    on_err_weaker c.add_steps.result (λ broke more rows.
+    broke_as
+    (left_by (held c.args.page.now) (column_of c.args.page.now) kept.due kept.run.count kept.run.tag rows
+    (ap (λ l. l ++ more) (repeated_split 1 c.args.count tags (omega (arith, c.if-count-lt-FEW.false))) ∙ append_assoc (repeated 1 tags) rest more))
+    (wrote_broke (c.in_ok-begun.ensures.ok (rest ++ more) rows) (broke more rows)))
+    c.add_steps.ensures.err

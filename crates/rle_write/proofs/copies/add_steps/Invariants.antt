@@ -4,7 +4,7 @@ use Rattle.rle_write.specs.Left.{row_left, text_left}
 use Rattle.rle_write.specs.Runs.{IsCellTag, repeated, spelled}
 use Rattle.ww_base.specs.Pages.{held, column_of}
 use Rattle.ww_base.specs.Progress.{Wrote}
-use Rattle.rle_write.proofs.copies.add_copies.Given as goal
+use Rattle.rle_write.proofs.copies.add_steps.Given as goal
 
 abbrev pub invariant-loop : goal.invariant-loop
 invariant-loop g l = record {
