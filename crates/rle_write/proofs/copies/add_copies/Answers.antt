@@ -9,8 +9,8 @@ use Rattle.lists.proofs.Results.{on_err}
 use Rattle.ww_base.proofs.Steps.{wrote_as, broke_as, wrote_then, wrote_broke}
 use Rattle.rle_write.proofs.copies.add_copies.Goals as goal
 
-pub add_each-2-requires-clause-short : goal.add_each-2-requires-clause-short
-add_each-2-requires-clause-short g c =
+pub add_each-requires-2-clause-short : goal.add_each-requires-2-clause-short
+add_each-requires-2-clause-short g c =
     omega (arith, c.requires.short, repeated_parts 1 c.args.count (spelled c.args.runs.now) (omega (arith, c.if-count-lt-FEW.false)))
 
 pub add_steps-requires-clause-short : goal.add_steps-requires-clause-short

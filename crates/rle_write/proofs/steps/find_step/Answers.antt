@@ -30,7 +30,7 @@ loop-run-preserved c =
     let next = c.in_ok-after.ensures in
     record {
       step = subst (λ tags. IsStep c.args.from tags (bytes_of c.next_after.new.lap) c.in_ok-after.after) (sym (spelled_taken runs i no_run c.loop-run-test.true))
-      (next.next c.args.from (spelled (take i runs)) c.loop-run.invariant.step);
+          (next.next c.args.from (spelled (take i runs)) c.loop-run.invariant.step);
       cell = next.cell;
       short = omega (arith, next.short, length-replicate run.count run.tag, c.loop-run.invariant.short, spelled_long runs i no_run c.loop-run-test.true);
     }
@@ -40,7 +40,7 @@ returns c =
     let runs : List Run = c.args.runs.now in
     record {
       step = subst (λ l. IsStep c.args.from (spelled l) (bytes_of c.loop-run.lap) c.loop-run.after) (take_all c.loop-run.run-index runs (omega (arith, c.loop-run-test.false)))
-      c.loop-run.invariant.step;
+          c.loop-run.invariant.step;
       cell = c.loop-run.invariant.cell;
       short = omega (arith, c.loop-run.invariant.short);
     }
