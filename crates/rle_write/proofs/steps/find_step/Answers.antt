@@ -1,4 +1,4 @@
-use Rattle.std.proofs.Common.{ℕ, List, take, replicate, length, get_or, sym, subst, arith}
+use Rattle.std.proofs.Common.{ℕ, List, take, get_or, sym, subst, arith}
 use Rattle.std.proofs.lemmas.List.{take_all, length-replicate}
 use Rattle.rle_write.specs.declared.rows.Run.{Run}
 use Rattle.rle_write.specs.LapBytes.{bytes_of}
