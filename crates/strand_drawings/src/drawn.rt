@@ -9,8 +9,8 @@ use cell_core::Src;
 use gate_library::{Drawing, DrawnPort};
 use lists::{List, OutOfMemory};
 use register_ways::{Circuit, Loop, Ways, ways_around};
-use std::alloc::{AllocError, Global};
-use strand_core::{East, Layout, StrandCircuit, West};
+use std::alloc::Global;
+use strand_core::{East, Layout, StrandCircuit, West, add};
 
 // How often other ways are looked for until all crossings accept their period.
 const ROUNDS: u32 = 8;
@@ -117,15 +117,12 @@ fn ways_of(
     Ok(Some(ways))
 }
 
-// What a drawing in a box of this size is made of.
+// A box of this size, and the ports of all inputs and outputs.
 #[derive(Drop)]
-struct Sketch {
+struct Frame {
     size: (u32, u32),
-    gates: Gates,
-    ports: Ports,
     ins: Vec<DrawnPort>,
     outs: Vec<DrawnPort>,
-    wires: Wires,
 }
 
 // Adds ports. One that is none yet becomes a lone cell that is lit at a generation first, if it is ever: in every other
@@ -136,76 +133,57 @@ fn add_ports(
     ports: &[Option<DrawnPort>],
     first: u32,
     from: (u32, u32),
-) -> Result<(u32, u32), AllocError> {
-    let mut cell = from;
+) -> (u32, u32) {
+    let (mut x, y) = from;
     for port in ports {
-        if let Some(port) = port {
-            all.push(*port)?;
-        } else {
-            all.push(gates.add_lone(cell, first)?)?;
-            cell = (cell.0.saturating_add(2), cell.1);
+        let mut own = *port;
+        if own.is_none() {
+            own = Some(gates.add_lone((x, y), first));
+            x = x.saturating_add(2);
+        }
+        if let Some(port) = own {
+            add(all, port, &mut gates.is_refused);
         }
     }
-    Ok(cell)
+    (x, y)
 }
 
-impl Sketch {
-    // Adds all ports, with lone cells below all others for the inputs that nothing reads, and for the outputs that are
-    // always 0. Sets the size of the box.
-    fn add_ports(&mut self, ways: &Ways) -> Result<(), AllocError> {
-        let row = ways.height.saturating_add(1);
-        let ins = self.ports.ins.as_slice();
-        let next = add_ports(&mut self.ins, &mut self.gates, ins, 0, (0, row))?;
-        let (outs, latency) = (self.ports.outs.as_slice(), self.ports.latency);
-        let (x, _) = add_ports(&mut self.outs, &mut self.gates, outs, latency, next)?;
-        self.size = if x == 0 {
-            (ways.width, ways.height)
-        } else {
-            (ways.width.max(x.saturating_sub(1)), row.saturating_add(1))
-        };
-        Ok(())
-    }
-
-    // Draws a scene. Returns whether all wires lead to inputs.
-    fn draw(&mut self, scene: Scene) -> Result<bool, AllocError> {
-        let (circuit, layout, corner) = (scene.circuit, scene.layout, scene.corner);
-        self.gates.add_tiles(circuit, layout, corner)?;
-        let lower = add_fork(&mut self.gates, scene.ring, corner.north)?;
-        self.ports.find(&mut self.gates, circuit, layout, corner)?;
-        if let (Some(ring), Some(from)) = (scene.ring, lower) {
-            self.wires.add_ring(scene, ring, from)?;
-        }
-        if !self.wires.add_all(scene, &self.gates)? {
-            return Ok(false);
-        }
-        self.add_ports(scene.ways)?;
-        Ok(true)
+// The size of the box of a circuit with its ways, and with a row of lone cells below them that ends before a column.
+fn size_of(ways: &Ways, end: u32) -> (u32, u32) {
+    if end == 0 {
+        (ways.width, ways.height)
+    } else {
+        (
+            ways.width.max(end.saturating_sub(1)),
+            ways.height.saturating_add(2),
+        )
     }
 }
 
-// The drawing of what was sketched.
-fn assembled(alloc: Global, period: u32, sketch: Sketch) -> Drawn {
-    let Sketch {
-        size,
-        gates,
-        ports,
-        ins,
-        outs,
-        wires,
-    } = sketch;
+// The drawing in a frame, of these gates and wires.
+fn assembled(
+    alloc: Global,
+    scene: Scene,
+    latency: u32,
+    frame: Frame,
+    gates: Gates,
+    wires: Wires,
+) -> Drawn {
+    let Frame { size, ins, outs } = frame;
     let Gates { gates, .. } = gates;
     let Wires {
         wires,
         path,
         starts,
         latches,
+        ..
     } = wires;
     Drawn {
         drawing: Drawing {
             width: size.0,
             height: size.1,
-            period,
-            latency: ports.latency,
+            period: scene.ways.period,
+            latency,
             gates: List::of(gates),
             wires: List::of(wires),
             path: List::of(path),
@@ -216,32 +194,6 @@ fn assembled(alloc: Global, period: u32, sketch: Sketch) -> Drawn {
         },
         latches,
     }
-}
-
-// The sketch in which nothing is drawn, with so many inputs and outputs.
-fn empty_sketch(alloc: Global, inputs: u32, outputs: u32) -> Result<Sketch, AllocError> {
-    let ports = Ports {
-        ins: vec![in alloc; None; inputs as usize]?,
-        outs: vec![in alloc; None; outputs as usize]?,
-        latency: 0,
-    };
-    Ok(Sketch {
-        size: (0, 0),
-        gates: Gates {
-            gates: Vec::new(alloc),
-            sources: Vec::new(alloc),
-            goals: Vec::new(alloc),
-        },
-        ports,
-        ins: Vec::new(alloc),
-        outs: Vec::new(alloc),
-        wires: Wires {
-            wires: Vec::new(alloc),
-            path: Vec::new(alloc),
-            starts: Vec::new(alloc),
-            latches: Vec::new(alloc),
-        },
-    })
 }
 
 // The corner of the circuit, after room is made for a ring at the west.
@@ -258,33 +210,81 @@ fn corner_of(ways: &mut Ways, ring: Option<Ring>) -> Corner {
     }
 }
 
-// Adds the fork of a ring. Returns the output at which the ring begins.
-fn add_fork(
-    gates: &mut Gates,
-    ring: Option<Ring>,
-    north: u32,
-) -> Result<Option<DrawnPort>, AllocError> {
-    let Some(ring) = ring else {
-        return Ok(None);
-    };
-    let (upper, lower) = ring.add_fork(gates, north)?;
-    set_source(gates.sources.as_mut_slice(), Some(ring.strand), upper);
-    Ok(Some(lower))
+// Adds the gates of a scene, and the lone cells of its ports. Returns the output at which its ring begins.
+fn add_gates(gates: &mut Gates, ports: &mut Ports, scene: Scene) -> Option<DrawnPort> {
+    let (circuit, layout, corner) = (scene.circuit, scene.layout, scene.corner);
+    gates.add_tiles(circuit, layout, corner);
+    let mut begin = None;
+    if let Some(ring) = scene.ring {
+        let (upper, lower) = ring.add_fork(gates, corner.north);
+        set_source(&mut gates.sources, Some(ring.strand), upper);
+        begin = Some(lower);
+    }
+    ports.find(gates, circuit, layout, corner);
+    begin
 }
 
-// Draws a scene with so many inputs and outputs, if all wires lead to inputs.
+// Adds the gates and wires of a scene. Returns whether all wires lead to inputs.
+fn draw(gates: &mut Gates, ports: &mut Ports, wires: &mut Wires, scene: Scene) -> bool {
+    let begin = add_gates(gates, ports, scene);
+    if let (Some(ring), Some(from)) = (scene.ring, begin) {
+        wires.add_ring(ring, from, scene.corner.north);
+    }
+    wires.add_all(scene, gates)
+}
+
+// Draws a scene with so many inputs and outputs, if all wires lead to inputs. Below all others stand lone cells for the
+// inputs that nothing reads, and for the outputs that are always 0.
 fn drawn_scene(
     alloc: Global,
     scene: Scene,
     inputs: u32,
     outputs: u32,
 ) -> Result<Option<Drawn>, OutOfMemory> {
-    let mut sketch = empty_sketch(alloc, inputs, outputs)?;
-    if sketch.draw(scene)? {
-        Ok(Some(assembled(alloc, scene.ways.period, sketch)))
+    let mut ports = Ports::of(alloc, inputs, outputs)?;
+    let mut gates = Gates::new(alloc);
+    let mut wires = Wires::new(alloc);
+    let is_whole = draw(&mut gates, &mut ports, &mut wires, scene);
+    let mut ins = Vec::new(alloc);
+    let mut outs = Vec::new(alloc);
+    let row = scene.ways.height.saturating_add(1);
+    let next = add_ports(&mut ins, &mut gates, &ports.ins, 0, (0, row));
+    let (end, _) = add_ports(&mut outs, &mut gates, &ports.outs, ports.latency, next);
+    let size = size_of(scene.ways, end);
+    let frame = Frame { size, ins, outs };
+    let is_refused = gates.is_refused || wires.is_refused;
+    let drawn = assembled(alloc, scene, ports.latency, frame, gates, wires);
+    if is_refused {
+        Err(OutOfMemory::NoMemory)
+    } else if is_whole {
+        Ok(Some(drawn))
     } else {
         Ok(None)
     }
+}
+
+// Draws a circuit with its registers as these loops, if there is room for them and all wires lead to inputs.
+fn drawn_around(
+    alloc: Global,
+    circuit: &StrandCircuit,
+    layout: &Layout,
+    loops: &Loops,
+    inputs: u32,
+    outputs: u32,
+) -> Result<Option<Drawn>, OutOfMemory> {
+    let Some(mut ways) = ways_of(alloc, circuit, layout, loops)? else {
+        return Ok(None);
+    };
+    let ring = ring_of(circuit, layout, ways.period);
+    let scene = Scene {
+        circuit,
+        layout,
+        loops,
+        corner: corner_of(&mut ways, ring),
+        ways: &ways,
+        ring,
+    };
+    drawn_scene(alloc, scene, inputs, outputs)
 }
 
 /// Draws a circuit of strands: gates and wires, with the registers led around the north and the south. Without registers
@@ -299,20 +299,12 @@ pub fn drawn_circuit(
     outputs: u32,
 ) -> Result<Option<Drawn>, OutOfMemory> {
     let mut loops = Loops::new(alloc);
-    if !loops.find(circuit, layout)? {
-        return Ok(None);
+    let is_found = loops.find(circuit, layout);
+    if loops.is_refused {
+        Err(OutOfMemory::NoMemory)
+    } else if is_found {
+        drawn_around(alloc, circuit, layout, &loops, inputs, outputs)
+    } else {
+        Ok(None)
     }
-    let Some(mut ways) = ways_of(alloc, circuit, layout, &loops)? else {
-        return Ok(None);
-    };
-    let ring = ring_of(circuit, layout, ways.period);
-    let scene = Scene {
-        circuit,
-        layout,
-        loops: &loops,
-        corner: corner_of(&mut ways, ring),
-        ways: &ways,
-        ring,
-    };
-    drawn_scene(alloc, scene, inputs, outputs)
 }

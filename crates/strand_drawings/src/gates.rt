@@ -1,15 +1,23 @@
 // The gates of a circuit's tiles, and the lone cells of its inputs and outputs.
 
-use crate::loops::{cells_of, late_of};
+use crate::loops::{ends_of, late_of};
 use gate_library::{DrawnGate, DrawnPort, GateKind, GatePort, Shape, Turn};
-use std::alloc::AllocError;
-use strand_core::{East, Layout, StrandCircuit, Tile, TileKind, West};
+use std::alloc::{AllocError, Global};
+use strand_core::{East, Layout, StrandCircuit, Tile, TileKind, West, add, widen};
 
-/// Where a strand leads: to an input of a gate, into a bump, into a register, or nowhere.
+/// Where a strand leads: to an input of a gate, into a bump of so many generations behind a cell and from there to
+/// another strand, into a register, or nowhere.
 #[derive(Clone, Copy)]
 pub enum Goal {
-    Input { gate: u32, input: u32 },
-    Bump(u32),
+    Input {
+        gate: u32,
+        input: u32,
+    },
+    Bump {
+        cell: (u32, u32),
+        extra: u32,
+        next: Option<u32>,
+    },
     Register(u32),
     Nowhere,
 }
@@ -20,6 +28,8 @@ pub struct Gates {
     pub gates: Vec<DrawnGate>,
     pub sources: Vec<Option<DrawnPort>>,
     pub goals: Vec<Goal>,
+    /// Whether memory was refused: then something is missing here.
+    pub is_refused: bool,
 }
 
 /// The cell of a box at which its circuit's first cell is.
@@ -75,18 +85,6 @@ pub fn set_source(sources: &mut [Option<DrawnPort>], strand: Option<u32>, port: 
     }
 }
 
-fn late(circuit: &StrandCircuit, strand: Option<u32>) -> u32 {
-    match strand {
-        Some(strand) => late_of(circuit.strands.as_slice(), strand),
-        None => 0,
-    }
-}
-
-// The numbers of a gate's upper and lower port.
-fn numbers(is_mirrored: bool) -> (u32, u32) {
-    if is_mirrored { (1, 0) } else { (0, 1) }
-}
-
 // The gate of a tile whose first entry is at a cell.
 fn gate_of(
     kind: GateKind,
@@ -95,7 +93,7 @@ fn gate_of(
     cell: (u32, u32),
     corner: Corner,
 ) -> DrawnGate {
-    let (upper, lower) = (late(circuit, tile.ins[0]), late(circuit, tile.ins[1]));
+    let (upper, lower) = (late_of(circuit, tile.ins[0]), late_of(circuit, tile.ins[1]));
     let is_crossing = kind.shape == Shape::Cross;
     let first = if is_crossing { upper.min(lower) } else { upper };
     let (x, y) = corner.shifted(cell);
@@ -116,7 +114,8 @@ fn gate_of(
     }
 }
 
-fn output_port(gate: u32, output: u32) -> DrawnPort {
+/// Returns the port of an output of a gate.
+pub fn output_port(gate: u32, output: u32) -> DrawnPort {
     DrawnPort {
         gate,
         port: GatePort::Out(output),
@@ -124,84 +123,100 @@ fn output_port(gate: u32, output: u32) -> DrawnPort {
 }
 
 impl Gates {
+    /// Returns no gates.
+    pub fn new(alloc: Global) -> Gates {
+        Gates {
+            gates: Vec::new(alloc),
+            sources: Vec::new(alloc),
+            goals: Vec::new(alloc),
+            is_refused: false,
+        }
+    }
+
     /// Returns the number of the gate that is added next.
     pub fn next(&self) -> u32 {
         u32::try_from(self.gates.len()).unwrap_or(u32::MAX)
     }
 
-    // Joins the strands of a tile to the gate that is added next.
-    fn join(&mut self, tile: Tile, kind: GateKind) {
-        let gate = self.next();
-        let is_mirrored = kind.turn == Turn::EastMirrored;
-        let (upper, lower) = numbers(is_mirrored);
-        let ins = tile.ins;
-        let outs = tile.outs;
-        let goals = self.goals.as_mut_slice();
-        set_goal(goals, ins[0], Goal::Input { gate, input: upper });
-        set_goal(goals, ins[1], Goal::Input { gate, input: lower });
-        let (upper, lower) = numbers(is_mirrored && kind.shape == Shape::Cross);
-        let sources = self.sources.as_mut_slice();
-        set_source(sources, outs[0], output_port(gate, upper));
-        set_source(sources, outs[1], output_port(gate, lower));
+    /// Adds a gate.
+    pub fn add(&mut self, gate: DrawnGate) {
+        add(&mut self.gates, gate, &mut self.is_refused);
     }
 
-    // Adds the gate of a tile, or notes a bump.
-    fn add_tile(
-        &mut self,
-        circuit: &StrandCircuit,
-        number: u32,
-        cell: (u32, u32),
-        corner: Corner,
-    ) -> Result<(), AllocError> {
-        let Some(tile) = circuit.tiles.get(number as usize).copied() else {
-            return Ok(());
+    // Joins the strands of a tile to the gate that is added next. The upper one of a mirrored gate is its second.
+    fn join(&mut self, tile: Tile, kind: GateKind) {
+        let gate = self.next();
+        let in_turn = u32::from(kind.turn == Turn::EastMirrored);
+        let out_turn = if kind.shape == Shape::Cross {
+            in_turn
+        } else {
+            0
         };
-        let is_lower_first = late(circuit, tile.ins[1]) < late(circuit, tile.ins[0]);
-        let Some(kind) = kind_of(tile.kind, is_lower_first) else {
-            set_goal(self.goals.as_mut_slice(), tile.ins[0], Goal::Bump(number));
-            return Ok(());
-        };
-        self.join(tile, kind);
-        self.gates.push(gate_of(kind, tile, circuit, cell, corner))?;
-        Ok(())
+        for side in 0..2u32 {
+            let input = side ^ in_turn;
+            set_goal(
+                &mut self.goals,
+                tile.ins[side as usize],
+                Goal::Input { gate, input },
+            );
+            let port = output_port(gate, side ^ out_turn);
+            set_source(&mut self.sources, tile.outs[side as usize], port);
+        }
+    }
+
+    // Adds the gate of a tile whose first entry is at a cell, or notes a bump.
+    fn add_tile(&mut self, circuit: &StrandCircuit, tile: Tile, cell: (u32, u32), corner: Corner) {
+        let is_lower_first = late_of(circuit, tile.ins[1]) < late_of(circuit, tile.ins[0]);
+        if let Some(kind) = kind_of(tile.kind, is_lower_first) {
+            self.join(tile, kind);
+            self.add(gate_of(kind, tile, circuit, cell, corner));
+        } else if let TileKind::Bump(extra) = tile.kind {
+            let goal = Goal::Bump {
+                cell: corner.shifted(cell),
+                extra,
+                next: tile.outs[0],
+            };
+            set_goal(&mut self.goals, tile.ins[0], goal);
+        }
     }
 
     /// Adds the gates of all tiles to no gates.
-    pub fn add_tiles(
-        &mut self,
-        circuit: &StrandCircuit,
-        layout: &Layout,
-        corner: Corner,
-    ) -> Result<(), AllocError> {
+    pub fn add_tiles(&mut self, circuit: &StrandCircuit, layout: &Layout, corner: Corner) {
         let strands = circuit.strands.len();
-        self.sources.resize(strands, None)?;
-        self.goals.resize(strands, Goal::Nowhere)?;
-        let mut number = 0u32;
-        for cell in &layout.tiles {
-            self.add_tile(circuit, number, *cell, corner)?;
+        widen(&mut self.sources, strands, None, &mut self.is_refused);
+        widen(
+            &mut self.goals,
+            strands,
+            Goal::Nowhere,
+            &mut self.is_refused,
+        );
+        let mut number = 0usize;
+        for tile in &circuit.tiles {
+            if number < layout.tiles.len() {
+                self.add_tile(circuit, *tile, layout.tiles[number], corner);
+            }
             number = number.saturating_add(1);
         }
-        Ok(())
     }
 
     /// Adds a lone cell of the box that is lit at a generation first, and returns its port.
-    pub fn add_lone(&mut self, cell: (u32, u32), first: u32) -> Result<DrawnPort, AllocError> {
+    pub fn add_lone(&mut self, cell: (u32, u32), first: u32) -> DrawnPort {
         let gate = self.next();
         let kind = GateKind {
             shape: Shape::Lone,
             turn: Turn::East,
         };
-        self.gates.push(DrawnGate {
+        self.add(DrawnGate {
             kind,
             x: cell.0,
             y: cell.1,
             first,
             later: 0,
-        })?;
-        Ok(DrawnPort {
+        });
+        DrawnPort {
             gate,
             port: GatePort::In(0),
-        })
+        }
     }
 }
 
@@ -220,24 +235,20 @@ fn add_inputs(
     circuit: &StrandCircuit,
     layout: &Layout,
     corner: Corner,
-) -> Result<(), AllocError> {
+) {
     for end in &circuit.west {
-        let Some(strand) = end.strand else {
-            continue;
-        };
         let input = match end.is {
             West::Input(input) => Some(input),
             West::Zero => None,
             West::Register(_) | West::One => continue,
         };
-        if let Some(cell) = cells_of(layout, strand).first() {
-            let first = cell.0.saturating_add(late(circuit, end.strand));
-            let port = gates.add_lone(corner.shifted(*cell), first)?;
-            set_source(gates.sources.as_mut_slice(), end.strand, port);
+        if let Some((cell, _)) = ends_of(layout, end.strand) {
+            let first = cell.0.saturating_add(late_of(circuit, end.strand));
+            let port = gates.add_lone(corner.shifted(cell), first);
+            set_source(&mut gates.sources, end.strand, port);
             set_source(ins, input, port);
         }
     }
-    Ok(())
 }
 
 // Adds the lone cells of outputs, and notes which strands lead into registers. Answers when the outputs are lit first.
@@ -247,37 +258,41 @@ fn add_outputs(
     circuit: &StrandCircuit,
     layout: &Layout,
     corner: Corner,
-) -> Result<u32, AllocError> {
+) -> u32 {
     let mut latency = 0;
     for end in &circuit.east {
-        let Some(strand) = end.strand else {
-            continue;
-        };
-        match (end.is, cells_of(layout, strand).last()) {
+        match (end.is, ends_of(layout, end.strand)) {
             (East::Register(register), _) => {
-                set_goal(
-                    gates.goals.as_mut_slice(),
-                    end.strand,
-                    Goal::Register(register),
-                );
+                set_goal(&mut gates.goals, end.strand, Goal::Register(register));
             }
-            (East::Output(output), Some(cell)) => {
-                latency = cell.0.saturating_add(late(circuit, end.strand));
-                let port = gates.add_lone(corner.shifted(*cell), latency)?;
+            (East::Output(output), Some((_, cell))) => {
+                latency = cell.0.saturating_add(late_of(circuit, end.strand));
+                let port = gates.add_lone(corner.shifted(cell), latency);
                 let goal = Goal::Input {
                     gate: port.gate,
                     input: 0,
                 };
-                set_goal(gates.goals.as_mut_slice(), end.strand, goal);
+                set_goal(&mut gates.goals, end.strand, goal);
                 set_source(outs, Some(output), port);
             }
             (East::Output(_), None) => {}
         }
     }
-    Ok(latency)
+    latency
 }
 
 impl Ports {
+    /// Returns the ports of so many inputs and outputs, none of which is found.
+    pub fn of(alloc: Global, inputs: u32, outputs: u32) -> Result<Ports, AllocError> {
+        let ins = vec![in alloc; None; inputs as usize]?;
+        let outs = vec![in alloc; None; outputs as usize]?;
+        Ok(Ports {
+            ins,
+            outs,
+            latency: 0,
+        })
+    }
+
     /// Adds the lone cells of the inputs and outputs that have strands, and notes their ports.
     pub fn find(
         &mut self,
@@ -285,9 +300,8 @@ impl Ports {
         circuit: &StrandCircuit,
         layout: &Layout,
         corner: Corner,
-    ) -> Result<(), AllocError> {
-        add_inputs(gates, self.ins.as_mut_slice(), circuit, layout, corner)?;
-        self.latency = add_outputs(gates, self.outs.as_mut_slice(), circuit, layout, corner)?;
-        Ok(())
+    ) {
+        add_inputs(gates, &mut self.ins, circuit, layout, corner);
+        self.latency = add_outputs(gates, &mut self.outs, circuit, layout, corner);
     }
 }

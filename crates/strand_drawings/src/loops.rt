@@ -1,9 +1,8 @@
 // The registers of a circuit as loops around it.
 
-use lists::OutOfMemory;
 use register_ways::Loop;
 use std::alloc::Global;
-use strand_core::{East, Layout, Register, Strand, StrandCircuit, West};
+use strand_core::{East, Layout, Register, StrandCircuit, West, add, at, set, widen};
 
 /// The registers that are drawn, as loops in their order at the east. `numbers` has the loop of each register, and
 /// `entries` the strand that comes in from it.
@@ -12,31 +11,44 @@ pub struct Loops {
     pub loops: Vec<Loop>,
     pub numbers: Vec<Option<u32>>,
     pub entries: Vec<Option<u32>>,
+    /// Whether memory was refused: then something is missing here.
+    pub is_refused: bool,
 }
 
-/// Returns the cells of a strand.
-pub fn cells_of(layout: &Layout, strand: u32) -> &[(u32, u32)] {
-    let begin = strand_core::at(layout.starts.as_slice(), strand) as usize;
-    let end = strand_core::at(layout.starts.as_slice(), strand.saturating_add(1)) as usize;
-    if begin <= end && end <= layout.path.len() {
-        &layout.path[begin..end]
+/// Returns the cells of a path between two places.
+pub fn cells_between(path: &[(u32, u32)], begin: u32, end: u32) -> &[(u32, u32)] {
+    let (begin, end) = (begin as usize, end as usize);
+    if begin <= end && end <= path.len() {
+        &path[begin..end]
     } else {
         &[]
     }
 }
 
-/// Returns the generations by which a strand's signal is later than its column.
-pub fn late_of(strands: &[Strand], strand: u32) -> u32 {
-    match strands.get(strand as usize) {
-        Some(strand) => strand.late,
-        None => 0,
+/// Returns the cells of a strand.
+pub fn cells_of(layout: &Layout, strand: u32) -> &[(u32, u32)] {
+    let begin = at(&layout.starts, strand);
+    let end = at(&layout.starts, strand.saturating_add(1));
+    cells_between(&layout.path, begin, end)
+}
+
+/// Returns the first cell of a strand and its last one, if there is one and it is drawn.
+pub fn ends_of(layout: &Layout, strand: Option<u32>) -> Option<((u32, u32), (u32, u32))> {
+    let cells = cells_of(layout, strand?);
+    match (cells.first(), cells.last()) {
+        (Some(first), Some(last)) => Some((*first, *last)),
+        _ => None,
     }
 }
 
-// Sets a number of a table, if it is there.
-pub fn set_number(numbers: &mut [Option<u32>], place: u32, number: u32) {
-    if (place as usize) < numbers.len() {
-        numbers[place as usize] = Some(number);
+/// Returns the generations by which a strand's signal is later than its column, or 0 for no strand.
+pub fn late_of(circuit: &StrandCircuit, strand: Option<u32>) -> u32 {
+    let Some(strand) = strand else {
+        return 0;
+    };
+    match circuit.strands.get(strand as usize) {
+        Some(strand) => strand.late,
+        None => 0,
     }
 }
 
@@ -51,7 +63,7 @@ pub fn number_at(numbers: &[Option<u32>], place: u32) -> Option<u32> {
 fn note_entries(entries: &mut [Option<u32>], circuit: &StrandCircuit) {
     for end in &circuit.west {
         if let (Some(strand), West::Register(register)) = (end.strand, end.is) {
-            set_number(entries, register, strand);
+            set(entries, register, Some(strand));
         }
     }
 }
@@ -61,52 +73,6 @@ fn cycles_of(registers: &[Register], register: u32) -> u32 {
         Some(register) => u32::try_from(register.starts.len()).unwrap_or(u32::MAX),
         None => 0,
     }
-}
-
-// The loop of a register between its two strands.
-fn loop_of(
-    circuit: &StrandCircuit,
-    layout: &Layout,
-    register: u32,
-    exit: u32,
-    entry: u32,
-) -> Option<Loop> {
-    let (_, exit_row) = cells_of(layout, exit).last()?;
-    let (_, entry_row) = cells_of(layout, entry).first()?;
-    let strands = circuit.strands.as_slice();
-    Some(Loop {
-        exit: *exit_row,
-        entry: *entry_row,
-        cycles: cycles_of(circuit.registers.as_slice(), register),
-        lag: layout
-            .width
-            .saturating_sub(1)
-            .saturating_add(late_of(strands, exit))
-            .saturating_sub(late_of(strands, entry)),
-    })
-}
-
-// Adds the loops in their order at the east. Answers whether all have an entry.
-fn add_loops(
-    found: &mut Loops,
-    circuit: &StrandCircuit,
-    layout: &Layout,
-) -> Result<bool, OutOfMemory> {
-    for end in &circuit.east {
-        let (Some(exit), East::Register(register)) = (end.strand, end.is) else {
-            continue;
-        };
-        let Some(entry) = number_at(found.entries.as_slice(), register) else {
-            return Ok(false);
-        };
-        let Some(next) = loop_of(circuit, layout, register, exit, entry) else {
-            return Ok(false);
-        };
-        let number = u32::try_from(found.loops.len()).unwrap_or(u32::MAX);
-        set_number(found.numbers.as_mut_slice(), register, number);
-        found.loops.push(next)?;
-    }
-    Ok(true)
 }
 
 // Whether each register that comes in at the west has a loop.
@@ -140,21 +106,60 @@ impl Loops {
             loops: Vec::new(alloc),
             numbers: Vec::new(alloc),
             entries: Vec::new(alloc),
+            is_refused: false,
         }
+    }
+
+    // Adds the loop of a register whose data go out in a strand. Returns whether it has an entry.
+    fn add_loop(
+        &mut self,
+        circuit: &StrandCircuit,
+        layout: &Layout,
+        register: u32,
+        exit: Option<u32>,
+    ) -> bool {
+        let entry = number_at(&self.entries, register);
+        let (Some((_, last)), Some((first, _))) = (ends_of(layout, exit), ends_of(layout, entry))
+        else {
+            return false;
+        };
+        let next = Loop {
+            exit: last.1,
+            entry: first.1,
+            cycles: cycles_of(&circuit.registers, register),
+            lag: layout
+                .width
+                .saturating_sub(1)
+                .saturating_add(late_of(circuit, exit))
+                .saturating_sub(late_of(circuit, entry)),
+        };
+        let number = u32::try_from(self.loops.len()).unwrap_or(u32::MAX);
+        set(&mut self.numbers, register, Some(number));
+        add(&mut self.loops, next, &mut self.is_refused);
+        true
+    }
+
+    // Adds the loops in their order at the east. Returns whether all have an entry.
+    fn add_all(&mut self, circuit: &StrandCircuit, layout: &Layout) -> bool {
+        for end in &circuit.east {
+            if let (Some(_), East::Register(register)) = (end.strand, end.is) {
+                if !self.add_loop(circuit, layout, register, end.strand) {
+                    return false;
+                }
+            }
+        }
+        true
     }
 
     /// Finds the loops of a circuit. Returns whether each register has an entry and an exit, and they are in the same order
     /// at both sides.
-    pub fn find(&mut self, circuit: &StrandCircuit, layout: &Layout) -> Result<bool, OutOfMemory> {
+    pub fn find(&mut self, circuit: &StrandCircuit, layout: &Layout) -> bool {
         let registers = circuit.registers.len();
-        self.numbers.resize(registers, None)?;
-        self.entries.resize(registers, None)?;
-        note_entries(self.entries.as_mut_slice(), circuit);
-        let is_whole = add_loops(self, circuit, layout)?;
-        Ok(
-            is_whole
-                && are_closed(self.entries.as_slice(), self.numbers.as_slice())
-                && are_in_order(self.loops.as_slice()),
-        )
+        widen(&mut self.numbers, registers, None, &mut self.is_refused);
+        widen(&mut self.entries, registers, None, &mut self.is_refused);
+        note_entries(&mut self.entries, circuit);
+        self.add_all(circuit, layout)
+            && are_closed(&self.entries, &self.numbers)
+            && are_in_order(&self.loops)
     }
 }

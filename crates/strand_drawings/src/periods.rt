@@ -13,12 +13,11 @@ pub const LEAST_PERIOD: u32 = 10;
 const TRIES: u32 = 4096;
 
 fn is_crossed_at(circuit: &StrandCircuit, tile: Tile, period: u32) -> bool {
-    let ins = tile.ins;
-    let (TileKind::Cross, Some(upper), Some(lower)) = (tile.kind, ins[0], ins[1]) else {
+    if tile.kind != TileKind::Cross {
         return true;
-    };
-    let strands = circuit.strands.as_slice();
-    let apart = late_of(strands, upper).abs_diff(late_of(strands, lower)) % period.max(1);
+    }
+    let (upper, lower) = (late_of(circuit, tile.ins[0]), late_of(circuit, tile.ins[1]));
+    let apart = upper.abs_diff(lower) % period.max(1);
     apart >= LEAST_SKEW && apart.saturating_add(LEAST_SKEW) <= period
 }
 
@@ -62,8 +61,8 @@ pub fn least_period(circuit: &StrandCircuit, layout: &Layout, loops: &Loops) -> 
         return least;
     }
     for end in &circuit.east {
-        if let (Some(strand), East::Register(_)) = (end.strand, end.is) {
-            let late = late_of(circuit.strands.as_slice(), strand);
+        if let (Some(_), East::Register(_)) = (end.strand, end.is) {
+            let late = late_of(circuit, end.strand);
             least = least.max(layout.width.saturating_add(late).saturating_add(1));
         }
     }

@@ -2,11 +2,10 @@
 //
 // West of a circuit is a fork whose lower signal comes back to it around the ring. The upper one is constant 1.
 
-use crate::gates::Gates;
+use crate::gates::{Gates, output_port};
 use crate::loops::{cells_of, late_of};
-use gate_library::{DrawnGate, DrawnPort, GateKind, GatePort, Shape, Turn};
-use std::alloc::AllocError;
-use strand_core::{Layout, StrandCircuit, West};
+use gate_library::{DrawnGate, DrawnPort, GateKind, Shape, Turn};
+use strand_core::{Layout, StrandCircuit, West, add};
 
 // Generations in which a signal comes around the smallest ring.
 const LEAST: u32 = 11;
@@ -40,7 +39,7 @@ pub fn ring_of(circuit: &StrandCircuit, layout: &Layout, period: u32) -> Option<
             let cycles = LEAST.div_ceil(period.max(1));
             return Some(Ring {
                 strand,
-                late: late_of(circuit.strands.as_slice(), strand),
+                late: late_of(circuit, end.strand),
                 cycles,
                 row,
                 period,
@@ -75,61 +74,52 @@ impl Ring {
     }
 
     /// Adds the fork, and returns its ports: the upper output, from which constant 1 runs on, and the lower one.
-    pub fn add_fork(
-        self,
-        gates: &mut Gates,
-        north: u32,
-    ) -> Result<(DrawnPort, DrawnPort), AllocError> {
+    pub fn add_fork(self, gates: &mut Gates, north: u32) -> (DrawnPort, DrawnPort) {
         let gate = gates.next();
         let kind = GateKind {
             shape: Shape::Fork,
             turn: Turn::East,
         };
-        gates.gates.push(DrawnGate {
+        gates.add(DrawnGate {
             kind,
             x: self.x(),
             y: self.y(north),
             first: self.period.saturating_sub(AHEAD),
             later: 0,
-        })?;
-        let upper = DrawnPort {
-            gate,
-            port: GatePort::Out(0),
-        };
-        let lower = DrawnPort {
-            gate,
-            port: GatePort::Out(1),
-        };
-        Ok((upper, lower))
+        });
+        (output_port(gate, 0), output_port(gate, 1))
     }
 
-    /// Adds the cells between the fork's upper output and the circuit.
-    pub fn add_lead(self, path: &mut Vec<(u32, u32)>, north: u32) -> Result<(), AllocError> {
+    /// Adds the cells between the fork's upper output and the circuit. Notes if memory is refused.
+    pub fn add_lead(self, path: &mut Vec<(u32, u32)>, north: u32, is_refused: &mut bool) {
         for x in self.x().saturating_add(3)..self.columns() {
-            path.push((x, self.y(north)))?;
+            add(path, (x, self.y(north)), is_refused);
         }
-        Ok(())
     }
 
-    /// Adds the cells of the ring, from the fork's lower output to its entry.
-    pub fn add_ring(self, path: &mut Vec<(u32, u32)>, north: u32) -> Result<(), AllocError> {
-        let y = self.y(north);
-        let low = y.saturating_add(ROWS);
-        path.push((self.x().saturating_add(3), low.saturating_sub(1)))?;
-        for east in 0..self.x().saturating_add(1) {
-            path.push((self.x().saturating_add(2).saturating_sub(east), low))?;
+    // A cell of the ring by its number, from the fork's lower output to its entry: the column, and how many rows it is
+    // below the fork's upper signal. The ring goes west in its southernmost row, north in column 0, and then east.
+    fn cell(self, number: u32) -> (u32, u32) {
+        let (east, odd) = (self.x().saturating_add(2), self.more % 2);
+        let corner = odd.saturating_add(ROWS - 1);
+        match number.checked_sub(east) {
+            None if number == 0 => (east.saturating_add(1), ROWS - 1),
+            None => (east.saturating_add(1).saturating_sub(number), ROWS),
+            Some(0) => (1, corner),
+            Some(turned) => (
+                turned.saturating_sub(odd.saturating_add(2)),
+                corner.saturating_sub(turned).max(2),
+            ),
         }
-        if self.more % 2 == 1 {
-            path.push((1, low))?;
-            path.push((0, low.saturating_sub(1)))?;
-        } else {
-            path.push((1, low.saturating_sub(1)))?;
+    }
+
+    /// Adds the cells of the ring, from the fork's lower output to its entry. Notes if memory is refused.
+    pub fn add_ring(self, path: &mut Vec<(u32, u32)>, north: u32, is_refused: &mut bool) {
+        let half = self.x().saturating_add(2);
+        let size = half.saturating_add(half).saturating_add(self.more % 2);
+        for number in 0..size {
+            let (x, below) = self.cell(number);
+            add(path, (x, self.y(north).saturating_add(below)), is_refused);
         }
-        path.push((0, low.saturating_sub(2)))?;
-        path.push((0, low.saturating_sub(3)))?;
-        for x in 1..self.x() {
-            path.push((x, y.saturating_add(2)))?;
-        }
-        Ok(())
     }
 }

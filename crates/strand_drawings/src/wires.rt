@@ -1,13 +1,13 @@
 // The wires of a drawing.
 
 use crate::gates::{Corner, Gates, Goal};
-use crate::loops::{Loops, cells_of, number_at};
+use crate::loops::{Loops, cells_between, cells_of, number_at};
 use crate::rings::Ring;
 use cell_core::Src;
 use gate_library::{DrawnPort, DrawnWire};
 use register_ways::Ways;
-use std::alloc::AllocError;
-use strand_core::{Layout, StrandCircuit, TileKind};
+use std::alloc::Global;
+use strand_core::{Layout, Register, StrandCircuit, add};
 
 /// What wires are made of: a circuit with its cells, the ways of its registers around it, and its ring.
 #[derive(Clone, Copy)]
@@ -28,6 +28,8 @@ pub struct Wires {
     pub path: Vec<(u32, u32)>,
     pub starts: Vec<bool>,
     pub latches: Vec<Src>,
+    /// Whether memory was refused: then something is missing here.
+    pub is_refused: bool,
 }
 
 fn count(length: usize) -> u32 {
@@ -35,191 +37,186 @@ fn count(length: usize) -> u32 {
 }
 
 // The cells of a register's way.
-fn way_of<'a>(scene: Scene<'a>, register: u32) -> &'a [(u32, u32)] {
-    let Some(number) = number_at(scene.loops.numbers.as_slice(), register) else {
-        return &[];
-    };
-    let Some((begin, end)) = scene.ways.spans.get(number as usize).copied() else {
-        return &[];
-    };
-    let (begin, end) = (begin as usize, end as usize);
-    if begin <= end && end <= scene.ways.path.len() {
-        &scene.ways.path[begin..end]
-    } else {
-        &[]
+fn way_of(scene: Scene, register: u32) -> &[(u32, u32)] {
+    let way = number_at(&scene.loops.numbers, register).unwrap_or(u32::MAX);
+    match scene.ways.spans.get(way as usize) {
+        Some((begin, end)) => cells_between(&scene.ways.path, *begin, *end),
+        None => &[],
+    }
+}
+
+// Where a strand leads.
+fn goal_of(goals: &[Goal], strand: u32) -> Goal {
+    match goals.get(strand as usize) {
+        Some(goal) => *goal,
+        None => Goal::Nowhere,
+    }
+}
+
+// The strand behind a bump or a register.
+fn next_of(loops: &Loops, goal: Goal) -> Option<u32> {
+    match goal {
+        Goal::Bump { next, .. } => next,
+        Goal::Register(register) => number_at(&loops.entries, register),
+        Goal::Input { .. } | Goal::Nowhere => None,
+    }
+}
+
+// Adds the cells of a strand, from one of them on. Notes if memory is refused.
+fn add_strand(
+    path: &mut Vec<(u32, u32)>,
+    scene: Scene,
+    strand: u32,
+    from: usize,
+    is_refused: &mut bool,
+) {
+    let cells = cells_of(scene.layout, strand);
+    for i in from..cells.len() {
+        add(path, scene.corner.shifted(cells[i]), is_refused);
+    }
+}
+
+// Adds the cells of a bump behind a cell, which makes the wire so many generations longer. Notes if memory is refused.
+fn add_bump(path: &mut Vec<(u32, u32)>, cell: (u32, u32), extra: u32, is_refused: &mut bool) {
+    let high = (extra / 2).saturating_add(2);
+    let size = high.saturating_mul(2);
+    for step in 1..size {
+        let (east, north) = if step < high {
+            (1, step)
+        } else if step == high {
+            (2, high)
+        } else {
+            (3, size.saturating_sub(step))
+        };
+        let near = (cell.0.saturating_add(east), cell.1.saturating_sub(north));
+        add(path, near, is_refused);
     }
 }
 
 impl Wires {
-    // Adds the cells of a strand, without the first one if this is the cell of a port.
-    fn add_strand(&mut self, scene: Scene, strand: u32, from: usize) -> Result<(), AllocError> {
-        let cells = cells_of(scene.layout, strand);
-        for i in from..cells.len() {
-            self.path.push(scene.corner.shifted(cells[i]))?;
+    /// Returns no wires.
+    pub fn new(alloc: Global) -> Wires {
+        Wires {
+            wires: Vec::new(alloc),
+            path: Vec::new(alloc),
+            starts: Vec::new(alloc),
+            latches: Vec::new(alloc),
+            is_refused: false,
         }
-        Ok(())
     }
 
-    // Adds a cell so many columns east of one, and so many rows north.
-    fn add_near(&mut self, cell: (u32, u32), east: u32, north: u32) -> Result<(), AllocError> {
-        let near = (cell.0.saturating_add(east), cell.1.saturating_sub(north));
-        self.path.push(near)?;
-        Ok(())
+    // Adds the start bits of a register, and its latches. One without latches is always 1.
+    fn add_latches(&mut self, register: &Register) {
+        let starts = register.starts.as_slice();
+        self.is_refused |= self.starts.extend_from_slice(starts).is_err();
+        for latch in &register.latches {
+            add(&mut self.latches, Src::Latch(*latch), &mut self.is_refused);
+        }
+        if register.latches.is_empty() {
+            add(&mut self.latches, Src::One, &mut self.is_refused);
+        }
     }
 
-    // Adds the cells of a bump behind a cell, which makes the wire so many generations longer.
-    fn add_bump(&mut self, cell: (u32, u32), extra: u32) -> Result<(), AllocError> {
-        let high = (extra / 2).saturating_add(2);
-        for north in 1..high {
-            self.add_near(cell, 1, north)?;
+    // Adds the start bits of a register, and the cells of its way.
+    fn add_register(&mut self, scene: Scene, register: u32) {
+        if let Some(found) = scene.circuit.registers.get(register as usize) {
+            self.add_latches(found);
         }
-        self.add_near(cell, 2, high)?;
-        for south in 1..high {
-            self.add_near(cell, 3, high.saturating_sub(south))?;
-        }
-        Ok(())
+        let way = way_of(scene, register);
+        self.is_refused |= self.path.extend_from_slice(way).is_err();
     }
 
-    // Adds the cells of a bump, and returns the strand behind it.
-    fn pass_bump(&mut self, scene: Scene, tile: u32) -> Result<Option<u32>, AllocError> {
-        let (Some(tile), Some(cell)) = (
-            scene.circuit.tiles.get(tile as usize).copied(),
-            scene.layout.tiles.get(tile as usize).copied(),
-        ) else {
-            return Ok(None);
-        };
-        if let TileKind::Bump(extra) = tile.kind {
-            self.add_bump(scene.corner.shifted(cell), extra)?;
+    // Adds the cells of a bump or of a register's way, and those of the strand behind it.
+    fn pass(&mut self, scene: Scene, goal: Goal, next: u32) {
+        match goal {
+            Goal::Bump { cell, extra, .. } => {
+                add_bump(&mut self.path, cell, extra, &mut self.is_refused);
+            }
+            Goal::Register(register) => self.add_register(scene, register),
+            Goal::Input { .. } | Goal::Nowhere => {}
         }
-        Ok(tile.outs[0])
-    }
-
-    // Adds the start bits of a register, and its latches.
-    fn add_latches(&mut self, scene: Scene, register: u32) -> Result<(), AllocError> {
-        let Some(found) = scene.circuit.registers.get(register as usize) else {
-            return Ok(());
-        };
-        self.starts.extend_from_slice(found.starts.as_slice())?;
-        for latch in &found.latches {
-            self.latches.push(Src::Latch(*latch))?;
-        }
-        if found.latches.is_empty() {
-            self.latches.push(Src::One)?;
-        }
-        Ok(())
-    }
-
-    // Adds the cells of a register's way, and returns the strand behind it.
-    fn pass_register(&mut self, scene: Scene, register: u32) -> Result<Option<u32>, AllocError> {
-        self.add_latches(scene, register)?;
-        self.path.extend_from_slice(way_of(scene, register))?;
-        Ok(number_at(scene.loops.entries.as_slice(), register))
+        add_strand(&mut self.path, scene, next, 0, &mut self.is_refused);
     }
 
     // Adds latches that are always 1.
-    fn add_ones(&mut self, count: u32) -> Result<(), AllocError> {
+    fn add_ones(&mut self, count: u32) {
         for _ in 0..count {
-            self.starts.push(true)?;
-            self.latches.push(Src::One)?;
+            add(&mut self.starts, true, &mut self.is_refused);
+            add(&mut self.latches, Src::One, &mut self.is_refused);
         }
-        Ok(())
     }
 
     // Adds the cells of the strand with which a wire begins, and of the lead from a ring to it.
-    fn begin(&mut self, scene: Scene, strand: u32) -> Result<(), AllocError> {
-        match scene.ring {
-            Some(ring) if ring.strand == strand => {
-                self.add_ones(1)?;
-                ring.add_lead(&mut self.path, scene.corner.north)?;
-                self.add_strand(scene, strand, 0)
+    fn begin(&mut self, scene: Scene, strand: u32) {
+        let mut from = 1;
+        if let Some(ring) = scene.ring {
+            if ring.strand == strand {
+                self.add_ones(1);
+                ring.add_lead(&mut self.path, scene.corner.north, &mut self.is_refused);
+                from = 0;
             }
-            _ => self.add_strand(scene, strand, 1),
         }
+        add_strand(&mut self.path, scene, strand, from, &mut self.is_refused);
     }
 
-    /// Adds a ring, from a port of its fork to the fork.
-    pub fn add_ring(
-        &mut self,
-        scene: Scene,
-        ring: Ring,
-        from: DrawnPort,
-    ) -> Result<(), AllocError> {
-        let (start, latch) = (count(self.path.len()), count(self.starts.len()));
-        ring.add_ring(&mut self.path, scene.corner.north)?;
-        self.add_ones(ring.cycles)?;
-        self.wires.push(DrawnWire {
+    // Adds the wire from a port to an input of a gate whose cells and start bits begin at these places.
+    fn add_wire(&mut self, from: DrawnPort, to: (u32, u32), start: u32, latch: u32) {
+        let wire = DrawnWire {
             from,
-            gate: from.gate,
-            input: 0,
-            start,
-            size: count(self.path.len()).saturating_sub(start),
-            latch,
-            cycles: ring.cycles,
-        })?;
-        Ok(())
-    }
-
-    // Adds the cells of a wire from the strand with which it begins on, and answers at which input it ends.
-    fn follow(
-        &mut self,
-        scene: Scene,
-        goals: &[Goal],
-        strand: u32,
-    ) -> Result<Option<(u32, u32)>, AllocError> {
-        let mut strand = strand;
-        self.begin(scene, strand)?;
-        for _ in 0..goals.len() {
-            let next = match goals.get(strand as usize).copied() {
-                Some(Goal::Input { gate, input }) => return Ok(Some((gate, input))),
-                Some(Goal::Bump(tile)) => self.pass_bump(scene, tile)?,
-                Some(Goal::Register(register)) => self.pass_register(scene, register)?,
-                _ => None,
-            };
-            let Some(next) = next else {
-                return Ok(None);
-            };
-            self.add_strand(scene, next, 0)?;
-            strand = next;
-        }
-        Ok(None)
-    }
-
-    // Adds the wire that begins with a strand. Answers whether it leads to an input.
-    fn add(
-        &mut self,
-        scene: Scene,
-        goals: &[Goal],
-        from: DrawnPort,
-        strand: u32,
-    ) -> Result<bool, AllocError> {
-        let (start, latch) = (count(self.path.len()), count(self.starts.len()));
-        let Some((gate, input)) = self.follow(scene, goals, strand)? else {
-            return Ok(false);
-        };
-        self.path.pop();
-        self.wires.push(DrawnWire {
-            from,
-            gate,
-            input,
+            gate: to.0,
+            input: to.1,
             start,
             size: count(self.path.len()).saturating_sub(start),
             latch,
             cycles: count(self.starts.len()).saturating_sub(latch),
-        })?;
-        Ok(true)
+        };
+        add(&mut self.wires, wire, &mut self.is_refused);
+    }
+
+    /// Adds a ring, from a port of its fork to the fork.
+    pub fn add_ring(&mut self, ring: Ring, from: DrawnPort, north: u32) {
+        let (start, latch) = (count(self.path.len()), count(self.starts.len()));
+        ring.add_ring(&mut self.path, north, &mut self.is_refused);
+        self.add_ones(ring.cycles);
+        self.add_wire(from, (from.gate, 0), start, latch);
+    }
+
+    // Adds the cells of a wire from the strand with which it begins on, and answers where it ends.
+    fn follow(&mut self, scene: Scene, goals: &[Goal], strand: u32) -> Goal {
+        let mut goal = goal_of(goals, strand);
+        self.begin(scene, strand);
+        for _ in 0..goals.len() {
+            let Some(next) = next_of(scene.loops, goal) else {
+                break;
+            };
+            self.pass(scene, goal, next);
+            goal = goal_of(goals, next);
+        }
+        goal
+    }
+
+    // Adds the wire that begins with a strand. Answers whether it leads to an input.
+    fn add(&mut self, scene: Scene, goals: &[Goal], from: DrawnPort, strand: u32) -> bool {
+        let (start, latch) = (count(self.path.len()), count(self.starts.len()));
+        let Goal::Input { gate, input } = self.follow(scene, goals, strand) else {
+            return false;
+        };
+        self.path.pop();
+        self.add_wire(from, (gate, input), start, latch);
+        true
     }
 
     /// Adds the wires of all strands that begin at ports. Returns whether all lead to inputs.
-    pub fn add_all(&mut self, scene: Scene, gates: &Gates) -> Result<bool, AllocError> {
+    pub fn add_all(&mut self, scene: Scene, gates: &Gates) -> bool {
         let mut strand = 0u32;
         for source in &gates.sources {
             if let Some(from) = source {
-                if !self.add(scene, gates.goals.as_slice(), *from, strand)? {
-                    return Ok(false);
+                if !self.add(scene, &gates.goals, *from, strand) {
+                    return false;
                 }
             }
             strand = strand.saturating_add(1);
         }
-        Ok(true)
+        true
     }
 }
