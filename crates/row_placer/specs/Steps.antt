@@ -74,7 +74,7 @@ pub record MakesGate (old new : Lanes) (gate : NumberedCell) : Type 0 where
   pub made : length new.made.items ≡ length old.made.items + 1
 
 -- the lanes are as the job begins: nothing is placed
-pub record IsBegun (lanes : Lanes) : Type 0 where
+pub record PlacesNothing (lanes : Lanes) : Type 0 where
   pub tags : lanes.tags.items ≡ lanes.job.start
   pub instrs : length lanes.instrs.items ≡ 0
   pub made : length lanes.made.items ≡ 0

@@ -38,12 +38,12 @@ pub struct Lanes {
 }
 
 impl Lanes {
-    ghost use Rattle.row_placer.specs.Steps.{IsBegun, KeepsGates, DoesInstr, MeetsAt, AddsInstrs, AddsAtMost, MovesTags, CopiesTag, IsNextGate, EndsWithNextGate, MakesGate, PlacesJob, next_value};
+    ghost use Rattle.row_placer.specs.Steps.{PlacesNothing, KeepsGates, DoesInstr, MeetsAt, AddsInstrs, AddsAtMost, MovesTags, CopiesTag, IsNextGate, EndsWithNextGate, MakesGate, PlacesJob, next_value};
 
     /// Returns the lanes as they are at the start.
     pub fn new(alloc: Global, job: Job) -> Result<Lanes, PlaceError>
         requires few { length job.start < 2 ^ 32 }
-        ensures begun { IfOk result IsBegun }
+        ensures begun { IfOk result PlacesNothing }
         ensures job { IfOk result (λ r. r.job ≡ job) }
     {
         let Ok(tags) = job.start.as_slice().to_vec(alloc) else {
@@ -80,7 +80,7 @@ impl Lanes {
 
     // Places all that the job asks for on the lanes as they are at the start.
     fn place_all(&mut self, alloc: Global, loops: u32, left: &mut [u32]) -> Result<(), PlaceError>
-        requires start { IsBegun self.old }
+        requires start { PlacesNothing self.old }
         requires ready { IsRunnable self.old.job loops left.old }
         ensures { OnOk result (PlacesJob self.old.job loops self.new) }
     {
