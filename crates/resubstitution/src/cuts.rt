@@ -1,6 +1,6 @@
 // Cuts: at most six sources of which a cell is a function.
 use crate::network::Network;
-use cell_core::{CellError, Src};
+use cell_core::Src;
 use std::alloc::Global;
 
 // The most leaves of a cut.
@@ -15,25 +15,19 @@ const MOST_INSIDE: usize = 32;
 pub struct Cut {
     pub leaves: Vec<Src>,
     pub inside: Vec<u32>,
-}
-
-fn is_constant(src: Src) -> bool {
-    match src {
-        Src::One | Src::Zero => true,
-        Src::Input(_) | Src::Latch(_) | Src::Cell(_) => false,
-    }
+    /// Whether memory was refused: then something is missing here.
+    pub is_refused: bool,
 }
 
 impl Cut {
     // Whether a source would be a new leaf.
     fn is_new(&self, src: Src) -> bool {
-        if is_constant(src) || self.leaves.contains(&src) {
-            return false;
-        }
-        match src {
+        let is_free = match src {
             Src::Cell(i) => !self.inside.contains(&i),
-            Src::Input(_) | Src::Latch(_) | Src::One | Src::Zero => true,
-        }
+            Src::Input(_) | Src::Latch(_) => true,
+            Src::One | Src::Zero => false,
+        };
+        is_free && !self.leaves.contains(&src)
     }
 
     // How many new leaves come if a leaf is opened, which must be a cell.
@@ -61,57 +55,50 @@ impl Cut {
         best
     }
 
-    fn add(&mut self, src: Src) -> Result<(), CellError> {
+    fn add(&mut self, src: Src) {
         if self.is_new(src) {
-            self.leaves.push(src)?;
+            self.is_refused |= self.leaves.push(src).is_err();
         }
-        Ok(())
     }
 
     // Opens a cell: it is inside, and what it reads become leaves, as far as they are new.
-    fn open(&mut self, network: &Network, number: u32) -> Result<(), CellError> {
-        self.inside.push(number)?;
+    fn open(&mut self, network: &Network, number: u32) {
+        self.is_refused |= self.inside.push(number).is_err();
         if let Some((a, b)) = network.operands(number) {
-            self.add(a)?;
-            self.add(b)?;
+            self.add(a);
+            self.add(b);
         }
-        Ok(())
     }
 
     // Opens the best leaf, if the leaves stay few enough, and returns whether it did.
-    fn widen(&mut self, network: &Network) -> Result<bool, CellError> {
+    fn widen(&mut self, network: &Network) -> bool {
         let Some((place, more)) = self.best_leaf(network) else {
-            return Ok(false);
+            return false;
         };
         let count = self.leaves.len();
         if place < count && count.saturating_add(more) <= MOST_LEAVES + 1 {
             if let Src::Cell(number) = self.leaves.remove(place) {
-                self.open(network, number)?;
-                return Ok(true);
+                self.open(network, number);
+                return true;
             }
         }
-        Ok(false)
+        false
     }
 
     /// Makes the cut of a cell. First its operands are the leaves; then, while the leaves stay few
     /// enough, the leaf that brings the fewest new ones is opened.
-    pub fn of(alloc: Global, network: &Network, number: u32) -> Result<Cut, CellError> {
+    pub fn of(alloc: Global, network: &Network, number: u32) -> Cut {
         let mut cut = Cut {
             leaves: Vec::new(alloc),
             inside: Vec::new(alloc),
+            is_refused: false,
         };
-        cut.grow(network, number)?;
-        Ok(cut)
-    }
-
-    // Opens the cell, and then leaves while the cut stays small.
-    fn grow(&mut self, network: &Network, number: u32) -> Result<(), CellError> {
-        self.open(network, number)?;
+        cut.open(network, number);
         for _ in 1..MOST_INSIDE {
-            if !self.widen(network)? {
+            if !cut.widen(network) {
                 break;
             }
         }
-        Ok(())
+        cut
     }
 }

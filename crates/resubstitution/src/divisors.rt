@@ -1,8 +1,7 @@
 // Divisors: the sources of which a cell may be made.
 use crate::cuts::Cut;
 use crate::windows::Window;
-use cell_core::{CellError, Draws, Src};
-use std::alloc::Global;
+use cell_core::{Draws, Src};
 
 /// A source, and its table over the leaves.
 #[derive(Clone, Copy)]
@@ -19,57 +18,34 @@ fn stays(src: Src, gone: &[u32]) -> bool {
     }
 }
 
-fn add(
+// Adds a source that does not go, if its table is known. Returns whether memory was refused.
+fn add(divisors: &mut Vec<Divisor>, window: &Window, gone: &[u32], src: Src) -> bool {
+    match window.word(src) {
+        Some(word) if stays(src, gone) => divisors.push(Divisor { src, word }).is_err(),
+        _ => false,
+    }
+}
+
+/// Adds the leaves and the cells of a window that do not go, and constant 1 if it may be read. Returns whether memory
+/// was refused.
+pub fn add_divisors(
     divisors: &mut Vec<Divisor>,
-    window: &Window,
-    gone: &[u32],
-    src: Src,
-) -> Result<(), CellError> {
-    if !stays(src, gone) {
-        return Ok(());
-    }
-    if let Some(word) = window.word(src) {
-        divisors.push(Divisor { src, word })?;
-    }
-    Ok(())
-}
-
-// Adds the leaves of a cut that do not go.
-fn add_leaves(
-    divisors: &mut Vec<Divisor>,
-    cut: &Cut,
-    window: &Window,
-    gone: &[u32],
-) -> Result<(), CellError> {
-    for leaf in &cut.leaves {
-        add(divisors, window, gone, *leaf)?;
-    }
-    Ok(())
-}
-
-// Adds the cells of a window that do not go.
-fn add_cells(divisors: &mut Vec<Divisor>, window: &Window, gone: &[u32]) -> Result<(), CellError> {
-    for number in &window.order {
-        add(divisors, window, gone, Src::Cell(*number))?;
-    }
-    Ok(())
-}
-
-/// Collects the leaves and the cells of a window that do not go, and constant 1 if it may be read.
-pub fn divisors_of(
-    alloc: Global,
     cut: &Cut,
     window: &Window,
     gone: &[u32],
     has_one: bool,
-) -> Result<Vec<Divisor>, CellError> {
-    let mut divisors = Vec::new(alloc);
-    add_leaves(&mut divisors, cut, window, gone)?;
-    add_cells(&mut divisors, window, gone)?;
-    if has_one {
-        add(&mut divisors, window, gone, Src::One)?;
+) -> bool {
+    let mut is_refused = false;
+    for leaf in &cut.leaves {
+        is_refused |= add(divisors, window, gone, *leaf);
     }
-    Ok(divisors)
+    for number in &window.order {
+        is_refused |= add(divisors, window, gone, Src::Cell(*number));
+    }
+    if has_one {
+        is_refused |= add(divisors, window, gone, Src::One);
+    }
+    is_refused
 }
 
 /// Puts the divisors in a random order.

@@ -1,7 +1,7 @@
 // A wanted table as that of a divisor, of a cell of two divisors, or of two cells of three.
 use crate::divisors::Divisor;
 use crate::sieve::Sieve;
-use cell_core::{Cell, CellError, Src};
+use cell_core::{Cell, Src};
 use std::alloc::Global;
 
 /// How the second of two new cells reads the first, and another source.
@@ -39,6 +39,8 @@ pub struct Sorted<'a> {
     apart: Vec<Divisor>,
     sieve: Sieve,
     word: u64,
+    /// Whether memory was refused: then something is missing here.
+    pub is_refused: bool,
 }
 
 /// Returns constant 0 if the table is 0, or else the first divisor that has the table.
@@ -64,17 +66,14 @@ fn is_alike(a: Cell, b: Cell) -> bool {
     a == b || turned == b
 }
 
-// Adds a divisor to a kind, if it is of that kind.
-fn push_if(kind: &mut Vec<Divisor>, is_one: bool, divisor: Divisor) -> Result<(), CellError> {
-    if is_one {
-        kind.push(divisor)?;
-    }
-    Ok(())
+// Adds a divisor to a kind, if it is of that kind. Returns whether memory was refused.
+fn push_if(kind: &mut Vec<Divisor>, is_one: bool, divisor: Divisor) -> bool {
+    is_one && kind.push(divisor).is_err()
 }
 
 impl<'a> Sorted<'a> {
     /// Sorts the divisors for a wanted table.
-    pub fn of(alloc: Global, divisors: &'a [Divisor], word: u64) -> Result<Sorted<'a>, CellError> {
+    pub fn of(alloc: Global, divisors: &'a [Divisor], word: u64) -> Sorted<'a> {
         let mut sorted = Sorted {
             all: divisors,
             lower: Vec::new(alloc),
@@ -82,20 +81,20 @@ impl<'a> Sorted<'a> {
             apart: Vec::new(alloc),
             sieve: Sieve::new(),
             word,
+            is_refused: false,
         };
-        sorted.add_all()?;
-        Ok(sorted)
+        for divisor in divisors {
+            sorted.add(*divisor);
+        }
+        sorted
     }
 
-    fn add_all(&mut self) -> Result<(), CellError> {
-        let word = self.word;
-        for divisor in self.all {
-            self.sieve.add(divisor.word);
-            push_if(&mut self.lower, divisor.word & !word == 0, *divisor)?;
-            push_if(&mut self.upper, word & !divisor.word == 0, *divisor)?;
-            push_if(&mut self.apart, word & divisor.word == 0, *divisor)?;
-        }
-        Ok(())
+    fn add(&mut self, divisor: Divisor) {
+        let (word, own) = (self.word, divisor.word);
+        self.sieve.add(own);
+        self.is_refused |= push_if(&mut self.lower, own & !word == 0, divisor)
+            | push_if(&mut self.upper, word & !own == 0, divisor)
+            | push_if(&mut self.apart, word & own == 0, divisor);
     }
 
     // The divisor with a table, if there is one.

@@ -1,5 +1,5 @@
 // A list of cells as a network that changes: each cell with its readers.
-use cell_core::{Cell, CellError, CellList, Src};
+use cell_core::{Cell, CellList, Src};
 use std::alloc::Global;
 use std::mem;
 
@@ -31,6 +31,8 @@ pub struct Network {
     latches: Vec<Vec<u32>>,
     /// Whether constant 1 may be read.
     pub has_one: bool,
+    /// Whether memory was refused: then something is missing here.
+    pub is_refused: bool,
 }
 
 /// Returns the two sources that a cell reads.
@@ -54,64 +56,52 @@ fn patched_cell(cell: Cell, from: Src, to: Src) -> Cell {
     }
 }
 
-// Adds so many lists without readers.
-fn push_empty(lists: &mut Vec<Vec<u32>>, alloc: Global, count: usize) -> Result<(), CellError> {
+// Adds so many lists without readers. Returns whether memory was refused.
+fn push_empty(lists: &mut Vec<Vec<u32>>, alloc: Global, count: usize) -> bool {
     for _ in 0..count {
-        lists.push(Vec::new(alloc))?;
-    }
-    Ok(())
-}
-
-// The place of a number in a list.
-fn place_of(readers: &[u32], number: u32) -> Option<usize> {
-    for (place, reader) in readers.iter().enumerate() {
-        if *reader == number {
-            return Some(place);
+        if lists.push(Vec::new(alloc)).is_err() {
+            return true;
         }
     }
-    None
+    false
 }
 
 // Takes one entry of a number out of a list.
 fn take_out(readers: &mut Vec<u32>, number: u32) {
-    if let Some(place) = place_of(readers, number) {
-        if place < readers.len() {
+    for place in 0..readers.len() {
+        if place < readers.len() && readers[place] == number {
             readers.swap_remove(place);
+            return;
         }
     }
 }
 
 impl Network {
     /// Makes the network of a list, in which the kept sources stay the cells that they are.
-    pub fn of(alloc: Global, list: &CellList, kept: &[Src]) -> Result<Network, CellError> {
+    pub fn of(alloc: Global, list: &CellList, kept: &[Src]) -> Network {
         let mut network = Network {
             gates: Vec::new(alloc),
             inputs: Vec::new(alloc),
             latches: Vec::new(alloc),
             has_one: list.names_one(),
+            is_refused: false,
         };
-        network.take_in(alloc, list)?;
+        network.take_in(alloc, list);
         network.keep_all(kept);
-        Ok(network)
+        network
     }
 
     // Takes a list into a network that has no cells.
-    fn take_in(&mut self, alloc: Global, list: &CellList) -> Result<(), CellError> {
-        push_empty(&mut self.inputs, alloc, list.inputs as usize)?;
-        push_empty(&mut self.latches, alloc, list.starts.len())?;
-        self.gates.reserve(list.cells.len())?;
-        self.add_all(alloc, list.cells.as_slice())?;
+    fn take_in(&mut self, alloc: Global, list: &CellList) {
+        self.is_refused |= push_empty(&mut self.inputs, alloc, list.inputs as usize)
+            | push_empty(&mut self.latches, alloc, list.starts.len())
+            | self.gates.reserve(list.cells.len()).is_err();
+        for cell in list.cells.as_slice() {
+            self.add(alloc, *cell);
+        }
         self.use_all(list.outs.as_slice());
         self.use_all(list.latches.as_slice());
         self.use_all(list.nets.as_slice());
-        Ok(())
-    }
-
-    fn add_all(&mut self, alloc: Global, cells: &[Cell]) -> Result<(), CellError> {
-        for cell in cells {
-            self.add(alloc, *cell)?;
-        }
-        Ok(())
     }
 
     /// Returns the number that the next cell gets.
@@ -120,27 +110,29 @@ impl Network {
     }
 
     /// Adds a cell at the end, and returns its number.
-    pub fn add(&mut self, alloc: Global, cell: Cell) -> Result<u32, CellError> {
+    pub fn add(&mut self, alloc: Global, cell: Cell) -> u32 {
         let number = self.next_number();
-        self.gates.push(Gate {
+        let gate = Gate {
             cell,
             readers: Vec::new(alloc),
             uses: 0,
             role: Role::Free,
-        })?;
+        };
+        self.is_refused |= self.gates.push(gate).is_err();
         let (a, b) = operands(cell);
-        self.read(a, number)?;
-        self.read(b, number)?;
-        Ok(number)
+        self.read(a, number);
+        self.read(b, number);
+        number
     }
 
     // Notes that a cell reads a source.
-    fn read(&mut self, src: Src, reader: u32) -> Result<(), CellError> {
+    fn read(&mut self, src: Src, reader: u32) {
         self.use_more(src, 1);
         if let Some(readers) = self.readers_mut(src) {
-            readers.push(reader)?;
+            if readers.push(reader).is_err() {
+                self.is_refused = true;
+            }
         }
-        Ok(())
     }
 
     fn readers_mut(&mut self, src: Src) -> Option<&mut Vec<u32>> {
@@ -176,16 +168,6 @@ impl Network {
         }
     }
 
-    // Takes a use from a source, and returns its number if it is a cell that has no other use.
-    fn use_less(&mut self, src: Src) -> Option<u32> {
-        let Src::Cell(i) = src else {
-            return None;
-        };
-        let gate = self.gates.get_mut(i as usize)?;
-        gate.uses = gate.uses.saturating_sub(1);
-        if gate.uses == 0 { Some(i) } else { None }
-    }
-
     // Notes that ports read these sources.
     fn use_all(&mut self, sources: &[Src]) {
         for src in sources {
@@ -215,6 +197,14 @@ impl Network {
         }
     }
 
+    /// Returns the cell of a number.
+    pub fn cell(&self, number: u32) -> Option<Cell> {
+        match self.gates.get(number as usize) {
+            Some(gate) => Some(gate.cell),
+            None => None,
+        }
+    }
+
     /// Returns the two sources that the cell of a number reads.
     pub fn operands(&self, number: u32) -> Option<(Src, Src)> {
         match self.gates.get(number as usize) {
@@ -224,43 +214,45 @@ impl Network {
     }
 
     /// Returns a cell and the cells that go with it: those that nothing needs without it.
-    pub fn cone_of(&mut self, alloc: Global, number: u32) -> Result<Vec<u32>, CellError> {
+    pub fn cone_of(&mut self, alloc: Global, number: u32) -> Vec<u32> {
         let mut gone = Vec::new(alloc);
-        self.release_all(&mut gone, number)?;
+        self.release_all(&mut gone, number);
         self.restore(&gone);
-        Ok(gone)
+        gone
     }
 
     // Lists a cell and what is no longer read without it, and takes their uses away.
-    fn release_all(&mut self, gone: &mut Vec<u32>, number: u32) -> Result<(), CellError> {
-        gone.push(number)?;
+    fn release_all(&mut self, gone: &mut Vec<u32>, number: u32) {
+        self.is_refused |= gone.push(number).is_err();
         for place in 0..self.gates.len() {
-            match gone.get(place) {
-                Some(next) => {
-                    let next = *next;
-                    self.release_operands(gone, next)?;
-                }
-                None => break,
+            if place >= gone.len() {
+                break;
             }
+            let next = gone[place];
+            self.release_operands(gone, next);
         }
-        Ok(())
     }
 
     // Takes a use from each source that a cell reads; those that are no longer read go too.
-    fn release_operands(&mut self, gone: &mut Vec<u32>, number: u32) -> Result<(), CellError> {
-        let Some((a, b)) = self.operands(number) else {
-            return Ok(());
-        };
-        self.release(gone, a)?;
-        self.release(gone, b)
+    fn release_operands(&mut self, gone: &mut Vec<u32>, number: u32) {
+        if let Some((a, b)) = self.operands(number) {
+            self.release(gone, a);
+            self.release(gone, b);
+        }
     }
 
-    // Takes a use from a source, which goes too if it is no longer read.
-    fn release(&mut self, gone: &mut Vec<u32>, src: Src) -> Result<(), CellError> {
-        if let Some(number) = self.use_less(src) {
-            gone.push(number)?;
+    // Takes a use from a source, which goes too if it is a cell that has no other use.
+    fn release(&mut self, gone: &mut Vec<u32>, src: Src) {
+        let Src::Cell(i) = src else {
+            return;
+        };
+        if (i as usize) < self.gates.len() {
+            let uses = self.gates[i as usize].uses.saturating_sub(1);
+            self.gates[i as usize].uses = uses;
+            if uses == 0 {
+                self.is_refused |= gone.push(i).is_err();
+            }
         }
-        Ok(())
     }
 
     // Gives a use back to each source that the cells read.
@@ -293,48 +285,44 @@ impl Network {
     }
 
     // Makes the readers of a cell read a source in its place.
-    fn patch_all(&mut self, readers: &[u32], number: u32, by: Src) -> Result<(), CellError> {
+    fn patch_all(&mut self, readers: &[u32], number: u32, by: Src) {
         for reader in readers {
             self.patch(*reader, Src::Cell(number), by);
         }
         if let Some(more) = self.readers_mut(by) {
-            more.extend_from_slice(readers)?;
+            if more.extend_from_slice(readers).is_err() {
+                self.is_refused = true;
+            }
         }
-        Ok(())
     }
 
     /// Makes the readers of a cell read a source in its place, and removes the cell with those that
     /// only it needed.
-    pub fn replace(&mut self, alloc: Global, number: u32, by: Src) -> Result<(), CellError> {
+    pub fn replace(&mut self, alloc: Global, number: u32, by: Src) {
         let readers = self.take_readers(alloc, number, by);
-        self.patch_all(&readers, number, by)?;
-        self.remove(alloc, number)
+        self.patch_all(&readers, number, by);
+        self.remove(alloc, number);
     }
 
     // Takes a cell away, and those that nothing reads without it.
-    fn remove(&mut self, alloc: Global, number: u32) -> Result<(), CellError> {
+    fn remove(&mut self, alloc: Global, number: u32) {
         let mut gone = Vec::new(alloc);
-        self.remove_all(&mut gone, number)
-    }
-
-    fn remove_all(&mut self, gone: &mut Vec<u32>, number: u32) -> Result<(), CellError> {
-        gone.push(number)?;
+        self.is_refused |= gone.push(number).is_err();
         for _ in 0..self.gates.len() {
-            match gone.pop() {
-                Some(next) => self.remove_one(gone, next)?,
-                None => break,
-            }
+            let Some(next) = gone.pop() else {
+                break;
+            };
+            self.remove_one(&mut gone, next);
         }
-        Ok(())
     }
 
-    fn remove_one(&mut self, gone: &mut Vec<u32>, number: u32) -> Result<(), CellError> {
+    fn remove_one(&mut self, gone: &mut Vec<u32>, number: u32) {
         self.set_role(number, Role::Gone);
         if let Some((a, b)) = self.operands(number) {
             self.unread(a, number);
             self.unread(b, number);
         }
-        self.release_operands(gone, number)
+        self.release_operands(gone, number);
     }
 
     // Notes that a cell no longer reads a source.

@@ -1,6 +1,6 @@
 // Replacements, one cell after another.
 use crate::cuts::Cut;
-use crate::divisors::{Divisor, divisors_of, shuffle};
+use crate::divisors::{Divisor, add_divisors, shuffle};
 use crate::matching::{Sorted, same};
 use crate::network::{Network, Role, operands};
 use crate::windows::Window;
@@ -51,6 +51,8 @@ struct Search {
     draws: Draws,
     found: Vec<Replacement>,
     visits_left: usize,
+    // whether memory was refused: then something is missing here
+    is_refused: bool,
 }
 
 // A cell that may be replaced.
@@ -101,7 +103,7 @@ fn new_cells(sorted: &Sorted, own: Cell, most: Most, number: u32) -> Option<Made
     })
 }
 
-// What has the table, with few enough new cells, of which the first gets this number.
+// What has the table, with few enough new cells, of which the first gets this number. Notes if memory is refused.
 fn made_of(
     alloc: Global,
     divisors: &[Divisor],
@@ -109,49 +111,48 @@ fn made_of(
     own: Cell,
     most: Most,
     number: u32,
-) -> Result<Option<Made>, CellError> {
+    is_refused: &mut bool,
+) -> Option<Made> {
     if let Some(by) = same(divisors, word) {
-        return Ok(Some(Made {
+        return Some(Made {
             first: None,
             second: None,
             by,
-        }));
+        });
     }
     match most {
-        Most::None => Ok(None),
+        Most::None => None,
         Most::One | Most::Two => {
-            let sorted = Sorted::of(alloc, divisors, word)?;
-            Ok(new_cells(&sorted, own, most, number))
+            let sorted = Sorted::of(alloc, divisors, word);
+            *is_refused |= sorted.is_refused;
+            new_cells(&sorted, own, most, number)
         }
     }
 }
 
-fn push_cell(cells: &mut Vec<u32>, src: Src) -> Result<(), CellError> {
-    if let Src::Cell(i) = src {
-        cells.push(i)?;
+// Adds the number of a source that is a cell. Returns whether memory was refused.
+fn push_cell(cells: &mut Vec<u32>, src: Src) -> bool {
+    match src {
+        Src::Cell(i) => cells.push(i).is_err(),
+        Src::Input(_) | Src::Latch(_) | Src::One | Src::Zero => false,
     }
-    Ok(())
 }
 
-fn push_operands(cells: &mut Vec<u32>, cell: Cell) -> Result<(), CellError> {
+// Adds the cells that a cell reads, if there is one. Returns whether memory was refused.
+fn push_operands(cells: &mut Vec<u32>, cell: Option<Cell>) -> bool {
+    let Some(cell) = cell else {
+        return false;
+    };
     let (a, b) = operands(cell);
-    push_cell(cells, a)?;
-    push_cell(cells, b)
+    push_cell(cells, a) | push_cell(cells, b)
 }
 
-fn push_made(cells: &mut Vec<u32>, made: Option<Cell>) -> Result<(), CellError> {
-    match made {
-        Some(cell) => push_operands(cells, cell),
-        None => Ok(()),
-    }
-}
-
-// Adds the cells that a cell reads, and those that what comes in its place reads.
-fn push_needed(needed: &mut Vec<u32>, own: Cell, made: Made) -> Result<(), CellError> {
-    push_operands(needed, own)?;
-    push_cell(needed, made.by)?;
-    push_made(needed, made.first)?;
-    push_made(needed, made.second)
+// Adds the cells that a cell reads, and those that what comes in its place reads. Returns whether memory was refused.
+fn push_needed(needed: &mut Vec<u32>, own: Cell, made: Made) -> bool {
+    push_operands(needed, Some(own))
+        | push_cell(needed, made.by)
+        | push_operands(needed, made.first)
+        | push_operands(needed, made.second)
 }
 
 impl Search {
@@ -162,10 +163,9 @@ impl Search {
         round: Round,
         draws: Draws,
     ) -> Result<Search, CellError> {
-        let network = Network::of(alloc, list, kept)?;
         let window = Window::new(alloc, list.cells.len())?;
         Ok(Search {
-            network,
+            network: Network::of(alloc, list, kept),
             window,
             is_wandering: match round {
                 Round::Wander => true,
@@ -174,6 +174,7 @@ impl Search {
             draws,
             found: Vec::new(alloc),
             visits_left: MOST_VISITS,
+            is_refused: false,
         })
     }
 
@@ -194,96 +195,64 @@ impl Search {
     }
 
     // What may be read in place of a cell, over its cut.
-    fn made(
-        &mut self,
-        alloc: Global,
-        target: Target,
-        cut: &Cut,
-        gone: &[u32],
-    ) -> Result<Option<Made>, CellError> {
-        let Some(word) = self.window.own else {
-            return Ok(None);
-        };
-        let mut divisors = divisors_of(alloc, cut, &self.window, gone, self.network.has_one)?;
+    fn made(&mut self, alloc: Global, target: Target, cut: &Cut, gone: &[u32]) -> Option<Made> {
+        let word = self.window.own?;
+        let mut divisors = Vec::new(alloc);
+        let has_one = self.network.has_one;
+        self.is_refused |= add_divisors(&mut divisors, cut, &self.window, gone, has_one);
         if target.is_lucky {
             shuffle(&mut divisors, &mut self.draws);
         }
         let most = most_new(gone.len(), target.is_lucky);
         self.spend(divisors.len().saturating_mul(divisors.len()));
         let number = self.network.next_number();
-        made_of(alloc, &divisors, word, target.cell, most, number)
+        let is_refused = &mut self.is_refused;
+        made_of(
+            alloc,
+            &divisors,
+            word,
+            target.cell,
+            most,
+            number,
+            is_refused,
+        )
     }
 
     // Adds the known cells that are needed to the cone, the last first, and what they read to what
-    // is needed.
-    fn push_cone(&self, cone: &mut Vec<u32>, needed: &mut Vec<u32>) -> Result<(), CellError> {
+    // is needed. Returns whether memory was refused.
+    fn push_cone(&self, cone: &mut Vec<u32>, needed: &mut Vec<u32>) -> bool {
+        let mut is_refused = false;
         for place in (0..self.window.order.len()).rev() {
             let known = self.window.order[place];
             if needed.contains(&known) {
-                cone.push(known)?;
-                if let Some((cell, _)) = self.network.role(known) {
-                    push_operands(needed, cell)?;
-                }
+                is_refused |= cone.push(known).is_err();
+                is_refused |= push_operands(needed, self.network.cell(known));
             }
         }
-        Ok(())
+        is_refused
     }
 
     // Fills the cone with the cells whose tables show that a source has the bit of a cell; this
-    // cell comes last.
-    fn fill_cone(
-        &self,
-        alloc: Global,
-        cone: &mut Vec<u32>,
-        target: Target,
-        made: Made,
-    ) -> Result<(), CellError> {
+    // cell comes last. Returns whether memory was refused.
+    fn fill_cone(&self, alloc: Global, cone: &mut Vec<u32>, target: Target, made: Made) -> bool {
         let mut needed = Vec::new(alloc);
-        push_needed(&mut needed, target.cell, made)?;
-        self.push_cone(cone, &mut needed)?;
-        drop(needed);
+        let is_refused = push_needed(&mut needed, target.cell, made)
+            | self.push_cone(cone, &mut needed);
         cone.reverse();
-        Ok(cone.push(target.number)?)
+        is_refused | cone.push(target.number).is_err()
     }
 
     // Adds a new cell at the end of the network.
-    fn add_new(
-        &mut self,
-        alloc: Global,
-        new: &mut Replacement,
-        made: Option<Cell>,
-    ) -> Result<(), CellError> {
-        let Some(cell) = made else {
-            return Ok(());
-        };
-        let number = self.network.add(alloc, cell)?;
-        new.cells.push(cell)?;
-        new.cone.push(number)?;
-        self.window.add_cell()
-    }
-
-    // Makes a replacement in the network.
-    fn perform(
-        &mut self,
-        alloc: Global,
-        new: &mut Replacement,
-        target: Target,
-        made: Made,
-    ) -> Result<(), CellError> {
-        self.fill_cone(alloc, &mut new.cone, target, made)?;
-        self.add_new(alloc, new, made.first)?;
-        self.add_new(alloc, new, made.second)?;
-        self.network.replace(alloc, target.number, made.by)
+    fn add_new(&mut self, alloc: Global, new: &mut Replacement, made: Option<Cell>) {
+        if let Some(cell) = made {
+            let number = self.network.add(alloc, cell);
+            self.is_refused |= new.cells.push(cell).is_err() | new.cone.push(number).is_err();
+            self.window.add_cell();
+        }
     }
 
     // Replaces a cell.
-    fn take(
-        &mut self,
-        alloc: Global,
-        target: Target,
-        leaves: &[Src],
-        made: Made,
-    ) -> Result<(), CellError> {
+    fn take(&mut self, alloc: Global, target: Target, leaves: &[Src], made: Made) {
         let mut new = Replacement {
             cells: Vec::new(alloc),
             cell: target.number,
@@ -291,61 +260,47 @@ impl Search {
             leaves: Vec::new(alloc),
             cone: Vec::new(alloc),
         };
-        new.leaves.extend_from_slice(leaves)?;
-        self.perform(alloc, &mut new, target, made)?;
-        Ok(self.found.push(new)?)
-    }
-
-    // Replaces a cell, if something is found for it over its cut.
-    fn replace_over(
-        &mut self,
-        alloc: Global,
-        target: Target,
-        cut: &Cut,
-        gone: &[u32],
-    ) -> Result<(), CellError> {
-        self.window.fill(&self.network, cut, target.number)?;
-        self.spend(self.window.visits);
-        if let Some(made) = self.made(alloc, target, cut, gone)? {
-            self.take(alloc, target, &cut.leaves, made)?;
-        }
-        self.window.clear();
-        Ok(())
+        self.is_refused |= new.leaves.extend_from_slice(leaves).is_err()
+            | self.fill_cone(alloc, &mut new.cone, target, made);
+        self.add_new(alloc, &mut new, made.first);
+        self.add_new(alloc, &mut new, made.second);
+        self.network.replace(alloc, target.number, made.by);
+        self.is_refused |= self.found.push(new).is_err();
     }
 
     // Replaces a cell with which these cells go, if enough go and something is found for it.
-    fn replace_with(
-        &mut self,
-        alloc: Global,
-        target: Target,
-        gone: &[u32],
-    ) -> Result<(), CellError> {
+    fn replace_with(&mut self, alloc: Global, target: Target, gone: &[u32]) {
         self.spend(gone.len());
         if self.is_wandering && !target.is_lucky && gone.len() < 2 {
-            return Ok(());
+            return;
         }
-        let cut = Cut::of(alloc, &self.network, target.number)?;
-        self.replace_over(alloc, target, &cut, gone)
+        let cut = Cut::of(alloc, &self.network, target.number);
+        self.is_refused |= cut.is_refused;
+        self.window.fill(&self.network, &cut, target.number);
+        self.spend(self.window.visits);
+        if let Some(made) = self.made(alloc, target, &cut, gone) {
+            self.take(alloc, target, &cut.leaves, made);
+        }
+        self.window.clear();
     }
 
     // Replaces a cell that may be replaced, if something is found for it.
-    fn replace_cell(&mut self, alloc: Global, number: u32) -> Result<(), CellError> {
-        let Some(target) = self.target(number) else {
-            return Ok(());
-        };
-        let gone = self.network.cone_of(alloc, number)?;
-        self.replace_with(alloc, target, &gone)
+    fn replace_cell(&mut self, alloc: Global, number: u32) {
+        if let Some(target) = self.target(number) {
+            let gone = self.network.cone_of(alloc, number);
+            self.replace_with(alloc, target, &gone);
+        }
     }
 
-    // Replaces the first so many cells, while visits are left.
-    fn replace_all(&mut self, alloc: Global, count: u32) -> Result<(), CellError> {
+    // Replaces the first so many cells, while visits are left. Returns whether memory was refused.
+    fn replace_all(&mut self, alloc: Global, count: u32) -> bool {
         for number in 0..count {
-            if self.visits_left == 0 {
+            if self.visits_left == 0 || self.is_refused {
                 break;
             }
-            self.replace_cell(alloc, number)?;
+            self.replace_cell(alloc, number);
         }
-        Ok(())
+        self.is_refused | self.network.is_refused | self.window.is_refused
     }
 }
 
@@ -361,7 +316,11 @@ pub fn replacements(
 ) -> Result<Vec<Replacement>, CellError> {
     let count = u32::try_from(list.cells.len()).unwrap_or(0);
     let mut search = Search::begin(alloc, list, kept, round, *draws)?;
-    search.replace_all(alloc, count)?;
+    let is_refused = search.replace_all(alloc, count);
     *draws = search.draws;
-    Ok(search.found)
+    if is_refused {
+        Err(CellError::NoMemory)
+    } else {
+        Ok(search.found)
+    }
 }

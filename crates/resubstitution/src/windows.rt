@@ -19,6 +19,8 @@ pub struct Window {
     /// How many readers were visited since the window was cleared.
     pub visits: usize,
     cell: u32,
+    /// Whether memory was refused: then something is missing here.
+    pub is_refused: bool,
 }
 
 impl Window {
@@ -31,12 +33,13 @@ impl Window {
             own: None,
             visits: 0,
             cell: 0,
+            is_refused: false,
         })
     }
 
     /// Makes room for a cell that was added to the network.
-    pub fn add_cell(&mut self) -> Result<(), CellError> {
-        Ok(self.words.push(None)?)
+    pub fn add_cell(&mut self) {
+        self.is_refused |= self.words.push(None).is_err();
     }
 
     /// Returns the word of a source, if it is known. Those of the cell of the cut, and of cells
@@ -89,97 +92,82 @@ impl Window {
     }
 
     // Finds the word of a cell, if those of its operands are known.
-    fn add(&mut self, network: &Network, number: u32) -> Result<(), CellError> {
+    fn add(&mut self, network: &Network, number: u32) {
         if self.has_word(number) {
-            return Ok(());
+            return;
         }
         let Some((cell, Role::Free | Role::Kept)) = network.role(number) else {
-            return Ok(());
+            return;
         };
         match self.word_of_cell(cell) {
             Some(word) if number == self.cell => self.own = Some(word),
             Some(word) => {
                 self.set_word(number, Some(word));
-                self.order.push(number)?;
+                self.is_refused |= self.order.push(number).is_err();
             }
             None => {}
         }
-        Ok(())
     }
 
     // Adds the words of the leaves themselves.
-    fn add_leaves(&mut self, leaves: &[Src]) -> Result<(), CellError> {
-        for (place, leaf) in leaves.iter().enumerate() {
-            if place < 6 {
-                let word = net_word(place);
-                self.leaves.push((*leaf, word))?;
-                if let Src::Cell(i) = *leaf {
-                    self.set_word(i, Some(word));
-                }
+    fn add_leaves(&mut self, leaves: &[Src]) {
+        for place in 0..leaves.len().min(6) {
+            let (leaf, word) = (leaves[place], net_word(place));
+            self.is_refused |= self.leaves.push((leaf, word)).is_err();
+            if let Src::Cell(i) = leaf {
+                self.set_word(i, Some(word));
             }
         }
-        Ok(())
     }
 
     // Adds the words of the cells inside the cut, which are functions of the leaves.
-    fn add_inside(&mut self, network: &Network, inside: &[u32]) -> Result<(), CellError> {
+    fn add_inside(&mut self, network: &Network, inside: &[u32]) {
         for _ in 0..inside.len() {
-            self.add_all(network, inside)?;
+            self.add_all(network, inside);
             if self.own.is_some() {
                 break;
             }
         }
-        Ok(())
     }
 
     // Adds the words of cells, from the last to the first.
-    fn add_all(&mut self, network: &Network, cells: &[u32]) -> Result<(), CellError> {
+    fn add_all(&mut self, network: &Network, cells: &[u32]) {
         for place in (0..cells.len()).rev() {
-            self.add(network, cells[place])?;
+            self.add(network, cells[place]);
         }
-        Ok(())
     }
 
     // Adds the words of the cells that read a source.
-    fn add_readers(&mut self, network: &Network, src: Src) -> Result<(), CellError> {
+    fn add_readers(&mut self, network: &Network, src: Src) {
         if let Some(readers) = network.readers(src) {
             self.visits = self.visits.saturating_add(readers.len());
             for reader in readers {
-                self.add(network, *reader)?;
+                self.add(network, *reader);
             }
         }
-        Ok(())
-    }
-
-    // Adds the words of the cells that read the leaves.
-    fn add_leaf_readers(&mut self, network: &Network, leaves: &[Src]) -> Result<(), CellError> {
-        for leaf in leaves {
-            self.add_readers(network, *leaf)?;
-        }
-        Ok(())
     }
 
     // Adds the words of the cells that read known cells, and so on, while these are few enough.
-    fn spread(&mut self, network: &Network) -> Result<(), CellError> {
+    fn spread(&mut self, network: &Network) {
         for place in 0..MOST_KNOWN {
-            let Some(number) = self.order.get(place).copied() else {
-                break;
-            };
-            if self.order.len() >= MOST_KNOWN {
+            let known = self.order.len();
+            if place >= known || known >= MOST_KNOWN {
                 break;
             }
-            self.add_readers(network, Src::Cell(number))?;
+            let number = self.order[place];
+            self.add_readers(network, Src::Cell(number));
         }
-        Ok(())
     }
 
     /// Finds the words over the leaves of a cut, in a window in which none is known.
-    pub fn fill(&mut self, network: &Network, cut: &Cut, number: u32) -> Result<(), CellError> {
+    pub fn fill(&mut self, network: &Network, cut: &Cut, number: u32) {
         self.cell = number;
-        self.add_leaves(&cut.leaves)?;
-        self.add_inside(network, &cut.inside)?;
-        self.add_leaf_readers(network, &cut.leaves)?;
-        self.spread(network)
+        self.add_leaves(&cut.leaves);
+        self.add_inside(network, &cut.inside);
+        for leaf in &cut.leaves {
+            self.add_readers(network, *leaf);
+        }
+        self.spread(network);
     }
 
     // Forgets the words of the cells that became known.
