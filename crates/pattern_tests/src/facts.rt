@@ -2,6 +2,7 @@
 ghost use Rattle.lane_core.specs.Plans.{IsAdmissible};
 ghost use Rattle.plan_layout.specs.Starts.{HasStartEdges};
 
+use crate::lanes::are_in_order;
 use crate::macro_steps::{Course, keeps_course};
 use crate::pages::Page;
 use crate::slots::is_row_of_slots;
@@ -12,7 +13,7 @@ use ww_rule::State;
 
 /// A fact about a plan, which does not hold if memory runs out while it is looked at. `Size` is the width and height of
 /// its drawing, and `Cells`, `Rows` and `Slots` are parts of the drawing: rows are lines of letters, from the top down.
-/// `Ports` gives x, y and the offset of each input, output or net.
+/// `Ports` gives x, y and the offset of each input, output or net. `InOrder` is said of a Fork and an Xor.
 pub enum Fact {
     Size(u64, u64),
     Period(u64),
@@ -22,6 +23,7 @@ pub enum Fact {
     Rows(&'static str),
     Slots(&'static str),
     Keeps(Course),
+    InOrder,
 }
 
 /// A kind of port, of which a plan has a list.
@@ -121,6 +123,7 @@ fn has(alloc: Global, plan: &Plan, fact: &Fact) -> bool
         Fact::Rows(rows) => has_rows(plan, rows, false),
         Fact::Slots(rows) => has_rows(plan, rows, true),
         Fact::Keeps(course) => keeps_course(alloc, plan, *course),
+        Fact::InOrder => are_in_order(plan),
     }
 }
 

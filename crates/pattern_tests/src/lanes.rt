@@ -1,23 +1,10 @@
 // What each instruction does, and columns.
-ghost use Rattle.std.specs.Prelude.{◌≡◌};
 ghost use Rattle.lane_core.specs.Plans.{IsAdmissible};
 
 use crate::pages::Page;
-use crate::plans::{Written, admitted, column_of};
+use crate::plans::column_of;
 use lane_core::{Column, Instr, Plan, run_columns, run_instrs};
 use std::alloc::Global;
-
-// A Fork, and an Xor in the next column.
-const FORK_AND_XOR: Written<'static> = Written {
-    lanes: 3,
-    columns: &[&[Instr::Fork(0)], &[Instr::Xor(1)]],
-    latches: 0,
-    starts: &[],
-    ins: &[],
-    outs: &[],
-    nets: &[],
-    tape: &[],
-};
 
 // An instruction, the bits that it finds on its upper and its lower lane, and the bits that it
 // leaves there.
@@ -61,27 +48,18 @@ fn expect_answers(page: &mut Page) {
     }
 }
 
-// Whether instructions, and the columns of a plan, are done in order.
-fn are_in_order(plan: &Plan) -> bool
-    requires admissible { IsAdmissible plan.now }
-    requires lanes { plan.now.lanes ≡ 3 }
+/// Returns whether instructions, and the columns of a plan of a Fork and an Xor on three lanes, are done in order.
+pub fn are_in_order(plan: &Plan) -> bool
+    requires { IsAdmissible plan.now }
 {
+    if plan.lanes != 3 {
+        return false;
+    }
     let mut by_instrs = [true, false, true];
     run_instrs(&[Instr::Fork(0), Instr::Xor(1)], &mut by_instrs);
     let mut by_columns = [true, false, true];
     run_columns(plan.columns.as_slice(), &mut by_columns);
     by_instrs == [true, false, false] && by_columns == [true, false, false]
-}
-
-fn is_ordered(alloc: Global) -> bool {
-    match admitted(alloc, &FORK_AND_XOR) {
-        Some(plan) => {
-            let are_in_order = are_in_order(&plan);
-            drop(plan);
-            are_in_order
-        }
-        None => false,
-    }
 }
 
 // Lanes, and the instruction that a column of an Or and a Swap has on each.
@@ -116,9 +94,8 @@ fn are_found(alloc: Global) -> bool {
     }
 }
 
-/// Notes it unless instructions change two lanes, in order, and are found by lane.
+/// Notes it unless instructions change two lanes, and are found by lane.
 pub fn expect_lanes(page: &mut Page) {
     expect_answers(page);
     page.expect_holds(b"the lanes of a column", are_found(page.alloc()));
-    page.expect_holds(b"the order", is_ordered(page.alloc()));
 }

@@ -1,13 +1,10 @@
 // Signals of small plans, block by block.
 ghost use Rattle.lane_core.specs.Plans.{IsAdmissible};
-ghost use Rattle.macro_grid.specs.Edges.{IsEdgesOf, lit_of};
-ghost use Rattle.macro_grid.specs.Planes.{IsDrawnAfter32};
+ghost use Rattle.macro_grid.specs.Edges.{IsEdgesOf};
 ghost use Rattle.plan_layout.specs.Starts.{HasStartEdges};
-ghost use Rattle.plan_layout.specs.Tape.{drawn_tiling};
-ghost use Rattle.tile_library.specs.Drawings.{shipped_drawing};
 
 use lane_core::Plan;
-use macro_grid::{Edges, EdgesError, macro_step};
+use macro_grid::{Edges, macro_step};
 use std::alloc::Global;
 use std::mem;
 
@@ -18,31 +15,6 @@ pub enum Course {
     StaysDark,
     GoesRound,
     RunsIn,
-}
-
-// A macro step: 32 generations of the plane with the shipped drawings.
-fn step_shipped(plan: &Plan, old: &Edges, new: &mut Edges)
-    requires admissible { IsAdmissible plan.now }
-    requires made { IsEdgesOf plan.now new.old }
-    ensures made { IsEdgesOf plan.now new.new }
-    ensures plane { IsDrawnAfter32 shipped_drawing (drawn_tiling plan.now) (lit_of old.now)
-        (lit_of new.new) }
-{
-    macro_step(plan, old, new);
-}
-
-/// Returns the edges of a plan after `steps` macro steps.
-pub fn edges_after(alloc: Global, plan: &Plan, steps: u64) -> Result<Edges, EdgesError>
-    requires admissible { IsAdmissible plan.now }
-    requires starts { HasStartEdges plan.now }
-{
-    let mut edges = Edges::start(alloc, plan)?;
-    let mut following = Edges::start(alloc, plan)?;
-    for step in 0..steps {
-        step_shipped(plan, &edges, &mut following);
-        mem::swap(&mut edges, &mut following);
-    }
-    Ok(edges)
 }
 
 // Whether no edge on the west or north side of a block in the first three columns and lanes is lit.
@@ -74,15 +46,39 @@ fn is_kept(edges: &Edges, course: Course, steps: u64) -> bool {
     }
 }
 
-fn is_kept_after(alloc: Global, plan: &Plan, course: Course, steps: u64) -> bool
+// Whether the edges do this for so many macro steps.
+fn are_kept(
+    plan: &Plan,
+    edges: &mut Edges,
+    following: &mut Edges,
+    course: Course,
+    states: u64,
+) -> bool
+    requires admissible { IsAdmissible plan.now }
+    requires edges { IsEdgesOf plan.now edges.old }
+    requires following { IsEdgesOf plan.now following.old }
+{
+    for steps in 0..states {
+        if !is_kept(edges, course, steps) {
+            return false;
+        }
+        macro_step(plan, edges, following);
+        mem::swap(edges, following);
+    }
+    true
+}
+
+// Whether the edges do this for so many macro steps, from these on.
+fn keeps_from(alloc: Global, plan: &Plan, edges: &mut Edges, course: Course, states: u64) -> bool
     requires admissible { IsAdmissible plan.now }
     requires starts { HasStartEdges plan.now }
+    requires edges { IsEdgesOf plan.now edges.old }
 {
-    match edges_after(alloc, plan, steps) {
-        Ok(edges) => {
-            let is_kept = is_kept(&edges, course, steps);
-            drop(edges);
-            is_kept
+    match Edges::start(alloc, plan) {
+        Ok(mut following) => {
+            let are_kept = are_kept(plan, edges, &mut following, course, states);
+            drop(following);
+            are_kept
         }
         Err(_) => false,
     }
@@ -98,10 +94,12 @@ pub fn keeps_course(alloc: Global, plan: &Plan, course: Course) -> bool
         Course::GoesRound => 37,
         Course::RunsIn => 9,
     };
-    for steps in 0..states {
-        if !is_kept_after(alloc, plan, course, steps) {
-            return false;
+    match Edges::start(alloc, plan) {
+        Ok(mut edges) => {
+            let keeps = keeps_from(alloc, plan, &mut edges, course, states);
+            drop(edges);
+            keeps
         }
+        Err(_) => false,
     }
-    true
 }

@@ -97,9 +97,7 @@ pub fn lists_of(alloc: Global, written: &[&[u8]], refused: &mut bool) -> Vec<Lis
 }
 
 // The plan that is written down. Notes in `refused` that there is none, or that memory ran out.
-fn made(alloc: Global, written: &Written<'_>, refused: &mut bool) -> Plan
-    ensures { result.lanes ≡ written.now.lanes }
-{
+fn made(alloc: Global, written: &Written<'_>, refused: &mut bool) -> Plan {
     Plan {
         lanes: written.lanes,
         columns: columns_of(alloc, written.columns, refused),
@@ -114,9 +112,7 @@ fn made(alloc: Global, written: &Written<'_>, refused: &mut bool) -> Plan
 
 /// Makes the plan that is written down, admissible or not. There is none if it has a column that is none, or if memory
 /// runs out.
-pub fn plan_of(alloc: Global, written: &Written<'_>) -> Option<Plan>
-    ensures { IfSome result (λ plan. plan.lanes ≡ written.now.lanes) }
-{
+pub fn plan_of(alloc: Global, written: &Written<'_>) -> Option<Plan> {
     let mut refused = false;
     let plan = made(alloc, written, &mut refused);
     if refused {
@@ -130,7 +126,6 @@ pub fn plan_of(alloc: Global, written: &Written<'_>) -> Option<Plan>
 pub fn checked(plan: Plan) -> Option<Plan>
     ensures admissible { IfSome result IsAdmissible }
     ensures starts { IfSome result HasStartEdges }
-    ensures lanes { IfSome result (λ p. p.lanes ≡ plan.lanes) }
 {
     if !admissible(&plan) {
         drop(plan);
@@ -143,7 +138,6 @@ pub fn checked(plan: Plan) -> Option<Plan>
 pub fn admitted(alloc: Global, written: &Written<'_>) -> Option<Plan>
     ensures admissible { IfSome result IsAdmissible }
     ensures starts { IfSome result HasStartEdges }
-    ensures lanes { IfSome result (λ plan. plan.lanes ≡ written.now.lanes) }
 {
     checked(plan_of(alloc, written)?)
 }

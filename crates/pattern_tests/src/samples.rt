@@ -94,6 +94,18 @@ const LONG_LOOPS: Written<'static> = Written {
     tape: &[],
 };
 
+// A Fork, and an Xor in the next column.
+const FORK_AND_XOR: Written<'static> = Written {
+    lanes: 3,
+    columns: &[&[Instr::Fork(0)], &[Instr::Xor(1)]],
+    latches: 0,
+    starts: &[],
+    ins: &[],
+    outs: &[],
+    nets: &[],
+    tape: &[],
+};
+
 /// A name for each sample that tests reach through `written`.
 #[derive(Clone, Copy)]
 pub enum Sample {
@@ -103,6 +115,7 @@ pub enum Sample {
     ForkLoop,
     ThreeLoops,
     LongLoops,
+    ForkAndXor,
 }
 
 /// Returns how the plan of a sample is written down. A test that names the constant instead takes
@@ -115,5 +128,6 @@ pub fn written(sample: Sample) -> Written<'static> {
         Sample::ForkLoop => FORK_LOOP,
         Sample::ThreeLoops => THREE_LOOPS,
         Sample::LongLoops => LONG_LOOPS,
+        Sample::ForkAndXor => FORK_AND_XOR,
     }
 }

@@ -131,6 +131,11 @@ const PLANS: &[Case] = &[
         ],
     },
     Case {
+        about: "instructions and columns are done in order",
+        plan: Origin::Written(Sample::ForkAndXor),
+        facts: &[Fact::InOrder],
+    },
+    Case {
         about: "loops lengthen the period",
         plan: Origin::Written(Sample::LongLoops),
         facts: &[
