@@ -1,6 +1,6 @@
 -- The cells of blocks that stand again and again, by the runs of some of them.
 use Rattle.std.proofs.Common.{◌≡◌, refl, sym, ◌∙◌, ap, ap₂, ℕ, zero, suc, ◌+◌, ◌*◌, ◌/◌, ◌%◌, ◌<◌, ◌≤◌, List, ◌++◌, map, drop, length, get_or, arith, append_assoc, length-drop, mul-suc, mul-zero}
-use Rattle.std.proofs.lemmas.List.{length-append, length-map}
+use Rattle.std.proofs.lemmas.List.{append-nil, length-append, length-map}
 use Rattle.ww_rule.specs.declared.pattern.State.{State}
 use Rattle.tiling.specs.Tiling.{Slot}
 use Rattle.lane_core.specs.declared.plan.Plan.{Plan}
@@ -91,6 +91,15 @@ pub figures_next : (plan : Plan) (y p k q : ℕ) (blocks : List Stretch) → IsD
     → map tag_of (drop (32 * k) (start_row plan y))
     ≡ repeated q (tags_of_blocks blocks k p (y % 16)) ++ map tag_of (drop (32 * (k + p * q)) (start_row plan y))
 figures_next plan y p k q blocks dark are inside is = figures_from plan y p k q blocks dark are inside is.again is.within
+
+-- one block that stands once has the tags of its row
+pub one_row : (blocks : List Stretch) (k p q y : ℕ) (tags : List ℕ) → p ≡ 1 → q ≡ 1
+    → tags ≡ map tag_of (bare_row (slot_of (get_or blocks k no_stretch).slot) y) → repeated q (tags_of_blocks blocks k p y) ≡ tags
+one_row blocks k p q y tags one once are =
+    let here : k + 0 ≡ k = omega arith in
+    ap₂ (λ q p. repeated q (tags_of_blocks blocks k p y)) once one
+    ∙ append-nil (map tag_of (bare_row (slot_of (get_or blocks (k + 0) no_stretch).slot) y))
+    ∙ ap (λ m. map tag_of (bare_row (slot_of (get_or blocks m no_stretch).slot) y)) here ∙ sym are
 
 -- the blocks that stand again and again lie among the kept ones, and they are some
 pub figure_inside : (plan : Plan) (lane size k figure often : ℕ) → IsFigure plan lane size k figure often → k + figure ≤ size

@@ -1,6 +1,6 @@
 -- The cells of a block's row, by its runs.
-use Rattle.std.proofs.Common.{◌≡◌, refl, sym, ◌∙◌, ap, ℕ, ◌+◌, ◌-◌, ◌*◌, ◌/◌, ◌%◌, ◌<◌, ◌≤◌, List, [], ◌∷◌, ◌++◌, map, take, drop, set, length, replicate, get_or, All, subst, arith, append_assoc, length-drop, length-take-le, drop_of_length-le}
-use Rattle.std.proofs.lemmas.List.{append-nil, drop_more, ext_get_or, get_or-take, get_or-drop, get_or-replicate, length-append, length-replicate, map-append, take_more, take_more_set}
+use Rattle.std.proofs.Common.{◌≡◌, refl, sym, ◌∙◌, ap, ℕ, zero, suc, ◌+◌, ◌-◌, ◌*◌, ◌/◌, ◌%◌, ◌<◌, ◌≤◌, List, [], ◌∷◌, ◌++◌, map, take, drop, set, length, replicate, get_or, All, subst, arith, append_assoc, length-drop, length-take-le, drop_of_length-le}
+use Rattle.std.proofs.lemmas.List.{append-nil, drop_more, ext_get_or, get_or-take, get_or-drop, get_or-replicate, length-append, length-replicate, map-append, take_all, take_more, take_more_set}
 use Rattle.std.proofs.lemmas.List.Elements.{All-append}
 use Rattle.std.proofs.lemmas.List.FromFn.{length-map-range_with_len, get_or-map-range_with_len}
 use Rattle.std.proofs.Math.Seq.{take-add}
@@ -26,6 +26,24 @@ spelled_joined [] others = refl
 spelled_joined (run ∷ runs) others =
     ap (λ l. replicate run.count run.tag ++ l) (spelled_joined runs others)
     ∙ sym (append_assoc (replicate run.count run.tag) (spelled runs) (spelled others))
+
+-- the first of the runs, and the others
+spelled_cut : (n : ℕ) (runs : List Run) → spelled runs ≡ spelled (take n runs) ++ spelled (drop n runs)
+spelled_cut zero runs = refl
+spelled_cut (suc n) [] = refl
+spelled_cut (suc n) (run ∷ runs) =
+    ap (λ l. replicate run.count run.tag ++ l) (spelled_cut n runs)
+    ∙ sym (append_assoc (replicate run.count run.tag) (spelled (take n runs)) (spelled (drop n runs)))
+
+pub spelled_split : (n : ℕ) (runs : List Run) → spelled runs ≡ spelled (take n runs) ++ spelled (take (length runs - n) (drop n runs))
+spelled_split n runs =
+    spelled_cut n runs
+    ∙ ap (λ l. spelled (take n runs) ++ spelled l) (sym (take_all (length runs - n) (drop n runs) (omega (arith, length-drop n runs))))
+
+pub spelled_parts : (n : ℕ) (runs : List Run)
+    → length (spelled runs) ≡ length (spelled (take n runs)) + length (spelled (take (length runs - n) (drop n runs)))
+spelled_parts n runs =
+    ap length (spelled_split n runs) ∙ length-append (spelled (take n runs)) (spelled (take (length runs - n) (drop n runs)))
 
 -- one more run in a list that is filled
 pub spelled_more : (runs : List Run) (i : ℕ) (run : Run) → i < length runs

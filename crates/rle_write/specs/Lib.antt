@@ -1,3 +1,4 @@
+pub mod BlockRows
 pub mod Blocks
 pub mod Dark
 pub mod LapBytes

@@ -1,7 +1,9 @@
 -- Steps: more cells whose bytes are known, wherever on a line they begin, if they fit on it.
-use Rattle.std.specs.Prelude.{ℕ, ◌+◌, ◌≤◌, ◌≡◌, List, ◌++◌, length, replicate}
+use Rattle.std.specs.Prelude.{ℕ, ◌+◌, ◌≤◌, ◌≡◌, List, ◌++◌, drop, length, replicate, IfSome}
 use Rattle.ww_rule.specs.declared.pattern.State.{State}
+use Rattle.std.specs.declared.option.Option.{Option}
 use Rattle.rle_write.specs.declared.rows.Run.{Run}
+use Rattle.rle_write.specs.declared.steps.Step.{Step}
 use Rattle.rle_write.specs.Left.{row_left, text_left}
 use Rattle.rle_write.specs.Runs.{IsCellTag, spelled}
 
@@ -24,3 +26,7 @@ pub record IsNextStep (before : Run) (tags : List ℕ) (old new : List ℕ) (aft
   pub next : (from : Run) (done : List ℕ) → IsStep from done old before → IsStep from (done ++ tags) new after
   pub cell : IsCellTag after.tag
   pub short : after.count ≤ before.count + length tags
+
+-- a step over the cells of all but the first two runs of a row, if there is one
+abbrev pub IsRowStep : Option Step → List Run → List ℕ → Type 0
+IsRowStep step runs bytes = IfSome step (λ s. IsStepOver s.from (drop 2 runs) bytes s.after)

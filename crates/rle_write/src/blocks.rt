@@ -36,8 +36,8 @@ fn is_same_piece(a: Piece, b: Piece) -> bool
     }
 }
 
-// Whether the same stands in two blocks.
-fn is_same(a: Slot, b: Slot) -> bool
+/// Returns whether the same stands in two blocks.
+pub fn is_same(a: Slot, b: Slot) -> bool
     ensures { IsTrue result → a ≡ b }
 {
     match (a, b) {

@@ -1,7 +1,7 @@
 // Copies of the same cells, run by run, or at once where their bytes are known.
 ghost use Rattle.std.specs.Prelude.{◌≤◌, ◌<◌, ◌+◌, ◌^◌, length, All, IfOk, IfSome, OnErr};
 ghost use Rattle.rle_write.specs.Runs.{IsCellRun, IsCellTag, repeated, spelled};
-ghost use Rattle.rle_write.specs.Steps.{IsStepOver};
+ghost use Rattle.rle_write.specs.Steps.{IsRowStep, IsStepOver};
 ghost use Rattle.rle_write.specs.Taken.{BreaksInTags, TakesTags};
 
 use crate::lap_sink::Lap;
@@ -70,6 +70,35 @@ fn add_step<O: Sink>(
         due: 0,
         run: step.after,
     })
+}
+
+/// Takes the cells that these runs spell: the first two runs one by one, and the others at once if
+/// there is a step over them that can be taken.
+pub fn add_row<O: Sink>(
+    sink: &mut O,
+    page: &mut Page,
+    kept: Kept,
+    runs: &[Run],
+    step: Option<Step>,
+    bytes: &[u8],
+) -> Result<Kept, Failed>
+    requires cell { IsCellTag kept.run.tag }
+    requires runs { All IsCellRun runs.now }
+    requires short { kept.run.count + length (spelled runs.now) < 2 ^ 64 }
+    requires step { IsRowStep step runs.now bytes.now }
+    ensures cell { IfOk result (λ k. IsCellTag k.run.tag) }
+    ensures fewer { IfOk result (λ k. k.due ≤ kept.due) }
+    ensures short { IfOk result (λ k. k.run.count ≤ kept.run.count + length (spelled runs.now)) }
+    ensures ok { IfOk result (TakesTags (O.written sink.old) (O.written sink.new) (O.faults sink.old)
+        (O.faults sink.new) page.old page.new kept (spelled runs.now)) }
+    ensures err { OnErr result (BreaksInTags (O.written sink.old) (O.written sink.new) (O.faults sink.old)
+        (O.faults sink.new) page.old kept (spelled runs.now)) }
+{
+    if runs.len() < 2 {
+        return add_runs(sink, page, kept, runs);
+    }
+    let begun = add_runs(sink, page, kept, &runs[..2])?;
+    add_step(sink, page, begun, &runs[2..], step, bytes)
 }
 
 // Takes `count` copies of the cells that these runs spell, run by run.

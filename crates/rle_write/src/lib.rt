@@ -4,6 +4,7 @@
 #![tactic(auto)]
 
 mod bare;
+mod block_rows;
 mod blocks;
 mod body;
 mod copies;

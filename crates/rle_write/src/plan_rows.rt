@@ -16,6 +16,7 @@ ghost use Rattle.rle_write.specs.Left.{rows_left, text_left};
 ghost use Rattle.ww_base.specs.Pages.{held, column_of};
 ghost use Rattle.ww_base.specs.Progress.{Wrote, Broke};
 
+use crate::block_rows::BlockRows;
 use crate::blocks::{Stretch, keep_blocks, kept_block};
 use crate::dark::is_dark;
 use crate::items::write_item;
@@ -99,6 +100,7 @@ fn write_plan_row<O: Sink>(
     ends: usize,
     plan: &Plan,
     blocks: &[Stretch],
+    rows: &mut BlockRows,
     width: u64,
     y: u64,
 ) -> Result<usize, Failed>
@@ -121,7 +123,7 @@ fn write_plan_row<O: Sink>(
 {
     let (end, west) = (tape_end(plan), west_of(plan, y));
     let stretches = dark_blocks(plan, blocks, y);
-    let mut kept = write_stretches(sink, page, ends, plan, stretches, y)?;
+    let mut kept = write_stretches(sink, page, ends, plan, stretches, rows, y)?;
     let mut x = 32 * stretches.len() as u64;
     let mut slot = Slot::Nothing;
     'runs: while x < width {
@@ -157,11 +159,12 @@ pub fn write_plan_rows<O: Sink>(
         Broke (O.written sink.old) (O.written sink.new) (O.faults sink.old) (O.faults sink.new)
         (held page.old ++ (wrapped 0 (item_texts (start_grid plan.now).rows) ++ (10 ∷ rest)))) }
 {
+    let mut rows = BlockRows::new();
     let mut ends = 0;
     let mut y = 0;
     'rows: while y < height {
         keep_blocks(plan, y, blocks);
-        ends = write_plan_row(sink, page, ends, plan, blocks, width, y)?;
+        ends = write_plan_row(sink, page, ends, plan, blocks, &mut rows, width, y)?;
         y += 1;
     }
     write_item(sink, page, 1, b'!')?;

@@ -15,14 +15,16 @@ ghost use Rattle.ww_base.specs.Pages.{held, column_of};
 ghost use Rattle.ww_base.specs.Progress.{Wrote, Broke};
 
 use crate::bare::runs_of_row;
+use crate::block_rows::BlockRows;
 use crate::blocks::Stretch;
+use crate::copies::add_row;
 use crate::laps::add_many;
-use crate::rows::{EMPTY, Kept, Run, add_run};
+use crate::rows::{Kept, Run, add_run};
 use lane_core::Plan;
 use ww_base::{Failed, Page, Sink};
 
-// The most runs in a row of blocks that are written as one: four blocks of 32 cells.
-const RUNS: usize = 128;
+// So many blocks in which the same stands are written as one: fewer are written block by block.
+const FEW: u32 = 3;
 
 // How many blocks farther than the same stands another motif is to reach, if it is taken.
 const MUCH: u32 = 4;
@@ -65,6 +67,9 @@ fn figure_of(stretch: Stretch) -> (usize, usize)
         IsFigure plan lane size k result.0 result.1 }
 {
     if stretch.reach < stretch.count.saturating_add(MUCH) {
+        if stretch.count < FEW {
+            return (1, 1);
+        }
         return (1, stretch.count as usize);
     }
     let often = stretch.reach / stretch.motif as u32;
@@ -95,6 +100,72 @@ fn runs_of_blocks(
     found
 }
 
+// Takes the cells of row `y` of so many blocks from this column on, `often` times.
+fn add_blocks<O: Sink>(
+    sink: &mut O,
+    page: &mut Page,
+    kept: Kept,
+    blocks: &[Stretch],
+    rows: &mut BlockRows,
+    column: usize,
+    count: usize,
+    often: usize,
+    y: u32,
+) -> Result<Kept, Failed>
+    requires cell { IsCellTag kept.run.tag }
+    requires some { 1 ≤ often }
+    requires few { count ≤ 4 }
+    requires in_block { y < 16 }
+    requires inside { column + count ≤ length blocks.now }
+    requires short { kept.run.count + length (repeated often (tags_of_blocks blocks.now column count y)) < 2 ^ 64 }
+    ensures cell { IfOk result (λ k. IsCellTag k.run.tag) }
+    ensures fewer { IfOk result (λ k. k.due ≤ kept.due) }
+    ensures short { IfOk result (λ k. k.run.count ≤
+        kept.run.count + length (repeated often (tags_of_blocks blocks.now column count y))) }
+    ensures ok { IfOk result (TakesTags (O.written sink.old) (O.written sink.new) (O.faults sink.old)
+        (O.faults sink.new) page.old page.new kept (repeated often (tags_of_blocks blocks.now column count y))) }
+    ensures err { OnErr result (BreaksInTags (O.written sink.old) (O.written sink.new) (O.faults sink.old)
+        (O.faults sink.new) page.old kept (repeated often (tags_of_blocks blocks.now column count y))) }
+{
+    let found = runs_of_blocks(blocks, column, count, y, &mut rows.runs);
+    add_stretch(sink, page, kept, &rows.runs[..found], often)
+}
+
+// Takes the cells of row `y` of so many blocks from this column on, `often` times. The row of one
+// block that is taken once is kept.
+fn add_figure<O: Sink>(
+    sink: &mut O,
+    page: &mut Page,
+    kept: Kept,
+    blocks: &[Stretch],
+    rows: &mut BlockRows,
+    column: usize,
+    count: usize,
+    often: usize,
+    y: u32,
+) -> Result<Kept, Failed>
+    requires cell { IsCellTag kept.run.tag }
+    requires some { 1 ≤ often }
+    requires few { count ≤ 4 }
+    requires in_block { y < 16 }
+    requires inside { column + count ≤ length blocks.now }
+    requires short { kept.run.count + length (repeated often (tags_of_blocks blocks.now column count y)) < 2 ^ 64 }
+    ensures cell { IfOk result (λ k. IsCellTag k.run.tag) }
+    ensures fewer { IfOk result (λ k. k.due ≤ kept.due) }
+    ensures short { IfOk result (λ k. k.run.count ≤
+        kept.run.count + length (repeated often (tags_of_blocks blocks.now column count y))) }
+    ensures ok { IfOk result (TakesTags (O.written sink.old) (O.written sink.new) (O.faults sink.old)
+        (O.faults sink.new) page.old page.new kept (repeated often (tags_of_blocks blocks.now column count y))) }
+    ensures err { OnErr result (BreaksInTags (O.written sink.old) (O.written sink.new) (O.faults sink.old)
+        (O.faults sink.new) page.old kept (repeated often (tags_of_blocks blocks.now column count y))) }
+{
+    if count == 1 && often == 1 {
+        let row = rows.row_of(blocks[column].slot, y);
+        return add_row(sink, page, kept, row.runs(), row.step(), row.bytes());
+    }
+    add_blocks(sink, page, kept, blocks, rows, column, count, often, y)
+}
+
 /// Writes row `y` as far as these blocks reach, stretch by stretch, but for what is returned: what
 /// is kept then.
 pub fn write_stretches<O: Sink>(
@@ -103,6 +174,7 @@ pub fn write_stretches<O: Sink>(
     ends: usize,
     plan: &Plan,
     blocks: &[Stretch],
+    rows: &mut BlockRows,
     y: u64,
 ) -> Result<Kept, Failed>
     requires admissible { IsAdmissible plan.now }
@@ -123,16 +195,12 @@ pub fn write_stretches<O: Sink>(
         (text_left (held page.old) (column_of page.old)
         (rows_left ends (start_row plan.now y ∷ rows)))) }
 {
-    let mut runs = [Run {
-        count: 0,
-        tag: EMPTY,
-    }; RUNS];
     let mut kept = Kept::begin(ends);
     let mut column = 0;
     'stretches: while column < blocks.len() {
         let (figure, often) = figure_of(blocks[column]);
-        let found = runs_of_blocks(blocks, column, figure, (y % 16) as u32, &mut runs);
-        kept = add_stretch(sink, page, kept, &runs[..found], often)?;
+        let row = (y % 16) as u32;
+        kept = add_figure(sink, page, kept, blocks, rows, column, figure, often, row)?;
         column += figure * often;
     }
     Ok(kept)

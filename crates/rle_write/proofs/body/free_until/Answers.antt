@@ -1,4 +1,4 @@
-use Rattle.std.proofs.Common.{◌≡◌, ◌+◌, ◌<◌, ap, get_or, None, arith}
+use Rattle.std.proofs.Common.{◌≡◌, ap, get_or, None, arith}
 use Rattle.lane_core.specs.Instrs.{lane_of, instr_on}
 use Rattle.lane_core.proofs.Lookup.{instr_on-past}
 use Rattle.rle_write.proofs.body.free_until.Goals as goal

@@ -1,19 +1,20 @@
-use Rattle.std.proofs.Common.{◌≡◌, ◌<◌, ◌+◌, ◌-◌, ◌*◌, ◌/◌, ◌∙◌, ℕ, List, ◌++◌, map, take, drop, length, length-take-le, sym, ap, arith}
+use Rattle.std.proofs.Common.{◌≡◌, ◌<◌, ◌+◌, ◌-◌, ◌*◌, ◌/◌, ◌%◌, ℕ, List, map, drop, length, ap, arith}
 use Rattle.ww_rule.specs.declared.pattern.State.{State}
 use Rattle.grid_assembly.specs.PlanDrawing.{start_row}
 use Rattle.grid_assembly.proofs.Near.{size_near}
 use Rattle.pattern_writing.specs.Writer.{tag_of}
 use Rattle.ww_base.specs.Pages.{held, column_of}
 use Rattle.rle_write.specs.declared.blocks.Stretch.{Stretch}
-use Rattle.rle_write.specs.Runs.{repeated, spelled}
+use Rattle.rle_write.specs.Blocks.{tags_of_blocks}
+use Rattle.rle_write.specs.Runs.{repeated}
 use Rattle.rle_write.proofs.Lefts.{left_by}
 use Rattle.rle_write.proofs.FigureCells.{figures_next, figure_inside, figure_some, cells_long}
 use Rattle.lists.proofs.Results.{on_err}
 use Rattle.ww_base.proofs.Steps.{wrote_then, wrote_broke, wrote_to}
 use Rattle.rle_write.proofs.stretches.write_stretches.Goals as goal
 
-pub runs_of_blocks-found-requires-clause-inside : goal.runs_of_blocks-found-requires-clause-inside
-runs_of_blocks-found-requires-clause-inside g c =
+pub add_figure-requires-clause-inside : goal.add_figure-requires-clause-inside
+add_figure-requires-clause-inside g c =
     let plan = c.args.plan.now in
     let lane : ℕ = c.args.y / 16 in
     let k : ℕ = c.stretches.column in
@@ -23,8 +24,8 @@ runs_of_blocks-found-requires-clause-inside g c =
     let is = c.figure_of-figure.ensures plan lane size k (c.requires.kept k (omega arith) c.stretches-test.true) in
     figure_inside plan lane size k figure often is
 
-pub runs_of_blocks-found-requires-clause-room : goal.runs_of_blocks-found-requires-clause-room
-runs_of_blocks-found-requires-clause-room g c =
+pub add_figure-requires-clause-few : goal.add_figure-requires-clause-few
+add_figure-requires-clause-few g c =
     let plan = c.args.plan.now in
     let lane : ℕ = c.args.y / 16 in
     let k : ℕ = c.stretches.column in
@@ -32,35 +33,10 @@ runs_of_blocks-found-requires-clause-room g c =
     let figure : ℕ = c.figure_of-figure.result.0 in
     let often : ℕ = c.figure_of-figure.result.1 in
     let is = c.figure_of-figure.ensures plan lane size k (c.requires.kept k (omega arith) c.stretches-test.true) in
-    omega (arith, is.few, c.stretches.invariant.room)
+    is.few
 
-pub slice_bounds-runs-end : goal.slice_bounds-runs-end
-slice_bounds-runs-end g c =
-    let plan = c.args.plan.now in
-    let lane : ℕ = c.args.y / 16 in
-    let k : ℕ = c.stretches.column in
-    let size : ℕ = length c.args.blocks.now in
-    let figure : ℕ = c.figure_of-figure.result.0 in
-    let often : ℕ = c.figure_of-figure.result.1 in
-    let is = c.figure_of-figure.ensures plan lane size k (c.requires.kept k (omega arith) c.stretches-test.true) in
-    omega (arith, c.runs_of_blocks-found.ensures.few, c.runs_of_blocks-found.ensures.size, is.few, c.stretches.invariant.room)
-
-pub slice_bounds-add_stretch-end : goal.slice_bounds-add_stretch-end
-slice_bounds-add_stretch-end g c =
-    let plan = c.args.plan.now in
-    let lane : ℕ = c.args.y / 16 in
-    let k : ℕ = c.stretches.column in
-    let size : ℕ = length c.args.blocks.now in
-    let figure : ℕ = c.figure_of-figure.result.0 in
-    let often : ℕ = c.figure_of-figure.result.1 in
-    let is = c.figure_of-figure.ensures plan lane size k (c.requires.kept k (omega arith) c.stretches-test.true) in
-    let found : ℕ = c.runs_of_blocks-found.result in
-    let runs = c.runs_of_blocks-found.new.runs in
-    sym (length-take-le found runs
-    (omega (arith, c.runs_of_blocks-found.ensures.few, c.runs_of_blocks-found.ensures.size, is.few, c.stretches.invariant.room)))
-
-pub add_stretch-requires-clause-some : goal.add_stretch-requires-clause-some
-add_stretch-requires-clause-some g c =
+pub add_figure-requires-clause-some : goal.add_figure-requires-clause-some
+add_figure-requires-clause-some g c =
     let plan = c.args.plan.now in
     let lane : ℕ = c.args.y / 16 in
     let k : ℕ = c.stretches.column in
@@ -70,8 +46,8 @@ add_stretch-requires-clause-some g c =
     let is = c.figure_of-figure.ensures plan lane size k (c.requires.kept k (omega arith) c.stretches-test.true) in
     is.once
 
-pub add_stretch-requires-clause-short : goal.add_stretch-requires-clause-short
-add_stretch-requires-clause-short g c =
+pub add_figure-requires-clause-short : goal.add_figure-requires-clause-short
+add_figure-requires-clause-short g c =
     let plan = c.args.plan.now in
     let y : ℕ = c.args.y in
     let k : ℕ = c.stretches.column in
@@ -81,10 +57,9 @@ add_stretch-requires-clause-short g c =
     let is = c.figure_of-figure.ensures plan (y / 16) (length blocks) k (c.requires.kept k (omega arith) c.stretches-test.true) in
     let rest : List ℕ = map tag_of (drop (32 * (k + figure * often)) (start_row plan y)) in
     let next =
-    figures_next plan y figure k often blocks (c.requires.dark (omega (arith, c.stretches-test.true))) c.requires.kept c.requires.inside is
-    ∙ ap (λ tags. repeated often tags ++ rest) (sym c.runs_of_blocks-found.ensures.runs) in
+    figures_next plan y figure k often blocks (c.requires.dark (omega (arith, c.stretches-test.true))) c.requires.kept c.requires.inside is in
     let kept = c.stretches.kept in
-    let copies : List ℕ = repeated often (spelled (take c.runs_of_blocks-found.result c.runs_of_blocks-found.new.runs)) in
+    let copies : List ℕ = repeated often (tags_of_blocks blocks k figure (y % 16)) in
     let long =
     cells_long plan y (32 * k) (32 * (k + figure * often)) copies (omega arith) (omega (arith, is.within, c.requires.inside)) next in
     omega (arith, c.stretches.invariant.short, long, is.within, c.requires.inside, (size_near c.args.plan.now c.requires.admissible).0)
@@ -134,15 +109,13 @@ stretches-preserved g c =
     let is = c.figure_of-figure.ensures plan (y / 16) (length blocks) k (c.requires.kept k (omega arith) c.stretches-test.true) in
     let rest : List ℕ = map tag_of (drop (32 * (k + figure * often)) (start_row plan y)) in
     let next =
-    figures_next plan y figure k often blocks (c.requires.dark (omega (arith, c.stretches-test.true))) c.requires.kept c.requires.inside is
-    ∙ ap (λ tags. repeated often tags ++ rest) (sym c.runs_of_blocks-found.ensures.runs) in
+    figures_next plan y figure k often blocks (c.requires.dark (omega (arith, c.stretches-test.true))) c.requires.kept c.requires.inside is in
     let kept = c.stretches.kept in
-    let copies : List ℕ = repeated often (spelled (take c.runs_of_blocks-found.result c.runs_of_blocks-found.new.runs)) in
+    let copies : List ℕ = repeated often (tags_of_blocks blocks k figure (y % 16)) in
     let long =
     cells_long plan y (32 * k) (32 * (k + figure * often)) copies (omega arith) (omega (arith, is.within, c.requires.inside)) next in
     record {
       within = omega (arith, is.within);
-      room = c.runs_of_blocks-found.ensures.size ∙ c.stretches.invariant.room;
       fewer = omega (arith, c.in_ok-kept.ensures.fewer, c.stretches.invariant.fewer);
       short = omega (arith, c.in_ok-kept.ensures.short, c.stretches.invariant.short, long);
       cell = c.in_ok-kept.ensures.cell;
@@ -163,8 +136,7 @@ returns-in_err-kept-clause-err g c =
     let is = c.figure_of-figure.ensures plan (y / 16) (length blocks) k (c.requires.kept k (omega arith) c.stretches-test.true) in
     let rest : List ℕ = map tag_of (drop (32 * (k + figure * often)) (start_row plan y)) in
     let next =
-    figures_next plan y figure k often blocks (c.requires.dark (omega (arith, c.stretches-test.true))) c.requires.kept c.requires.inside is
-    ∙ ap (λ tags. repeated often tags ++ rest) (sym c.runs_of_blocks-found.ensures.runs) in
+    figures_next plan y figure k often blocks (c.requires.dark (omega (arith, c.stretches-test.true))) c.requires.kept c.requires.inside is in
     let kept = c.stretches.kept in
     let f = λ (rows : List (List State)).
     wrote_broke

@@ -1,4 +1,4 @@
-use Rattle.std.proofs.Common.{◌≡◌, ◌≤◌, ◌-◌, ◌*◌, List, ◌∷◌, ◌++◌, map, drop, length, replicate}
+use Rattle.std.proofs.Common.{◌≤◌, ◌-◌, ◌*◌, List, ◌∷◌, ◌++◌, map, drop, length, replicate}
 use Rattle.ww_rule.specs.declared.pattern.State.{State}
 use Rattle.grid_assembly.specs.PlanDrawing.{start_row}
 use Rattle.pattern_writing.specs.Writer.{tag_of}
@@ -11,7 +11,6 @@ use Rattle.rle_write.proofs.stretches.write_stretches.Given as goal
 abbrev pub invariant-stretches : goal.invariant-stretches
 invariant-stretches g l = record {
   within : l.column ≤ length l.blocks;
-  room : length l.runs ≡ 128;
   fewer : l.kept.due ≤ l.ends;
   short : l.kept.run.count ≤ 32 * l.column;
   cell : IsCellTag l.kept.run.tag;
