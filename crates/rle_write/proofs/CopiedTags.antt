@@ -11,6 +11,13 @@ repeated_next n i tags lt =
 pub repeated_long : (n i : ℕ) (tags : List ℕ) → i < n → length (repeated (n - i) tags) ≡ length tags + length (repeated (n - (i + 1)) tags)
 repeated_long n i tags lt = ap length (repeated_next n i tags lt) ∙ length-append tags (repeated (n - (i + 1)) tags)
 
+-- the first copy, and the others
+pub repeated_first : (n : ℕ) (tags : List ℕ) → 0 < n → repeated n tags ≡ tags ++ repeated (n - 1) tags
+repeated_first n tags lt = let e : n ≡ n - 0 = omega arith in ap (λ m. repeated m tags) e ∙ repeated_next n 0 tags lt
+
+pub repeated_first_long : (n : ℕ) (tags : List ℕ) → 0 < n → length (repeated n tags) ≡ length tags + length (repeated (n - 1) tags)
+repeated_first_long n tags lt = ap length (repeated_first n tags lt) ∙ length-append tags (repeated (n - 1) tags)
+
 -- the first of the copies, and the others
 pub repeated_split : (m n : ℕ) (tags : List ℕ) → m ≤ n → repeated n tags ≡ repeated m tags ++ repeated (n - m) tags
 repeated_split zero n tags le = let e : n ≡ n - 0 = omega arith in ap (λ k. repeated k tags) e

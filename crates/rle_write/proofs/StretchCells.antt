@@ -66,6 +66,16 @@ cells_more runs i run lt all more =
     subst (All IsCellRun) (sym (take_more_set runs i run lt)) (All-append IsCellRun (take i runs) (run ∷ []) all
     (λ k d lt. (let first : k ≡ 0 = omega (arith, lt) in subst (λ k. IsCellRun (get_or (run ∷ []) k d)) (sym first) more)))
 
+-- more runs after the first n of a list
+pub spelled_put : (old new more : List Run) (n : ℕ) → take (n + length more) new ≡ take n old ++ more
+    → spelled (take (n + length more) new) ≡ spelled (take n old) ++ spelled more
+spelled_put old new more n put = ap spelled put ∙ spelled_joined (take n old) more
+
+pub cells_put : (old new more : List Run) (n : ℕ) → take (n + length more) new ≡ take n old ++ more
+    → All IsCellRun (take n old) → All IsCellRun more → All IsCellRun (take (n + length more) new)
+cells_put old new more n put before cells =
+    subst (All IsCellRun) (sym put) (All-append IsCellRun (take n old) more before cells)
+
 -- A block's row.
 
 row_long : (slot : Slot) (y : ℕ) → length (bare_row slot y) ≡ 32

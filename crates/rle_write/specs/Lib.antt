@@ -7,5 +7,6 @@ pub mod Left
 pub mod Opening
 pub mod PlanText
 pub mod Runs
+pub mod StepBytes
 pub mod Steps
 pub mod Taken

@@ -1,5 +1,5 @@
 // Runs of equal cells of what stands in a block, as it is drawn, without electrons.
-ghost use Rattle.std.specs.Prelude.{◌≡◌, ◌≤◌, ◌-◌, ◌<◌, ◌+◌, ◌++◌, cond, map, take, length, All};
+ghost use Rattle.std.specs.Prelude.{◌≡◌, ◌≤◌, ◌-◌, ◌<◌, cond, map, take, length, All};
 ghost use Rattle.ww_rule.specs.declared.pattern.State.TheVariants.{Conductor, Empty};
 ghost use Rattle.tile_library.specs.RowRuns.{IsRowRun};
 ghost use Rattle.tiling.specs.Tiling.Piece.{Tile, Output};
@@ -69,20 +69,17 @@ fn slot_run(slot: Slot, x: u32, y: u32) -> (State, u32)
     }
 }
 
-/// Puts the runs of row `y` of what stands in a block into `runs` after the first `before` of them,
-/// and returns how many there are then.
-pub fn runs_of_row(slot: Slot, y: u32, runs: &mut [Run], before: usize) -> usize
+/// Puts the runs of row `y` of what stands in a block into `runs`, and returns how many there are.
+pub fn runs_of_row(slot: Slot, y: u32, runs: &mut [Run]) -> usize
     requires in_block { y < 16 }
-    requires room { before + 32 ≤ length runs.old }
-    requires cells { All IsCellRun (take before runs.old) }
+    requires room { 32 ≤ length runs.old }
     ensures size { length runs.new ≡ length runs.old }
-    ensures few { result ≤ before + 32 }
+    ensures few { result ≤ 32 }
     ensures cells { All IsCellRun (take result runs.new) }
-    ensures runs { spelled (take result runs.new) ≡
-        spelled (take before runs.old) ++ map tag_of (bare_row (slot_of slot) y) }
+    ensures runs { spelled (take result runs.new) ≡ map tag_of (bare_row (slot_of slot) y) }
 {
     let mut x = 0;
-    let mut found = before;
+    let mut found = 0;
     'cells: while x < 32 {
         let (state, count) = slot_run(slot, x, y);
         runs[found] = Run {

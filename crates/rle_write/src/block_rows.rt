@@ -1,27 +1,24 @@
 // The rows of cells of what may stand in a block. The runs of such a row, and a step over all but the
 // first two of them, are found once and kept, since the same stands in many blocks of a lane.
-ghost use Rattle.std.specs.Prelude.{◌≡◌, ◌≤◌, ◌<◌, ◌+◌, ◌^◌, [], map, take, length, All, IfSome, IsTrue};
+ghost use Rattle.std.specs.Prelude.{◌≡◌, ◌≤◌, ◌<◌, ◌+◌, ◌^◌, [], ◌++◌, map, take, length, All, IsTrue};
 ghost use Rattle.std.proofs.Props.{props};
 ghost use Rattle.plan_layout.specs.Slots.{slot_of};
 ghost use Rattle.pattern_writing.specs.Writer.{tag_of};
 ghost use Rattle.rle_write.specs.Dark.{bare_row};
-ghost use Rattle.rle_write.specs.LapBytes.{bytes_of};
 ghost use Rattle.rle_write.specs.Runs.{IsCellRun, spelled};
+ghost use Rattle.rle_write.specs.StepBytes.{bytes_in};
 ghost use Rattle.rle_write.specs.Steps.{IsRowStep};
 
 use crate::bare::runs_of_row;
 use crate::blocks::is_same;
-use crate::lap_sink::Lap;
 use crate::rows::{EMPTY, Run};
+use crate::step_bytes::StepBytes;
 use crate::steps::{Step, find_step};
 use plan_layout::{Piece, Slot};
 use tile_core::Kind;
 
 // The cells of a block's row, which has as many runs at most.
 const CELLS: usize = 32;
-
-// The most bytes of a step that is kept: each cell takes two of them at most.
-const BYTES: usize = 64;
 
 // The most runs in a row of blocks that are written as one: four blocks of 32 cells.
 const RUNS: usize = 128;
@@ -37,39 +34,24 @@ pub struct BlockRow {
     runs: [Run; CELLS],
     found: usize,
     step: Option<Step>,
-    bytes: [u8; BYTES],
-    used: usize,
+    bytes: StepBytes,
     ghost in_runs: { found ≤ 32 },
-    ghost in_bytes: { used ≤ 64 },
     ghost cells: { All IsCellRun (take found runs) },
     ghost row: { spelled (take found runs) ≡ map tag_of (bare_row (slot_of slot) y) },
-    ghost over: { IsRowStep step (take found runs) (take used bytes) } by { Prim.hlevel props },
+    ghost over: { IsRowStep step (take found runs) (bytes_in bytes) } by { Prim.hlevel props },
 }
 
-// Finds the step over all but the first two runs, and puts its bytes into `lap`.
-fn step_after_two(lap: &mut Lap, runs: &[Run]) -> Option<Step>
+// Finds the step over all but the first two runs, and puts its bytes into `bytes`.
+fn step_after_two(bytes: &mut StepBytes, runs: &[Run]) -> Option<Step>
     requires runs { All IsCellRun runs.now }
     requires short { length (spelled runs.now) < 2 ^ 64 }
-    requires empty { bytes_of lap.old ≡ [] }
-    ensures { IsRowStep result runs.now (bytes_of lap.new) }
+    requires empty { bytes_in bytes.old ≡ [] }
+    ensures { IsRowStep result runs.now (bytes_in bytes.new) }
 {
     if runs.len() < 2 {
         return None;
     }
-    find_step(lap, runs[1], &runs[2..])
-}
-
-// Copies a piece to the begin of `bytes` if there is room for it, and returns how long it is.
-fn copy_bytes(piece: &[u8], bytes: &mut [u8]) -> Option<usize>
-    ensures size { length bytes.new ≡ length bytes.old }
-    ensures bytes { IfSome result (λ used. (used ≤ length bytes.new) × (take used bytes.new ≡ piece.now)) }
-{
-    let used = piece.len();
-    if used > bytes.len() {
-        return None;
-    }
-    bytes[..used].copy_from_slice(piece);
-    Some(used)
+    find_step(bytes, runs[1], &runs[2..])
 }
 
 impl BlockRow {
@@ -84,29 +66,16 @@ impl BlockRow {
             count: 0,
             tag: EMPTY,
         }; CELLS];
-        let found = runs_of_row(slot, y, &mut runs, 0);
-        let mut lap = Lap::new();
-        let step = step_after_two(&mut lap, &runs[..found]);
-        let mut bytes = [0; BYTES];
-        match copy_bytes(lap.bytes(), &mut bytes) {
-            Some(used) => BlockRow {
-                slot,
-                y,
-                runs,
-                found,
-                step,
-                bytes,
-                used,
-            },
-            None => BlockRow {
-                slot,
-                y,
-                runs,
-                found,
-                step: None,
-                bytes,
-                used: 0,
-            },
+        let found = runs_of_row(slot, y, &mut runs);
+        let mut bytes = StepBytes::new();
+        let step = step_after_two(&mut bytes, &runs[..found]);
+        BlockRow {
+            slot,
+            y,
+            runs,
+            found,
+            step,
+            bytes,
         }
     }
 
@@ -136,7 +105,7 @@ impl BlockRow {
     pub fn bytes(&self) -> &[u8]
         ensures { IsRowStep self.now.step (runs_in self.now) result.now }
     {
-        &self.bytes[..self.used]
+        self.bytes.bytes()
     }
 }
 
@@ -183,6 +152,15 @@ fn place_of(slot: Slot) -> usize
     }
 }
 
+// Puts more runs after the first `before` of them.
+fn put_runs(runs: &mut [Run], before: usize, more: &[Run])
+    requires { before + length more.now ≤ length runs.old }
+    ensures size { length runs.new ≡ length runs.old }
+    ensures runs { take (before + length more.now) runs.new ≡ take before runs.old ++ more.now }
+{
+    runs[before..before + more.len()].copy_from_slice(more);
+}
+
 /// The rows that are kept, and room for the runs in a row of up to four blocks.
 #[derive(Drop)]
 pub struct BlockRows {
@@ -191,7 +169,7 @@ pub struct BlockRows {
 }
 
 impl BlockRows {
-    ghost use Rattle.rle_write.specs.BlockRows.{runs_in};
+    ghost use Rattle.rle_write.specs.BlockRows.{runs_in, IsRowAt};
 
     /// Rows of blocks in which nothing stands.
     pub fn new() -> BlockRows {
@@ -204,16 +182,44 @@ impl BlockRows {
         }
     }
 
+    // Finds row `y` of what stands in a block if it is not kept, and returns its place.
+    fn keep(&mut self, slot: Slot, y: u32) -> usize
+        requires { y < 16 }
+        ensures place { result < 32 }
+        ensures row { IsRowAt self.new.rows result slot y }
+        ensures runs { self.new.runs ≡ self.old.runs }
+    {
+        let place = place_of(slot);
+        if !self.rows[place].is_of(slot, y) {
+            self.rows[place] = BlockRow::of(slot, y);
+        }
+        place
+    }
+
     /// Returns row `y` of what stands in a block, which is found if it is not kept.
     pub fn row_of(&mut self, slot: Slot, y: u32) -> &BlockRow
         requires { y < 16 }
         ensures { spelled (runs_in result.now) ≡ map tag_of (bare_row (slot_of slot) y) }
     {
-        let place = place_of(slot);
-        if self.rows[place].is_of(slot, y) {
-            return &self.rows[place];
-        }
-        self.rows[place] = BlockRow::of(slot, y);
+        let place = self.keep(slot, y);
         &self.rows[place]
+    }
+
+    /// Puts the runs of row `y` of what stands in a block after the first `before` runs, and returns
+    /// how many there are then.
+    pub fn put_row(&mut self, slot: Slot, y: u32, before: usize) -> usize
+        requires in_block { y < 16 }
+        requires room { before + 32 ≤ 128 }
+        requires cells { All IsCellRun (take before self.old.runs) }
+        ensures few { result ≤ before + 32 }
+        ensures cells { All IsCellRun (take result self.new.runs) }
+        ensures runs { spelled (take result self.new.runs) ≡
+            spelled (take before self.old.runs) ++ map tag_of (bare_row (slot_of slot) y) }
+    {
+        let place = self.keep(slot, y);
+        let row = self.rows[place];
+        let more = row.runs();
+        put_runs(&mut self.runs, before, more);
+        before + more.len()
     }
 }

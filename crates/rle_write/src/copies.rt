@@ -1,16 +1,17 @@
 // Copies of the same cells, run by run, or at once where their bytes are known.
-ghost use Rattle.std.specs.Prelude.{◌≤◌, ◌<◌, ◌+◌, ◌^◌, length, All, IfOk, IfSome, OnErr};
+ghost use Rattle.std.specs.Prelude.{◌≡◌, ◌≤◌, ◌<◌, ◌+◌, ◌^◌, [], length, All, IfOk, IfSome, OnErr};
 ghost use Rattle.rle_write.specs.Runs.{IsCellRun, IsCellTag, repeated, spelled};
+ghost use Rattle.rle_write.specs.StepBytes.{bytes_in};
 ghost use Rattle.rle_write.specs.Steps.{IsRowStep, IsStepOver};
 ghost use Rattle.rle_write.specs.Taken.{BreaksInTags, TakesTags};
 
-use crate::lap_sink::Lap;
 use crate::rows::{Kept, Run, add_run};
+use crate::step_bytes::StepBytes;
 use crate::steps::{Step, find_step, is_here};
 use ww_base::{Failed, Page, Sink};
 
 // How many copies are worth the search for a step.
-const FEW: usize = 3;
+const FEW: usize = 2;
 
 // Takes runs of more cells one by one.
 pub fn add_runs<O: Sink>(
@@ -101,33 +102,22 @@ pub fn add_row<O: Sink>(
     add_step(sink, page, begun, &runs[2..], step, bytes)
 }
 
-// Takes `count` copies of the cells that these runs spell, run by run.
-fn add_each<O: Sink>(
-    sink: &mut O,
-    page: &mut Page,
-    kept: Kept,
-    runs: &[Run],
-    count: usize,
-) -> Result<Kept, Failed>
-    requires cell { IsCellTag kept.run.tag }
+// Finds the step from a kept run over the cells that these runs spell, and puts its bytes into
+// `bytes`, if so many copies of the cells are worth it.
+fn step_for(bytes: &mut StepBytes, from: Run, runs: &[Run], count: usize) -> Option<Step>
+    requires cell { IsCellTag from.tag }
     requires runs { All IsCellRun runs.now }
-    requires short { kept.run.count + length (repeated count (spelled runs.now)) < 2 ^ 64 }
-    ensures cell { IfOk result (λ k. IsCellTag k.run.tag) }
-    ensures fewer { IfOk result (λ k. k.due ≤ kept.due) }
-    ensures short { IfOk result (λ k. k.run.count ≤ kept.run.count + length (repeated count (spelled runs.now))) }
-    ensures ok { IfOk result (TakesTags (O.written sink.old) (O.written sink.new) (O.faults sink.old)
-        (O.faults sink.new) page.old page.new kept (repeated count (spelled runs.now))) }
-    ensures err { OnErr result (BreaksInTags (O.written sink.old) (O.written sink.new) (O.faults sink.old)
-        (O.faults sink.new) page.old kept (repeated count (spelled runs.now))) }
+    requires short { from.count + length (repeated count (spelled runs.now)) < 2 ^ 64 }
+    requires empty { bytes_in bytes.old ≡ [] }
+    ensures { IfSome result (λ s. IsStepOver s.from runs.now (bytes_in bytes.new) s.after) }
 {
-    let mut kept = kept;
-    for _ in 0..count {
-        kept = add_runs(sink, page, kept, runs)?;
+    if count < FEW {
+        return None;
     }
-    Ok(kept)
+    find_step(bytes, from, runs)
 }
 
-// Takes `count` copies of the cells that these runs spell, step by step.
+// Takes `count` copies of the cells that these runs spell, step by step if they are many.
 fn add_steps<O: Sink>(
     sink: &mut O,
     page: &mut Page,
@@ -137,7 +127,6 @@ fn add_steps<O: Sink>(
 ) -> Result<Kept, Failed>
     requires cell { IsCellTag kept.run.tag }
     requires runs { All IsCellRun runs.now }
-    requires some { 1 ≤ count }
     requires short { kept.run.count + length (repeated count (spelled runs.now)) < 2 ^ 64 }
     ensures cell { IfOk result (λ k. IsCellTag k.run.tag) }
     ensures fewer { IfOk result (λ k. k.due ≤ kept.due) }
@@ -147,11 +136,11 @@ fn add_steps<O: Sink>(
     ensures err { OnErr result (BreaksInTags (O.written sink.old) (O.written sink.new) (O.faults sink.old)
         (O.faults sink.new) page.old kept (repeated count (spelled runs.now))) }
 {
-    let mut lap = Lap::new();
-    let step = find_step(&mut lap, kept.run, runs);
+    let mut bytes = StepBytes::new();
+    let step = step_for(&mut bytes, kept.run, runs, count);
     let mut kept = kept;
     for _ in 0..count {
-        kept = add_step(sink, page, kept, runs, step, lap.bytes())?;
+        kept = add_step(sink, page, kept, runs, step, bytes.bytes())?;
     }
     Ok(kept)
 }
@@ -175,9 +164,9 @@ pub fn add_copies<O: Sink>(
     ensures err { OnErr result (BreaksInTags (O.written sink.old) (O.written sink.new) (O.faults sink.old)
         (O.faults sink.new) page.old kept (repeated count (spelled runs.now))) }
 {
-    if count < FEW {
-        return add_each(sink, page, kept, runs, count);
+    if count == 0 {
+        return Ok(kept);
     }
-    let begun = add_each(sink, page, kept, runs, 1)?;
+    let begun = add_runs(sink, page, kept, runs)?;
     add_steps(sink, page, begun, runs, count - 1)
 }

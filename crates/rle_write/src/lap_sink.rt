@@ -1,5 +1,5 @@
 // The sink that holds the bytes of a lap.
-ghost use Rattle.std.specs.Prelude.{◌≡◌, ◌≤◌, ◌+◌, [], Some, ◌++◌, length, IsTrue};
+ghost use Rattle.std.specs.Prelude.{◌≡◌, ◌≤◌, ◌+◌, [], Some, ◌++◌, length};
 
 use ww_base::{Failed, Sink};
 
@@ -45,17 +45,6 @@ impl Lap {
         let end = self.used + piece.len();
         self.bytes[self.used..end].copy_from_slice(piece);
         self.used = end;
-    }
-
-    /// Takes a piece if there is room for it, and returns whether it did.
-    pub fn put(&mut self, piece: &[u8]) -> bool
-        ensures { IsTrue result → bytes_of self.new ≡ bytes_of self.old ++ piece.now }
-    {
-        if piece.len() > LAP - self.used {
-            return false;
-        }
-        self.push(piece);
-        true
     }
 }
 

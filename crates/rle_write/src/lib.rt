@@ -15,6 +15,7 @@ mod laps;
 mod pattern_rows;
 mod plan_rows;
 mod rows;
+mod step_bytes;
 mod steps;
 mod stretches;
 mod text;

@@ -2,14 +2,14 @@
 // bytes fit on the line, they are put on the page at once.
 ghost use Rattle.std.specs.Prelude.{◌≡◌, ◌≢◌, ◌≤◌, ◌<◌, ◌+◌, ◌^◌, [], ◌++◌, length, replicate, All, IfSome, IsTrue};
 ghost use Rattle.pattern_writing.specs.Writer.{run_text};
-ghost use Rattle.rle_write.specs.LapBytes.{bytes_of};
 ghost use Rattle.rle_write.specs.Runs.{IsCellRun, IsCellTag, spelled};
+ghost use Rattle.rle_write.specs.StepBytes.{bytes_in};
 ghost use Rattle.rle_write.specs.Steps.{IsNextStep, IsStepOver};
 ghost use Rattle.ww_base.specs.Pages.{column_of};
 
 use crate::items::{LINE, digit};
-use crate::lap_sink::Lap;
 use crate::rows::{Kept, Run, byte_of};
+use crate::step_bytes::StepBytes;
 use ww_base::Page;
 
 /// The run that is kept before a step, and the one that is kept after it.
@@ -19,35 +19,35 @@ pub struct Step {
     pub after: Run,
 }
 
-// Puts the item of a run of less than 100 cells behind the bytes of a lap, and returns whether it
+// Puts the item of a run of less than 100 cells behind the bytes of a step, and returns whether it
 // did.
-fn put_item(lap: &mut Lap, run: Run) -> bool
+fn put_item(bytes: &mut StepBytes, run: Run) -> bool
     requires { IsCellTag run.tag }
     ensures some { IsTrue result → run.count ≢ 0 }
     ensures bytes { IsTrue result →
-        bytes_of lap.new ≡ bytes_of lap.old ++ run_text (record { count = run.count; tag = run.tag }) }
+        bytes_in bytes.new ≡ bytes_in bytes.old ++ run_text (record { count = run.count; tag = run.tag }) }
 {
     let (count, tag) = (run.count, byte_of(run.tag));
     if count == 0 {
         false
     } else if count == 1 {
-        lap.put(&[tag])
+        bytes.put(&[tag])
     } else if count < 10 {
-        lap.put(&[digit(count), tag])
+        bytes.put(&[digit(count), tag])
     } else if count < 100 {
-        lap.put(&[digit(count / 10), digit(count % 10), tag])
+        bytes.put(&[digit(count / 10), digit(count % 10), tag])
     } else {
         false
     }
 }
 
 // Goes on with a step over one more run, and returns the run that is kept then.
-fn next_after(lap: &mut Lap, before: Run, run: Run) -> Option<Run>
+fn next_after(bytes: &mut StepBytes, before: Run, run: Run) -> Option<Run>
     requires cell { IsCellTag before.tag }
     requires run { IsCellRun run }
     requires short { before.count + run.count < 2 ^ 64 }
-    ensures { IfSome result (IsNextStep before (replicate run.count run.tag) (bytes_of lap.old)
-        (bytes_of lap.new)) }
+    ensures { IfSome result (IsNextStep before (replicate run.count run.tag) (bytes_in bytes.old)
+        (bytes_in bytes.new)) }
 {
     if run.tag == before.tag {
         return Some(Run {
@@ -55,24 +55,24 @@ fn next_after(lap: &mut Lap, before: Run, run: Run) -> Option<Run>
             tag: run.tag,
         });
     }
-    if !put_item(lap, before) {
+    if !put_item(bytes, before) {
         return None;
     }
     Some(run)
 }
 
 /// Finds the step from a kept run over the cells that these runs spell, and puts its bytes into
-/// `lap`. There is none if a run of more than 99 cells ends in it.
-pub fn find_step(lap: &mut Lap, from: Run, runs: &[Run]) -> Option<Step>
+/// `bytes`. There is none if a run of more than 99 cells ends in it, or if its bytes fit on no line.
+pub fn find_step(bytes: &mut StepBytes, from: Run, runs: &[Run]) -> Option<Step>
     requires cell { IsCellTag from.tag }
     requires runs { All IsCellRun runs.now }
     requires short { from.count + length (spelled runs.now) < 2 ^ 64 }
-    requires empty { bytes_of lap.old ≡ [] }
-    ensures { IfSome result (λ s. IsStepOver s.from runs.now (bytes_of lap.new) s.after) }
+    requires empty { bytes_in bytes.old ≡ [] }
+    ensures { IfSome result (λ s. IsStepOver s.from runs.now (bytes_in bytes.new) s.after) }
 {
     let mut after = from;
     for run in runs {
-        after = next_after(lap, after, *run)?;
+        after = next_after(bytes, after, *run)?;
     }
     Some(Step { from, after })
 }

@@ -14,7 +14,6 @@ ghost use Rattle.rle_write.specs.Taken.{BreaksInTags, TakesTags};
 ghost use Rattle.ww_base.specs.Pages.{held, column_of};
 ghost use Rattle.ww_base.specs.Progress.{Wrote, Broke};
 
-use crate::bare::runs_of_row;
 use crate::block_rows::BlockRows;
 use crate::blocks::Stretch;
 use crate::copies::add_row;
@@ -76,26 +75,25 @@ fn figure_of(stretch: Stretch) -> (usize, usize)
     (stretch.motif as usize, often as usize)
 }
 
-// Puts the runs of row `y` of a lane's blocks into `runs`, of so many blocks from this column on, and
-// returns how many runs there are.
+// Puts the runs of row `y` of a lane's blocks into the room for them, of so many blocks from this
+// column on, and returns how many runs there are.
 fn runs_of_blocks(
+    rows: &mut BlockRows,
     blocks: &[Stretch],
     column: usize,
     count: usize,
     y: u32,
-    runs: &mut [Run],
 ) -> usize
+    requires few { count ≤ 4 }
     requires in_block { y < 16 }
     requires inside { column + count ≤ length blocks.now }
-    requires room { 32 * count ≤ length runs.old }
-    ensures size { length runs.new ≡ length runs.old }
     ensures few { result ≤ 32 * count }
-    ensures cells { All IsCellRun (take result runs.new) }
-    ensures runs { spelled (take result runs.new) ≡ tags_of_blocks blocks.now column count y }
+    ensures cells { All IsCellRun (take result rows.new.runs) }
+    ensures runs { spelled (take result rows.new.runs) ≡ tags_of_blocks blocks.now column count y }
 {
     let mut found = 0;
     for i in 0..count {
-        found = runs_of_row(blocks[column + i].slot, y, runs, found);
+        found = rows.put_row(blocks[column + i].slot, y, found);
     }
     found
 }
@@ -127,7 +125,7 @@ fn add_blocks<O: Sink>(
     ensures err { OnErr result (BreaksInTags (O.written sink.old) (O.written sink.new) (O.faults sink.old)
         (O.faults sink.new) page.old kept (repeated often (tags_of_blocks blocks.now column count y))) }
 {
-    let found = runs_of_blocks(blocks, column, count, y, &mut rows.runs);
+    let found = runs_of_blocks(rows, blocks, column, count, y);
     add_stretch(sink, page, kept, &rows.runs[..found], often)
 }
 

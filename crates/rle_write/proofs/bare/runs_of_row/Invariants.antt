@@ -1,4 +1,4 @@
-use Rattle.std.proofs.Common.{◌≡◌, ◌≤◌, ◌+◌, ◌-◌, ◌++◌, map, take, length, All}
+use Rattle.std.proofs.Common.{◌≡◌, ◌≤◌, ◌-◌, map, take, length, All}
 use Rattle.plan_layout.specs.Slots.{slot_of}
 use Rattle.pattern_writing.specs.Writer.{tag_of}
 use Rattle.rle_write.specs.Dark.{bare_row}
@@ -8,10 +8,10 @@ use Rattle.rle_write.proofs.bare.runs_of_row.Given as goal
 abbrev pub invariant-cells : goal.invariant-cells
 invariant-cells l = record {
   within : l.x ≤ 32;
-  few : l.found ≤ l.before + l.x;
+  few : l.found ≤ l.x;
   size : length l.runs ≡ length l.initial.runs;
   cells : All IsCellRun (take l.found l.runs);
-  spelled : spelled (take l.found l.runs) ≡ spelled (take l.before l.initial.runs) ++ map tag_of (take l.x (bare_row (slot_of l.slot) l.y));
+  spelled : spelled (take l.found l.runs) ≡ map tag_of (take l.x (bare_row (slot_of l.slot) l.y));
 }
 
 abbrev pub decreases-cells : goal.decreases-cells

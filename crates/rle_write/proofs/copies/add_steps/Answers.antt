@@ -1,4 +1,4 @@
-use Rattle.std.proofs.Common.{◌≡◌, ◌+◌, ◌-◌, ◌∙◌, ℕ, List, ◌++◌, length, ap, sym, subst, arith, append_assoc}
+use Rattle.std.proofs.Common.{◌≡◌, ◌+◌, ◌-◌, ◌∙◌, ℕ, List, ◌++◌, ap, sym, subst, arith, append_assoc}
 use Rattle.std.specs.Prelude.{IfSome}
 use Rattle.ww_rule.specs.declared.pattern.State.{State}
 use Rattle.rle_write.specs.Runs.{repeated, spelled}
@@ -10,15 +10,9 @@ use Rattle.lists.proofs.Results.{on_err}
 use Rattle.ww_base.proofs.Steps.{wrote_then, wrote_broke, wrote_to}
 use Rattle.rle_write.proofs.copies.add_steps.Goals as goal
 
-pub find_step-step-requires-clause-short : goal.find_step-step-requires-clause-short
-find_step-step-requires-clause-short g c =
-    let tags : List ℕ = spelled c.args.runs.now in
-    let all : c.args.count ≡ c.args.count - 0 = omega arith in
-    omega (arith, c.requires.short, ap (λ n. length (repeated n tags)) all ∙ repeated_long c.args.count 0 tags c.requires.some)
-
 pub add_step-requires-clause-step : goal.add_step-requires-clause-step
 add_step-requires-clause-step g c =
-    subst (λ bytes. IfSome c.find_step-step.result (λ s. IsStepOver s.from c.args.runs.now bytes s.after)) (sym c.bytes.ensures) c.find_step-step.ensures
+    subst (λ bytes. IfSome c.step_for-step.result (λ s. IsStepOver s.from c.args.runs.now bytes s.after)) (sym c.bytes.ensures) c.step_for-step.ensures
 
 pub add_step-requires-clause-short : goal.add_step-requires-clause-short
 add_step-requires-clause-short g c =

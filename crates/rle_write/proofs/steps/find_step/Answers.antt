@@ -1,7 +1,7 @@
 use Rattle.std.proofs.Common.{ℕ, List, take, get_or, sym, subst, arith}
 use Rattle.std.proofs.lemmas.List.{take_all, length-replicate}
 use Rattle.rle_write.specs.declared.rows.Run.{Run}
-use Rattle.rle_write.specs.LapBytes.{bytes_of}
+use Rattle.rle_write.specs.StepBytes.{bytes_in}
 use Rattle.rle_write.specs.Runs.{spelled}
 use Rattle.rle_write.specs.Steps.{IsStep}
 use Rattle.rle_write.proofs.StepTexts.{step_none}
@@ -13,7 +13,7 @@ no_run = record { count = 0; tag = 0 }
 
 pub loop-run-init : goal.loop-run-init
 loop-run-init c = record {
-  step = step_none c.args.from (bytes_of c.args.lap.now) c.requires.empty;
+  step = step_none c.args.from (bytes_in c.args.bytes.now) c.requires.empty;
   cell = c.requires.cell;
   short = omega arith;
 }
@@ -29,7 +29,7 @@ loop-run-preserved c =
     let run : Run = get_or runs i no_run in
     let next = c.in_ok-after.ensures in
     record {
-      step = subst (λ tags. IsStep c.args.from tags (bytes_of c.next_after.new.lap) c.in_ok-after.after) (sym (spelled_taken runs i no_run c.loop-run-test.true))
+      step = subst (λ tags. IsStep c.args.from tags (bytes_in c.next_after.new.bytes) c.in_ok-after.after) (sym (spelled_taken runs i no_run c.loop-run-test.true))
           (next.next c.args.from (spelled (take i runs)) c.loop-run.invariant.step);
       cell = next.cell;
       short = omega (arith, next.short, length-replicate run.count run.tag, c.loop-run.invariant.short, spelled_long runs i no_run c.loop-run-test.true);
@@ -39,7 +39,7 @@ pub returns : goal.returns
 returns c =
     let runs : List Run = c.args.runs.now in
     record {
-      step = subst (λ l. IsStep c.args.from (spelled l) (bytes_of c.loop-run.lap) c.loop-run.after) (take_all c.loop-run.run-index runs (omega (arith, c.loop-run-test.false)))
+      step = subst (λ l. IsStep c.args.from (spelled l) (bytes_in c.loop-run.bytes) c.loop-run.after) (take_all c.loop-run.run-index runs (omega (arith, c.loop-run-test.false)))
           c.loop-run.invariant.step;
       cell = c.loop-run.invariant.cell;
       short = omega (arith, c.loop-run.invariant.short);

@@ -11,11 +11,10 @@ loop-i-preserved c =
     let blocks = c.args.blocks.now in
     let next : suc i ≡ i + 1 = omega arith in
     record {
-      size = c.runs_of_row-found.ensures.size ∙ c.loop-i.invariant.size;
-      few = omega (arith, c.runs_of_row-found.ensures.few, c.loop-i.invariant.few);
-      cells = c.runs_of_row-found.ensures.cells;
+      few = omega (arith, c.put_row-found.ensures.few, c.loop-i.invariant.few);
+      cells = c.put_row-found.ensures.cells;
       runs =
-          c.runs_of_row-found.ensures.runs
+          c.put_row-found.ensures.runs
           ∙ ap (λ l. l ++ map tag_of (bare_row (slot_of (get_or blocks (c.args.column + i) no_stretch).slot) c.args.y)) c.loop-i.invariant.runs
           ∙ ap (λ n. tags_of_blocks blocks c.args.column n c.args.y) next;
     }
