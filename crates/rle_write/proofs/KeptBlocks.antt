@@ -1,5 +1,5 @@
 -- The stretches of a lane's blocks, from east to west.
-use Rattle.std.proofs.Common.{◌≡◌, ◌∙◌, sym, ap, subst, inl, inr, ℕ, zero, suc, Bool, IsTrue, ◌+◌, ◌<◌, ◌≤◌, List, set, take, length, get_or, arith, ◌*◌, min, replicate, length-take}
+use Rattle.std.proofs.Common.{◌≡◌, ◌∙◌, sym, ap, subst, inl, inr, ℕ, zero, suc, Bool, IsTrue, None, ◌+◌, ◌<◌, ◌≤◌, List, set, take, length, get_or, arith, ◌*◌, min, replicate, length-take}
 use Rattle.std.proofs.lemmas.Bool.{cases_lt}
 use Rattle.std.proofs.lemmas.Bool.Decides.{eqb_tells}
 use Rattle.std.proofs.lemmas.List.{length-set, get_or-set_same, get_or-set_other, get_or-take, get_or-replicate, length-replicate}
@@ -9,7 +9,9 @@ use Rattle.plan_layout.specs.Slots.{slot_of}
 use Rattle.plan_layout.specs.Tape.{drawn_tiling}
 use Rattle.rle_write.specs.declared.blocks.Stretch.{Stretch}
 use Rattle.rle_write.specs.declared.body.Below.{Below}
-use Rattle.rle_write.specs.Blocks.{IsMotif, IsNextMotif, IsStretch, AreBlocks, AreBlocksFrom, AreKnownBelow, StandsUntil, no_stretch}
+use Rattle.rle_write.specs.Blocks.{IsMotif, IsNextMotif, IsStretch, AreBlocks, AreBlocksFrom, AreKnownBelow, no_stretch}
+use Rattle.rle_write.specs.Known.{IsKnown}
+use Rattle.rle_write.proofs.KnownLanes.{known_later, known_nothing}
 
 -- a motif of a block alone
 motif_alone : (plan : Plan) (lane size k : ℕ) → k < size → IsMotif plan lane size k 1 1
@@ -67,7 +69,7 @@ motif_next plan lane size k east goes_on next is same (inr (inr on)) =
 
 -- a block alone
 pub alone : (plan : Plan) (lane size k : ℕ) (slot : Slot) (below : Below) → k < size → slot_of slot ≡ drawn_tiling plan k lane
-    → StandsUntil plan k lane below.until slot
+    → IsKnown (drawn_tiling plan k) lane slot below
     → IsStretch plan lane size k (record { slot = slot; motif = 1; count = 1; reach = 1; below = below })
 alone plan lane size k slot below inside stands known = record {
   some = omega arith;
@@ -79,7 +81,7 @@ alone plan lane size k slot below inside stands known = record {
 
 -- a block west of a stretch
 pub longer : (plan : Plan) (lane size k : ℕ) (slot : Slot) (below : Below) (east : Stretch) (count : ℕ) (goes_on : Bool) (next : ℕ × ℕ) → IsStretch plan lane size (k + 1) east
-    → slot_of slot ≡ drawn_tiling plan k lane → StandsUntil plan k lane below.until slot → 1 ≤ count → (2 ≤ count → (slot ≡ east.slot) × (count ≤ east.count + 1))
+    → slot_of slot ≡ drawn_tiling plan k lane → IsKnown (drawn_tiling plan k) lane slot below → 1 ≤ count → (2 ≤ count → (slot ≡ east.slot) × (count ≤ east.count + 1))
     → (IsTrue goes_on → drawn_tiling plan (k + east.motif) lane ≡ drawn_tiling plan k lane) → IsNextMotif east goes_on next
     → IsStretch plan lane size k (record { slot = slot; motif = next.0; count = count; reach = next.1; below = below })
 longer plan lane size k slot below east count goes_on next is stands known some alike same motif = record {
@@ -118,32 +120,32 @@ blocks_more plan lane i blocks stretch inside east here k from below =
 
 -- what is known of the blocks below the others, if it is known of one more
 pub known_more : (plan : Plan) (lane i : ℕ) (blocks : List Stretch) (stretch : Stretch) → i < length blocks
-    → AreKnownBelow plan lane blocks → StandsUntil plan i lane stretch.below.until stretch.slot → AreKnownBelow plan lane (set blocks i stretch)
+    → AreKnownBelow plan lane blocks → IsKnown (drawn_tiling plan i) lane stretch.slot stretch.below → AreKnownBelow plan lane (set blocks i stretch)
 known_more plan lane i blocks stretch inside known here k within =
     let new : List Stretch = set blocks i stretch in
     let size : length new ≡ length blocks = length-set blocks i stretch in
     elim (eqb_tells k i) [
       | inl same ↦
-          subst (λ k. StandsUntil plan k lane (get_or new k no_stretch).below.until (get_or new k no_stretch).slot) (sym same.1)
-          (subst (λ (s : Stretch). StandsUntil plan i lane s.below.until s.slot) (sym (get_or-set_same blocks i stretch no_stretch inside)) here)
+          subst (λ k. IsKnown (drawn_tiling plan k) lane (get_or new k no_stretch).slot (get_or new k no_stretch).below) (sym same.1)
+          (subst (λ (s : Stretch). IsKnown (drawn_tiling plan i) lane s.slot s.below) (sym (get_or-set_same blocks i stretch no_stretch inside)) here)
       | inr other ↦
-          subst (λ (s : Stretch). StandsUntil plan k lane s.below.until s.slot) (sym (get_or-set_other blocks i k stretch no_stretch other.1))
+          subst (λ (s : Stretch). IsKnown (drawn_tiling plan k) lane s.slot s.below) (sym (get_or-set_other blocks i k stretch no_stretch other.1))
           (known k (omega (arith, within, size)))
     ]
 
 -- what is known below the kept blocks of a lane is known on each lane from it on
 pub known_below : (plan : Plan) (lane next : ℕ) (blocks : List Stretch) → lane ≤ next → AreBlocks plan lane blocks → AreKnownBelow plan next blocks
-known_below plan lane next blocks later are k within l from =
-    (are k (omega arith) within).below l (omega (arith, later, from))
+known_below plan lane next blocks later are k within =
+    known_later (drawn_tiling plan k) lane next _ _ later (are k (omega arith) within).below
 
 -- nothing is known below a block at first
-pub known_none : (plan : Plan) (n size : ℕ) (stretch : Stretch) → stretch.below.until ≡ 0 → AreKnownBelow plan 0 (take n (replicate size stretch))
-known_none plan n size stretch none k within l from to =
+pub known_none : (plan : Plan) (n size : ℕ) (stretch : Stretch) → stretch.below.until ≡ 0 → stretch.below.next ≡ None → AreKnownBelow plan 0 (take n (replicate size stretch))
+known_none plan n size stretch none nothing k within =
     let short : length (take n (replicate size stretch)) ≡ min n size = length-take n (replicate size stretch) ∙ ap (min n) (length-replicate size stretch) in
     let here : get_or (take n (replicate size stretch)) k no_stretch ≡ stretch =
     get_or-take n (replicate size stretch) k no_stretch (omega (arith, within, short)) ∙ get_or-replicate size k stretch no_stretch (omega (arith, within, short)) in
-    let same : (get_or (take n (replicate size stretch)) k no_stretch).below.until ≡ stretch.below.until = ap (λ (s : Stretch). s.below.until) here in
-    absurd (omega (arith, to, same, none))
+    subst (λ (s : Stretch). IsKnown (drawn_tiling plan k) 0 s.slot s.below) (sym here)
+    (known_nothing (drawn_tiling plan k) 0 stretch.slot stretch.below none nothing)
 
 -- the first blocks of a list reach no farther than those that there may be
 pub few_taken : {A : Type 0} (n width : ℕ) (blocks : List A) → 32 * n ≤ width → 32 * length (take n blocks) ≤ width

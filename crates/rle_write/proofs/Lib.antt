@@ -10,4 +10,5 @@ pub mod CopiedTags
 pub mod LapTexts
 pub mod StepTexts
 pub mod Wholes
+pub mod KnownLanes
 pub mod KeptBlocks

@@ -1,7 +1,6 @@
 -- The blocks of a lane that are kept for its rows of cells, and what stands west of them.
-use Rattle.std.specs.Prelude.{ℕ, zero, suc, Bool, List, [], ◌<◌, ◌≤◌, ◌≡◌, ◌⊎◌, ◌+◌, ◌*◌, ◌++◌, IsTrue, length, get_or, map}
+use Rattle.std.specs.Prelude.{ℕ, zero, suc, Bool, List, [], ◌<◌, ◌≤◌, ◌≡◌, ◌⊎◌, ◌+◌, ◌*◌, ◌++◌, IsTrue, None, length, get_or, map}
 use Rattle.lane_core.specs.declared.plan.Plan.{Plan}
-use Rattle.plan_layout.specs.declared.slot.Slot.{Slot}
 use Rattle.plan_layout.specs.declared.slot.Slot.TheVariants.{Nothing}
 use Rattle.plan_layout.specs.Slots.{slot_of}
 use Rattle.plan_layout.specs.Tape.{drawn_tiling}
@@ -10,6 +9,7 @@ use Rattle.grid_assembly.specs.declared.west.West.{West}
 use Rattle.grid_assembly.specs.West.{tape_end, IsWest}
 use Rattle.rle_write.specs.declared.blocks.Stretch.{Stretch}
 use Rattle.rle_write.specs.Dark.{bare_row}
+use Rattle.rle_write.specs.Known.{IsKnown}
 
 -- from the k-th block of a lane eastward so many blocks stand again and again, up to a reach that
 -- lies within the first `size` ones
@@ -20,11 +20,6 @@ pub record IsMotif (plan : Plan) (lane size k motif reach : ℕ) : Type 0 where
   pub within : k + reach ≤ size
   pub again : (i : ℕ) → i + motif < reach → drawn_tiling plan (k + i + motif) lane ≡ drawn_tiling plan (k + i) lane
 
--- what stands in a block of this lane stands also in those below it, before the lane `until`
-abbrev pub StandsUntil : Plan → (column lane until : ℕ) → Slot → Type 0
-StandsUntil plan column lane until slot =
-    (l : ℕ) → lane ≤ l → l < until → slot_of slot ≡ drawn_tiling plan column l
-
 -- from the k-th block of a lane eastward the same stands in a number of blocks, within the first
 -- `size` ones, and a motif; what is known of the blocks below it holds
 pub record IsStretch (plan : Plan) (lane size k : ℕ) (stretch : Stretch) : Type 0 where
@@ -32,7 +27,7 @@ pub record IsStretch (plan : Plan) (lane size k : ℕ) (stretch : Stretch) : Typ
   pub within : k + stretch.count ≤ size
   pub alike : (i : ℕ) → i < stretch.count → slot_of stretch.slot ≡ drawn_tiling plan (k + i) lane
   pub repeats : IsMotif plan lane size k stretch.motif stretch.reach
-  pub below : StandsUntil plan k lane stretch.below.until stretch.slot
+  pub below : IsKnown (drawn_tiling plan k) lane stretch.slot stretch.below
 
 -- the motif of a block and its reach, by those east of it: a motif of this block alone, or one that
 -- is longer by this block, or the same motif, which goes on
@@ -44,7 +39,7 @@ IsNextMotif east goes_on next =
 
 -- no stretch, in place of one that is not kept
 abbrev pub no_stretch : Stretch
-no_stretch = record { slot = Nothing; motif = 0; count = 0; reach = 0; below = record { above = 0; until = 0 } }
+no_stretch = record { slot = Nothing; motif = 0; count = 0; reach = 0; below = record { above = 0; until = 0; next = None } }
 
 -- the kept stretches are those of the first blocks of a lane of the drawing, from this block on
 abbrev pub AreBlocksFrom : Plan → (lane first : ℕ) → List Stretch → Type 0
@@ -60,7 +55,7 @@ AreBlocks plan lane blocks = AreBlocksFrom plan lane 0 blocks
 abbrev pub AreKnownBelow : Plan → ℕ → List Stretch → Type 0
 AreKnownBelow plan lane blocks =
     (k : ℕ) → k < length blocks
-    → StandsUntil plan k lane (get_or blocks k no_stretch).below.until (get_or blocks k no_stretch).slot
+    → IsKnown (drawn_tiling plan k) lane (get_or blocks k no_stretch).slot (get_or blocks k no_stretch).below
 
 -- from the k-th block of a lane eastward a number of blocks, at most four, stands so often
 pub record IsFigure (plan : Plan) (lane size k figure often : ℕ) : Type 0 where

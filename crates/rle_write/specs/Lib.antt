@@ -2,6 +2,7 @@ pub mod BlockRows
 pub mod Blocks
 pub mod Dark
 pub mod LapBytes
+pub mod Known
 pub mod Laps
 pub mod Left
 pub mod Opening

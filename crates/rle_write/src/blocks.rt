@@ -4,9 +4,10 @@ ghost use Rattle.lane_core.specs.Plans.{IsAdmissible};
 ghost use Rattle.plan_layout.specs.Layout.{tiling_of};
 ghost use Rattle.plan_layout.specs.Tape.{drawn_tiling};
 ghost use Rattle.plan_layout.specs.Slots.{slot_of};
-ghost use Rattle.rle_write.specs.Blocks.{AreBlocks, AreBlocksFrom, AreKnownBelow, IsNextMotif, IsStretch, StandsUntil};
+ghost use Rattle.rle_write.specs.Blocks.{AreBlocks, AreBlocksFrom, AreKnownBelow, IsNextMotif, IsStretch};
+ghost use Rattle.rle_write.specs.Known.{IsKnown, StandsKnown};
 
-use crate::body::{Below, body_block};
+use crate::body::{Below, body_block, known_slot, known_within};
 use lane_core::Plan;
 use plan_layout::{Piece, Slot, slot_at, slot_drawn_at};
 
@@ -53,49 +54,36 @@ pub fn is_same(a: Slot, b: Slot) -> bool
 // of its column of the body lie above the lane before it, or else one is searched.
 fn bare_block(plan: &Plan, column: u64, lane: u64, before: u32) -> (Slot, Below)
     requires admissible { IsAdmissible plan.now }
-    ensures here { slot_of result.0 ≡ tiling_of plan.now column lane }
-    ensures below { (l : ℕ) → lane ≤ l → l < result.1.until →
-        slot_of result.0 ≡ tiling_of plan.now column l }
+    ensures { StandsKnown (tiling_of plan.now column) lane result.0 result.1 }
 {
     let loops = plan.latches as u64;
     let end = loops + plan.columns.len() as u64;
     if loops <= column && column < end && lane < plan.lanes as u64 {
         let instrs = plan.columns.get((column - loops) as usize);
         let (slot, below) = body_block(instrs, lane as u32, before);
-        let until = below.until.min(plan.lanes);
-        (
-            slot,
-            Below {
-                above: below.above,
-                until,
-            },
-        )
+        (slot, known_within(below, plan.lanes))
     } else {
-        (
-            slot_at(plan, column, lane),
-            Below {
-                above: before,
-                until: 0,
-            },
-        )
+        (slot_at(plan, column, lane), Below::nothing(before))
     }
 }
 
-// What stands in a block of the drawing, and on the lanes below it: if the plan has no tape, what the
-// plan has there. It is known if it stood in the block above, and stands on the lanes below that.
+// What stands in a block of the drawing, and on the lanes below it: what is known of it from the block
+// above, or else, if the plan has no tape, what the plan has there.
 fn block_at(plan: &Plan, column: u64, lane: u64, slot: Slot, below: Below) -> (Slot, Below)
     requires admissible { IsAdmissible plan.now }
-    requires known { StandsUntil plan.now column lane below.until slot }
-    ensures here { slot_of result.0 ≡ drawn_tiling plan.now column lane }
-    ensures below { StandsUntil plan.now column lane result.1.until result.0 }
+    requires known { IsKnown (drawn_tiling plan.now column) lane slot below }
+    ensures { StandsKnown (drawn_tiling plan.now column) lane result.0 result.1 }
 {
-    if lane < below.until as u64 {
-        return (slot, below);
+    if let Some(known) = known_slot(lane, slot, below) {
+        return (known, below);
     }
     if plan.tape.len() == 0 {
         bare_block(plan, column, lane, below.above)
     } else {
-        (slot_drawn_at(plan, column, lane), below)
+        (
+            slot_drawn_at(plan, column, lane),
+            Below::nothing(below.above),
+        )
     }
 }
 

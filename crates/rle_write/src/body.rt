@@ -1,21 +1,38 @@
 // What stands in the blocks of a plan's body. From lane to lane it is known of each column how many
 // of its instructions lie above, so that the instruction on a lane needs no search.
-ghost use Rattle.std.specs.Prelude.{◌≡◌, ◌≤◌, ◌<◌, ◌+◌, ℕ, None, IsTrue, false};
+ghost use Rattle.std.specs.Prelude.{◌≡◌, ◌≤◌, ◌<◌, ◌+◌, None, IsTrue, false};
 ghost use Rattle.std.specs.List.{AllWithin};
 ghost use Rattle.lane_core.specs.Instrs.{lane_of, are_sorted_apart, instr_on};
 ghost use Rattle.plan_layout.specs.Layout.{kind_of, body_slot};
 ghost use Rattle.plan_layout.specs.Slots.{slot_of};
+ghost use Rattle.rle_write.specs.Known.{IsKnownOn, IsWithin, StandsKnown, near_slot};
 
 use lane_core::{Column, Instr};
 use plan_layout::{Piece, Slot};
 use tile_core::Kind;
 
 /// What is known of a column below a lane. What stands on the lane stands on each lane from it on
-/// before `until`. So many instructions of the column lie above the lane; nothing rests on this number.
+/// before `until`. If there is a next kind, a tile of it stands on lane `until` and the one below. So
+/// many instructions of the column lie above the lane; nothing rests on this number.
 #[derive(Clone, Copy)]
 pub struct Below {
     pub above: u32,
     pub until: u32,
+    pub next: Option<Kind>,
+}
+
+impl Below {
+    /// Nothing is known, if it may be that so many instructions lie above the lane.
+    pub fn nothing(above: u32) -> Below
+        ensures until { result.until ≡ 0 }
+        ensures next { result.next ≡ None }
+    {
+        Below {
+            above,
+            until: 0,
+            next: None,
+        }
+    }
 }
 
 // The kind of tile that does an instruction.
@@ -66,48 +83,88 @@ fn are_above(instrs: &[Instr], lane: u32, count: usize) -> bool
     count == 0 || (count <= instrs.len() && is_above(instrs[count - 1], lane))
 }
 
-// The lane before which no instruction of a column works from this lane on, as far as it is known: if
-// so many instructions lie above the lane.
-fn free_until(column: &Column, lane: u32, above: usize) -> u32
-    ensures { (l : ℕ) → lane ≤ l → l < result → instr_on column.now.instrs l ≡ None }
+// What stands on a lane of the body, if this is the first instruction that does not lie above it.
+fn slot_near(lane: u32, instr: Instr) -> Slot
+    ensures { slot_of result ≡ near_slot lane instr }
 {
-    let instrs = column.instrs.as_slice();
-    if !are_above(instrs, lane, above) {
-        return 0;
-    }
-    match instrs.get(above) {
-        Some(instr) => instr.lane(),
-        None => u32::MAX,
+    if lane < instr.lane() {
+        slot_by(lane, None)
+    } else {
+        slot_by(lane, Some(instr))
     }
 }
 
-// The instruction of a column that works on a lane, if there is one. It is searched if it is not the
-// first of those after so many, or if another number of instructions lies above the lane.
-fn instr_after(column: &Column, lane: u32, above: usize) -> Option<Instr>
-    ensures { result ≡ instr_on column.now.instrs lane }
+// What stands on a lane of a column of the body, by a search for the instruction that works on it.
+fn searched_block(column: &Column, lane: u32, above: u32) -> (Slot, Below)
+    ensures { StandsKnown (λ l. body_slot l (instr_on column.now.instrs l)) lane result.0 result.1 }
+{
+    (slot_by(lane, column.instr_on(lane)), Below::nothing(above))
+}
+
+// What stands on a lane of a column, and what is known of the lanes below it, by the first of its
+// instructions that does not lie above the lane, or by a search if this may be another.
+fn block_after(column: &Column, lane: u32, above: u32) -> (Slot, Below)
+    ensures { StandsKnown (λ l. body_slot l (instr_on column.now.instrs l)) lane result.0 result.1 }
 {
     let instrs = column.instrs.as_slice();
-    if !are_above(instrs, lane, above) {
-        return column.instr_on(lane);
+    if !are_above(instrs, lane, above as usize) {
+        return searched_block(column, lane, above);
     }
-    match instrs.get(above) {
-        Some(instr) if instr.lane() <= lane && !is_above(*instr, lane) => Some(*instr),
-        _ => column.instr_on(lane),
+    match instrs.get(above as usize) {
+        None => (
+            slot_by(lane, None),
+            Below {
+                above,
+                until: u32::MAX,
+                next: None,
+            },
+        ),
+        Some(instr) if is_above(*instr, lane) => searched_block(column, lane, above),
+        Some(instr) => (
+            slot_near(lane, *instr),
+            Below {
+                above,
+                until: instr.lane(),
+                next: Some(kind_of(*instr)),
+            },
+        ),
     }
 }
 
 /// Returns what stands on a lane of a column of the body, and what is known of the lanes below it.
 /// If so many of the column's instructions lie above the lane before it, no instruction is searched.
 pub fn body_block(column: &Column, lane: u32, before: u32) -> (Slot, Below)
-    ensures here { slot_of result.0 ≡ body_slot lane (instr_on column.now.instrs lane) }
-    ensures below { (l : ℕ) → lane ≤ l → l < result.1.until →
-        slot_of result.0 ≡ body_slot l (instr_on column.now.instrs l) }
+    ensures { StandsKnown (λ l. body_slot l (instr_on column.now.instrs l)) lane result.0 result.1 }
 {
     let above = count_above(column.instrs.as_slice(), lane, before);
-    let until = free_until(column, lane, above as usize);
+    block_after(column, lane, above)
+}
+
+/// Returns what stands on a lane, if it is known of a lane above it on which `slot` stands.
+pub fn known_slot(lane: u64, slot: Slot, below: Below) -> Option<Slot>
+    ensures { IsKnownOn lane slot below result }
+{
+    let until = below.until as u64;
     if lane < until {
-        return (Slot::Whole(Piece::Tile(Kind::East)), Below { above, until });
+        return Some(slot);
     }
-    let instr = instr_after(column, lane, above as usize);
-    (slot_by(lane, instr), Below { above, until: 0 })
+    match below.next {
+        Some(kind) if lane == until => Some(Slot::Upper(Piece::Tile(kind))),
+        Some(kind) if lane == until + 1 => Some(Slot::Lower(Piece::Tile(kind))),
+        _ => None,
+    }
+}
+
+/// Returns what is known of so many lanes at most.
+pub fn known_within(below: Below, lanes: u32) -> Below
+    ensures { IsWithin lanes below result }
+{
+    if (below.until as u64) + 1 < lanes as u64 {
+        return below;
+    }
+    Below {
+        above: below.above,
+        until: below.until.min(lanes),
+        next: None,
+    }
 }

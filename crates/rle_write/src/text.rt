@@ -107,7 +107,11 @@ pub fn write<O: Sink>(plan: &Plan, ports: &Ports, sink: &mut O) -> Result<(), Fa
         motif: 0,
         count: 0,
         reach: 0,
-        below: Below { above: 0, until: 0 },
+        below: Below {
+            above: 0,
+            until: 0,
+            next: None,
+        },
     }; KEPT];
     let kept = &mut blocks[..kept_blocks(width)];
     write_plan_rows(sink, &mut page, plan, kept, width, height)?;

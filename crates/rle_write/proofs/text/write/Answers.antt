@@ -47,4 +47,4 @@ pub write_plan_rows-requires-clause-inside : goal.write_plan_rows-requires-claus
 write_plan_rows-requires-clause-inside g c = few_taken c.kept_blocks.result _ _ c.kept_blocks.ensures.inside
 
 pub write_plan_rows-requires-clause-known : goal.write_plan_rows-requires-clause-known
-write_plan_rows-requires-clause-known g c = known_none c.args.plan.now c.kept_blocks.result 32768 no_stretch refl
+write_plan_rows-requires-clause-known g c = known_none c.args.plan.now c.kept_blocks.result 32768 no_stretch refl refl
