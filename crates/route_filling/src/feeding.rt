@@ -16,24 +16,35 @@ pub struct PortRow {
     pub wire: Option<u32>,
 }
 
-/// The number of the port at which a wire ends, the source of its last latch, if it has latches, and the next wire that
-/// begins at its port.
-#[derive(Clone, Copy)]
-pub struct WireRow {
-    pub end: usize,
-    pub latch: Option<Src>,
-    pub next: Option<u32>,
-}
-
-/// The ports of all gates, the wires, and the inputs that are driven, by the numbers of their drives. `fault` is the
-/// first fault that was found, and `is_short` says whether memory ran out.
+/// The ports of all gates, for each wire the next one that begins at its port, and the inputs that are driven, by the
+/// numbers of their drives. `fault` is the first fault that was found.
 #[derive(Drop)]
 pub struct FedPorts {
     pub ports: Vec<PortRow>,
-    pub wires: Vec<WireRow>,
+    pub next: Vec<Option<u32>>,
     pub driven: Vec<GateInput>,
     pub fault: Option<CellFault>,
-    pub is_short: bool,
+}
+
+/// Returns the number of the port at which a wire ends.
+pub fn end_of(rows: &[GateRow], wire: &DrawnWire) -> usize {
+    let port = GatePort::In(wire.input);
+    port_number(
+        rows,
+        DrawnPort {
+            gate: wire.gate,
+            port,
+        },
+    )
+}
+
+/// Returns the source of a wire's last latch, if it has latches.
+pub fn last_latch(wire: &DrawnWire) -> Option<Src> {
+    if wire.cycles > 0 {
+        Some(Src::Latch(wire.latch.saturating_add(wire.cycles - 1)))
+    } else {
+        None
+    }
 }
 
 // Feeds an input, by the number of its port, if it is there and not fed yet; returns whether it did.
@@ -45,19 +56,8 @@ fn feed(ports: &mut [PortRow], number: usize, by: Feed) -> bool {
     true
 }
 
-// Puts a wire first among those that begin at a port; returns the one that was first.
-fn put_first(ports: &mut [PortRow], number: usize, wire: u32) -> Option<u32> {
-    if number >= ports.len() {
-        return None;
-    }
-    let before = ports[number].wire;
-    ports[number].wire = Some(wire);
-    before
-}
-
 // Adds the ports of the gate with this number; returns whether memory ran out.
 fn add_ports(ports: &mut Vec<PortRow>, gate: u32, row: &GateRow) -> bool {
-    let mut is_short = false;
     for number in row.ins..row.end {
         let port = if number < row.outs {
             GatePort::In(small(number.saturating_sub(row.ins)))
@@ -70,19 +70,92 @@ fn add_ports(ports: &mut Vec<PortRow>, gate: u32, row: &GateRow) -> bool {
             source: None,
             wire: None,
         };
-        is_short |= ports.push(unknown).is_err();
+        if ports.push(unknown).is_err() {
+            return true;
+        }
     }
-    is_short
+    false
 }
 
 // Adds the ports of all gates; returns whether memory ran out.
 fn add_all_ports(ports: &mut Vec<PortRow>, rows: &[GateRow]) -> bool {
-    let (mut gate, mut is_short) = (0u32, false);
+    let mut gate = 0u32;
     for row in rows {
-        is_short |= add_ports(ports, gate, row);
+        if add_ports(ports, gate, row) {
+            return true;
+        }
         gate = gate.saturating_add(1);
     }
-    is_short
+    false
+}
+
+// Puts the wire with this number first among those that begin at a port.
+fn put_first(ports: &mut [PortRow], next: &mut [Option<u32>], number: usize, wire: u32) {
+    if number < ports.len() && (wire as usize) < next.len() {
+        next[wire as usize] = ports[number].wire;
+        ports[number].wire = Some(wire);
+    }
+}
+
+// Has all wires begin at their ports, and feed the inputs at their ends. The first wire whose input is not there, or is
+// fed already, is at fault.
+fn feed_by_wires(
+    ports: &mut [PortRow],
+    next: &mut [Option<u32>],
+    rows: &[GateRow],
+    drawing: &Drawing,
+) -> Option<CellFault> {
+    let mut number = 0u32;
+    for wire in drawing.wires.as_slice() {
+        put_first(ports, next, port_number(rows, wire.from), number);
+        if !feed(ports, end_of(rows, wire), Feed::Wire(number)) {
+            return Some(at_gate(drawing, wire.gate, FaultWord::Fed));
+        }
+        number = number.saturating_add(1);
+    }
+    None
+}
+
+// Drives the circuit's inputs; of a lone cell, whose output is its input, the input. The first one that is not there, or
+// is fed already, is at fault.
+fn drive_inputs(ports: &mut [PortRow], rows: &[GateRow], drawing: &Drawing) -> Option<CellFault> {
+    let mut drive = 0u32;
+    for at in drawing.ins.as_slice() {
+        let mut input = *at;
+        if let GatePort::Out(_) = at.port {
+            input.port = GatePort::In(0);
+        }
+        if !feed(ports, port_number(rows, input), Feed::Driven(drive)) {
+            return Some(at_gate(drawing, at.gate, FaultWord::Port));
+        }
+        drive = drive.saturating_add(1);
+    }
+    None
+}
+
+// Drives the inputs that nothing feeds, by the drives from this number on; returns the number of all drives.
+fn drive_others(ports: &mut [PortRow], first: u32) -> u32 {
+    let mut drive = first;
+    for number in 0..ports.len() {
+        if let GatePort::In(_) = ports[number].at.port {
+            if feed(ports, number, Feed::Driven(drive)) {
+                drive = drive.saturating_add(1);
+            }
+        }
+    }
+    drive
+}
+
+// Puts the driven inputs where the numbers of their drives say.
+fn put_driven(driven: &mut [GateInput], ports: &[PortRow]) {
+    for port in ports {
+        let DrawnPort { gate, port: at } = port.at;
+        if let (Some(Feed::Driven(drive)), GatePort::In(input)) = (port.feed, at) {
+            if (drive as usize) < driven.len() {
+                driven[drive as usize] = GateInput { gate, input };
+            }
+        }
+    }
 }
 
 impl FedPorts {
@@ -90,88 +163,24 @@ impl FedPorts {
     pub fn new(alloc: Global) -> FedPorts {
         FedPorts {
             ports: Vec::new(alloc),
-            wires: Vec::new(alloc),
+            next: Vec::new(alloc),
             driven: Vec::new(alloc),
             fault: None,
-            is_short: false,
         }
     }
 
-    // Notes a fault at the gate with this number, unless one was found before.
-    fn refuse(&mut self, drawing: &Drawing, gate: u32, word: FaultWord) {
-        if self.fault.is_none() {
-            self.fault = Some(at_gate(drawing, gate, word));
-        }
-    }
-
-    // Adds the wire with this number, and feeds the input at its end; returns whether it did.
-    fn add_wire(&mut self, rows: &[GateRow], wire: &DrawnWire, number: u32) -> bool {
-        let port = GatePort::In(wire.input);
-        let end = port_number(
-            rows,
-            DrawnPort {
-                gate: wire.gate,
-                port,
-            },
-        );
-        let mut latch = None;
-        if wire.cycles > 0 {
-            latch = Some(Src::Latch(wire.latch.saturating_add(wire.cycles - 1)));
-        }
-        let next = put_first(&mut self.ports, port_number(rows, wire.from), number);
-        self.is_short |= self.wires.push(WireRow { end, latch, next }).is_err();
-        feed(&mut self.ports, end, Feed::Wire(number))
-    }
-
-    // Adds all wires. An input with two wires, and one that is not there, are at fault.
-    fn add_wires(&mut self, rows: &[GateRow], drawing: &Drawing) {
-        let mut number = 0u32;
-        for wire in drawing.wires.as_slice() {
-            if !self.add_wire(rows, wire, number) {
-                self.refuse(drawing, wire.gate, FaultWord::Fed);
-            }
-            number = number.saturating_add(1);
-        }
-    }
-
-    // Drives the input at the port with this number, if it is there and not fed yet; returns whether it did.
-    fn drive(&mut self, number: usize) -> bool {
-        if number >= self.ports.len() {
-            return false;
-        }
-        let DrawnPort { gate, port } = self.ports[number].at;
-        let GatePort::In(input) = port else {
-            return false;
-        };
-        let drive = small(self.driven.len());
-        if !feed(&mut self.ports, number, Feed::Driven(drive)) {
-            return false;
-        }
-        self.is_short |= self.driven.push(GateInput { gate, input }).is_err();
-        true
-    }
-
-    // Drives the circuit's inputs; of a lone cell, whose output is its input, the input. One that is not there, and one
-    // that is fed already, are at fault.
-    fn drive_inputs(&mut self, rows: &[GateRow], drawing: &Drawing) {
-        for at in drawing.ins.as_slice() {
-            let mut input = *at;
-            if let GatePort::Out(_) = at.port {
-                input.port = GatePort::In(0);
-            }
-            if !self.drive(port_number(rows, input)) {
-                self.refuse(drawing, at.gate, FaultWord::Port);
-            }
-        }
-    }
-
-    /// Adds the ports of a drawing's gates, and feeds all inputs: by wires, and the others by drives.
-    pub fn fill(&mut self, rows: &[GateRow], drawing: &Drawing) {
-        self.is_short |= add_all_ports(&mut self.ports, rows);
-        self.add_wires(rows, drawing);
-        self.drive_inputs(rows, drawing);
-        for number in 0..self.ports.len() {
-            self.drive(number);
-        }
+    /// Adds the ports of a drawing's gates, and feeds all inputs: by wires, and the others by drives. Returns whether
+    /// memory ran out.
+    pub fn fill(&mut self, rows: &[GateRow], drawing: &Drawing) -> bool {
+        let next = self.next.resize(drawing.wires.len(), None).is_err();
+        let ports = add_all_ports(&mut self.ports, rows);
+        let wires = feed_by_wires(&mut self.ports, &mut self.next, rows, drawing);
+        let inputs = drive_inputs(&mut self.ports, rows, drawing);
+        self.fault = wires.or(inputs);
+        let drives = drive_others(&mut self.ports, small(drawing.ins.len()));
+        let undriven = GateInput { gate: 0, input: 0 };
+        let driven = self.driven.resize(drives as usize, undriven).is_err();
+        put_driven(&mut self.driven, &self.ports);
+        next | ports | driven
     }
 }

@@ -1,6 +1,8 @@
 // The gates of a drawing, their kinds, and the numbers of their ports.
 
-use gate_library::{Drawing, DrawnPort, GateDrawing, GateKind, GatePort, LawfulGate, drawing_of};
+use gate_library::{
+    Drawing, DrawnGate, DrawnPort, GateDrawing, GateKind, GatePort, LawfulGate, drawing_of,
+};
 use route_tables::{CellFault, FaultWord};
 use std::alloc::Global;
 
@@ -14,14 +16,11 @@ pub struct GateRow {
     pub end: usize,
 }
 
-/// The rows of a drawing's gates, and the kinds that these use, with their drawings. `fault` is at the first gate
-/// whose kind keeps no law.
+/// The kinds of a drawing's gates, each once, if their drawings keep a law, and the rows of the gates.
 #[derive(Drop)]
 pub struct GateRows {
-    names: Vec<GateKind>,
     pub kinds: Vec<LawfulGate>,
     pub rows: Vec<GateRow>,
-    pub fault: Option<CellFault>,
 }
 
 /// Returns a number as a `u32`, or the greatest one if it is greater.
@@ -82,35 +81,59 @@ fn add_kind(
     }
 }
 
+// Adds the kinds of gates, each once; returns whether memory ran out.
+fn add_kinds(
+    names: &mut Vec<GateKind>,
+    kinds: &mut Vec<LawfulGate>,
+    alloc: Global,
+    gates: &[DrawnGate],
+) -> bool {
+    for gate in gates {
+        if kind_number(names, gate.kind) == names.len()
+            && add_kind(names, kinds, alloc, gate.kind)
+        {
+            return true;
+        }
+    }
+    false
+}
+
 impl GateRows {
     /// Returns the rows of no gates.
     pub fn new(alloc: Global) -> GateRows {
         GateRows {
-            names: Vec::new(alloc),
             kinds: Vec::new(alloc),
             rows: Vec::new(alloc),
-            fault: None,
         }
     }
 
-    /// Adds the gates of a drawing, whose ports are numbered one gate after the other; returns whether memory ran out.
-    pub fn fill(&mut self, alloc: Global, drawing: &Drawing) -> bool {
-        let (mut number, mut first, mut is_short) = (0u32, 0usize, false);
-        let mut fault = None;
-        for gate in drawing.gates.as_slice() {
-            let kind = kind_number(&self.names, gate.kind);
-            if kind == self.names.len() {
-                is_short |= add_kind(&mut self.names, &mut self.kinds, alloc, gate.kind);
+    // Adds the rows of gates, whose kinds have these names.
+    fn add_rows(&mut self, names: &[GateKind], gates: &[DrawnGate]) -> bool {
+        let mut first = 0usize;
+        for gate in gates {
+            let row = row_of(&self.kinds, kind_number(names, gate.kind), first);
+            first = row.end;
+            if self.rows.push(row).is_err() {
+                return true;
             }
-            if kind >= self.kinds.len() && fault.is_none() {
-                fault = Some(at_gate(drawing, number, FaultWord::Kind));
-            }
-            let row = row_of(&self.kinds, kind, first);
-            is_short |= self.rows.push(row).is_err();
-            (number, first) = (number.saturating_add(1), row.end);
         }
-        self.fault = fault;
-        is_short
+        false
+    }
+
+    /// Adds the gates of a drawing, whose ports are numbered one gate after the other; returns whether memory ran out.
+    pub fn fill(&mut self, alloc: Global, gates: &[DrawnGate]) -> bool {
+        let mut names = Vec::new(alloc);
+        add_kinds(&mut names, &mut self.kinds, alloc, gates) || self.add_rows(&names, gates)
+    }
+
+    /// Returns the first gate whose kind keeps no law, if there is one.
+    pub fn unlawful(&self) -> Option<u32> {
+        for number in 0..self.rows.len() {
+            if self.rows[number].kind as usize >= self.kinds.len() {
+                return Some(small(number));
+            }
+        }
+        None
     }
 
     /// Returns the drawing of the gate with this number, if its kind keeps its law.

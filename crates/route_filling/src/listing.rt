@@ -54,14 +54,74 @@ fn list_gates(
     gates: &GateRows,
     drawn: &[DrawnGate],
 ) -> bool {
-    let mut is_short = false;
     for number in 0..drawn.len() {
         if let Some(drawing) = gates.drawing_of(number) {
-            is_short |= add_cells(cells, &drawn[number], drawing);
+            if add_cells(cells, &drawn[number], drawing) {
+                return true;
+            }
         }
-        is_short |= groups.resize(cells.len(), small(number)).is_err();
+        if groups.resize(cells.len(), small(number)).is_err() {
+            return true;
+        }
     }
-    is_short
+    false
+}
+
+// Adds a wire, and lists its cells, which are of this group; returns whether memory ran out.
+fn add_wire(
+    cells: &mut Vec<(u32, u32)>,
+    groups: &mut Vec<u32>,
+    wires: &mut Vec<TableWire>,
+    path: &[(u32, u32)],
+    wire: &DrawnWire,
+    group: u32,
+) -> bool {
+    let row = TableWire {
+        start: small(cells.len()),
+        size: wire.size,
+        from: wire.from,
+        to: GateInput {
+            gate: wire.gate,
+            input: wire.input,
+        },
+        cycles: wire.cycles,
+    };
+    let (begin, size) = (wire.start as usize, wire.size as usize);
+    let own = part(path, begin, begin.saturating_add(size));
+    cells.extend_from_slice(own).is_err()
+        | groups.resize(cells.len(), group).is_err()
+        | wires.push(row).is_err()
+}
+
+// Adds all wires, whose groups come after those of the gates; returns whether memory ran out.
+fn add_wires(
+    cells: &mut Vec<(u32, u32)>,
+    groups: &mut Vec<u32>,
+    wires: &mut Vec<TableWire>,
+    drawing: &Drawing,
+) -> bool {
+    let mut group = small(drawing.gates.len());
+    for wire in drawing.wires.as_slice() {
+        if add_wire(cells, groups, wires, drawing.path.as_slice(), wire, group) {
+            return true;
+        }
+        group = group.saturating_add(1);
+    }
+    false
+}
+
+// Numbers the listed cells in a box of so many columns. Of two at one place the last one counts.
+fn put_serials(serials: &mut [u32], cells: &[(u32, u32)], width: u32) {
+    let mut serial = 0u32;
+    for cell in cells {
+        serial = serial.saturating_add(1);
+        let at = (cell.1 as usize)
+            .saturating_mul(width as usize)
+            .saturating_add(cell.0 as usize);
+        if cell.0 < width && at < serials.len() {
+            serials[at] = serial;
+        }
+    }
 }
 
 impl Listing {
@@ -76,59 +136,30 @@ impl Listing {
         }
     }
 
-    // Adds a wire, and lists its cells, whose group is this one; returns whether memory ran out.
-    fn add_wire(&mut self, path: &[(u32, u32)], wire: &DrawnWire, group: u32) -> bool {
-        let row = TableWire {
-            start: small(self.cells.len()),
-            size: wire.size,
-            from: wire.from,
-            to: GateInput {
-                gate: wire.gate,
-                input: wire.input,
-            },
-            cycles: wire.cycles,
-        };
-        let (begin, size) = (wire.start as usize, wire.size as usize);
-        let own = part(path, begin, begin.saturating_add(size));
-        let cells = self.cells.extend_from_slice(own).is_err();
-        let groups = self.groups.resize(self.cells.len(), group).is_err();
-        cells | groups | self.wires.push(row).is_err()
-    }
-
-    /// Lists a drawing's gates, with the sources of their ports, and its wires, and the cells of both. The groups of
-    /// wires come after those of the gates. Returns whether memory ran out.
+    /// Lists a drawing's gates, with the sources of their ports, and its wires, and the cells of both, in a box of so
+    /// many columns and cells. Returns whether memory ran out.
     pub fn fill(
         &mut self,
         alloc: Global,
         gates: &GateRows,
         ports: &[PortRow],
         drawing: &Drawing,
+        width: u32,
+        size: usize,
     ) -> bool {
-        let (drawn, path) = (drawing.gates.as_slice(), drawing.path.as_slice());
-        let mut is_short = add_gates(&mut self.gates, alloc, drawn, &gates.rows, ports);
-        is_short |= list_gates(&mut self.cells, &mut self.groups, gates, drawn);
-        let mut group = small(drawn.len());
-        for wire in drawing.wires.as_slice() {
-            is_short |= self.add_wire(path, wire, group);
-            group = group.saturating_add(1);
-        }
-        is_short
-    }
-
-    /// Numbers the listed cells in a box of so many columns and cells. Of two at one place the last one counts. Returns
-    /// whether memory ran out.
-    pub fn number(&mut self, width: u32, size: usize) -> bool {
-        let is_short = self.serials.resize(size, 0).is_err();
-        let mut serial = 0u32;
-        for cell in &self.cells {
-            serial = serial.saturating_add(1);
-            let at = (cell.1 as usize)
-                .saturating_mul(width as usize)
-                .saturating_add(cell.0 as usize);
-            if cell.0 < width && at < self.serials.len() {
-                self.serials[at] = serial;
-            }
-        }
+        let Listing {
+            cells,
+            groups,
+            wires,
+            gates: table,
+            serials,
+        } = self;
+        let drawn = drawing.gates.as_slice();
+        let is_short = add_gates(table, alloc, drawn, &gates.rows, ports)
+            | list_gates(cells, groups, gates, drawn)
+            | add_wires(cells, groups, wires, drawing)
+            | serials.resize(size, 0).is_err();
+        put_serials(serials, cells, width);
         is_short
     }
 }
@@ -182,13 +213,12 @@ fn add_gates(
     rows: &[GateRow],
     ports: &[PortRow],
 ) -> bool {
-    let mut is_short = false;
     for number in 0..gates.len() {
-        if number < rows.len() {
-            is_short |= add_gate(table, alloc, &gates[number], &rows[number], ports);
+        if number < rows.len() && add_gate(table, alloc, &gates[number], &rows[number], ports) {
+            return true;
         }
     }
-    is_short
+    false
 }
 
 /// Adds the ports of nets that are drawn; returns whether memory ran out.

@@ -1,10 +1,10 @@
 // The sources of all ports, found from the circuit's inputs and latches on.
 
-use crate::feeding::{PortRow, WireRow};
+use crate::feeding::{PortRow, end_of, last_latch};
 use crate::gates::{GateRow, GateRows, port_number, small};
 use crate::listing::part;
 use cell_core::{Cell, Src};
-use gate_library::{Answer, DrawnPort, GatePort};
+use gate_library::{Answer, Drawing, DrawnPort, DrawnWire, GatePort};
 use route_tables::Feed;
 use std::alloc::Global;
 
@@ -15,22 +15,13 @@ struct Known {
     source: Src,
 }
 
-/// The cells that were made so far, and the ports from which the search goes on. `is_short` says whether memory ran
-/// out.
-#[derive(Drop)]
-pub struct Search {
-    pub cells: Vec<Cell>,
-    waiting: Vec<Known>,
-    pub is_short: bool,
-}
-
 // The source with which an input begins, if it is driven or at the end of a wire with latches.
-fn first_source(feed: Feed, wires: &[WireRow], inputs: u32) -> Option<Src> {
+fn first_source(feed: Feed, drawing: &Drawing) -> Option<Src> {
     match feed {
-        Feed::Driven(d) if d < inputs => Some(Src::Input(d)),
+        Feed::Driven(d) if (d as usize) < drawing.ins.len() => Some(Src::Input(d)),
         Feed::Driven(_) => Some(Src::Zero),
-        Feed::Wire(w) => match wires.get(w as usize) {
-            Some(wire) => wire.latch,
+        Feed::Wire(w) => match drawing.wires.as_slice().get(w as usize) {
+            Some(wire) => last_latch(wire),
             None => None,
         },
     }
@@ -63,103 +54,126 @@ fn source_at(ports: &[PortRow], number: u32) -> Option<Src> {
     }
 }
 
-impl Search {
-    /// Returns a search that has not begun.
-    pub fn new(alloc: Global) -> Search {
-        Search {
-            cells: Vec::new(alloc),
-            waiting: Vec::new(alloc),
-            is_short: false,
-        }
-    }
-
-    // Begins at the inputs that are driven, and at those at the ends of wires with latches.
-    fn begin(&mut self, ports: &[PortRow], wires: &[WireRow], inputs: u32) {
-        for port in 0..ports.len() {
-            if let Some(feed) = ports[port].feed {
-                if let Some(source) = first_source(feed, wires, inputs) {
-                    self.is_short |= self.waiting.push(Known { port, source }).is_err();
+// Begins at the inputs that are driven, and at those at the ends of wires with latches; returns whether memory ran out.
+fn begin(waiting: &mut Vec<Known>, ports: &[PortRow], drawing: &Drawing) -> bool {
+    for port in 0..ports.len() {
+        if let Some(feed) = ports[port].feed {
+            if let Some(source) = first_source(feed, drawing) {
+                if waiting.push(Known { port, source }).is_err() {
+                    return true;
                 }
             }
         }
     }
+    false
+}
 
-    // Leads a source along the wires that begin at its port, of which this is the first. A wire with latches ends it.
-    fn lead(&mut self, wires: &[WireRow], first: Option<u32>, source: Src) {
-        let mut at = first;
-        for _ in 0..wires.len() {
-            let Some(number) = at else {
-                break;
-            };
-            let Some(wire) = wires.get(number as usize) else {
-                break;
-            };
-            if wire.latch.is_none() {
-                let port = wire.end;
-                self.is_short |= self.waiting.push(Known { port, source }).is_err();
+// Leads a source along the wires that begin at its port, of which this is the first. A wire with latches ends it.
+// Returns whether memory ran out.
+fn lead(
+    waiting: &mut Vec<Known>,
+    wires: &[DrawnWire],
+    next: &[Option<u32>],
+    rows: &[GateRow],
+    first: Option<u32>,
+    source: Src,
+) -> bool {
+    let mut at = first;
+    for _ in 0..wires.len() {
+        let Some(number) = at else {
+            break;
+        };
+        let number = number as usize;
+        if number >= wires.len() || number >= next.len() {
+            break;
+        }
+        let port = end_of(rows, &wires[number]);
+        if wires[number].cycles == 0 && waiting.push(Known { port, source }).is_err() {
+            return true;
+        }
+        at = next[number];
+    }
+    false
+}
+
+// Makes known what answers inputs at a port, if the given one is the last of them that became known; returns whether
+// memory ran out.
+fn answer_port(
+    cells: &mut Vec<Cell>,
+    waiting: &mut Vec<Known>,
+    ins: &[PortRow],
+    input: u32,
+    answer: Answer,
+    port: usize,
+) -> bool {
+    let (i, j) = inputs_of(answer);
+    if i != input && j != input {
+        return false;
+    }
+    let (Some(a), Some(b)) = (source_at(ins, i), source_at(ins, j)) else {
+        return false;
+    };
+    let Some(cell) = cell_of(answer, a, b) else {
+        return waiting.push(Known { port, source: a }).is_err();
+    };
+    let source = Src::Cell(small(cells.len()));
+    cells.push(cell).is_err() | waiting.push(Known { port, source }).is_err()
+}
+
+// Answers what can be answered of a gate, of which this input became known; returns whether memory ran out.
+fn answer_gate(
+    cells: &mut Vec<Cell>,
+    waiting: &mut Vec<Known>,
+    gates: &GateRows,
+    ports: &[PortRow],
+    gate: u32,
+    input: u32,
+) -> bool {
+    let number = gate as usize;
+    let Some(drawing) = gates.drawing_of(number) else {
+        return false;
+    };
+    if number >= gates.rows.len() {
+        return false;
+    }
+    let row = gates.rows[number];
+    let ins = part(ports, row.ins, row.outs);
+    let mut port = row.outs;
+    for answer in drawing.answers.as_slice() {
+        if answer_port(cells, waiting, ins, input, *answer, port) {
+            return true;
+        }
+        port = port.saturating_add(1);
+    }
+    false
+}
+
+/// Finds the sources of all ports that can be known, and the cells that they are of; returns whether memory ran out.
+pub fn solve(
+    cells: &mut Vec<Cell>,
+    alloc: Global,
+    gates: &GateRows,
+    ports: &mut [PortRow],
+    next: &[Option<u32>],
+    drawing: &Drawing,
+) -> bool {
+    let mut waiting = Vec::new(alloc);
+    let mut is_short = begin(&mut waiting, ports, drawing);
+    let wires = drawing.wires.as_slice();
+    for _ in 0..ports.len() {
+        let Some(Known { port, source }) = waiting.pop() else {
+            break;
+        };
+        if port < ports.len() {
+            ports[port].source = Some(source);
+            let PortRow { at, wire, .. } = ports[port];
+            is_short |= lead(&mut waiting, wires, next, &gates.rows, wire, source);
+            if let GatePort::In(input) = at.port {
+                is_short |= answer_gate(cells, &mut waiting, gates, ports, at.gate, input);
             }
-            at = wire.next;
         }
     }
-
-    // The source that answers inputs, if the given one is the last of them that became known.
-    fn answer_of(&mut self, ins: &[PortRow], input: u32, answer: Answer) -> Option<Src> {
-        let (i, j) = inputs_of(answer);
-        if i != input && j != input {
-            return None;
-        }
-        let (Some(a), Some(b)) = (source_at(ins, i), source_at(ins, j)) else {
-            return None;
-        };
-        let Some(cell) = cell_of(answer, a, b) else {
-            return Some(a);
-        };
-        let number = small(self.cells.len());
-        self.is_short |= self.cells.push(cell).is_err();
-        Some(Src::Cell(number))
-    }
-
-    // Answers what can be answered of a gate, of which this input became known.
-    fn answer_gate(&mut self, gates: &GateRows, ports: &[PortRow], gate: u32, input: u32) {
-        let Some(row) = gates.rows.get(gate as usize) else {
-            return;
-        };
-        let Some(drawing) = gates.drawing_of(gate as usize) else {
-            return;
-        };
-        let ins = part(ports, row.ins, row.outs);
-        let mut port = row.outs;
-        for answer in drawing.answers.as_slice() {
-            if let Some(source) = self.answer_of(ins, input, *answer) {
-                self.is_short |= self.waiting.push(Known { port, source }).is_err();
-            }
-            port = port.saturating_add(1);
-        }
-    }
-
-    /// Finds the sources of all ports that can be known, and the cells that they are of.
-    pub fn solve(
-        &mut self,
-        gates: &GateRows,
-        ports: &mut [PortRow],
-        wires: &[WireRow],
-        inputs: u32,
-    ) {
-        self.begin(ports, wires, inputs);
-        for _ in 0..ports.len() {
-            let Some(Known { port, source }) = self.waiting.pop() else {
-                break;
-            };
-            if port < ports.len() {
-                ports[port].source = Some(source);
-                let PortRow { at, wire, .. } = ports[port];
-                self.lead(wires, wire, source);
-                if let GatePort::In(input) = at.port {
-                    self.answer_gate(gates, ports, at.gate, input);
-                }
-            }
-        }
-    }
+    is_short
 }
 
 /// Returns a gate of which an input has no source, if there is one: then gates read each other in a circle.

@@ -1,26 +1,28 @@
 // Tables of a drawing.
+ghost use Rattle.std.specs.Prelude.{◌≡◌, None};
+ghost use Rattle.route_filling.specs.Ends.{FitsCells};
 
 use crate::feeding::FedPorts;
 use crate::gates::{GateRows, at_gate, small};
 use crate::listing::{Listing, add_nets};
 use crate::lists_of::{Ends, fit, list_of};
-use crate::solving::{Search, unsolved};
+use crate::solving::{solve, unsolved};
+use cell_core::Cell;
 use gate_library::{Drawing, DrawnPort};
 use lists::{List, OutOfMemory};
 use route_tables::{CellFault, FaultWord, Tables};
 use std::alloc::Global;
 
-// What is found of a drawing, with the first fault.
+// What is found of a drawing.
 #[derive(Drop)]
 struct Filling {
     gates: GateRows,
     fed: FedPorts,
-    search: Search,
+    cells: Vec<Cell>,
     listing: Listing,
     ends: Ends,
     outs: Vec<DrawnPort>,
     nets: Vec<DrawnPort>,
-    fault: Option<CellFault>,
 }
 
 impl Filling {
@@ -28,80 +30,68 @@ impl Filling {
         Filling {
             gates: GateRows::new(alloc),
             fed: FedPorts::new(alloc),
-            search: Search::new(alloc),
+            cells: Vec::new(alloc),
             listing: Listing::new(alloc),
             ends: Ends::new(alloc),
             outs: Vec::new(alloc),
             nets: Vec::new(alloc),
-            fault: None,
         }
     }
 
-    // The first fault of gates whose sources were looked for.
-    fn first_fault(&self, drawing: &Drawing) -> Option<CellFault> {
-        if self.gates.fault.is_some() {
-            return self.gates.fault;
-        }
-        if self.fed.fault.is_some() {
-            return self.fed.fault;
-        }
-        match unsolved(&self.fed.ports) {
-            Some(gate) => Some(at_gate(drawing, gate, FaultWord::Order)),
-            None => None,
-        }
-    }
-
-    // Finds the sources of all ports; returns whether memory ran out.
-    fn solve(&mut self, alloc: Global, drawing: &Drawing) -> bool {
-        let gates = self.gates.fill(alloc, drawing);
-        self.fed.fill(&self.gates.rows, drawing);
-        let inputs = small(drawing.ins.len());
-        let (ports, wires) = (&mut self.fed.ports, &self.fed.wires);
-        self.search.solve(&self.gates, ports, wires, inputs);
-        gates | self.fed.is_short | self.search.is_short
-    }
-
-    // Lists what the tables of a drawing that was solved have, in a box of so many columns and cells; returns whether
-    // memory ran out.
-    fn list(&mut self, alloc: Global, drawing: &Drawing, width: u32, size: usize) -> bool {
-        let ports = &self.fed.ports;
-        let listing = self.listing.fill(alloc, &self.gates, ports, drawing);
-        let serials = self.listing.number(width, size);
-        let drawn = drawing.outs.as_slice();
-        let outs = self.outs.extend_from_slice(drawn).is_err();
-        let nets = add_nets(&mut self.nets, drawing.nets.as_slice());
-        let ends = self.ends.fill(&self.gates.rows, ports, drawing, &self.nets);
-        listing | serials | outs | nets | ends
-    }
-
-    // Finds all that the tables of a box have, up to the first fault; returns whether memory ran out.
+    // Finds all that the tables of a drawing have, in a box of so many columns and cells; returns whether memory ran
+    // out.
     fn fill(&mut self, alloc: Global, drawing: &Drawing, width: u32, size: usize) -> bool {
-        let is_short = self.solve(alloc, drawing);
-        self.fault = self.first_fault(drawing);
-        if self.fault.is_some() {
-            return is_short;
-        }
-        is_short | self.list(alloc, drawing, width, size)
-    }
-
-    // Makes the tables of what was found, if the cells and the ends read what is there.
-    fn into_tables(self, drawing: &Drawing, width: u32) -> Result<Tables, CellFault> {
-        let inputs = small(drawing.ins.len());
-        if !fit(&self.ends, inputs as usize, &self.search.cells) {
-            drop(self);
-            return Err(at_gate(drawing, 0, FaultWord::Order));
-        }
         let Filling {
             gates,
             fed,
-            search,
+            cells,
             listing,
             ends,
             outs,
             nets,
-            ..
         } = self;
-        Ok(Tables {
+        let mut is_short = gates.fill(alloc, drawing.gates.as_slice());
+        is_short |= fed.fill(&gates.rows, drawing);
+        is_short |= solve(cells, alloc, gates, &mut fed.ports, &fed.next, drawing);
+        is_short |= listing.fill(alloc, gates, &fed.ports, drawing, width, size);
+        is_short |= outs.extend_from_slice(drawing.outs.as_slice()).is_err();
+        is_short |= add_nets(nets, drawing.nets.as_slice());
+        is_short | ends.fill(&gates.rows, &fed.ports, drawing, nets)
+    }
+
+    // The first fault of what was found.
+    fn fault(&self, drawing: &Drawing, inputs: u32) -> Option<CellFault>
+        ensures { result ≡ None → FitsCells inputs self.now.cells.items self.now.ends }
+    {
+        if let Some(gate) = self.gates.unlawful() {
+            return Some(at_gate(drawing, gate, FaultWord::Kind));
+        }
+        if self.fed.fault.is_some() {
+            return self.fed.fault;
+        }
+        if let Some(gate) = unsolved(&self.fed.ports) {
+            return Some(at_gate(drawing, gate, FaultWord::Order));
+        }
+        if !fit(&self.ends, inputs as usize, &self.cells) {
+            return Some(at_gate(drawing, 0, FaultWord::Order));
+        }
+        None
+    }
+
+    // Makes the tables of what was found.
+    fn into_tables(self, width: u32, inputs: u32) -> Tables
+        requires { FitsCells inputs self.cells.items self.ends }
+    {
+        let Filling {
+            gates,
+            fed,
+            cells,
+            listing,
+            ends,
+            outs,
+            nets,
+        } = self;
+        Tables {
             width,
             kinds: List::of(gates.kinds),
             gates: List::of(listing.gates),
@@ -110,10 +100,10 @@ impl Filling {
             cells: List::of(listing.cells),
             groups: List::of(listing.groups),
             serials: List::of(listing.serials),
-            list: list_of(inputs, search.cells, ends),
+            list: list_of(inputs, cells, ends),
             outs: List::of(outs),
             nets: List::of(nets),
-        })
+        }
     }
 }
 
@@ -125,15 +115,17 @@ pub fn tables_of(
     width: u32,
     size: usize,
 ) -> Result<Result<Tables, CellFault>, OutOfMemory> {
+    let inputs = small(drawing.ins.len());
     let mut filling = Filling::new(alloc);
-    let is_short = filling.fill(alloc, drawing, width, size);
-    let fault = filling.fault;
-    if fault.is_none() && !is_short {
-        return Ok(filling.into_tables(drawing, width));
+    if filling.fill(alloc, drawing, width, size) {
+        drop(filling);
+        return Err(OutOfMemory::NoMemory);
     }
-    drop(filling);
-    match fault {
-        Some(fault) if !is_short => Ok(Err(fault)),
-        _ => Err(OutOfMemory::NoMemory),
+    match filling.fault(drawing, inputs) {
+        Some(fault) => {
+            drop(filling);
+            Ok(Err(fault))
+        }
+        None => Ok(Ok(filling.into_tables(width, inputs))),
     }
 }
