@@ -56,9 +56,11 @@ pub fn is_answered_by(list: &CellList, ins: &[Src], answer: Answer, out: Src) ->
 fn answer_at(drawing: &GateDrawing, o: usize) -> Answer
     ensures { result ≡ answer_at drawing.now o }
 {
-    match drawing.answers.as_slice().get(o) {
-        Some(answer) => *answer,
-        None => Answer::Copy(0),
+    let answers = drawing.answers.as_slice();
+    if o < answers.len() {
+        answers[o]
+    } else {
+        Answer::Copy(0)
     }
 }
 

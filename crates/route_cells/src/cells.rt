@@ -12,7 +12,7 @@ use crate::runs::{test_gates, test_wires};
 use cell_core::CellList;
 use gate_library::Drawing;
 use pattern_reading::Ports;
-use route_filling::tables_of;
+use route_filling::{list_in, tables_of};
 use route_tables::{BOX_LIMIT, CellFault, FaultWord, Tables, test_cells};
 use std::alloc::Global;
 use ww_rule::{Pattern, State};
@@ -29,18 +29,6 @@ fn size_of(pattern: &Pattern) -> Option<(u32, usize)> {
 // A fault of the table's first line.
 fn at_header(word: FaultWord) -> RouteError {
     RouteError::Fault(CellFault { word, x: 0, y: 0 })
-}
-
-// Tests the tables, all of them.
-fn test_all(alloc: Global, t: &Tables, states: &[State], ports: &Ports) -> Result<(), RouteError>
-    requires long { 3 ≤ ports.now.p }
-    ensures { IfOk result (λ _. IsChecked t.now states.now ports.now) }
-{
-    test_cells(t, states)?;
-    test_gates(t, ports.p)?;
-    test_wires(alloc, t, states, ports.p)?;
-    test_lines(t, states, ports)?;
-    Ok(())
 }
 
 // Whether the list has an input, an output and a net for each line of the table, and does not name
@@ -65,6 +53,32 @@ fn fits(list: &CellList, ports: &Ports) -> bool
     true
 }
 
+// Tests the tables of a pattern with these cells, all of them, and that their list fits the port table.
+fn test_all(
+    alloc: Global,
+    t: &Tables,
+    states: &[State],
+    width: u64,
+    ports: &Ports,
+) -> Result<(), RouteError>
+    requires long { 3 ≤ ports.now.p }
+    requires one { ports.now.c ≡ 1 }
+    ensures { IfOk result (λ _. IsChecked t.now states.now ports.now × (t.now.width ≡ width)
+        × FitsPorts ports.now t.now.list) }
+{
+    test_cells(t, states)?;
+    test_gates(t, ports.p)?;
+    test_wires(alloc, t, states, ports.p)?;
+    test_lines(t, states, ports)?;
+    if u64::from(t.width) != width {
+        return Err(at_header(FaultWord::Touches));
+    }
+    if !fits(&t.list, ports) {
+        return Err(at_header(FaultWord::Port));
+    }
+    Ok(())
+}
+
 // Tests that tables, all of them, are those of a pattern, and that their list fits the port table.
 fn test_tables(
     alloc: Global,
@@ -74,19 +88,11 @@ fn test_tables(
 ) -> Result<(), RouteError>
     requires long { 3 ≤ ports.now.p }
     requires one { ports.now.c ≡ 1 }
-    ensures shows { IfOk result (λ _. ShowsListRuns (plane_of pattern.now.rows) ports.now
-        tables.now.list) }
-    ensures fits { IfOk result (λ _. FitsPorts ports.now tables.now.list) }
+    ensures { IfOk result (λ _. ShowsListRuns (plane_of pattern.now.rows) ports.now tables.now.list
+        × FitsPorts ports.now tables.now.list) }
 {
     let cells = flat_cells(alloc, pattern)?;
-    test_all(alloc, tables, &cells, ports)?;
-    if u64::from(tables.width) != pattern.width {
-        return Err(at_header(FaultWord::Touches));
-    }
-    if !fits(&tables.list, ports) {
-        return Err(at_header(FaultWord::Port));
-    }
-    Ok(())
+    test_all(alloc, tables, &cells, pattern.width, ports)
 }
 
 // The list of tables, if they are those of a pattern.
@@ -102,7 +108,7 @@ fn list_of(
     ensures fits { IfOk result (FitsPorts ports.now) }
 {
     match test_tables(alloc, pattern, ports, &tables) {
-        Ok(()) => Ok(tables.list),
+        Ok(()) => Ok(list_in(tables)),
         Err(error) => {
             drop(tables);
             Err(error)

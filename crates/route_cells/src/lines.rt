@@ -150,6 +150,5 @@ pub fn test_lines(t: &Tables, states: &[State], ports: &Ports) -> Result<(), Cel
     test_inputs(t, states, ins)?;
     test_dark(t, ports.ins.len())?;
     test_outputs(t, ports.l, outs)?;
-    test_nets(t, nets)?;
-    Ok(())
+    test_nets(t, nets)
 }

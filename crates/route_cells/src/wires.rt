@@ -1,35 +1,15 @@
 // Wires that keep time, and have the electrons of their start bits.
-ghost use Rattle.std.specs.Prelude.{◌≡◌, ◌<◌, ◌+◌, ◌*◌, ◌^◌, suc, length, None, IfOk, IfSome, IsTrue};
-ghost use Rattle.route_tables.specs.Reading.{IsPortAt};
+ghost use Rattle.std.specs.Prelude.{◌≡◌, ◌<◌, ◌+◌, ◌*◌, ◌^◌, suc, length, None, IfOk, IsTrue};
 ghost use Rattle.route_tables.specs.Runs.{IsDelayedByWire, ShowsStarts};
-ghost use Rattle.route_tables.specs.Tables.{input_port};
 ghost use Rattle.route_cells.specs.Wires.{CarriesBits, WireKeepsTime};
 
 use crate::RouteError;
 use crate::chains::start_bits;
 use crate::electrons::{are_clear, shows_end, wrong_cell};
 use gate_library::PortCell;
-use lists::OutOfMemory;
 use route_tables::{CellFault, FaultWord, TableWire, Tables, input_port, state_at};
 use std::alloc::Global;
 use ww_rule::State;
-
-// Where a wire begins and ends.
-#[derive(Clone, Copy)]
-struct Ends {
-    from: PortCell,
-    to: PortCell,
-}
-
-fn ends_of(t: &Tables, wire: TableWire) -> Option<Ends>
-    ensures { IfSome result (λ ends. IsPortAt t.now wire.from ends.from
-        × IsPortAt t.now (input_port wire.to) ends.to) }
-{
-    match (t.port(wire.from), t.port(input_port(wire.to))) {
-        (Some(from), Some(to)) => Some(Ends { from, to }),
-        _ => None,
-    }
-}
 
 // Whether a wire of this size takes from one generation to another one so many periods later.
 fn takes(from: u64, size: u32, to: u64, cycles: u32, period: u64) -> bool
@@ -83,26 +63,29 @@ fn wire_between(
     states: &[State],
     period: u64,
     wire: TableWire,
-    ends: Ends,
-) -> Result<Option<CellFault>, OutOfMemory>
+    from: PortCell,
+    to: PortCell,
+) -> Result<(), RouteError>
     requires some { 0 < period }
-    ensures { IfOk result (λ o. o ≡ None → WireKeepsTime t.now states.now period wire ends.from
-        ends.to) }
+    ensures { IfOk result (λ _. WireKeepsTime t.now states.now period wire from to) }
 {
     if !takes(
-        ends.from.generation,
+        from.generation,
         wire.size,
-        ends.to.generation,
+        to.generation,
         wire.cycles,
         period,
     ) {
-        return Ok(Some(at_start(t, wire, FaultWord::Length)));
+        return Err(RouteError::Fault(at_start(t, wire, FaultWord::Length)));
     }
-    let (from, to) = (t.source(wire.from), t.source(input_port(wire.to)));
-    let Some(bits) = start_bits(alloc, &t.list, from, to, wire.cycles)? else {
-        return Ok(Some(at_start(t, wire, FaultWord::Order)));
+    let (first, last) = (t.source(wire.from), t.source(input_port(wire.to)));
+    let Some(bits) = start_bits(alloc, &t.list, first, last, wire.cycles)? else {
+        return Err(RouteError::Fault(at_start(t, wire, FaultWord::Order)));
     };
-    Ok(electron_fault(t, states, period, wire, ends.to, &bits))
+    match electron_fault(t, states, period, wire, to, &bits) {
+        None => Ok(()),
+        Some(fault) => Err(RouteError::Fault(fault)),
+    }
 }
 
 /// Tests that a wire's length fits its latches, and that it has the electrons of their start bits.
@@ -118,11 +101,11 @@ pub fn test_wire(
         × ShowsStarts t.now states.now period w) }
 {
     let wire = t.wire(w);
-    let Some(ends) = ends_of(t, wire) else {
-        return Err(RouteError::Fault(t.fault_at_wire(FaultWord::Wire, w)));
+    let Some(from) = t.port(wire.from) else {
+        return Err(RouteError::Fault(at_start(t, wire, FaultWord::Wire)));
     };
-    match wire_between(alloc, t, states, period, wire, ends)? {
-        None => Ok(()),
-        Some(fault) => Err(RouteError::Fault(fault)),
-    }
+    let Some(to) = t.port(input_port(wire.to)) else {
+        return Err(RouteError::Fault(at_start(t, wire, FaultWord::Wire)));
+    };
+    wire_between(alloc, t, states, period, wire, from, to)
 }

@@ -8,4 +8,4 @@ mod lists_of;
 mod solving;
 mod tables;
 
-pub use tables::tables_of;
+pub use tables::{list_in, tables_of};

@@ -7,7 +7,7 @@ use crate::gates::{GateRows, at_gate, small};
 use crate::listing::{Listing, add_nets};
 use crate::lists_of::{Ends, fit, list_of};
 use crate::solving::{solve, unsolved};
-use cell_core::Cell;
+use cell_core::{Cell, CellList};
 use gate_library::{Drawing, DrawnPort};
 use lists::{List, OutOfMemory};
 use route_tables::{CellFault, FaultWord, Tables};
@@ -128,4 +128,11 @@ pub fn tables_of(
         }
         None => Ok(Ok(filling.into_tables(width, inputs))),
     }
+}
+
+/// Returns the list of tables that are done with.
+pub fn list_in(tables: Tables) -> CellList
+    ensures { result ≡ tables.list }
+{
+    tables.list
 }
