@@ -25,6 +25,5 @@ pub fn test_cells(tables: &Tables, states: &[State]) -> Result<(), CellFault>
     are_alone(tables)?;
     are_ends_fed(tables)?;
     are_drives_fed(tables)?;
-    are_gates_fed(tables)?;
-    Ok(())
+    are_gates_fed(tables)
 }

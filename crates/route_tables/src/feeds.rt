@@ -42,8 +42,9 @@ pub fn are_drives_fed(tables: &Tables) -> Result<(), CellFault>
     ensures { IfOk result (λ _. (d : ℕ) → d < length tables.now.driven → (at : GateInput) →
         slice_get tables.now.driven d ≡ Some at → IsDrivenInput tables.now d at) }
 {
-    for (d, at) in tables.driven.as_slice().iter().enumerate() {
-        if !is_driven_input(tables, d, *at) {
+    for d in 0..tables.driven.len() {
+        let at = *tables.driven.get(d);
+        if !is_driven_input(tables, d, at) {
             return Err(tables.fault_at_gate(FaultWord::Fed, at.gate as usize));
         }
     }

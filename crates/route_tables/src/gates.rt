@@ -21,11 +21,10 @@ fn place_cell(gate: &TableGate, drawing: &GateDrawing, m: usize) -> Option<(u32,
     if width == 0 {
         return None;
     }
-    let (Ok(u), Ok(v)) = (u32::try_from(m % width), u32::try_from(m / width)) else {
-        return None;
-    };
-    match (gate.x.checked_add(u), gate.y.checked_add(v)) {
-        (Some(x), Some(y)) => Some((x, y)),
+    let x = u32::try_from(u128::from(gate.x) + (m % width) as u128);
+    let y = u32::try_from(u128::from(gate.y) + (m / width) as u128);
+    match (x, y) {
+        (Ok(x), Ok(y)) => Some((x, y)),
         _ => None,
     }
 }

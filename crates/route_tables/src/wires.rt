@@ -81,8 +81,7 @@ fn is_wire_there(tables: &Tables, w: usize, wire: TableWire) -> Result<(), CellF
     if !is_grouped(tables, wire, w) {
         return Err(tables.fault_at_wire(FaultWord::Wire, w));
     }
-    goes_on(tables, wire)?;
-    Ok(())
+    goes_on(tables, wire)
 }
 
 /// Tests that each wire leads from a port to another cell, that of an input, and that its cells are
