@@ -116,8 +116,8 @@ fn feed_by_wires(
     None
 }
 
-// Drives the circuit's inputs; of a lone cell, whose output is its input, the input. The first one that is not there, or
-// is fed already, is at fault.
+// Drives the circuit's inputs; of a lone cell, whose output is its input, the input. The first one that is not there,
+// or is fed already, is at fault.
 fn drive_inputs(ports: &mut [PortRow], rows: &[GateRow], drawing: &Drawing) -> Option<CellFault> {
     let mut drive = 0u32;
     for at in drawing.ins.as_slice() {

@@ -137,13 +137,9 @@ impl Tables {
     pub fn port(&self, at: DrawnPort) -> Option<PortCell>
         ensures { IfSome result (IsPortAt self.now at) }
     {
-        match self.gate(at.gate as usize) {
-            Some(gate) => match self.kind(gate) {
-                Some(kind) => port_of(gate, kind, at.port),
-                None => None,
-            },
-            None => None,
-        }
+        let gate = self.gate(at.gate as usize)?;
+        let kind = self.kind(gate)?;
+        port_of(gate, kind, at.port)
     }
 
     /// Returns the source whose bits a port has; a port that is not there has constant 0.
