@@ -3,17 +3,17 @@
 use crate::error::FindError;
 use crate::gates::find_gates;
 use crate::links::{follow_rings, follow_wires};
-use crate::lone::{add_ends, add_table_cells, fault_of_lone_cells, fault_of_table};
+use crate::lone::{add_ends, add_table_cells, fault_of_lone_cells};
 use crate::periods::find_periods;
 use crate::result::{add_wires, time_gates};
 use crate::templates::Templates;
 use crate::times::find_times;
-use crate::uses::{chain_links, fault_of_ends, note_table};
+use crate::uses::{fault_of_ends, note_table};
 use crate::ways::direct_wires;
-use crate::wires::{Links, Use};
+use crate::wires::Links;
 use gate_library::Drawing;
 use pattern_reading::Ports;
-use route_lines::{Board, TableCell, TableCells};
+use route_lines::{Board, TableCell, Wiring};
 use std::alloc::Global;
 use ww_rule::Pattern;
 
@@ -29,31 +29,14 @@ fn find_all_gates(alloc: Global, board: &mut Board, table: &[TableCell]) -> Opti
     add_ends(board);
     let fault = fault_of_lone_cells(board, &templates);
     drop(templates);
-    match fault {
-        Some(fault) => Some(fault),
-        None => fault_of_table(board, table),
-    }
+    fault
 }
 
 // Finds the wires between gates, and in which direction each runs.
-fn find_wires(links: &mut Links, board: &mut Board, pattern: &Pattern, table: &[TableCell]) {
+fn find_wires(links: &mut Links, board: &mut Board, pattern: &Pattern) {
     follow_wires(links, board, pattern, 0);
     follow_rings(links, board, pattern);
-    let none = Use {
-        link: u32::MAX,
-        count: 0,
-    };
-    let gates = board.gates.len();
-    let inputs = gates.saturating_mul(2);
-    links.is_short |= links.uses.resize(gates, none).is_err()
-        | links.are_fed.resize(inputs, false).is_err();
-    chain_links(links.uses.as_mut_slice(), links.all.as_mut_slice());
-    note_table(
-        links.uses.as_mut_slice(),
-        links.are_fed.as_mut_slice(),
-        board,
-        table,
-    );
+    links.make_room(board.gates.len());
     direct_wires(links, &mut board.path, pattern);
     let fault = fault_of_ends(links, board, pattern);
     links.note(fault);
@@ -64,22 +47,15 @@ fn finish(
     alloc: Global,
     links: &mut Links,
     board: &mut Board,
+    wiring: &mut Wiring,
     pattern: &Pattern,
-    table: &[TableCell],
 ) {
-    let mut times = find_times(alloc, links, board, pattern, table);
-    find_periods(alloc, &mut times, links, board, table);
-    let fault = add_wires(
-        &mut board.wiring,
-        board.gates.as_slice(),
-        board.path.as_slice(),
-        pattern,
-        links,
-        &times,
-    );
+    let mut times = find_times(alloc, links, board, pattern, &wiring.table);
+    find_periods(alloc, &mut times, links, board, &wiring.table);
+    let fault = add_wires(wiring, board, pattern, links, &times);
     links.note(fault);
     time_gates(board, &times);
-    board.add_ports(table);
+    wiring.add_ports(board);
     board.is_short |= times.is_short;
     drop(times);
 }
@@ -89,20 +65,21 @@ fn finish(
 fn search(
     alloc: Global,
     board: &mut Board,
+    wiring: &mut Wiring,
     pattern: &Pattern,
-    table: &[TableCell],
 ) -> Option<FindError> {
     let mut links = Links {
         all: Vec::new(alloc),
         uses: Vec::new(alloc),
-        are_fed: Vec::new(alloc),
+        inputs: Vec::new(alloc),
         todo: Vec::new(alloc),
-        fault: find_all_gates(alloc, board, table),
+        fault: find_all_gates(alloc, board, &wiring.table),
         is_short: false,
     };
+    note_table(&mut links, board, &wiring.table);
     if links.fault.is_none() {
-        find_wires(&mut links, board, pattern, table);
-        finish(alloc, &mut links, board, pattern, table);
+        find_wires(&mut links, board, pattern);
+        finish(alloc, &mut links, board, wiring, pattern);
     }
     board.is_short |= links.is_short;
     let fault = links.fault;
@@ -117,18 +94,12 @@ fn find_on(
     pattern: &Pattern,
     ports: &Ports,
 ) -> Result<Drawing, FindError> {
-    let table = TableCells::of(alloc, ports);
-    board.is_short |= table.is_short;
-    let fault = search(alloc, &mut board, pattern, table.all.as_slice());
-    drop(table);
-    let is_short = board.is_short || board.wiring.is_short;
-    if fault.is_none() && !is_short {
-        return Ok(board.into_drawing());
-    }
-    drop(board);
-    match fault {
-        Some(fault) if !is_short => Err(fault),
-        _ => Err(FindError::NoMemory),
+    let mut wiring = Wiring::of(alloc, ports);
+    let fault = search(alloc, &mut board, &mut wiring, pattern);
+    match board.into_drawing(wiring, fault.is_none()) {
+        Ok(Some(drawing)) => Ok(drawing),
+        Ok(None) => Err(fault.unwrap_or(FindError::NoMemory)),
+        Err(_) => Err(FindError::NoMemory),
     }
 }
 

@@ -1,7 +1,7 @@
 // Gates are found by the cells around one of theirs.
 
 use crate::error::{DrawingFault, FindError};
-use crate::templates::{Template, Templates};
+use crate::templates::{Near, Template, Templates};
 use gate_library::DrawnGate;
 use route_lines::{Board, Owner, Owners};
 
@@ -9,16 +9,16 @@ use route_lines::{Board, Owner, Owners};
 // are counted after two. A cell of another gate, unless that is a lone cell, counts for two.
 fn misfits(
     owners: &Owners,
-    templates: &Templates,
+    nears: &[Near],
     template: &Template,
     corner: (u32, u32),
 ) -> (u32, (u32, u32)) {
     let (mut count, mut last) = (0u32, corner);
     for number in template.start..template.end {
-        if number >= templates.nears.len() {
+        if number >= nears.len() || count > 1 {
             break;
         }
-        let near = templates.nears[number];
+        let near = nears[number];
         let cell = (corner.0.wrapping_add(near.x), corner.1.wrapping_add(near.y));
         let misfit = match owners.of(cell) {
             Owner::Nobody => u32::from(near.is_drawn),
@@ -27,9 +27,6 @@ fn misfits(
         };
         if misfit > 0 {
             (count, last) = (count.saturating_add(misfit), cell);
-        }
-        if count > 1 {
-            break;
         }
     }
     (count, last)
@@ -43,7 +40,7 @@ fn fitting(owners: &Owners, templates: &Templates, cell: (u32, u32)) -> Option<D
             cell.0.wrapping_sub(template.x),
             cell.1.wrapping_sub(template.y),
         );
-        if template.beside == beside && misfits(owners, templates, template, (x, y)).0 == 0 {
+        if template.beside == beside && misfits(owners, &templates.nears, template, (x, y)).0 == 0 {
             return Some(DrawnGate {
                 kind: template.kind,
                 x,
@@ -75,7 +72,7 @@ pub fn fault_near(owners: &Owners, templates: &Templates, cell: (u32, u32)) -> F
         if near.template < templates.all.len() {
             let template = templates.all[near.template];
             let corner = (cell.0.wrapping_sub(near.x), cell.1.wrapping_sub(near.y));
-            let (count, wrong) = misfits(owners, templates, &template, corner);
+            let (count, wrong) = misfits(owners, &templates.nears, &template, corner);
             if count == 1 {
                 return FindError::at(DrawingFault::Gate, wrong);
             }

@@ -3,6 +3,7 @@
 #![tactic(auto)]
 
 mod crossings;
+mod ends;
 mod error;
 mod finder;
 mod gates;

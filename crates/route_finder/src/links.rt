@@ -1,65 +1,69 @@
 // Wires are followed from port to port. A wire ends at another cell than that at which it begins, so a lone cell splits
 // a ring, which leads back to its port.
 
+use crate::ends::end_at;
 use crate::error::{DrawingFault, FindError};
 use crate::lone::add_lone;
-use crate::wires::{Link, Links, Way, small, state_at};
+use crate::wires::{Link, Links, Way, state_at};
 use gate_library::{DrawnPort, GatePort};
-use route_lines::{Board, Owner, STEPS, port_cell};
+use route_lines::{Board, Owner, STEPS, port_cell, small};
 use ww_rule::{Pattern, State};
 
-// Adds the wire between two ports with so many cells of the path, from a place on.
-fn add_link(links: &mut Links, from: DrawnPort, to: DrawnPort, start: u32, size: u32) {
+// Adds the wire between two ports whose cells are those of the path from one place to another.
+fn add_link(
+    links: &mut Links,
+    board: &Board,
+    from: DrawnPort,
+    to: DrawnPort,
+    start: usize,
+    end: usize,
+) {
     let link = Link {
-        from,
-        to,
-        start,
-        size,
+        from: end_at(board, from),
+        to: end_at(board, to),
+        start: small(start),
+        size: small(end.saturating_sub(start)),
         way: Way::Unknown,
-        next_from: u32::MAX,
-        next_to: u32::MAX,
     };
     links.is_short |= links.all.push(link).is_err();
 }
 
-// The first conductor of a ring, which is a path from a place on, that has a cell before it and one after it; and how
-// many cells of the ring are before it.
+// The place and the cell of the first conductor of a ring, which is a path from a place on, that has a cell before it
+// and one after it.
 fn splitting_cell(
     pattern: &Pattern,
     path: &[(u32, u32)],
     start: usize,
-) -> Option<(u32, (u32, u32))> {
+) -> Option<(usize, (u32, u32))> {
     for place in start.saturating_add(1)..path.len().saturating_sub(1) {
         if let State::Conductor = state_at(pattern, path[place]) {
-            return Some((small(place.saturating_sub(start)), path[place]));
+            return Some((place, path[place]));
         }
     }
     None
 }
 
-// Adds the ring whose cells are the last ones of the path, from a place on. The cell that splits it becomes a lone
-// cell, between two wires.
+// Adds the ring whose cells are those of the path from a place on. The cell that splits it becomes a lone cell, between
+// two wires.
 fn add_ring(
     links: &mut Links,
     board: &mut Board,
     pattern: &Pattern,
     port: DrawnPort,
-    start: u32,
-    size: u32,
+    start: usize,
 ) {
-    match splitting_cell(pattern, &board.path, start as usize) {
-        Some((before, cell)) => {
+    let end = board.path.len();
+    match splitting_cell(pattern, &board.path, start) {
+        Some((place, cell)) => {
             let lone = DrawnPort {
                 gate: small(board.gates.len()),
                 port: GatePort::In(0),
             };
             add_lone(board, cell);
-            add_link(links, port, lone, start, before);
-            let after = before.saturating_add(1);
-            let (start, size) = (start.saturating_add(after), size.saturating_sub(after));
-            add_link(links, lone, port, start, size);
+            add_link(links, board, port, lone, start, place);
+            add_link(links, board, lone, port, place.saturating_add(1), end);
         }
-        None => add_link(links, port, port, start, size),
+        None => add_link(links, board, port, port, start, end),
     }
 }
 
@@ -72,21 +76,19 @@ fn follow(
     cell: (u32, u32),
     first: (u32, u32),
 ) {
-    let trace = board.owners.trace(&mut board.path, cell, first);
-    board.is_short |= trace.is_short;
-    let (start, size, end) = (trace.start, trace.size, trace.end);
-    let Some(to) = board.port_at(end) else {
-        let fault = match board.owners.of(end) {
+    let start = board.path.len();
+    let last = board.trace(cell, first);
+    if last == cell {
+        add_ring(links, board, pattern, from, start);
+    } else if let Some(to) = board.port_at(last) {
+        let end = board.path.len();
+        add_link(links, board, from, to, start, end);
+    } else {
+        let fault = match board.owners.of(last) {
             Owner::Inner => DrawingFault::Gate,
             _ => DrawingFault::Wire,
         };
-        links.note(Some(FindError::at(fault, end)));
-        return;
-    };
-    if end == cell {
-        add_ring(links, board, pattern, from, start, size);
-    } else {
-        add_link(links, from, to, start, size);
+        links.note(Some(FindError::at(fault, last)));
     }
 }
 

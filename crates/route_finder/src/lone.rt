@@ -1,6 +1,6 @@
 // Lone cells: those of the port table, and those at which wires end or meet.
 
-use crate::error::{DrawingFault, FindError};
+use crate::error::FindError;
 use crate::gates::fault_near;
 use crate::templates::Templates;
 use gate_library::{DrawnGate, GateKind, Shape, Turn};
@@ -50,17 +50,6 @@ pub fn fault_of_lone_cells(board: &Board, templates: &Templates) -> Option<FindE
         let is_lone = matches!(gate.kind.shape, Shape::Lone);
         if is_lone && board.owners.beside(cell).gates > 0 {
             return Some(fault_near(&board.owners, templates, cell));
-        }
-    }
-    None
-}
-
-/// Returns the fault of the first input or output of the port table that is at no port of a gate.
-pub fn fault_of_table(board: &Board, table: &[TableCell]) -> Option<FindError> {
-    for line in table {
-        let is_net = matches!(line.kind, LineKind::Net);
-        if !is_net && board.port_at(line.cell).is_none() {
-            return Some(FindError::at(DrawingFault::Port, line.cell));
         }
     }
     None

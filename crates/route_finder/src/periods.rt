@@ -1,6 +1,7 @@
 // How many whole periods after its time modulo the period each gate begins: as few as the outputs and nets ask for.
 
-use crate::times::{Times, port_time};
+use crate::ends::end_at;
+use crate::times::Times;
 use crate::wires::Links;
 use route_lines::{Board, LineKind, TableCell};
 use std::alloc::Global;
@@ -29,10 +30,10 @@ fn begin_at_table(times: &mut Times, todo: &mut Raised, board: &Board, table: &[
     for line in table {
         let port = board.port_at(line.cell);
         if let (LineKind::Out | LineKind::Net, Some(port)) = (line.kind, port) {
-            let at = port_time(board, port);
+            let end = end_at(board, port);
             let generation = i64::try_from(line.generation).unwrap_or(i64::MAX);
-            let least = generation.saturating_sub(i64::from(at.after));
-            raise(times, todo, at.number, least);
+            let least = generation.saturating_sub(i64::from(end.after));
+            raise(times, todo, end.time, least);
         }
     }
 }
@@ -43,13 +44,13 @@ fn spread(times: &mut Times, todo: &mut Raised, links: &Links, time: u32) {
     let mut number = links.first_at(gate);
     for _ in 0..links.all.len() {
         let place = number as usize;
-        if place >= links.all.len() || place >= times.spans.len() {
+        if place >= links.all.len() {
             break;
         }
-        let (link, span) = (links.all[place], times.spans[place]);
-        if span.to.number == time {
-            let least = generation.saturating_sub(span.shift);
-            raise(times, todo, span.from.number, least);
+        let link = links.all[place];
+        if link.to.time == time {
+            let least = generation.saturating_sub(link.shift());
+            raise(times, todo, link.from.time, least);
         }
         number = link.next_at(gate);
     }

@@ -2,10 +2,10 @@
 
 use crate::crossings::{is_mirrored, mirrored, port_after};
 use crate::error::{DrawingFault, FindError};
-use crate::times::{Span, Times};
-use crate::wires::{Link, Links, cells_of, small, state_at};
+use crate::times::Times;
+use crate::wires::{Link, Links, state_at};
 use gate_library::{DrawnGate, DrawnWire, GatePort, Timing};
-use route_lines::{Board, Wiring};
+use route_lines::{Board, Wiring, part_of, small};
 use ww_rule::{Pattern, State};
 
 fn generation(number: i64) -> u32 {
@@ -13,84 +13,63 @@ fn generation(number: i64) -> u32 {
 }
 
 // How many periods long a wire is.
-fn periods_of(times: &Times, span: Span, link: &Link) -> u32 {
+fn periods_of(times: &Times, link: &Link) -> u32 {
     let arrival = times
-        .generation(span.from.number)
-        .saturating_add(span.shift);
-    let length = arrival.saturating_sub(times.generation(span.to.number));
+        .generation(link.from.time)
+        .saturating_add(link.shift());
+    let length = arrival.saturating_sub(times.generation(link.to.time));
     let period = i64::from(times.period);
     let periods = length.checked_div(period).unwrap_or(0);
     generation(periods).min(link.size)
 }
 
-// Whether a head is so many cells before the end of a wire of these cells.
-fn is_head_before(pattern: &Pattern, cells: &[(u32, u32)], distance: u32) -> bool {
-    let place = cells.len().wrapping_sub(distance as usize);
-    place < cells.len() && matches!(state_at(pattern, cells[place]), State::Head)
-}
-
-// Adds a wire of these cells with its start bits, the last latch's last.
-fn add_wire(
+// Adds the start bits of a wire of these cells, which is so many periods long, the last latch's last: whether a head is
+// as far before the wire's end as the electron that arrives there after the periods left.
+fn add_starts(
     wiring: &mut Wiring,
     times: &Times,
     pattern: &Pattern,
     cells: &[(u32, u32)],
-    span: Span,
-    wire: DrawnWire,
+    link: &Link,
+    cycles: u32,
 ) {
-    wiring.is_short |= wiring.wires.push(wire).is_err();
     let end = times
-        .generation(span.to.number)
-        .saturating_add(i64::from(span.to.after));
-    for latch in 1..=wire.cycles {
-        let wait = wire.cycles.saturating_sub(latch);
-        let wait = wait.saturating_mul(times.period);
+        .generation(link.to.time)
+        .saturating_add(i64::from(link.to.after));
+    for latch in 1..=cycles {
+        let wait = cycles.saturating_sub(latch).saturating_mul(times.period);
         let distance = generation(end).saturating_add(wait);
-        let is_head = is_head_before(pattern, cells, distance);
+        let place = cells.len().wrapping_sub(distance as usize);
+        let is_head = place < cells.len() && matches!(state_at(pattern, cells[place]), State::Head);
         wiring.is_short |= wiring.starts.push(is_head).is_err();
     }
-}
-
-// The wire of a link, whose start bits are those from place `latch` on, or none if it leads to no input.
-fn wire_of(
-    gates: &[DrawnGate],
-    times: &Times,
-    link: &Link,
-    span: Span,
-    latch: u32,
-) -> Option<DrawnWire> {
-    let GatePort::In(input) = port_after(times, gates, link.to).port else {
-        return None;
-    };
-    Some(DrawnWire {
-        from: port_after(times, gates, link.from),
-        gate: link.to.gate,
-        input,
-        start: link.start,
-        size: link.size,
-        latch,
-        cycles: periods_of(times, span, link),
-    })
 }
 
 /// Adds all wires up to the first that leads to no input, and returns the fault of that.
 pub fn add_wires(
     wiring: &mut Wiring,
-    gates: &[DrawnGate],
-    path: &[(u32, u32)],
+    board: &Board,
     pattern: &Pattern,
     links: &Links,
     times: &Times,
 ) -> Option<FindError> {
-    for number in 0..links.all.len().min(times.spans.len()) {
-        let (link, span) = (links.all[number], times.spans[number]);
-        let cells = cells_of(path, &link);
-        let latch = small(wiring.starts.len());
-        let Some(wire) = wire_of(gates, times, &link, span, latch) else {
+    for link in &links.all {
+        let cells = part_of(&board.path, link.start, link.size);
+        let GatePort::In(input) = port_after(times, &board.gates, link.to.port).port else {
             let first = if cells.is_empty() { (0, 0) } else { cells[0] };
             return Some(FindError::at(DrawingFault::Wire, first));
         };
-        add_wire(wiring, times, pattern, cells, span, wire);
+        let wire = DrawnWire {
+            from: port_after(times, &board.gates, link.from.port),
+            gate: link.to.port.gate,
+            input,
+            start: link.start,
+            size: link.size,
+            latch: small(wiring.starts.len()),
+            cycles: periods_of(times, link),
+        };
+        wiring.is_short |= wiring.wires.push(wire).is_err();
+        add_starts(wiring, times, pattern, cells, link, wire.cycles);
     }
     None
 }

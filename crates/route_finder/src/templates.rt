@@ -72,14 +72,13 @@ impl Templates {
         sheet.draw(library.drawing(kind), gate, 0);
         let start = self.nears.len();
         let (x, y, beside) = self.add_nears(sheet);
-        let end = self.nears.len();
         let template = Template {
             kind,
             x,
             y,
             beside,
             start,
-            end,
+            end: self.nears.len(),
         };
         self.is_short |= self.all.push(template).is_err();
     }

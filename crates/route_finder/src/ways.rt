@@ -1,43 +1,48 @@
 // In which direction each wire runs.
 
-use crate::wires::{Link, Links, Way, cells_of, small, state_at};
-use gate_library::{DrawnPort, GatePort};
+use crate::uses::chain_links;
+use crate::wires::{Input, Link, Links, Way, state_at};
+use route_lines::{part_of, small};
 use ww_rule::{Pattern, State};
 
-// The number of an input among those of all gates, each of which has two at most; none for an output.
-fn input_number(port: DrawnPort) -> Option<u32> {
-    match port.port {
-        GatePort::In(input) => Some(port.gate.saturating_mul(2).saturating_add(input)),
-        GatePort::Out(_) => None,
-    }
-}
-
-// Whether a port is the input with this number.
-fn is_input(port: DrawnPort, number: u32) -> bool {
-    match input_number(port) {
-        Some(other) => other == number,
-        None => false,
-    }
-}
-
-/// Notes that a wire leads to a port, or that it is driven from outside.
-pub fn feed(are_fed: &mut [bool], port: DrawnPort) {
-    if let Some(number) = input_number(port) {
-        let place = number as usize;
-        if place < are_fed.len() {
-            are_fed[place] = true;
+// What is known of an input. An output is as an input to which a wire leads.
+fn input_at(inputs: &[Input], number: u32) -> Input {
+    let place = number as usize;
+    if place < inputs.len() {
+        inputs[place]
+    } else {
+        Input {
+            is_fed: true,
+            open: 0,
         }
     }
 }
 
-// Whether wires lead from a port: from an output, or an input that is fed.
-fn is_source(are_fed: &[bool], port: DrawnPort) -> bool {
-    match input_number(port) {
-        Some(number) => {
-            let place = number as usize;
-            place < are_fed.len() && are_fed[place]
-        }
-        None => true,
+/// Notes that a wire leads to an input, or that it is driven from outside.
+pub fn feed(inputs: &mut [Input], number: u32) {
+    let place = number as usize;
+    if place < inputs.len() {
+        inputs[place].is_fed = true;
+    }
+}
+
+/// Notes that the direction of one more wire at an input is not known.
+pub fn open(inputs: &mut [Input], number: u32) {
+    let place = number as usize;
+    if place < inputs.len() {
+        inputs[place].open = inputs[place].open.saturating_add(1);
+    }
+}
+
+// Notes that the direction of one more wire at an input is known, and whether the wire leads to it.
+fn close(inputs: &mut [Input], number: u32, is_fed: bool) {
+    let place = number as usize;
+    if place < inputs.len() {
+        let input = inputs[place];
+        inputs[place] = Input {
+            is_fed: input.is_fed || is_fed,
+            open: input.open.saturating_sub(1),
+        };
     }
 }
 
@@ -61,8 +66,6 @@ fn run(link: Link, way: Way) -> Link {
         Way::Back => Link {
             from: link.to,
             to: link.from,
-            next_from: link.next_to,
-            next_to: link.next_from,
             way,
             ..link
         },
@@ -71,111 +74,72 @@ fn run(link: Link, way: Way) -> Link {
 }
 
 // Directs the wires whose directions are known at once: from their ports, else from their electrons.
-fn direct_at_once(links: &mut [Link], are_fed: &[bool], path: &[(u32, u32)], pattern: &Pattern) {
+fn direct_at_once(links: &mut [Link], inputs: &[Input], path: &[(u32, u32)], pattern: &Pattern) {
     for place in links.iter_mut() {
         let link = *place;
-        let way = if is_source(are_fed, link.from) {
+        let way = if input_at(inputs, link.from.input).is_fed {
             Way::Onward
-        } else if is_source(are_fed, link.to) {
+        } else if input_at(inputs, link.to.input).is_fed {
             Way::Back
         } else {
-            way_of_electrons(pattern, cells_of(path, &link))
+            way_of_electrons(pattern, part_of(path, link.start, link.size))
         };
         *place = run(link, way);
     }
 }
 
-// Feeds the inputs to which wires lead.
-fn feed_ends(links: &[Link], are_fed: &mut [bool]) {
-    for link in links {
-        if !matches!(link.way, Way::Unknown) {
-            feed(are_fed, link.to);
-        }
-    }
-}
-
 // Lets a wire run in this direction, if none is known yet, and looks at its ports again.
-fn direct(links: &mut Links, number: u32, way: Way) {
-    let place = number as usize;
-    if place < links.all.len() {
-        let link = links.all[place];
-        if let Way::Unknown = link.way {
-            let link = run(link, way);
-            links.all[place] = link;
-            feed(links.are_fed.as_mut_slice(), link.to);
-            links.is_short |= links.todo.push(link.from).is_err()
-                | links.todo.push(link.to).is_err();
-        }
+fn direct(links: &mut Links, number: usize, way: Way) {
+    if number >= links.all.len() {
+        return;
     }
-}
-
-// How many ends of wires are at an input of a gate whose directions are not known.
-fn open_count(links: &Links, gate: u32, input: u32) -> u32 {
-    let (mut number, mut count) = (links.first_at(gate), 0u32);
-    for _ in 0..links.all.len() {
-        let place = number as usize;
-        if place >= links.all.len() {
-            break;
-        }
-        let link = links.all[place];
-        if let Way::Unknown = link.way {
-            let (at_from, at_to) = (is_input(link.from, input), is_input(link.to, input));
-            count = count.saturating_add(u32::from(at_from) + u32::from(at_to));
-        }
-        number = link.next_at(gate);
+    let link = links.all[number];
+    if let Way::Unknown = link.way {
+        let link = run(link, way);
+        links.all[number] = link;
+        let inputs = links.inputs.as_mut_slice();
+        close(inputs, link.from.input, false);
+        close(inputs, link.to.input, true);
+        links.is_short |= links.todo.push(link.from.input).is_err()
+            | links.todo.push(link.to.input).is_err();
     }
-    count
 }
 
 // Directs the wires at an input that have only one direction left: from it if it is fed, and to it if there is one
-// wire alone. Those at an output are directed at once.
-fn settle(links: &mut Links, port: DrawnPort) {
-    let Some(input) = input_number(port) else {
-        return;
-    };
-    let is_fed = is_source(links.are_fed.as_slice(), port);
-    if !is_fed && open_count(links, port.gate, input) != 1 {
+// wire alone.
+fn settle(links: &mut Links, input: u32) {
+    let Input { is_fed, open } = input_at(links.inputs.as_slice(), input);
+    if !is_fed && open != 1 {
         return;
     }
-    let mut number = links.first_at(port.gate);
+    let gate = input / 2;
+    let mut number = links.first_at(gate);
     for _ in 0..links.all.len() {
         let place = number as usize;
         if place >= links.all.len() {
             break;
         }
         let link = links.all[place];
-        let at_from = is_input(link.from, input);
-        if at_from || is_input(link.to, input) {
+        let at_from = link.from.input == input;
+        if at_from || link.to.input == input {
             let way = if at_from == is_fed {
                 Way::Onward
             } else {
                 Way::Back
             };
-            direct(links, number, way);
+            direct(links, place, way);
         }
-        number = link.next_at(port.gate);
+        number = link.next_at(gate);
     }
 }
 
-// Settles the ports that are to be looked at: two of each gate, and those of each wire that is directed.
+// Settles the inputs that are to be looked at: those of each wire that is directed.
 fn settle_all(links: &mut Links) {
-    let most = links.all.len().saturating_add(links.uses.len());
-    for _ in 0..most.saturating_mul(2) {
-        let Some(port) = links.todo.pop() else {
+    for _ in 0..links.all.len().saturating_mul(2) {
+        let Some(input) = links.todo.pop() else {
             break;
         };
-        settle(links, port);
-    }
-}
-
-// Looks at the inputs of each gate, of which there are two at most.
-fn add_inputs(links: &mut Links) {
-    for number in 0..small(links.are_fed.len()) {
-        let port = DrawnPort {
-            gate: number / 2,
-            port: GatePort::In(number % 2),
-        };
-        links.is_short |= links.todo.push(port).is_err();
+        settle(links, input);
     }
 }
 
@@ -193,17 +157,16 @@ fn turn_about(path: &mut [(u32, u32)], links: &[Link]) {
 /// Directs all wires: from outputs, from driven inputs, as electrons run, and so that one wire leads to each input.
 /// Those that are left run onward, each with what it tells of others.
 pub fn direct_wires(links: &mut Links, path: &mut Vec<(u32, u32)>, pattern: &Pattern) {
-    direct_at_once(
-        links.all.as_mut_slice(),
-        links.are_fed.as_slice(),
-        path.as_slice(),
-        pattern,
-    );
-    feed_ends(links.all.as_slice(), links.are_fed.as_mut_slice());
-    add_inputs(links);
-    for number in 0..small(links.all.len()) {
+    let (all, inputs) = (links.all.as_mut_slice(), links.inputs.as_mut_slice());
+    direct_at_once(all, inputs, path.as_slice(), pattern);
+    chain_links(all, links.uses.as_mut_slice(), inputs);
+    for input in (0..small(links.inputs.len())).rev() {
+        settle(links, input);
         settle_all(links);
+    }
+    for number in 0..links.all.len() {
         direct(links, number, Way::Onward);
+        settle_all(links);
     }
     turn_about(path.as_mut_slice(), links.all.as_slice());
 }

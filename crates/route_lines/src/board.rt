@@ -1,17 +1,18 @@
 // A pattern's cells and its gates, with the wires between these.
 
 use crate::owners::{Owner, Owners};
-use crate::table::{LineKind, TableCell};
+use crate::table::{LineKind, TableCell, add_table};
 use gate_library::{Drawing, DrawnGate, DrawnPort, DrawnWire, GateLibrary, GatePort, Shape};
 use lists::{List, OutOfMemory};
 use pattern_reading::Ports;
 use std::alloc::Global;
 use ww_rule::Pattern;
 
-/// The wires of a drawing with their start bits, and the ports of its inputs, outputs and nets. It is noted whether
-/// memory ran out.
+/// The wires of a drawing with their start bits; and the cells of the port table, and the ports of the inputs, outputs
+/// and nets that are at these. It is noted whether memory ran out.
 #[derive(Drop)]
 pub struct Wiring {
+    pub table: Vec<TableCell>,
     pub wires: Vec<DrawnWire>,
     pub starts: Vec<bool>,
     ins: Vec<DrawnPort>,
@@ -20,22 +21,52 @@ pub struct Wiring {
     pub is_short: bool,
 }
 
-/// The cells of a box with what each belongs to, and the parts of the drawing that are known. It is noted whether
-/// memory ran out.
+/// The cells of a box with what each belongs to, its gates, and the cells of its wires. It is noted whether memory ran
+/// out.
 #[derive(Drop)]
 pub struct Board {
     pub owners: Owners,
     height: u32,
     pub period: u32,
-    pub latency: u32,
+    latency: u32,
     pub library: GateLibrary,
     pub gates: Vec<DrawnGate>,
     pub path: Vec<(u32, u32)>,
-    pub wiring: Wiring,
     pub is_short: bool,
 }
 
+/// Returns a number as one of 32 bits, or the greatest of these.
+pub fn small(number: usize) -> u32 {
+    u32::try_from(number).unwrap_or(u32::MAX)
+}
+
+/// Returns so many items from a place on, or none if there are fewer.
+pub fn part_of<T>(items: &[T], start: u32, size: u32) -> &[T] {
+    let begin = start as usize;
+    let end = begin.saturating_add(size as usize);
+    if begin <= end && end <= items.len() {
+        &items[begin..end]
+    } else {
+        &[]
+    }
+}
+
 impl Wiring {
+    /// Makes one with the cells of a port table, and with no wires and no ports.
+    pub fn of(alloc: Global, ports: &Ports) -> Wiring {
+        let mut table = Vec::new(alloc);
+        let is_short = add_table(&mut table, ports);
+        Wiring {
+            table,
+            wires: Vec::new(alloc),
+            starts: Vec::new(alloc),
+            ins: Vec::new(alloc),
+            outs: Vec::new(alloc),
+            nets: Vec::new(alloc),
+            is_short,
+        }
+    }
+
     // Adds the port of a line, and answers whether it is there, or that of a net.
     fn add_port(&mut self, kind: LineKind, port: Option<DrawnPort>) -> bool {
         self.is_short |= match (kind, port) {
@@ -45,6 +76,18 @@ impl Wiring {
             _ => return false,
         };
         true
+    }
+
+    /// Adds the ports at the cells of the port table, and answers whether each input and each output is at one.
+    pub fn add_ports(&mut self, board: &Board) -> bool {
+        let mut are_there = true;
+        for place in 0..self.table.len() {
+            if place < self.table.len() {
+                let line = self.table[place];
+                are_there &= self.add_port(line.kind, board.port_at(line.cell));
+            }
+        }
+        are_there
     }
 }
 
@@ -75,14 +118,6 @@ impl Board {
             library,
             gates: Vec::new(alloc),
             path: Vec::new(alloc),
-            wiring: Wiring {
-                wires: Vec::new(alloc),
-                starts: Vec::new(alloc),
-                ins: Vec::new(alloc),
-                outs: Vec::new(alloc),
-                nets: Vec::new(alloc),
-                is_short: false,
-            },
             is_short,
         }))
     }
@@ -99,7 +134,7 @@ impl Board {
 
     /// Adds a gate, to which the cells of its drawing go.
     pub fn add_gate(&mut self, gate: DrawnGate) {
-        let number = u32::try_from(self.gates.len()).unwrap_or(u32::MAX);
+        let number = small(self.gates.len());
         self.draw(gate, number);
         self.is_short |= self.gates.push(gate).is_err();
     }
@@ -124,38 +159,47 @@ impl Board {
         Some(DrawnPort { gate, port })
     }
 
-    /// Adds the ports at the cells of the port table, and answers whether each input and each output is at one.
-    pub fn add_ports(&mut self, table: &[TableCell]) -> bool {
-        let mut are_there = true;
-        for line in table {
-            let port = self.port_at(line.cell);
-            are_there &= self.wiring.add_port(line.kind, port);
-        }
-        are_there
+    /// Follows a wire from its first cell, which is open and beside the cell `before`. Its cells are given to it and are
+    /// added to the path. Returns the cell of a gate to which it leads, or else its last cell.
+    pub fn trace(&mut self, before: (u32, u32), first: (u32, u32)) -> (u32, u32) {
+        let (end, is_short) = self.owners.trace(&mut self.path, before, first);
+        self.is_short |= is_short;
+        end
     }
 
-    /// Puts the drawing together.
-    pub fn into_drawing(self) -> Drawing {
-        let Wiring {
-            wires,
-            starts,
-            ins,
-            outs,
-            nets,
-            ..
-        } = self.wiring;
+    /// Puts the drawing together if it is wanted, unless memory ran out.
+    pub fn into_drawing(
+        self,
+        wiring: Wiring,
+        is_wanted: bool,
+    ) -> Result<Option<Drawing>, OutOfMemory> {
+        let is_short = self.is_short || wiring.is_short;
+        if is_wanted && !is_short {
+            return Ok(Some(self.drawing(wiring)));
+        }
+        drop(wiring);
+        drop(self);
+        if is_short {
+            Err(OutOfMemory::NoMemory)
+        } else {
+            Ok(None)
+        }
+    }
+
+    // Puts the drawing together.
+    fn drawing(self, wiring: Wiring) -> Drawing {
         Drawing {
             width: self.owners.width,
             height: self.height,
             period: self.period,
             latency: self.latency,
             gates: List::of(self.gates),
-            wires: List::of(wires),
+            wires: List::of(wiring.wires),
             path: List::of(self.path),
-            starts: List::of(starts),
-            ins: List::of(ins),
-            outs: List::of(outs),
-            nets: List::of(nets),
+            starts: List::of(wiring.starts),
+            ins: List::of(wiring.ins),
+            outs: List::of(wiring.outs),
+            nets: List::of(wiring.nets),
         }
     }
 }

@@ -16,11 +16,11 @@ mod table;
 mod words;
 mod writing;
 
-pub use board::{Board, Wiring};
+pub use board::{Board, Wiring, part_of, small};
 pub use comments::{are_gate_lines, gate_lines_are_skipped};
-pub use owners::{Beside, Owner, Owners, Trace};
+pub use owners::{Beside, Owner, Owners};
 pub use ports::port_cell;
 pub use reading::read;
 pub use steps::{STEPS, Step};
-pub use table::{LineKind, TableCell, TableCells};
+pub use table::{LineKind, TableCell};
 pub use writing::gate_lines;

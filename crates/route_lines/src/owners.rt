@@ -1,5 +1,6 @@
 // What each cell of a box belongs to.
 
+use crate::board::small;
 use crate::steps::STEPS;
 use gate_library::{DrawnGate, GateDrawing};
 use std::alloc::Global;
@@ -33,16 +34,6 @@ pub struct Beside {
     pub inner: u32,
 }
 
-/// A wire that was followed: its own cells are `size` cells of the path from place `start` on. It leads to the cell
-/// `end` of a gate, or `end` is its last cell. It is noted whether memory ran out.
-#[derive(Clone, Copy)]
-pub struct Trace {
-    pub start: u32,
-    pub size: u32,
-    pub end: (u32, u32),
-    pub is_short: bool,
-}
-
 /// What each cell of a box belongs to, row by row.
 #[derive(Drop)]
 pub struct Owners {
@@ -68,22 +59,26 @@ impl Owners {
     /// Adds the cells of a pattern, row by row, of which those that are drawn are open; answers whether memory runs out.
     pub(crate) fn add_cells(&mut self, pattern: &Pattern) -> bool {
         let count = (self.width as usize).saturating_mul(pattern.rows.len());
-        let mut is_short = self.cells.reserve(count).is_err();
+        if self.cells.reserve(count).is_err() {
+            return true;
+        }
         for y in 0..pattern.rows.len() {
             for state in pattern.rows.row(y) {
                 let owner = match state {
                     State::Empty => Owner::Nobody,
                     _ => Owner::Open,
                 };
-                is_short |= self.cells.push(owner).is_err();
+                if self.cells.push(owner).is_err() {
+                    return true;
+                }
             }
         }
-        is_short
+        false
     }
 
     /// Returns how many cells there are.
     pub fn count(&self) -> u32 {
-        u32::try_from(self.cells.len()).unwrap_or(u32::MAX)
+        small(self.cells.len())
     }
 
     /// Returns the cell with this number, as its column and its row.
@@ -190,35 +185,26 @@ impl Owners {
     }
 
     /// Follows a wire from its first cell, which is open and beside the cell `before`. Its cells are given to it and are
-    /// added to a path.
-    pub fn trace(
+    /// added to a path. Returns the cell of a gate to which it leads, or else its last cell; and whether memory ran out.
+    pub(crate) fn trace(
         &mut self,
         path: &mut Vec<(u32, u32)>,
         before: (u32, u32),
         first: (u32, u32),
-    ) -> Trace {
-        let start = u32::try_from(path.len()).unwrap_or(u32::MAX);
-        let (mut last, mut end, mut size) = (before, first, 0u32);
-        let mut is_short = false;
+    ) -> ((u32, u32), bool) {
+        let (mut last, mut end) = (before, first);
         for _ in 0..self.cells.len() {
             self.give(end, Owner::Wire);
-            is_short |= path.push(end).is_err();
-            size = size.saturating_add(1);
+            if path.push(end).is_err() {
+                return (end, true);
+            }
             let next = self.next_cell(end, last);
             match self.of(next) {
                 Owner::Open => (last, end) = (end, next),
                 Owner::Nobody | Owner::Wire => break,
-                _ => {
-                    end = next;
-                    break;
-                }
+                _ => return (next, false),
             }
         }
-        Trace {
-            start,
-            size,
-            end,
-            is_short,
-        }
+        (end, false)
     }
 }

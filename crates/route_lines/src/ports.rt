@@ -14,21 +14,17 @@ pub fn port_cell(
     }
     let gate = gates[number];
     let drawing = library.drawing(gate.kind);
+    let (ins, outs) = (drawing.ins.as_slice(), drawing.outs.as_slice());
     let (x, y) = match port.port {
-        GatePort::In(input) => {
-            let (ins, input) = (drawing.ins.as_slice(), input as usize);
-            if input >= ins.len() {
-                return None;
-            }
-            (ins[input].x, ins[input].y)
+        GatePort::In(input) if (input as usize) < ins.len() => {
+            let cell = ins[input as usize];
+            (cell.x, cell.y)
         }
-        GatePort::Out(output) => {
-            let (outs, output) = (drawing.outs.as_slice(), output as usize);
-            if output >= outs.len() {
-                return None;
-            }
-            (outs[output].x, outs[output].y)
+        GatePort::Out(output) if (output as usize) < outs.len() => {
+            let cell = outs[output as usize];
+            (cell.x, cell.y)
         }
+        _ => return None,
     };
     Some((gate.x.saturating_add(x), gate.y.saturating_add(y)))
 }

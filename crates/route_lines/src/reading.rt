@@ -1,11 +1,10 @@
 // Reading the lines of gates and wires.
 
-use crate::board::{Board, Wiring};
+use crate::board::{Board, Wiring, small};
 use crate::comments::first_line;
 use crate::owners::Owner;
-use crate::table::TableCells;
 use crate::words::{step_named, word};
-use gate_library::{Drawing, DrawnGate, DrawnWire, GatePort, kind_named};
+use gate_library::{Drawing, DrawnGate, DrawnPort, DrawnWire, GatePort, kind_named};
 use lists::OutOfMemory;
 use pattern_lines::number_in;
 use pattern_reading::Ports;
@@ -63,21 +62,27 @@ fn read_gate(board: &mut Board, line: &[u8]) {
     });
 }
 
+// Whether bytes are start bits.
+fn are_bits(bytes: &[u8]) -> bool {
+    for byte in bytes {
+        if !matches!(byte, b'0' | b'1') {
+            return false;
+        }
+    }
+    true
+}
+
 // The start bits at the end of the line of a wire, where `-` stands for none.
 fn start_bits(line: &[u8]) -> Option<&[u8]> {
     let bits = word(line, 5);
-    if bits.is_empty() || !ends_at(line, 6) {
+    if !ends_at(line, 6) {
         return None;
     }
-    if bits == b"-".as_slice() {
-        return Some(&[]);
+    match bits {
+        [] => None,
+        [b'-'] => Some(&[]),
+        _ => { if are_bits(bits) { Some(bits) } else { None } }
     }
-    for byte in bits {
-        if !matches!(byte, b'0' | b'1') {
-            return None;
-        }
-    }
-    Some(bits)
 }
 
 // Adds a wire, and the start bits that a line has for it.
@@ -89,31 +94,38 @@ fn add_wire(wiring: &mut Wiring, wire: DrawnWire, starts: &[u8]) {
 }
 
 // Follows a wire by its first cell, and adds it if it leads from a port to that at the cell `end`.
-fn follow(board: &mut Board, begin: (u32, u32), first: (u32, u32), end: (u32, u32), starts: &[u8]) {
+fn follow(
+    board: &mut Board,
+    wiring: &mut Wiring,
+    begin: (u32, u32),
+    first: (u32, u32),
+    end: (u32, u32),
+    starts: &[u8],
+) {
     let (Some(from), Owner::Open) = (board.port_at(begin), board.owners.of(first)) else {
         return;
     };
-    let trace = board.owners.trace(&mut board.path, begin, first);
-    board.is_short |= trace.is_short;
-    let Some(to) = board.port_at(trace.end) else {
+    let start = board.path.len();
+    let last = board.trace(begin, first);
+    let Some(DrawnPort { gate, port }) = board.port_at(last) else {
         return;
     };
-    if let (GatePort::In(input), true) = (to.port, trace.end == end) {
+    if let (GatePort::In(input), true) = (port, last == end) {
         let wire = DrawnWire {
             from,
-            gate: to.gate,
+            gate,
             input,
-            start: trace.start,
-            size: trace.size,
-            latch: u32::try_from(board.wiring.starts.len()).unwrap_or(u32::MAX),
-            cycles: u32::try_from(starts.len()).unwrap_or(u32::MAX),
+            start: small(start),
+            size: small(board.path.len().saturating_sub(start)),
+            latch: small(wiring.starts.len()),
+            cycles: small(starts.len()),
         };
-        add_wire(&mut board.wiring, wire, starts);
+        add_wire(wiring, wire, starts);
     }
 }
 
 // Adds the wire of a line.
-fn read_wire(board: &mut Board, line: &[u8]) {
+fn read_wire(board: &mut Board, wiring: &mut Wiring, line: &[u8]) {
     let Some(line) = line.strip_prefix(b"#C wire ") else {
         return;
     };
@@ -123,12 +135,12 @@ fn read_wire(board: &mut Board, line: &[u8]) {
         cell(line, 3),
         start_bits(line),
     ) {
-        follow(board, begin, step.from(begin), end, starts);
+        follow(board, wiring, begin, step.from(begin), end, starts);
     }
 }
 
 // Reads the gates of a text's lines, or its wires.
-fn read_lines(board: &mut Board, text: &[u8], of_wires: bool) {
+fn read_lines(board: &mut Board, wiring: &mut Wiring, text: &[u8], of_wires: bool) {
     let mut rest = text;
     for _ in 0..text.len() {
         if rest.is_empty() {
@@ -136,7 +148,7 @@ fn read_lines(board: &mut Board, text: &[u8], of_wires: bool) {
         }
         let (line, lines) = first_line(rest).unwrap_or((rest, &[]));
         if of_wires {
-            read_wire(board, line);
+            read_wire(board, wiring, line);
         } else {
             read_gate(board, line);
         }
@@ -144,14 +156,15 @@ fn read_lines(board: &mut Board, text: &[u8], of_wires: bool) {
     }
 }
 
-// Reads the wires, and answers whether each input and each output of the port table is at a port.
-fn read_wires(alloc: Global, board: &mut Board, text: &[u8], ports: &Ports) -> bool {
-    read_lines(board, text, true);
-    let table = TableCells::of(alloc, ports);
-    board.is_short |= table.is_short;
-    let are_there = board.add_ports(table.all.as_slice());
-    drop(table);
-    are_there
+// Reads gates and wires, and answers whether a gate is named, and each input and each output of the port table is at a
+// port.
+fn read_onto(board: &mut Board, wiring: &mut Wiring, text: &[u8]) -> bool {
+    read_lines(board, wiring, text, false);
+    if board.gates.is_empty() {
+        return false;
+    }
+    read_lines(board, wiring, text, true);
+    wiring.add_ports(board)
 }
 
 /// Reads the gates and the wires that a pattern's text names in comments (`gate_lines` has their forms), as a hint:
@@ -167,16 +180,7 @@ pub fn read(
     let Some(mut board) = Board::new(alloc, pattern, ports)? else {
         return Ok(None);
     };
-    read_lines(&mut board, text, false);
-    let is_named = !board.gates.is_empty() && read_wires(alloc, &mut board, text, ports);
-    let is_short = board.is_short || board.wiring.is_short;
-    if is_named && !is_short {
-        return Ok(Some(board.into_drawing()));
-    }
-    drop(board);
-    if is_short {
-        Err(OutOfMemory::NoMemory)
-    } else {
-        Ok(None)
-    }
+    let mut wiring = Wiring::of(alloc, ports);
+    let is_named = read_onto(&mut board, &mut wiring, text);
+    board.into_drawing(wiring, is_named)
 }

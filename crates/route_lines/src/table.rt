@@ -1,7 +1,6 @@
 // The cells of the port table.
 
-use pattern_reading::{PortLine, Ports};
-use std::alloc::Global;
+use pattern_reading::{NetLine, PortLine, Ports};
 
 /// What a line of the port table names.
 #[derive(Clone, Copy)]
@@ -19,44 +18,47 @@ pub struct TableCell {
     pub generation: u64,
 }
 
-/// The cells of a port table. It is noted whether memory ran out.
-#[derive(Drop)]
-pub struct TableCells {
-    pub all: Vec<TableCell>,
-    pub is_short: bool,
+// A line's cell. A column or a row past 2^32 is outside every box.
+fn table_cell(kind: LineKind, x: u64, y: u64, generation: u64) -> TableCell {
+    let x = u32::try_from(x).unwrap_or(u32::MAX);
+    let y = u32::try_from(y).unwrap_or(u32::MAX);
+    TableCell {
+        kind,
+        cell: (x, y),
+        generation,
+    }
 }
 
-impl TableCells {
-    // Adds a line's cell. A column or a row past 2^32 is outside every box.
-    fn add(&mut self, kind: LineKind, x: u64, y: u64, generation: u64) {
-        let x = u32::try_from(x).unwrap_or(u32::MAX);
-        let y = u32::try_from(y).unwrap_or(u32::MAX);
-        let line = TableCell {
-            kind,
-            cell: (x, y),
-            generation,
-        };
-        self.is_short |= self.all.push(line).is_err();
-    }
-
-    // Adds the cells of inputs or outputs, which are lit first at a generation.
-    fn add_lines(&mut self, kind: LineKind, lines: &[PortLine], generation: u64) {
-        for line in lines {
-            self.add(kind, line.x, line.y, generation);
+// Adds the cells of inputs or outputs, which are lit first at a generation, and answers whether memory ran out.
+fn add_ports(
+    cells: &mut Vec<TableCell>,
+    kind: LineKind,
+    lines: &[PortLine],
+    generation: u64,
+) -> bool {
+    for line in lines {
+        let cell = table_cell(kind, line.x, line.y, generation);
+        if cells.push(cell).is_err() {
+            return true;
         }
     }
+    false
+}
 
-    /// Returns the cells of inputs, outputs and nets, in this order.
-    pub fn of(alloc: Global, ports: &Ports) -> TableCells {
-        let mut cells = TableCells {
-            all: Vec::new(alloc),
-            is_short: false,
-        };
-        cells.add_lines(LineKind::In, ports.ins.as_slice(), 0);
-        cells.add_lines(LineKind::Out, ports.outs.as_slice(), ports.l);
-        for line in ports.nets.as_slice() {
-            cells.add(LineKind::Net, line.x, line.y, line.offset);
+// Adds the cells of nets, and answers whether memory ran out.
+fn add_nets(cells: &mut Vec<TableCell>, lines: &[NetLine]) -> bool {
+    for line in lines {
+        let cell = table_cell(LineKind::Net, line.x, line.y, line.offset);
+        if cells.push(cell).is_err() {
+            return true;
         }
-        cells
     }
+    false
+}
+
+/// Adds the cells of inputs, outputs and nets, in this order, and answers whether memory ran out.
+pub fn add_table(cells: &mut Vec<TableCell>, ports: &Ports) -> bool {
+    add_ports(cells, LineKind::In, ports.ins.as_slice(), 0)
+        | add_ports(cells, LineKind::Out, ports.outs.as_slice(), ports.l)
+        | add_nets(cells, ports.nets.as_slice())
 }

@@ -1,5 +1,6 @@
 // Writing the lines of gates and wires.
 
+use crate::board::part_of;
 use crate::ports::port_cell;
 use crate::words::step_between;
 use gate_library::{
@@ -77,19 +78,9 @@ impl Lines {
             self.add(b" ");
             self.add(step.word());
             self.add_cell(end);
-            self.add_starts(starts_of(drawing, wire));
+            let starts = drawing.starts.as_slice();
+            self.add_starts(part_of(starts, wire.latch, wire.cycles));
         }
-    }
-}
-
-fn starts_of<'a>(drawing: &'a Drawing, wire: &DrawnWire) -> &'a [bool] {
-    let starts = drawing.starts.as_slice();
-    let begin = wire.latch as usize;
-    let end = begin.saturating_add(wire.cycles as usize);
-    if begin <= end && end <= starts.len() {
-        &starts[begin..end]
-    } else {
-        &[]
     }
 }
 
