@@ -27,21 +27,17 @@ fn input_and_delay(drawing: &GateDrawing, port: GatePort) -> (u32, u32) {
     }
 }
 
-// The number of an input among those of all gates, each of which has two at most.
-fn input_number(port: DrawnPort) -> u32 {
-    match port.port {
-        GatePort::In(input) => port.gate.saturating_mul(2).saturating_add(input),
-        GatePort::Out(_) => u32::MAX,
-    }
-}
-
 /// Returns the end of a wire at a port. A gate whose inputs come together has one time, which is the beginning of its
 /// uses, and one whose inputs come apart has that of each input.
 pub fn end_at(board: &Board, port: DrawnPort) -> End {
+    let first = port.gate.saturating_mul(2);
     let mut end = End {
         port,
-        input: input_number(port),
-        time: port.gate.saturating_mul(2),
+        input: match port.port {
+            GatePort::In(input) => first.saturating_add(input),
+            GatePort::Out(_) => u32::MAX,
+        },
+        time: first,
         after: 0,
         next: u32::MAX,
     };
@@ -51,7 +47,7 @@ pub fn end_at(board: &Board, port: DrawnPort) -> End {
         let (input, after) = input_and_delay(drawing, port.port);
         end.after = after;
         if let Timing::Apart = drawing.timing {
-            end.time = end.time.saturating_add(input);
+            end.time = first.saturating_add(input);
         }
     }
     end

@@ -88,8 +88,8 @@ impl Times {
         }
     }
 
-    // The nearest head of each wire tells when the wire's end is lit. A gate whose time is not known after that begins at
-    // generation 0.
+    // The nearest head of each wire tells when the wire's end is lit. A gate whose time is not known after that begins
+    // at generation 0.
     fn begin_at_wires(&mut self, links: &Links, path: &[(u32, u32)], pattern: &Pattern) {
         for link in &links.all {
             if let Some(distance) = nearest_head(pattern, part_of(path, link.start, link.size)) {

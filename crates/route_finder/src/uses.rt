@@ -9,8 +9,8 @@ use gate_library::{DrawnGate, Shape};
 use route_lines::{Board, LineKind, TableCell, part_of};
 use ww_rule::Pattern;
 
-/// Notes at which gates the cells of the port table are, and which inputs it drives. The first input or output that is at
-/// no port of a gate is at fault.
+/// Notes at which gates the cells of the port table are, and which inputs it drives. The first input or output that is
+/// at no port of a gate is at fault.
 pub fn note_table(links: &mut Links, board: &Board, table: &[TableCell]) {
     links.make_room(board.gates.len());
     for line in table {
@@ -42,7 +42,8 @@ fn put_first(uses: &mut [Use], gate: u32, number: u32) -> u32 {
     link
 }
 
-/// Chains the wires at each gate, those that were found last first, and notes what they tell of the inputs at their ends.
+/// Chains the wires at each gate, those that were found last first, and notes what they tell of the inputs at their
+/// ends.
 pub fn chain_links(links: &mut [Link], uses: &mut [Use], inputs: &mut [Input]) {
     let mut number = 0u32;
     for link in links.iter_mut() {

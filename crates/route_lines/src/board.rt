@@ -159,8 +159,8 @@ impl Board {
         Some(DrawnPort { gate, port })
     }
 
-    /// Follows a wire from its first cell, which is open and beside the cell `before`. Its cells are given to it and are
-    /// added to the path. Returns the cell of a gate to which it leads, or else its last cell.
+    /// Follows a wire from its first cell, which is open and beside the cell `before`. Its cells are given to it and
+    /// are added to the path. Returns the cell of a gate to which it leads, or else its last cell.
     pub fn trace(&mut self, before: (u32, u32), first: (u32, u32)) -> (u32, u32) {
         let (end, is_short) = self.owners.trace(&mut self.path, before, first);
         self.is_short |= is_short;

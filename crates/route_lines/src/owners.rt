@@ -56,7 +56,8 @@ impl Owners {
         self.cells.resize(count, Owner::Nobody).is_err()
     }
 
-    /// Adds the cells of a pattern, row by row, of which those that are drawn are open; answers whether memory runs out.
+    /// Adds the cells of a pattern, row by row, of which those that are drawn are open. Answers whether memory runs
+    /// out.
     pub(crate) fn add_cells(&mut self, pattern: &Pattern) -> bool {
         let count = (self.width as usize).saturating_mul(pattern.rows.len());
         if self.cells.reserve(count).is_err() {
@@ -184,8 +185,9 @@ impl Owners {
         next
     }
 
-    /// Follows a wire from its first cell, which is open and beside the cell `before`. Its cells are given to it and are
-    /// added to a path. Returns the cell of a gate to which it leads, or else its last cell; and whether memory ran out.
+    /// Follows a wire from its first cell, which is open and beside the cell `before`. Its cells are given to it and
+    /// are added to a path. Returns the cell of a gate to which it leads, or else its last cell; and whether memory ran
+    /// out.
     pub(crate) fn trace(
         &mut self,
         path: &mut Vec<(u32, u32)>,

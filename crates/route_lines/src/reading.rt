@@ -168,7 +168,8 @@ fn read_onto(board: &mut Board, wiring: &mut Wiring, text: &[u8]) -> bool {
 }
 
 /// Reads the gates and the wires that a pattern's text names in comments (`gate_lines` has their forms), as a hint:
-/// each wire is followed on the pattern. A line of another form, and a wire that does not lead to its end, is passed over.
+/// each wire is followed on the pattern. A line of another form, and a wire that does not lead to its end, is passed
+/// over.
 /// `None` if no gate is named, if an input or an output of the port table is at no port of a gate, or if a side of the
 /// box, the period or the latency is 2^32 or more.
 pub fn read(

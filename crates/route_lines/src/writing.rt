@@ -108,7 +108,8 @@ fn add_wires(lines: &mut Lines, library: &GateLibrary, drawing: &Drawing) {
 /// #C wire x y STEP u v STARTS
 /// ```
 ///
-/// `later` is left out if it is 0. A wire leads from a port's cell, by a step (`N`, `NE` .. `NW`), to an input's (u, v).
+/// `later` is left out if it is 0. A wire leads from a port's cell, by a step (`N`, `NE` .. `NW`), to an input's
+/// (u, v).
 /// STARTS has a bit for each period that the wire is long, in order of arrival, or is `-`.
 pub fn gate_lines(alloc: Global, drawing: &Drawing) -> Result<Bytes, OutOfMemory> {
     let library = GateLibrary::new(alloc)?;
@@ -118,8 +119,11 @@ pub fn gate_lines(alloc: Global, drawing: &Drawing) -> Result<Bytes, OutOfMemory
     };
     lines.add_gates(drawing.gates.as_slice());
     add_wires(&mut lines, &library, drawing);
-    if lines.is_short {
+    drop(library);
+    let Lines { text, is_short } = lines;
+    if is_short {
+        drop(text);
         return Err(OutOfMemory::NoMemory);
     }
-    Ok(List::of(lines.text))
+    Ok(List::of(text))
 }
