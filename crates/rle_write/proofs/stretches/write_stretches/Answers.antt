@@ -13,6 +13,21 @@ use Rattle.lists.proofs.Results.{on_err}
 use Rattle.ww_base.proofs.Steps.{wrote_then, wrote_broke, wrote_to}
 use Rattle.rle_write.proofs.stretches.write_stretches.Goals as goal
 
+pub figure_of-figure-requires : goal.figure_of-figure-requires
+figure_of-figure-requires g c = (c.requires.kept c.stretches.column (omega arith) c.stretches-test.true).repeats.some
+
+pub add_figure-requires-clause-cell : goal.add_figure-requires-clause-cell
+add_figure-requires-clause-cell g c = c.stretches.invariant.cell
+
+pub returns-clause-cell : goal.returns-clause-cell
+returns-clause-cell g c = c.stretches.invariant.cell
+
+pub returns-clause-fewer : goal.returns-clause-fewer
+returns-clause-fewer g c = c.stretches.invariant.fewer
+
+pub returns-clause-short : goal.returns-clause-short
+returns-clause-short g c = omega (arith, c.stretches.invariant.short, c.stretches.invariant.within)
+
 pub add_figure-requires-clause-inside : goal.add_figure-requires-clause-inside
 add_figure-requires-clause-inside g c =
     let plan = c.args.plan.now in
