@@ -182,7 +182,18 @@ impl BlockRows {
         }
     }
 
-    // Finds row `y` of what stands in a block if it is not kept, and returns its place.
+    // Finds row `y` of what stands in a block, and keeps it at a place.
+    fn find(&mut self, place: usize, slot: Slot, y: u32)
+        requires place { place < 32 }
+        requires in_block { y < 16 }
+        ensures row { IsRowAt self.new.rows place slot y }
+        ensures runs { self.new.runs ≡ self.old.runs }
+    {
+        self.rows[place] = BlockRow::of(slot, y);
+    }
+
+    // Finds row `y` of what stands in a block if it is not kept, and returns its place. The search is
+    // a function of its own, since room for a row would be cleared at each call.
     fn keep(&mut self, slot: Slot, y: u32) -> usize
         requires { y < 16 }
         ensures place { result < 32 }
@@ -191,7 +202,7 @@ impl BlockRows {
     {
         let place = place_of(slot);
         if !self.rows[place].is_of(slot, y) {
-            self.rows[place] = BlockRow::of(slot, y);
+            self.find(place, slot, y);
         }
         place
     }
