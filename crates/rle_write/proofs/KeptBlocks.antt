@@ -10,7 +10,7 @@ use Rattle.plan_layout.specs.Tape.{drawn_tiling}
 use Rattle.rle_write.specs.declared.blocks.Stretch.{Stretch}
 use Rattle.rle_write.specs.declared.body.Below.{Below}
 use Rattle.rle_write.specs.Blocks.{IsMotif, IsNextMotif, IsStretch, AreBlocks, AreBlocksFrom, AreKnownBelow, no_stretch}
-use Rattle.rle_write.specs.Known.{IsKnown}
+use Rattle.rle_write.specs.Known.{IsKnownFrom}
 use Rattle.rle_write.proofs.KnownLanes.{known_later, known_nothing}
 
 -- a motif of a block alone
@@ -69,7 +69,7 @@ motif_next plan lane size k east goes_on next is same (inr (inr on)) =
 
 -- a block alone
 pub alone : (plan : Plan) (lane size k : ℕ) (slot : Slot) (below : Below) → k < size → slot_of slot ≡ drawn_tiling plan k lane
-    → IsKnown (drawn_tiling plan k) lane slot below
+    → IsKnownFrom (drawn_tiling plan k) lane slot below
     → IsStretch plan lane size k (record { slot = slot; motif = 1; count = 1; reach = 1; below = below })
 alone plan lane size k slot below inside stands known = record {
   some = omega arith;
@@ -81,7 +81,7 @@ alone plan lane size k slot below inside stands known = record {
 
 -- a block west of a stretch
 pub longer : (plan : Plan) (lane size k : ℕ) (slot : Slot) (below : Below) (east : Stretch) (count : ℕ) (goes_on : Bool) (next : ℕ × ℕ) → IsStretch plan lane size (k + 1) east
-    → slot_of slot ≡ drawn_tiling plan k lane → IsKnown (drawn_tiling plan k) lane slot below → 1 ≤ count → (2 ≤ count → (slot ≡ east.slot) × (count ≤ east.count + 1))
+    → slot_of slot ≡ drawn_tiling plan k lane → IsKnownFrom (drawn_tiling plan k) lane slot below → 1 ≤ count → (2 ≤ count → (slot ≡ east.slot) × (count ≤ east.count + 1))
     → (IsTrue goes_on → drawn_tiling plan (k + east.motif) lane ≡ drawn_tiling plan k lane) → IsNextMotif east goes_on next
     → IsStretch plan lane size k (record { slot = slot; motif = next.0; count = count; reach = next.1; below = below })
 longer plan lane size k slot below east count goes_on next is stands known some alike same motif = record {
@@ -120,16 +120,16 @@ blocks_more plan lane i blocks stretch inside east here k from below =
 
 -- what is known of the blocks below the others, if it is known of one more
 pub known_more : (plan : Plan) (lane i : ℕ) (blocks : List Stretch) (stretch : Stretch) → i < length blocks
-    → AreKnownBelow plan lane blocks → IsKnown (drawn_tiling plan i) lane stretch.slot stretch.below → AreKnownBelow plan lane (set blocks i stretch)
+    → AreKnownBelow plan lane blocks → IsKnownFrom (drawn_tiling plan i) lane stretch.slot stretch.below → AreKnownBelow plan lane (set blocks i stretch)
 known_more plan lane i blocks stretch inside known here k within =
     let new : List Stretch = set blocks i stretch in
     let size : length new ≡ length blocks = length-set blocks i stretch in
     elim (eqb_tells k i) [
       | inl same ↦
-          subst (λ k. IsKnown (drawn_tiling plan k) lane (get_or new k no_stretch).slot (get_or new k no_stretch).below) (sym same.1)
-          (subst (λ (s : Stretch). IsKnown (drawn_tiling plan i) lane s.slot s.below) (sym (get_or-set_same blocks i stretch no_stretch inside)) here)
+          subst (λ k. IsKnownFrom (drawn_tiling plan k) lane (get_or new k no_stretch).slot (get_or new k no_stretch).below) (sym same.1)
+          (subst (λ (s : Stretch). IsKnownFrom (drawn_tiling plan i) lane s.slot s.below) (sym (get_or-set_same blocks i stretch no_stretch inside)) here)
       | inr other ↦
-          subst (λ (s : Stretch). IsKnown (drawn_tiling plan k) lane s.slot s.below) (sym (get_or-set_other blocks i k stretch no_stretch other.1))
+          subst (λ (s : Stretch). IsKnownFrom (drawn_tiling plan k) lane s.slot s.below) (sym (get_or-set_other blocks i k stretch no_stretch other.1))
           (known k (omega (arith, within, size)))
     ]
 
@@ -144,7 +144,7 @@ known_none plan n size stretch none nothing k within =
     let short : length (take n (replicate size stretch)) ≡ min n size = length-take n (replicate size stretch) ∙ ap (min n) (length-replicate size stretch) in
     let here : get_or (take n (replicate size stretch)) k no_stretch ≡ stretch =
     get_or-take n (replicate size stretch) k no_stretch (omega (arith, within, short)) ∙ get_or-replicate size k stretch no_stretch (omega (arith, within, short)) in
-    subst (λ (s : Stretch). IsKnown (drawn_tiling plan k) 0 s.slot s.below) (sym here)
+    subst (λ (s : Stretch). IsKnownFrom (drawn_tiling plan k) 0 s.slot s.below) (sym here)
     (known_nothing (drawn_tiling plan k) 0 stretch.slot stretch.below none nothing)
 
 -- the first blocks of a list reach no farther than those that there may be

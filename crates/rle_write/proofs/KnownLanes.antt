@@ -15,10 +15,10 @@ use Rattle.plan_layout.specs.declared.slot.Slot.{Slot}
 use Rattle.plan_layout.specs.Layout.{body_slot, kind_of}
 use Rattle.plan_layout.specs.Slots.{slot_of}
 use Rattle.rle_write.specs.declared.body.Below.{Below}
-use Rattle.rle_write.specs.Known.{IsKnown, IsWithin, StandsKnown, near_slot}
+use Rattle.rle_write.specs.Known.{IsKnownFrom, IsKnownWithin, StandsKnown, near_slot}
 
 -- what is known from a lane on is known from each lane below it on
-pub known_later : (at : ℕ → tiling.Slot) (lane next : ℕ) (slot : Slot) (below : Below) → lane ≤ next → IsKnown at lane slot below → IsKnown at next slot below
+pub known_later : (at : ℕ → tiling.Slot) (lane next : ℕ) (slot : Slot) (below : Below) → lane ≤ next → IsKnownFrom at lane slot below → IsKnownFrom at next slot below
 known_later at lane next slot below later is = record {
   until = λ l from to. is.until l (omega (arith, later, from)) to;
   upper = λ kind some from. is.upper kind some (omega (arith, later, from));
@@ -26,7 +26,7 @@ known_later at lane next slot below later is = record {
 }
 
 -- nothing is known
-pub known_nothing : (at : ℕ → tiling.Slot) (lane : ℕ) (slot : Slot) (below : Below) → below.until ≡ 0 → below.next ≡ None → IsKnown at lane slot below
+pub known_nothing : (at : ℕ → tiling.Slot) (lane : ℕ) (slot : Slot) (below : Below) → below.until ≡ 0 → below.next ≡ None → IsKnownFrom at lane slot below
 known_nothing at lane slot below none nothing = record {
   until = λ l from to. absurd (omega (arith, to, none));
   upper = λ kind some from. absurd (none-some kind (sym nothing ∙ some));
@@ -35,7 +35,7 @@ known_nothing at lane slot below none nothing = record {
 
 -- the same is known of a column that is the same down to a number of lanes
 pub known_within : (at other : ℕ → tiling.Slot) (lane lanes : ℕ) (slot : Slot) (below within : Below) → ((l : ℕ) → lane ≤ l → l < lanes → at l ≡ other l)
-    → IsWithin lanes below within → lane < lanes → StandsKnown at lane slot below → StandsKnown other lane slot within
+    → IsKnownWithin lanes below within → lane < lanes → StandsKnown at lane slot below → StandsKnown other lane slot within
 known_within at other lane lanes slot below within same is inside known = record {
   here = known.here ∙ same lane (omega arith) inside;
   known = record {

@@ -9,7 +9,7 @@ use Rattle.grid_assembly.specs.declared.west.West.{West}
 use Rattle.grid_assembly.specs.West.{tape_end, IsWest}
 use Rattle.rle_write.specs.declared.blocks.Stretch.{Stretch}
 use Rattle.rle_write.specs.Dark.{bare_row}
-use Rattle.rle_write.specs.Known.{IsKnown}
+use Rattle.rle_write.specs.Known.{IsKnownFrom}
 
 -- from the k-th block of a lane eastward so many blocks stand again and again, up to a reach that
 -- lies within the first `size` ones
@@ -27,7 +27,7 @@ pub record IsStretch (plan : Plan) (lane size k : ℕ) (stretch : Stretch) : Typ
   pub within : k + stretch.count ≤ size
   pub alike : (i : ℕ) → i < stretch.count → slot_of stretch.slot ≡ drawn_tiling plan (k + i) lane
   pub repeats : IsMotif plan lane size k stretch.motif stretch.reach
-  pub below : IsKnown (drawn_tiling plan k) lane stretch.slot stretch.below
+  pub below : IsKnownFrom (drawn_tiling plan k) lane stretch.slot stretch.below
 
 -- the motif of a block and its reach, by those east of it: a motif of this block alone, or one that
 -- is longer by this block, or the same motif, which goes on
@@ -55,7 +55,7 @@ AreBlocks plan lane blocks = AreBlocksFrom plan lane 0 blocks
 abbrev pub AreKnownBelow : Plan → ℕ → List Stretch → Type 0
 AreKnownBelow plan lane blocks =
     (k : ℕ) → k < length blocks
-    → IsKnown (drawn_tiling plan k) lane (get_or blocks k no_stretch).slot (get_or blocks k no_stretch).below
+    → IsKnownFrom (drawn_tiling plan k) lane (get_or blocks k no_stretch).slot (get_or blocks k no_stretch).below
 
 -- from the k-th block of a lane eastward a number of blocks, at most four, stands so often
 pub record IsFigure (plan : Plan) (lane size k figure often : ℕ) : Type 0 where

@@ -18,7 +18,7 @@ near_slot lane instr = cond (nat_lt lane (lane_of instr)) (Whole (Tile East)) (b
 
 -- From a lane on the same stands on each lane before `until`, and then a tile of the next kind, if
 -- there is one.
-pub record IsKnown (at : ℕ → tiling.Slot) (lane : ℕ) (slot : Slot) (below : Below) : Type 0 where
+pub record IsKnownFrom (at : ℕ → tiling.Slot) (lane : ℕ) (slot : Slot) (below : Below) : Type 0 where
   pub until : (l : ℕ) → lane ≤ l → l < below.until → slot_of slot ≡ at l
   pub upper : (kind : Kind) → below.next ≡ Some kind → lane ≤ below.until → Upper (Tile kind) ≡ at below.until
   pub lower : (kind : Kind) → below.next ≡ Some kind → lane ≤ below.until + 1
@@ -27,15 +27,15 @@ pub record IsKnown (at : ℕ → tiling.Slot) (lane : ℕ) (slot : Slot) (below 
 -- a slot stands on the lane, and this is known below it
 pub record StandsKnown (at : ℕ → tiling.Slot) (lane : ℕ) (slot : Slot) (below : Below) : Type 0 where
   pub here : slot_of slot ≡ at lane
-  pub known : IsKnown at lane slot below
+  pub known : IsKnownFrom at lane slot below
 
 -- whatever column this is known of, the slot that was found stands on the lane
 abbrev pub IsKnownOn : ℕ → Slot → Below → Option Slot → Type 0
 IsKnownOn lane slot below found =
-    (at : ℕ → tiling.Slot) → IsKnown at lane slot below → IfSome found (λ s. StandsKnown at lane s below)
+    (at : ℕ → tiling.Slot) → IsKnownFrom at lane slot below → IfSome found (λ s. StandsKnown at lane s below)
 
 -- the same of this number of lanes at most
-pub record IsWithin (lanes : ℕ) (below within : Below) : Type 0 where
+pub record IsKnownWithin (lanes : ℕ) (below within : Below) : Type 0 where
   pub until : within.until ≤ below.until
   pub few : within.until ≤ lanes
   pub next : (kind : Kind) → within.next ≡ Some kind

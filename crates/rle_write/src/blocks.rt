@@ -5,7 +5,7 @@ ghost use Rattle.plan_layout.specs.Layout.{tiling_of};
 ghost use Rattle.plan_layout.specs.Tape.{drawn_tiling};
 ghost use Rattle.plan_layout.specs.Slots.{slot_of};
 ghost use Rattle.rle_write.specs.Blocks.{AreBlocks, AreBlocksFrom, AreKnownBelow, IsNextMotif, IsStretch};
-ghost use Rattle.rle_write.specs.Known.{IsKnown, StandsKnown};
+ghost use Rattle.rle_write.specs.Known.{IsKnownFrom, StandsKnown};
 
 use crate::body::{Below, body_block, known_slot, known_within};
 use lane_core::Plan;
@@ -71,7 +71,7 @@ fn bare_block(plan: &Plan, column: u64, lane: u64, before: u32) -> (Slot, Below)
 // above, or else, if the plan has no tape, what the plan has there.
 fn block_at(plan: &Plan, column: u64, lane: u64, slot: Slot, below: Below) -> (Slot, Below)
     requires admissible { IsAdmissible plan.now }
-    requires known { IsKnown (drawn_tiling plan.now column) lane slot below }
+    requires known { IsKnownFrom (drawn_tiling plan.now column) lane slot below }
     ensures { StandsKnown (drawn_tiling plan.now column) lane result.0 result.1 }
 {
     if let Some(known) = known_slot(lane, slot, below) {

@@ -5,7 +5,7 @@ ghost use Rattle.std.specs.List.{AllWithin};
 ghost use Rattle.lane_core.specs.Instrs.{lane_of, are_sorted_apart, instr_on};
 ghost use Rattle.plan_layout.specs.Layout.{kind_of, body_slot};
 ghost use Rattle.plan_layout.specs.Slots.{slot_of};
-ghost use Rattle.rle_write.specs.Known.{IsKnownOn, IsWithin, StandsKnown, near_slot};
+ghost use Rattle.rle_write.specs.Known.{IsKnownOn, IsKnownWithin, StandsKnown, near_slot};
 
 use lane_core::{Column, Instr};
 use plan_layout::{Piece, Slot};
@@ -157,7 +157,7 @@ pub fn known_slot(lane: u64, slot: Slot, below: Below) -> Option<Slot>
 
 /// Returns what is known of so many lanes at most.
 pub fn known_within(below: Below, lanes: u32) -> Below
-    ensures { IsWithin lanes below result }
+    ensures { IsKnownWithin lanes below result }
 {
     if (below.until as u64) + 1 < lanes as u64 {
         return below;
